@@ -1,0 +1,15 @@
+// The names of the refusals' codes.
+ghost use Rattle.std.specs.Prelude.{◌≡◌};
+ghost use Rattle.fq_core.specs.Code.{name_of_code};
+
+/// The name of a refusal's code, as it is printed, or the empty text for a number that is no code.
+pub fn code_name(code: u16) -> &'static str
+    ensures { result.now ≡ name_of_code code }
+{
+    match code {
+        1 => "NotBuilt",
+        2 => "Usage",
+        7 => "ReadFault",
+        _ => "",
+    }
+}
