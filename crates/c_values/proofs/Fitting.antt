@@ -17,6 +17,17 @@ by_width P a b c d w h =
     let is : (w ≡ 8) ⊎ ((w ≡ 16) ⊎ ((w ≡ 32) ⊎ (w ≡ 64))) = grind (arith, nat_tests) in
     ⊎_elim (λ e. subst P (sym e) a) (⊎_elim (λ e. subst P (sym e) b) (⊎_elim (λ e. subst P (sym e) c) (λ e. subst P (sym e) d))) is
 
+-- each of the eight kinds, by its width and its sign
+pub by_kind : (P : ℕ → Bool → Type 0) → P 8 true → P 8 false → P 16 true → P 16 false → P 32 true → P 32 false → P 64 true → P 64 false → (kind : Kind) → IsKind kind → P kind.width kind.signed
+by_kind P a b c d e f g h kind k =
+    let Q : ℕ → Type 0 = λ w. (s : Bool) → P w s in
+    by_width Q
+    (λ s. elim s as (λ t. P 8 t) [ true ↦ a | false ↦ b ])
+    (λ s. elim s as (λ t. P 16 t) [ true ↦ c | false ↦ d ])
+    (λ s. elim s as (λ t. P 32 t) [ true ↦ e | false ↦ f ])
+    (λ s. elim s as (λ t. P 64 t) [ true ↦ g | false ↦ h ])
+    kind.width k kind.signed
+
 pub record IsWidth (w : ℕ) : Type 0 where
   pub halves : 2 ^ w ≡ 2 ^ (w - 1) + 2 ^ (w - 1)
   pub half : 1 ≤ 2 ^ (w - 1)
