@@ -1,18 +1,16 @@
 -- The bits of values: what `&`, `|`, `^` and `~` leave, and that fit keeps the lowest bits.
-use Rattle.std.proofs.Common.{◌≡◌, ℕ, ◌+◌, ◌-◌, ◌*◌, ◌/◌, ◌%◌, ◌^◌, ◌<◌, ◌≤◌, Bool, true, false, ℤ, pos, negsuc, ◌+ℤ◌, ◌-ℤ◌, refl, sym, ap, ◌∙◌, subst, inl, inr, ⊎_elim, arith, bit_and, bit_or, bit_xor}
-use Rattle.std.specs.Prelude.{◌⊎◌, ◌==◌, ◌||◌, IsTrue}
+use Rattle.std.proofs.Common.{◌≡◌, ℕ, ◌+◌, ◌-◌, ◌/◌, ◌%◌, ◌^◌, ◌<◌, ◌≤◌, Bool, true, false, ℤ, pos, ◌-ℤ◌, refl, sym, ap, ◌∙◌, subst, inl, inr, ⊎_elim, arith, bit_and, bit_or, bit_xor}
+use Rattle.std.specs.Prelude.{◌⊎◌}
 use Rattle.std.specs.Int.{bit_at, bit_not, w64}
 use Rattle.std.proofs.lemmas.Int.{ints}
-use Rattle.std.proofs.lemmas.Bool.{cases_lt}
 use Rattle.std.proofs.lemmas.Nat.{and_le_l, or_lt, xor_lt, and_shr, or_shr, xor_shr, shr_split}
 use Rattle.std.proofs.lemmas.Nat.Bits.{bit_at_not, bit_at_cat_low}
-use borrow.Author.Differences.{up, down, same_in, same_out, sum_is_lem, neg_is}
-use native.Mathlib.Nat.{mod-lt, mod-eq_of_lt}
+use native.Mathlib.Nat.{mod-eq_of_lt}
 use Rattle.c_values.specs.declared.kinds.Kind.{Kind}
-use Rattle.c_values.specs.Kind.{IsKind, IsValue, IsInRange, least, greatest, number_of, reading, twos_complement, residue, pattern_of, fit, wrapped}
+use Rattle.c_values.specs.Kind.{IsKind, IsValue, IsInRange, least, greatest, number_of, reading, residue, pattern_of, fit, wrapped}
 use Rattle.c_values.specs.Operations.{complement_of}
 use Rattle.c_values.proofs.Residues.{residue_is}
-use Rattle.c_values.proofs.Fitting.{IsWidth, width_is, by_width, by_kind, twos_cases, residue-lt, residue-residue, ValueIs, value_parts, value_from_parts, IsValue-wrapped, number_of-wrapped}
+use Rattle.c_values.proofs.Fitting.{IsWidth, width_is, by_width, by_kind, twos_cases, residue-lt, residue-residue, value_parts, value_from_parts, IsValue-wrapped}
 
 -- ---- fit equals its number modulo 2 ^ width
 
@@ -55,6 +53,9 @@ bit_at-wrapped kind x i k h =
 
 pub width_below : (kind : Kind) → IsKind kind → kind.width ≤ 64
 width_below kind k = by_width (λ w. w ≤ 64) (omega arith) (omega arith) (omega arith) (omega arith) kind.width k
+
+pub width_some : (kind : Kind) → IsKind kind → 1 ≤ kind.width
+width_some kind k = by_width (λ w. 1 ≤ w) (omega arith) (omega arith) (omega arith) (omega arith) kind.width k
 
 pub bit_at-complement_of : (kind : Kind) (a i : ℕ) → IsKind kind → a < 2 ^ 64 → i < kind.width → bit_at (complement_of kind a) i ≡ 1 - bit_at a i
 unfolding complement_of

@@ -1,6 +1,7 @@
-pub mod Residues
+pub mod Bits
 pub mod Fitting
 pub mod Machine
-pub mod Sums
-pub mod Bits
+pub mod Quotients
 pub mod Ranks
+pub mod Residues
+pub mod Sums

@@ -1,15 +1,14 @@
 -- Sums, differences, products and negatives: what the machine's operations on 64 bits have of them.
-use Rattle.std.proofs.Common.{◌≡◌, ℕ, ◌+◌, ◌-◌, ◌*◌, ◌%◌, ◌^◌, ◌<◌, ◌≤◌, ℤ, pos, negsuc, ◌+ℤ◌, ◌-ℤ◌, ◌*ℤ◌, neg_ℤ, false, refl, sym, ap, subst, ◌∙◌, arith}
+use Rattle.std.proofs.Common.{◌≡◌, ℕ, ◌+◌, ◌-◌, ◌*◌, ◌%◌, ◌^◌, ◌<◌, ℤ, pos, ◌+ℤ◌, ◌-ℤ◌, ◌*ℤ◌, neg_ℤ, false, refl, sym, ap, subst, ◌∙◌, arith}
 use Rattle.std.specs.Prelude.{◌==◌, ◌&&◌, nat_lt}
 use Rattle.std.proofs.lemmas.Bool.Decides.{same_from_decides, Decides-eqb, Decides-like}
 use Rattle.std.proofs.lemmas.Int.{ints}
-use borrow.Author.Differences.{up, down, same_in, same_out, sum_is_lem, neg_is}
 use lib.IntN.{*ℤ_comm, +ℤ_idl}
 use native.Mathlib.Nat.{mul_comm}
 use Rattle.c_values.specs.declared.kinds.Kind.{Kind}
 use Rattle.c_values.specs.Kind.{is_kind, IsKind, is_value, IsValue, is_in_range, number_of, residue, pattern_of, fit, wrapped}
 use Rattle.c_values.specs.Operations.{sum_of, difference_of, product_of, negative_of}
-use Rattle.c_values.proofs.Residues.{Apart, apart, residue_is, residue-add, residue-sub, residue-mul_left}
+use Rattle.c_values.proofs.Residues.{apart, residue_is, residue-add, residue-sub, residue-mul_left}
 use Rattle.c_values.proofs.Fitting.{value_parts, pattern_of-number_of, wrapped-pattern_of, IsValue-wrapped, number_of-wrapped, wrapped-number_of}
 
 -- the kind's part of a number, from the number's 64 bits
@@ -52,6 +51,12 @@ pattern_of-product kind a b h k =
     ∙ ap (λ z. residue z (2 ^ 64)) (*ℤ_comm (pos a) (number_of kind b))
     ∙ residue-mul_left (number_of kind b) (pos b) (pos a) (2 ^ 64) e.below e.above (omega arith) e.is
     ∙ ap (λ n. n % 2 ^ 64) (mul_comm b a)
+
+pub pattern_of-scaled : (kind : Kind) (a n : ℕ) → a < 2 ^ 64 → pattern_of (number_of kind a *ℤ pos n) ≡ a * n % 2 ^ 64
+unfolding pattern_of residue
+pattern_of-scaled kind a n h =
+    let d = differs kind a h in
+    residue-mul_left (number_of kind a) (pos a) (pos n) (2 ^ 64) d.below d.above (omega arith) d.is
 
 zero_minus : (z : ℤ) → pos 0 -ℤ z ≡ neg_ℤ z
 zero_minus z = +ℤ_idl (neg_ℤ z)

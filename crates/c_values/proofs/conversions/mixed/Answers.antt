@@ -1,4 +1,4 @@
-use Rattle.c_values.proofs.Ranks.{mixed-low, mixed-high}
+use Rattle.c_values.proofs.Ranks.{mixed-high}
 use Rattle.c_values.proofs.conversions.mixed.Goals as goal
 
 pub returns-else-with_sign-without : goal.returns-else-with_sign-without
