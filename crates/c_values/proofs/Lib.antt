@@ -1,4 +1,5 @@
 pub mod Bits
+pub mod Consequences
 pub mod Fitting
 pub mod Machine
 pub mod Quotients

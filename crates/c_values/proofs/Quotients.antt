@@ -287,7 +287,7 @@ unfolding least
 signed_least kind s = ap least (sign_is kind true s)
 
 module _ (kind : Kind) (a b : ℕ) (left : IsValue kind a) (right : IsValue kind b) (divides : has_quotient kind a b ≡ true) where
-  no_zero : number_of kind b ≡ pos 0 → ⊥
+  pub no_zero : number_of kind b ≡ pos 0 → ⊥
   no_zero e = (let f = (no_quotient-tells kind a b).1 (inl e) in cc)
 
   pub divisor_is_positive : 0 < b

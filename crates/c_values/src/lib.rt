@@ -19,6 +19,7 @@ mod conversions;
 mod division;
 mod evaluation;
 mod kinds;
+pub mod laws;
 mod operators;
 mod shifts;
 
