@@ -1,0 +1,37 @@
+-- How a refusal ends a run.
+use Rattle.std.proofs.Common.{ℕ, List, [], None, Some, inl, inr, refl, sym, append-nil}
+use Rattle.std.specs.Prelude.{Option}
+use Rattle.std.specs.Io.KnownBytes.{Appends, Keeps}
+use Rattle.fq_core.specs.declared.refusal.Refusal.{Refusal}
+use Rattle.command.specs.declared.status.Status.{Status}
+use Rattle.command.specs.declared.status.Status.TheVariants as status
+use Rattle.command.specs.Refusal.{said_by}
+use Rattle.command.specs.Said.{Said}
+use Rattle.command.specs.Run.{Ends, GainsNone, Refuses, Writes, writes}
+
+-- known bytes that stay have grown by none
+Appends-nil : (old new : Option (List ℕ)) → Keeps old new → Appends old new []
+Appends-nil None new keeps = tt
+Appends-nil (Some xs) None keeps = keeps
+Appends-nil (Some xs) (Some ys) keeps = rw append-nil keeps
+
+Keeps-refl : (known : Option (List ℕ)) → Keeps known known
+Keeps-refl None = tt
+Keeps-refl (Some xs) = refl
+
+-- a refusal that is due and is written, or cut short, ends the run
+ends : (due : Said → Type 0) (sources : List (List ℕ)) (refusal : Refusal) (s : Status) (out err : Writes)
+    → due (said_by sources refusal) → GainsNone out → Refuses sources refusal s err → Ends due s out err
+ends due sources refusal status.WriteFault out err is none refuses =
+    (said_by sources refusal, is, inr (none, refuses.0, refuses.1))
+ends due sources refusal status.Memory out err is none refuses =
+    elim refuses [ inl kept ↦ inl (none, kept) | inr part ↦ inr (said_by sources refusal, is, inr (none, part, tt)) ]
+ends due sources refusal s out err is none refuses =
+    (said_by sources refusal, is, sym refuses.0, (Appends-nil out.before out.after none, refuses.1))
+
+-- the same, where the other sink is as it was
+pub ends_refused : {S : Type 0} (taken : S → Option (List ℕ)) (faults : S → ℕ) (o : S) (due : Said → Type 0) (sources : List (List ℕ))
+    (refusal : Refusal) (s : Status) (err : Writes) → due (said_by sources refusal) → Refuses sources refusal s err
+    → Ends due s (writes taken faults o o) err
+ends_refused taken faults o due sources refusal s err is refuses =
+    ends due sources refusal s (writes taken faults o o) err is (Keeps-refl (taken o)) refuses

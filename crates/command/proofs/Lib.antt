@@ -1,0 +1,9 @@
+pub mod DueLaws
+pub mod Ended
+pub mod ExecutionLaws
+pub mod InputsLaws
+pub mod MarksLaws
+pub mod ReportLaws
+pub mod SourceLaws
+pub mod SuiteLaws
+pub mod TokensLaws

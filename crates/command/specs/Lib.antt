@@ -1,0 +1,13 @@
+pub mod Asked
+pub mod Execution
+pub mod Inputs
+pub mod Marks
+pub mod Measured
+pub mod Refusal
+pub mod Report
+pub mod Run
+pub mod Said
+pub mod Source
+pub mod Suite
+pub mod Tokens
+pub mod Words

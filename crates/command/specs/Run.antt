@@ -1,0 +1,120 @@
+-- What a run of the program reads, says and writes.
+use Rattle.std.specs.Prelude.{◌≡◌, ◌⊎◌, ⊤, ℕ, List, Option, Some, IfSome}
+use Rattle.std.specs.Io.KnownBytes.{Appends, Keeps}
+use Rattle.fq_io.specs.Bytes.{AppendsPart}
+use Rattle.fq_io.specs.Counts.{Rose}
+use Rattle.command.specs.declared.source.Program.{Program}
+use Rattle.command.specs.declared.status.Status.{Status}
+use Rattle.command.specs.declared.status.Status.TheVariants as status
+use Rattle.fq_core.specs.declared.refusal.Refusal.{Refusal}
+use Rattle.command.specs.Refusal.{line_of, status_of}
+use Rattle.command.specs.Said.{Said, program_asked, read_failed, said_of}
+use Rattle.command.specs.Words.{Measurement, measurement_of}
+
+-- ---- what is read
+
+-- what the files told before a call, the name of the last read that failed after it, and the counts of faults
+pub record Reads : Type 0 where
+  pub holds : List ℕ → Option (List ℕ)
+  pub last_failed : Option (Option (List ℕ))
+  pub faults_before : ℕ
+  pub faults_after : ℕ
+
+abbrev pub reads : {F : Type 0} → (F → List ℕ → Option (List ℕ)) → (F → Option (Option (List ℕ))) → (F → ℕ) → F → F → Reads
+reads holds last_failed faults old new = record {
+  holds = holds old;
+  last_failed = last_failed new;
+  faults_before = faults old;
+  faults_after = faults new;
+}
+
+-- these are the bytes of the file, where that is told
+abbrev pub Sees : Reads → List ℕ → List ℕ → Type 0
+Sees r file bytes = IfSome (r.holds file) (λ held. bytes ≡ held)
+
+-- the last read that failed was of this file, where that is told, and the count of faults rose
+pub record HasFailedAt (r : Reads) (file : List ℕ) : Type 0 where
+  pub last : IfSome r.last_failed (λ last. last ≡ Some file)
+  pub rose : Rose r.faults_before r.faults_after
+
+-- ---- what is due
+
+-- it is what the words ask for, with the bytes of the files that they name
+pub record IsAsked (r : Reads) (words : List (List ℕ)) (said : Said) : Type 0 where
+  pub source : List ℕ
+  pub inputs : List ℕ
+  pub seen : IfSome (measurement_of words) (λ asked. Sees r asked.source source × Sees r asked.inputs inputs)
+  pub is : said ≡ said_of words source inputs
+
+-- it is that the read of the source failed, and it did
+pub record IsSourceFailure (r : Reads) (words : List (List ℕ)) (said : Said) : Type 0 where
+  pub asked : Measurement
+  pub named : measurement_of words ≡ Some asked
+  pub failed : HasFailedAt r asked.source
+  pub is : said ≡ read_failed asked.source
+
+-- it is that the read of the inputs failed, after the source, and it did
+pub record IsInputsFailure (r : Reads) (words : List (List ℕ)) (said : Said) : Type 0 where
+  pub asked : Measurement
+  pub source : List ℕ
+  pub program : Program
+  pub named : measurement_of words ≡ Some asked
+  pub seen : Sees r asked.source source
+  pub spelled : program_asked asked source ≡ Some program
+  pub failed : HasFailedAt r asked.inputs
+  pub is : said ≡ read_failed asked.inputs
+
+abbrev pub IsDue : Reads → List (List ℕ) → Said → Type 0
+IsDue r words said = IsAsked r words said ⊎ (IsSourceFailure r words said ⊎ IsInputsFailure r words said)
+
+-- ---- what is written
+
+-- the bytes of a sink before a call and after it, where they are told, and its counts of faults
+pub record Writes : Type 0 where
+  pub before : Option (List ℕ)
+  pub after : Option (List ℕ)
+  pub faults_before : ℕ
+  pub faults_after : ℕ
+
+abbrev pub writes : {S : Type 0} → (S → Option (List ℕ)) → (S → ℕ) → S → S → Writes
+writes taken faults old new = record {
+  before = taken old;
+  after = taken new;
+  faults_before = faults old;
+  faults_after = faults new;
+}
+
+abbrev pub Gains : Writes → List ℕ → Type 0
+Gains w bytes = Appends w.before w.after bytes
+
+abbrev pub GainsNone : Writes → Type 0
+GainsNone w = Keeps w.before w.after
+
+abbrev pub GainsPart : Writes → List ℕ → Type 0
+GainsPart w bytes = AppendsPart w.before w.after bytes
+
+-- all that was said was written
+abbrev pub IsWritten : Said → Writes → Writes → Type 0
+IsWritten said out err = Gains out said.out × Gains err said.err
+
+-- one sink took a part of what was said, and the other nothing; the one is such that P holds of it
+abbrev pub IsCut : (Writes → Type 0) → Said → Writes → Writes → Type 0
+IsCut P said out err = (GainsPart out said.out × GainsNone err × P out) ⊎ (GainsNone out × GainsPart err said.err × P err)
+
+abbrev pub HasFailed : Writes → Type 0
+HasFailed w = Rose w.faults_before w.faults_after
+
+-- ---- how a run ends, by its status
+
+-- After a write fault, a part of what was due stands in the sink that failed. After want of memory, nothing was written,
+-- or a part of what was due. After each other status, all that was due was written, and that status was due.
+abbrev pub Ends : (Said → Type 0) → Status → Writes → Writes → Type 0
+Ends due status.WriteFault out err = (said : Said) × due said × IsCut HasFailed said out err
+Ends due status.Memory out err = (GainsNone out × GainsNone err) ⊎ ((said : Said) × due said × IsCut (λ _. ⊤) said out err)
+Ends due s out err = (said : Said) × due said × (said.status ≡ s) × IsWritten said out err
+
+-- the refusal's line was written, or its writing was cut short
+abbrev pub Refuses : List (List ℕ) → Refusal → Status → Writes → Type 0
+Refuses sources refusal status.WriteFault err = GainsPart err (line_of sources refusal) × HasFailed err
+Refuses sources refusal status.Memory err = GainsNone err ⊎ GainsPart err (line_of sources refusal)
+Refuses sources refusal s err = (s ≡ status_of refusal.code) × Gains err (line_of sources refusal)

@@ -1,0 +1,74 @@
+// The status and the line of a refusal.
+ghost use Rattle.std.specs.Prelude.{◌≡◌, ◌++◌, [], IfOk, OnOk, slice_get, unwrap_or};
+ghost use Rattle.std.specs.Fmt.{decimal};
+ghost use Rattle.command.specs.Refusal.{line_of, place_text, status_of};
+ghost use Rattle.command.specs.Words.{bytes_of};
+
+use crate::Status;
+use fq_core::{Place, Refusal, code_name};
+use std::alloc::{AllocError, Global};
+
+/// The status in which a refusal of this code ends.
+pub fn refused_status(code: u16) -> Status
+    ensures { result ≡ status_of code }
+{
+    match code {
+        2 => Status::Usage,
+        7 => Status::ReadFault,
+        _ => Status::NotBuilt,
+    }
+}
+
+fn push_number(alloc: Global, line: &mut Vec<u8>, front: &str, number: u64) -> Result<(), AllocError>
+    ensures { OnOk result (line.new.items ≡ line.old.items ++ (front.now ++ decimal number)) }
+{
+    let number = number.to_string(alloc)?;
+    line.extend_from_slice(front.as_bytes())?;
+    line.extend_from_slice(number.as_bytes())?;
+    Ok(())
+}
+
+// A source's name, or nothing past the last source.
+fn source_name(sources: &[String], file: u32) -> &[u8]
+    ensures { result.now ≡ unwrap_or (slice_get (bytes_of sources.now) file) [] }
+{
+    match sources.get(file as usize) {
+        Some(name) => name.as_bytes(),
+        None => &[],
+    }
+}
+
+fn push_place(alloc: Global, line: &mut Vec<u8>, sources: &[String], place: &Place) -> Result<(), AllocError>
+    ensures { OnOk result (line.new.items ≡ line.old.items ++ place_text (bytes_of sources.now) place.now) }
+{
+    match place {
+        Place::Nowhere => Ok(()),
+        Place::Source { file, line: number } => {
+            line.push(b' ')?;
+            line.extend_from_slice(source_name(sources, *file))?;
+            push_number(alloc, line, ":", *number as u64)
+        }
+        Place::Query { column } => push_number(alloc, line, " query:", *column as u64),
+        Place::QueryWhole => line.extend_from_slice(b" query"),
+        Place::InputNumber { number } => push_number(alloc, line, " input ", *number as u64),
+        Place::Limit { number } => push_number(alloc, line, " limit ", *number),
+        Place::FileName { name } => {
+            line.push(b' ')?;
+            line.extend_from_slice(name.bytes())
+        }
+        Place::Line { number } => push_number(alloc, line, " line ", *number as u64),
+    }
+}
+
+/// The line that tells of a refusal, where the sources have these names.
+pub fn refusal_line(alloc: Global, sources: &[String], refusal: &Refusal) -> Result<Vec<u8>, AllocError>
+    ensures { IfOk result (λ line. line.items ≡ line_of (bytes_of sources.now) refusal.now) }
+{
+    let mut line = Vec::new(alloc);
+    push_number(alloc, &mut line, "error ", refusal.code as u64)?;
+    line.push(b' ')?;
+    line.extend_from_slice(code_name(refusal.code).as_bytes())?;
+    push_place(alloc, &mut line, sources, &refusal.place)?;
+    line.push(b'\n')?;
+    Ok(line)
+}
