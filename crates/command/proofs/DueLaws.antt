@@ -1,20 +1,18 @@
 -- What is due at each end of the way from the words to the text.
-use Rattle.std.proofs.Common.{◌≡◌, ℕ, ◌+◌, ◌<◌, ◌≤◌, Bool, true, false, List, [], ◌∷◌, ◌++◌, length, drop, Option, None, Some, refl, sym, ◌∙◌, inl, inr, arith, lit<}
-use Rattle.std.specs.Prelude.{IfSome, nat_le, replicate}
+use Rattle.std.proofs.Common.{◌≡◌, ℕ, ◌<◌, ◌≤◌, List, [], length, Option, None, Some, refl, inl, inr, arith, lit<}
+use Rattle.std.specs.Prelude.{IfSome, replicate}
 use Rattle.std.proofs.lemmas.Bool.{lt-leb}
 use Rattle.std.proofs.lemmas.Fmt.{decimal_digit}
 use Rattle.std.proofs.lemmas.List.{length-replicate}
 use Rattle.fq_core.specs.declared.refusal.Place.TheVariants as place
 use Rattle.command.specs.declared.source.Program.{Program}
 use Rattle.command.specs.Inputs.{inputs_of}
-use Rattle.command.specs.Inputs as inputs_text
 use Rattle.fq_core.specs.declared.refusal.Fault.{Fault}
 use Rattle.fq_core.specs.declared.refusal.Fault.TheVariants as fault
 use Rattle.fq_core.specs.declared.refusal.Refusal.{Refusal}
 use Rattle.command.specs.Refusal.{IfRefused, said_by}
-use Rattle.command.specs.Run.{HasFailedAt, IsAsked, IsDue, Reads, Sees}
+use Rattle.command.specs.Run.{HasFailedAt, IsDue, Reads, Sees}
 use Rattle.command.specs.Said.{Said, answered, not_built, program_asked, read_failed, report_of, said_of, usage}
-use Rattle.command.specs.Source.{program_of}
 use Rattle.command.specs.Words.{Measurement, measurement_of}
 
 -- ---- the lines of today's refusals

@@ -1,6 +1,5 @@
 -- Laws of the values of int.
-use Rattle.std.proofs.Common.{◌≡◌, ℕ, ◌^◌, ◌<◌, ◌≤◌, Bool, true, false, cond, List, [], ◌∷◌, map, pos, refl, sym, ap, ◌∙◌, arith, inl, inr, ◌-◌}
-use Rattle.std.specs.Prelude.{ℤ, negsuc, int_lt, int_le, nat_lt, not, IsTrue}
+use Rattle.std.proofs.Common.{◌≡◌, ℕ, ◌^◌, ◌<◌, Bool, true, false, cond, List, [], ◌∷◌, map, pos, refl, arith, ◌-◌}
 use Rattle.std.proofs.lemmas.Bool.{and_from, le-leb, lt-ltb}
 use Rattle.std.specs.List.{list_all}
 use Rattle.command.specs.declared.source.Program.{Program}

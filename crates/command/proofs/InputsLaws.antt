@@ -1,16 +1,12 @@
 -- Laws of the inputs of a text, line by line.
-use Rattle.std.proofs.Common.{◌≡◌, ℕ, zero, suc, ◌+◌, ◌-◌, ◌<◌, ◌≤◌, Bool, true, false, cond, List, [], ◌∷◌, ◌++◌, length, map, take, drop, filter, reverse, Some, None, option_map, refl, sym, ap, ◌∙◌, arith, append_assoc, Bor}
-use Rattle.std.specs.Prelude.{Option, ◌==◌, nat_lt, nat_le, not, position}
+use Rattle.std.proofs.Common.{◌≡◌, ℕ, suc, ◌+◌, ◌-◌, ◌≤◌, Bool, true, false, cond, List, [], ◌∷◌, ◌++◌, length, take, drop, Some, None, option_map, refl, sym, ◌∙◌, arith, Bor}
+use Rattle.std.specs.Prelude.{Option, ◌==◌, nat_lt, not, position}
 use Rattle.std.specs.Option.{option_map_or}
-use Rattle.std.specs.List.{onto_first, position_or_len, prefix_len, slice_split}
-use Rattle.std.proofs.lemmas.Bool.{le-ltb, lt-ltb, ltb-true, ltb-false}
+use Rattle.std.specs.List.{onto_first, position_or_len, slice_split}
+use Rattle.std.proofs.lemmas.Bool.{ltb-true, ltb-false}
 use Rattle.std.proofs.lemmas.List.{take_rest}
 use Rattle.std.proofs.lemmas.List.Splits.{slice_split_first}
-use Rattle.containers.specs.Lists.{all_there, before}
-use Rattle.fq_core.specs.declared.word.WordText.{WordText}
-use Rattle.fq_core.specs.declared.word.WordText.TheVariants as word
-use Rattle.fq_core.specs.Word.{word_of_text}
-use Rattle.command.specs.Inputs.{inputs_of, is_blank, lines_of, most_bytes, most_inputs, texts_in, trimmed, without_front, word_in, words_in}
+use Rattle.command.specs.Inputs.{lines_of}
 
 -- ---- the first line
 

@@ -1,7 +1,7 @@
 -- Laws of the answers of goals, input by input.
-use Rattle.std.proofs.Common.{◌≡◌, ℕ, zero, suc, ◌+◌, ◌-◌, ◌<◌, ◌≤◌, Bool, true, false, cond, List, [], ◌∷◌, ◌++◌, length, map, take, set, get_or, option_map, slice_get, eqb, replicate, Some, None, refl, sym, ap, ◌∙◌, ◌≢◌, arith, add-zero, inl, inr}
+use Rattle.std.proofs.Common.{◌≡◌, ℕ, zero, suc, ◌+◌, ◌-◌, ◌<◌, ◌≤◌, Bool, true, false, cond, List, [], ◌∷◌, ◌++◌, length, map, take, set, get_or, option_map, slice_get, replicate, Some, None, refl, sym, ap, ◌∙◌, ◌≢◌, arith, add-zero, inl, inr}
 use Rattle.std.specs.Prelude.{Option, ◌==◌, ◌||◌}
-use Rattle.std.specs.List.{list_all, list_any, position_from, range_with_len}
+use Rattle.std.specs.List.{list_all, position_from, range_with_len}
 use Rattle.std.specs.Option.{option_map_or}
 use Rattle.std.proofs.lemmas.List.{length-take-le, take_more}
 use Rattle.std.proofs.lemmas.List.Folds.{list_all_at, list_any_more}
@@ -67,9 +67,9 @@ answers_from-push hits goals first (suc count) (x ∷ new) each =
     let head = each 0 in
     let first_is : Some x ≡ Some (marked (length hits + 1) goals first (answer_of hits first)) = rw start at head in
     let rest = answers_from-push hits goals (first + 1) count new (λ k.
-      let next : first + suc k ≡ first + 1 + k = omega arith in
-      let later = each (suc k) in
-      rw next at later) in
+    let next : first + suc k ≡ first + 1 + k = omega arith in
+    let later = each (suc k) in
+    rw next at later) in
     let here : x ≡ marked (length hits + 1) goals first (answer_of hits first) = cc in
     rw (here, rest, answer_of-push hits goals first) refl
 
@@ -80,9 +80,9 @@ pub answers_of-push : (hits : List (List ℕ)) (goals : List ℕ) (number count 
     → new ≡ answers_of (hits ++ goals ∷ []) count
 answers_of-push hits goals number count old new is before each =
     answers_from-push hits goals 1 count new (λ k.
-      let shift : k + 1 ≡ 1 + k = omega arith in
-      let one = each k in
-      rw (before, shift, is) at one)
+    let shift : k + 1 ≡ 1 + k = omega arith in
+    let one = each k in
+    rw (before, shift, is) at one)
 
 pub answers_of-more : (hits : List (List ℕ)) (i count : ℕ) (d goals : List ℕ) (old new : List Answer) → i < length hits
     → goals ≡ get_or hits i d → old ≡ answers_of (take i hits) count
@@ -121,8 +121,11 @@ covered_marked input goals goal before =
 marked_here : (goals : List ℕ) (i input : ℕ) (before : Answer) → i < length goals
     → marked input (take (i + 1) goals) (get_or goals i 0) before ≡ covered_first input (marked input (take i goals) (get_or goals i 0) before)
 marked_here goals i input before within =
-    rw (list_any_more (λ other. other == get_or goals i 0) goals i 0 within, eq-eqb (get_or goals i 0) _ refl,
-      covered_marked input (take i goals) (get_or goals i 0) before)
+    rw (
+      list_any_more (λ other. other == get_or goals i 0) goals i 0 within,
+      eq-eqb (get_or goals i 0) _ refl,
+      covered_marked input (take i goals) (get_or goals i 0) before,
+    )
     (elim (is_among (get_or goals i 0) (take i goals))
     as (λ b. cond (b || true) (covered_first input before) before ≡ covered_first input before) [ true ↦ refl | false ↦ refl ])
 
@@ -157,17 +160,17 @@ pub marked_more : (initial answers : List Answer) (goals : List ℕ) (i input : 
 marked_more initial answers goals i input was within some room so_far here k =
     elim (eqb_tells k (get_or goals i 0 - 1)) [
       | inl same ↦
-        let place = get_or goals i 0 - 1 in
-        let number : k + 1 ≡ get_or goals i 0 = omega (arith, same.1, some) in
-        let before = so_far k in
-        let was_is : slice_get answers k ≡ Some was = rw same.1 here in
-        let there : slice_get (set answers (get_or goals i 0 - 1) (covered_first input was)) k ≡ Some (covered_first input was) =
-            rw same.1 (slice_get-set_here answers (get_or goals i 0 - 1) (covered_first input was) room) in
-        there ∙ rw number (marked_place (slice_get initial k) goals i input was within (rw (← number) (sym was_is ∙ before)))
+          let place = get_or goals i 0 - 1 in
+          let number : k + 1 ≡ get_or goals i 0 = omega (arith, same.1, some) in
+          let before = so_far k in
+          let was_is : slice_get answers k ≡ Some was = rw same.1 here in
+          let there : slice_get (set answers (get_or goals i 0 - 1) (covered_first input was)) k ≡ Some (covered_first input was) =
+          rw same.1 (slice_get-set_here answers (get_or goals i 0 - 1) (covered_first input was) room) in
+          there ∙ rw number (marked_place (slice_get initial k) goals i input was within (rw (← number) (sym was_is ∙ before)))
       | inr other ↦
-        let apart : get_or goals i 0 ≢ k + 1 = λ is. other.1 (omega (arith, is)) in
-        slice_get-set_other answers (get_or goals i 0 - 1) k (covered_first input was) other.1 ∙ so_far k
-        ∙ kept_place (slice_get initial k) goals i input (k + 1) within apart
+          let apart : get_or goals i 0 ≢ k + 1 = λ is. other.1 (omega (arith, is)) in
+          slice_get-set_other answers (get_or goals i 0 - 1) k (covered_first input was) other.1 ∙ so_far k
+          ∙ kept_place (slice_get initial k) goals i input (k + 1) within apart
     ]
 
 -- ---- before the first input

@@ -1,17 +1,13 @@
 -- Laws of the printed text.
-use Rattle.std.proofs.Common.{◌≡◌, ℕ, zero, suc, ◌+◌, ◌^◌, ◌<◌, ◌≤◌, true, false, pos, List, [], ◌∷◌, ◌++◌, length, map, drop, get_or, refl, sym, ap, ◌∙◌, to_z, w64, arith, append_assoc, append-nil, string_bytes, Global}
-use Rattle.std.specs.Prelude.{String, codes}
+use Rattle.std.proofs.Common.{◌≡◌, ℕ, ◌^◌, ◌<◌, ◌≤◌, true, false, pos, List, [], ◌∷◌, ◌++◌, length, map, drop, refl, sym, ap, to_z, w64, append_assoc, append-nil}
+use Rattle.std.specs.Prelude.{codes}
 use Rattle.std.specs.Fmt.{decimal}
 use Rattle.std.specs.List.{flat_map, join_with_byte}
-use Rattle.std.proofs.lemmas.List.{at_drop_all, at_drop_more, drop_all, drop_more}
+use Rattle.std.proofs.lemmas.List.{at_drop_all}
 use Rattle.c_values.specs.declared.kinds.Kind.{Kind}
 use Rattle.c_values.specs.Kind.{number_of}
 use Rattle.c_values.proofs.Machine.{to_z-twos}
-use Rattle.command.specs.declared.answer.Answer.{Answer}
-use Rattle.command.specs.declared.answer.Answer.TheVariants.{Missed}
-use Rattle.command.specs.declared.run_end.RunEnd.{RunEnd}
-use Rattle.command.specs.declared.run_end.RunEnd.TheVariants.{Cut}
-use Rattle.command.specs.Report.{goal_line, goal_lines, input_line, input_lines, line}
+use Rattle.command.specs.Report.{line}
 
 -- ---- values
 

@@ -1,7 +1,7 @@
 -- Laws of the form of a source.
-use Rattle.std.proofs.Common.{◌≡◌, ℕ, zero, suc, ◌+◌, ◌-◌, ◌<◌, ◌≤◌, Bool, true, false, cond, List, [], ◌∷◌, ◌++◌, length, map, drop, get_or, refl, sym, ap, ◌∙◌, arith, inl, inr, option_map, ◌^◌, ◌≢◌, lit<, pos}
+use Rattle.std.proofs.Common.{◌≡◌, ℕ, zero, suc, ◌+◌, ◌<◌, ◌≤◌, true, false, List, [], ◌∷◌, length, map, drop, get_or, refl, sym, ap, ◌∙◌, arith, inl, inr, ◌^◌, ◌≢◌, lit<, pos}
 use Rattle.std.specs.Prelude.{◌&&◌}
-use Rattle.std.proofs.lemmas.Bool.{and_parts, and_left, and_right, leb-true, lt-ltb, ltb-true, ne_eqb, true≢false}
+use Rattle.std.proofs.lemmas.Bool.{and_parts, and_right, leb-true, lt-ltb, ltb-true, ne_eqb, true≢false}
 use native.Mathlib.Nat.{mod-eq_of_lt}
 use Rattle.std.proofs.lemmas.Bool.Decides.{eqb_tells}
 use Rattle.std.proofs.lemmas.Int.Digits.{digits_value-lt}
@@ -9,16 +9,14 @@ use Rattle.std.proofs.lemmas.Grind.{common_steps}
 use Rattle.std.proofs.lemmas.List.{drop_more, length-map}
 use Rattle.std.specs.Char.{digit_value, is_ascii_digit}
 use Rattle.std.specs.List.{list_all, starts_with}
-use Rattle.std.specs.Prelude.{Option, Some, None, ◌%◌, codes, nat_eq, nat_le, nat_lt, slice_get, IsTrue}
+use Rattle.std.specs.Prelude.{Some, codes, nat_eq, nat_le, nat_lt, slice_get}
 use Rattle.std.specs.Str.Parse.{AllDigits, digits_value}
-use Rattle.std.proofs.lemmas.Option.{slice_get-get_or, slice_get-map}
 use Rattle.std.proofs.Math.Nat.{pow-le-pow_right}
 use Rattle.fq_core.specs.declared.word.WordText.TheVariants as word
 use Rattle.fq_core.specs.Word.{is_digits, word_of_number, word_of_text}
 use Rattle.command.specs.declared.source.Slot.{Slot}
-use Rattle.command.specs.declared.source.Slot.TheVariants as slot
 use Rattle.command.specs.declared.tokens.Token as code
-use Rattle.command.specs.Source.{Token, fit_all, fits, form, is_numeral, text_at}
+use Rattle.command.specs.Source.{Token, fit_all, fits, is_numeral, text_at}
 use Rattle.command.specs.Tokens.{seen, texts}
 
 lengths_differ : (slots : List Slot) (each : List (List ℕ)) → (length each ≡ length slots → ⊥) → false ≡ fit_all slots each

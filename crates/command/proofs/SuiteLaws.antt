@@ -1,7 +1,7 @@
 -- Laws of the reduced suite, input by input from the last.
-use Rattle.std.proofs.Common.{◌≡◌, ℕ, zero, suc, ◌+◌, ◌-◌, ◌<◌, ◌≤◌, Bool, true, false, cond, List, [], ◌∷◌, ◌++◌, length, map, take, drop, reverse, get_or, Some, None, refl, sym, ap, ◌∙◌, arith, option_map, slice_get}
-use Rattle.std.specs.Prelude.{Option, ◌==◌, ◌||◌, nat_lt}
-use Rattle.std.specs.List.{list_all, list_any, position_from, range_with_len}
+use Rattle.std.proofs.Common.{◌≡◌, ℕ, zero, suc, ◌+◌, ◌-◌, ◌<◌, ◌≤◌, Bool, true, false, cond, List, [], ◌∷◌, ◌++◌, length, map, take, drop, reverse, get_or, Some, refl, sym, ◌∙◌, arith, option_map, slice_get}
+use Rattle.std.specs.Prelude.{◌||◌}
+use Rattle.std.specs.List.{list_all, list_any, position_from}
 use Rattle.std.specs.Option.{option_map_or}
 use Rattle.std.proofs.Math.Seq.{drop-length}
 use Rattle.std.proofs.lemmas.List.{drop_more, length-map, length-reverse, take_more}
@@ -76,8 +76,13 @@ get_or-answers_of hits count goal d some within = get_or-map-range_with_len (ans
 elsewhere_is : (hits lists : List (List ℕ)) (count p goal : ℕ) → 0 < goal → goal ≤ count
     → is_elsewhere (p + 1) (answers_of hits count) (answers_of (reverse lists) count) goal ≡ (is_hit (take p hits) goal || is_hit lists goal)
 elsewhere_is hits lists count p goal some within =
-    rw (get_or-answers_of hits count goal answer.Missed some within, get_or-answers_of (reverse lists) count goal answer.Missed some within,
-      answer_before hits p goal, covered_from (is_among goal) 1 (reverse lists), list_any-reverse (is_among goal) lists) refl
+    rw (
+      get_or-answers_of hits count goal answer.Missed some within,
+      get_or-answers_of (reverse lists) count goal answer.Missed some within,
+      answer_before hits p goal,
+      covered_from (is_among goal) 1 (reverse lists),
+      list_any-reverse (is_among goal) lists,
+    ) refl
 
 each_elsewhere : (hits lists : List (List ℕ)) (count p : ℕ) (goals : List ℕ) → are_goals count goals ≡ true
     → list_all (is_elsewhere (p + 1) (answers_of hits count) (answers_of (reverse lists) count)) goals
@@ -106,7 +111,7 @@ kept_before hits answers later place d goals redundant some within is all first 
     let step = kept_step hits (place - 1) d (omega arith) in
     let each = each_elsewhere hits (goal_lists (kept_at hits place)) (length answers) (place - 1) goals all in
     let test : redundant ≡ list_all (λ goal. is_hit (take (place - 1) hits) goal || is_hit (goal_lists (kept_at hits place)) goal) goals =
-        said ∙ rw (first, last) each in
+    said ∙ rw (first, last) each in
     rw (test, next) (rw (next, ← is) at step)
 
 at_end : (hits : List (List ℕ)) → kept_at hits (length hits) ≡ []

@@ -1,6 +1,6 @@
 -- Laws of the tokens of a source.
-use Rattle.std.proofs.Common.{◌≡◌, ℕ, zero, suc, ◌+◌, ◌-◌, ◌<◌, ◌≤◌, Bool, true, false, cond, List, [], ◌∷◌, ◌++◌, length, map, take, drop, get_or, refl, sym, ap, ◌∙◌, arith, append_assoc, inl, inr}
-use Rattle.std.specs.Prelude.{◌==◌, ◌&&◌, ◌||◌}
+use Rattle.std.proofs.Common.{◌≡◌, ℕ, suc, ◌+◌, ◌-◌, ◌<◌, ◌≤◌, Bool, true, false, List, [], ◌∷◌, ◌++◌, length, take, drop, get_or, refl, sym, ◌∙◌, arith, append_assoc, inl, inr}
+use Rattle.std.specs.Prelude.{◌&&◌, ◌||◌}
 use Rattle.std.proofs.lemmas.List.{drop_all, drop_more, take_rest}
 use Rattle.std.proofs.lemmas.Bool.{eqb-true, or_cases, true≢false}
 use Rattle.command.specs.Source.{Token, goes_on, is_relation_byte, is_space, is_word_byte, tokens_from, with_byte}
@@ -47,7 +47,7 @@ token_cut line byte (next ∷ rest) solid = joined_or_not (goes_on byte next) re
   where
     joined_or_not : (joined : Bool) → goes_on byte next ≡ joined
         → (is_space next ≡ false → tokens_from line (next ∷ rest)
-          ≡ record { line = line; text = take (cut_len (next ∷ rest)) (next ∷ rest) } ∷ tokens_from line (drop (cut_len (next ∷ rest)) (next ∷ rest)))
+        ≡ record { line = line; text = take (cut_len (next ∷ rest)) (next ∷ rest) } ∷ tokens_from line (drop (cut_len (next ∷ rest)) (next ∷ rest)))
         → tokens_from line (byte ∷ next ∷ rest)
         ≡ record { line = line; text = take (cut_len (byte ∷ next ∷ rest)) (byte ∷ next ∷ rest) } ∷ tokens_from line (drop (cut_len (byte ∷ next ∷ rest)) (byte ∷ next ∷ rest))
     joined_or_not true is again =
@@ -61,7 +61,7 @@ pub cut_at_end : (text : List ℕ) (count total : ℕ) → 0 < count → length 
 cut_at_end text count total some done within is =
     let next : count - 1 + 1 ≡ count = omega arith in
     let one : drop (count - 1) text ≡ get_or text (count - 1) 0 ∷ [] =
-        drop_more text (count - 1) 0 (omega arith) ∙ rw (next, drop_all count text done) refl in
+    drop_more text (count - 1) 0 (omega arith) ∙ rw (next, drop_all count text done) refl in
     let all = rw one at is in
     omega (arith, all)
 

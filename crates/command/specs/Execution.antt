@@ -1,5 +1,5 @@
 -- What a program of the form does with an input, in this profile of C.
-use Rattle.std.specs.Prelude.{ℕ, Bool, not, ℤ, pos, int_lt, int_le, List, [], ◌∷◌, Some, map, if◌then◌else◌}
+use Rattle.std.specs.Prelude.{ℕ, Bool, not, ℤ, pos, int_lt, int_le, List, [], ◌∷◌, Some, if◌then◌else◌}
 use Rattle.std.specs.Ordering.{int_eq}
 use Rattle.c_values.specs.Kind.{fit, int}
 use Rattle.command.specs.declared.run_end.RunEnd.{RunEnd}

@@ -35,7 +35,11 @@ pub fn run<F: Files, O: Sink, E: Sink>(
 fn source_names(words: &[String]) -> &[String]
     ensures { bytes_of result.now ≡ drop 4 (bytes_of words.now) }
 {
-    if words.len() < 4 { &words[words.len()..] } else { &words[4..] }
+    if words.len() < 4 {
+        &words[words.len()..]
+    } else {
+        &words[4..]
+    }
 }
 
 // Writes the refusal's line.

@@ -52,11 +52,7 @@ fn hit_goals(alloc: Global, program: &Program, word: u64) -> Result<Vector<u32>,
     requires { IsSmall program.now }
     ensures { IfOk result (λ goals. goals ≡ hits_of program.now word) }
 {
-    let goals = if takes(program, word) {
-        [1, 3]
-    } else {
-        [2, 4]
-    };
+    let goals = if takes(program, word) { [1, 3] } else { [2, 4] };
     Ok(Vector::from_vec(goals.to_vec(alloc)?))
 }
 

@@ -14,10 +14,15 @@ use c_values::Kind;
 use std::alloc::{AllocError, Global};
 
 const QUERY: &str = "cover EDGES(ID)";
+
 const GOALS: u32 = 4;
 
 /// The program of a source, where its function is the entry and the query asks for all its edges.
-pub fn asked_program(alloc: Global, measurement: &Measurement, source: &[u8]) -> Result<Option<Program>, AllocError>
+pub fn asked_program(
+    alloc: Global,
+    measurement: &Measurement,
+    source: &[u8],
+) -> Result<Option<Program>, AllocError>
     requires { length source.now ≤ most_bytes }
     ensures program { IfOk result (λ program. program ≡ program_asked (asked measurement.now) source.now) }
     ensures small { IfOk result (λ program. IfSome program IsSmall) }
@@ -50,7 +55,12 @@ fn goals(alloc: Global, file: &str, program: &Program) -> Result<Vec<String>, Al
 }
 
 /// The report of measuring these inputs.
-pub fn report(alloc: Global, file: &str, program: &Program, words: &[u64]) -> Result<String, AllocError>
+pub fn report(
+    alloc: Global,
+    file: &str,
+    program: &Program,
+    words: &[u64],
+) -> Result<String, AllocError>
     requires few { length words.now < 2 ^ 32 }
     requires small { IsSmall program.now }
     ensures { IfOk result (λ text. string_bytes text ≡ report_of file.now program.now words.now) }

@@ -19,7 +19,12 @@ pub fn refused_status(code: u16) -> Status
     }
 }
 
-fn push_number(alloc: Global, line: &mut Vec<u8>, front: &str, number: u64) -> Result<(), AllocError>
+fn push_number(
+    alloc: Global,
+    line: &mut Vec<u8>,
+    front: &str,
+    number: u64,
+) -> Result<(), AllocError>
     ensures { OnOk result (line.new.items ≡ line.old.items ++ (front.now ++ decimal number)) }
 {
     let number = number.to_string(alloc)?;
@@ -38,7 +43,12 @@ fn source_name(sources: &[String], file: u32) -> &[u8]
     }
 }
 
-fn push_place(alloc: Global, line: &mut Vec<u8>, sources: &[String], place: &Place) -> Result<(), AllocError>
+fn push_place(
+    alloc: Global,
+    line: &mut Vec<u8>,
+    sources: &[String],
+    place: &Place,
+) -> Result<(), AllocError>
     ensures { OnOk result (line.new.items ≡ line.old.items ++ place_text (bytes_of sources.now) place.now) }
 {
     match place {
@@ -61,7 +71,11 @@ fn push_place(alloc: Global, line: &mut Vec<u8>, sources: &[String], place: &Pla
 }
 
 /// The line that tells of a refusal, where the sources have these names.
-pub fn refusal_line(alloc: Global, sources: &[String], refusal: &Refusal) -> Result<Vec<u8>, AllocError>
+pub fn refusal_line(
+    alloc: Global,
+    sources: &[String],
+    refusal: &Refusal,
+) -> Result<Vec<u8>, AllocError>
     ensures { IfOk result (λ line. line.items ≡ line_of (bytes_of sources.now) refusal.now) }
 {
     let mut line = Vec::new(alloc);

@@ -61,13 +61,20 @@ fn goal_text(alloc: Global, number: usize, answer: Answer, goal: &str) -> Result
     ensures { IfOk result (λ text. string_bytes text ≡ goal_line number answer goal.now) }
 {
     match answer {
-        Answer::Covered { input } => Ok(format!(in alloc; "goal {number} covered {input} {goal}\n")?),
+        Answer::Covered { input } => Ok(format!(in alloc;
+            "goal {number} covered {input} {goal}\n"
+        )?),
         Answer::Missed => Ok(format!(in alloc; "goal {number} missed {goal}\n")?),
     }
 }
 
 // A line for each input.
-fn push_inputs(alloc: Global, text: &mut String, kind: Kind, ends: &[RunEnd]) -> Result<(), AllocError>
+fn push_inputs(
+    alloc: Global,
+    text: &mut String,
+    kind: Kind,
+    ends: &[RunEnd],
+) -> Result<(), AllocError>
     ensures { OnOk result (string_bytes text.new ≡ string_bytes text.old ++ input_lines kind 1 ends.now) }
 {
     for place in 0..ends.len() {
@@ -78,7 +85,12 @@ fn push_inputs(alloc: Global, text: &mut String, kind: Kind, ends: &[RunEnd]) ->
 }
 
 // A line for each goal.
-fn push_goals(alloc: Global, text: &mut String, answers: &[Answer], goals: &[String]) -> Result<(), AllocError>
+fn push_goals(
+    alloc: Global,
+    text: &mut String,
+    answers: &[Answer],
+    goals: &[String],
+) -> Result<(), AllocError>
     requires { length goals.now ≡ length answers.now }
     ensures { OnOk result (string_bytes text.new ≡ string_bytes text.old ++ goal_lines 1 answers.now (map string_bytes goals.now)) }
 {

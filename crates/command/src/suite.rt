@@ -32,7 +32,11 @@ fn is_redundant(goals: &[u32], number: u32, answers: &[Answer], later: &[Answer]
 }
 
 /// The numbers of the inputs that are kept, rising, where `answers` has the answer of each goal.
-pub fn reduce(alloc: Global, hits: &[Vector<u32>], answers: &[Answer]) -> Result<Vec<u32>, AllocError>
+pub fn reduce(
+    alloc: Global,
+    hits: &[Vector<u32>],
+    answers: &[Answer],
+) -> Result<Vec<u32>, AllocError>
     requires few { length hits.now < 2 ^ 32 }
     requires goals { IsTrue (list_all (are_goals (length answers.now)) hits.now) }
     requires answers { answers.now ≡ answers_of hits.now (length answers.now) }

@@ -6,6 +6,7 @@ use std::process::Abort;
 use std::test::Fail;
 
 const A_C: &str = "int f(int x) {\n  if (x > 10) {\n    return 1;\n  }\n  return 0;\n}\n";
+
 const QUERY: &str = "cover EDGES(ID)";
 
 fn words(alloc: Global, texts: &[&str]) -> Result<Vec<String>, Fail> {
@@ -85,7 +86,10 @@ fn relations_and_conversions(rt: HostRuntime) -> Result<(), Fail> {
         let words = words(alloc, &["measure", "f", QUERY, "in.txt", "a.c"])?;
         let mut out = VecSink::new(alloc);
         let mut err = VecSink::new(alloc);
-        assert_eq!(rt; run(alloc, &words, &mut files, &mut out, &mut err), Status::Done);
+        assert_eq!(rt;
+            run(alloc, &words, &mut files, &mut out, &mut err),
+            Status::Done
+        );
         let mut want = String::from_str(alloc, "goals 4 inputs 6\n")?;
         for (place, value) in ends.split(' ').enumerate() {
             let line = format!(in alloc; "input {} returned {value}\n", place.saturating_add(1))?;
@@ -116,7 +120,15 @@ fn what_is_not_built(rt: HostRuntime) -> Result<(), Fail> {
     ] {
         compare(&rt, rt.alloc(), source, "1\n", want)?;
     }
-    for inputs in ["1 2\n", "x\n", "+1\n", "18446744073709551616\n", "[1]", "1\x0b\n", "\u{a0}1"] {
+    for inputs in [
+        "1 2\n",
+        "x\n",
+        "+1\n",
+        "18446744073709551616\n",
+        "[1]",
+        "1\x0b\n",
+        "\u{a0}1",
+    ] {
         compare(&rt, rt.alloc(), A_C, inputs, want)?;
     }
     Ok(())
@@ -129,7 +141,13 @@ fn limits(rt: HostRuntime) -> Result<(), Fail> {
     let blanks = vec![in alloc; b' '; 65_536 - A_C.len()]?;
     let mut source = String::from_str(alloc, A_C)?;
     source.push_str(str::from_utf8(&blanks)?)?;
-    compare(&rt, alloc, source.as_str(), "5\n11\n", (Status::Done, TWO_INPUTS, ""))?;
+    compare(
+        &rt,
+        alloc,
+        source.as_str(),
+        "5\n11\n",
+        (Status::Done, TWO_INPUTS, ""),
+    )?;
     source.push_str("\n")?;
     let want = (Status::NotBuilt, "", "error 1 NotBuilt\n");
     compare(&rt, alloc, source.as_str(), "5\n11\n", want)?;
@@ -174,7 +192,10 @@ fn words_that_are_no_command(rt: HostRuntime) -> Result<(), Fail> {
 #[test]
 fn a_read_fails(rt: HostRuntime) -> Result<(), Fail> {
     let alloc = rt.alloc();
-    for (failing, want) in [(0, "error 7 ReadFault a.c\n"), (1, "error 7 ReadFault in.txt\n")] {
+    for (failing, want) in [
+        (0, "error 7 ReadFault a.c\n"),
+        (1, "error 7 ReadFault in.txt\n"),
+    ] {
         let mut files = files(alloc, &[("a.c", A_C), ("in.txt", "1")], &[failing])?;
         let words = words(alloc, &["measure", "f", QUERY, "in.txt", "a.c"])?;
         let mut out = VecSink::new(alloc);
@@ -207,8 +228,15 @@ fn a_write_fails_in_mid_stream(rt: HostRuntime) -> Result<(), Fail> {
 // An input that hits what an earlier one hits is dropped: the inputs are tried from the last to the first.
 #[test]
 fn a_reduced_suite(rt: HostRuntime) -> Result<(), Fail> {
-    let want = "goals 4 inputs 4\ninput 1 returned 0\ninput 2 returned 0\ninput 3 returned 1\ninput 4 returned 1\n\
+    let want =
+        "goals 4 inputs 4\ninput 1 returned 0\ninput 2 returned 0\ninput 3 returned 1\ninput 4 returned 1\n\
 goal 1 covered 3 e0@a.c:2\ngoal 2 covered 1 e1@a.c:2\ngoal 3 covered 3 e2@a.c:3\ngoal 4 covered 1 e3@a.c:5\n\
 suite 1 3\ncovered 4 of 4\n";
-    compare(&rt, rt.alloc(), A_C, "5\n6\n11\n12\n", (Status::Done, want, ""))
+    compare(
+        &rt,
+        rt.alloc(),
+        A_C,
+        "5\n6\n11\n12\n",
+        (Status::Done, want, ""),
+    )
 }

@@ -10,5 +10,8 @@ compared-requires-clause-right c = small_value c.args.program.now.bound c.requir
 
 pub returns : goal.returns
 returns c =
-    c.compared.ensures ∙ rw (c.convert-argument.ensures.number, word_number c.args.word,
-      small_number c.args.program.now.bound c.requires.bound) refl
+    c.compared.ensures ∙ rw (
+      c.convert-argument.ensures.number,
+      word_number c.args.word,
+      small_number c.args.program.now.bound c.requires.bound,
+    ) refl

@@ -1,4 +1,4 @@
-use Rattle.std.proofs.Common.{◌≡◌, take, vec_len, length}
+use Rattle.std.proofs.Common.{◌≡◌, take, vec_len}
 use Rattle.command.specs.Measured.{answers_of}
 use Rattle.command.proofs.measurer.answers.Given as goal
 

@@ -7,7 +7,7 @@ pub loop-goal-preserved : goal.loop-goal-preserved
 loop-goal-preserved c =
     let range = goal_in_range _ _ c.loop-goal.goal-index c.requires c.loop-goal-test.true in
     let room : get_or c.args.goals.now c.loop-goal.goal-index 0 - 1 < length c.loop-goal.answers =
-        omega (arith, range.0, range.1, c.loop-goal.invariant.same_length) in
+    omega (arith, range.0, range.1, c.loop-goal.invariant.same_length) in
     record {
       same_length = rw length-set c.loop-goal.invariant.same_length;
       so_far =

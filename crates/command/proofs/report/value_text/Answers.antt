@@ -1,6 +1,5 @@
-use Rattle.std.proofs.Common.{ap, ◌∙◌, to_z, w64}
+use Rattle.std.proofs.Common.{w64}
 use Rattle.std.proofs.lemmas.Int.{of_z-to_z}
-use Rattle.std.specs.Fmt.{signed_decimal}
 use Rattle.command.proofs.ReportLaws.{number_of-signed, number_of-unsigned}
 use Rattle.command.proofs.report.value_text.Goals as goal
 

@@ -1,4 +1,4 @@
-use Rattle.std.proofs.Common.{◌≡◌, None, Some, option_map, refl, sym, ap, ◌∙◌, arith}
+use Rattle.std.proofs.Common.{option_map, sym, ap, ◌∙◌}
 use Rattle.std.proofs.lemmas.Result.{err_from_is_err_and}
 use Rattle.command.specs.Asked.{asked}
 use Rattle.command.proofs.DueLaws.{due_inputs_failure, due_long_inputs, due_long_source, due_no_inputs, due_no_program, due_report, due_source_failure, due_usage}

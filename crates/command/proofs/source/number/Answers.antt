@@ -11,5 +11,5 @@ returns-in-Number-clause-small c = λ numeral.
 pub returns-in_default : goal.returns-in_default
 returns-in_default c =
     let never : is_numeral c.args.text.now ≡ true → ⊥ = λ numeral.
-        c.in_default.not-Number _ (c.word_of.ensures ∙ numeral_word c.args.text.now numeral) in
+    c.in_default.not-Number _ (c.word_of.ensures ∙ numeral_word c.args.text.now numeral) in
     record { number = λ numeral. absurd (never numeral); small = λ numeral. absurd (never numeral) }

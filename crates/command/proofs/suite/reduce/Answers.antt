@@ -1,4 +1,4 @@
-use Rattle.std.proofs.Common.{◌≡◌, true, ◌+◌, ◌-◌, ◌<◌, length, get_or, sym, ◌∙◌, arith}
+use Rattle.std.proofs.Common.{◌≡◌, true, ◌+◌, ◌-◌, ◌<◌, length, sym, ◌∙◌, arith}
 use Rattle.std.proofs.Math.Seq.{take-append_seam}
 use Rattle.command.specs.Marks.{are_goals}
 use Rattle.command.proofs.MarksLaws.{answers_of-none, list_all-get_or}
@@ -20,9 +20,9 @@ loop-place-preserved c =
     let is = c.as_slice-goals.ensures ∙ c.index-hits-place.is in
     let within : c.loop-place.place - 1 < length c.args.hits.now = omega (arith, c.loop-place-test.true, c.loop-place.auto.place) in
     let goals : are_goals (length c.args.answers.now) c.as_slice-goals.result.now ≡ true =
-        rw is (list_all-get_or _ c.args.hits.now _ _ c.requires.goals within) in
+    rw is (list_all-get_or _ c.args.hits.now _ _ c.requires.goals within) in
     let before = kept_before _ _ _ _ _ _ _ c.loop-place-test.true c.loop-place.auto.place is goals c.requires.answers
-        (c.deref.ensures.value ∙ c.loop-place.invariant.later) c.is_redundant.ensures in
+    (c.deref.ensures.value ∙ c.loop-place.invariant.later) c.is_redundant.ensures in
     let same = rw c.if-not-is_redundant.false at before in
     record {
       numbers = rw same c.loop-place.invariant.numbers;
@@ -36,9 +36,9 @@ loop-place-preserved-in-Continue-branch-2 c =
     let is = c.as_slice-goals.ensures ∙ c.index-hits-place.is in
     let within : c.loop-place.place - 1 < length c.args.hits.now = omega (arith, c.loop-place-test.true, c.loop-place.auto.place) in
     let goals : are_goals (length c.args.answers.now) c.as_slice-goals.result.now ≡ true =
-        rw is (list_all-get_or _ c.args.hits.now _ _ c.requires.goals within) in
+    rw is (list_all-get_or _ c.args.hits.now _ _ c.requires.goals within) in
     let before = kept_before _ _ _ _ _ _ _ c.loop-place-test.true c.loop-place.auto.place is goals c.requires.answers
-        (c.deref.ensures.value ∙ c.loop-place.invariant.later) c.is_redundant.ensures in
+    (c.deref.ensures.value ∙ c.loop-place.invariant.later) c.is_redundant.ensures in
     let kept = rw c.if-not-is_redundant.true at before in
     let long : c.loop-place.later.len ≡ length c.mark.new.answers = sym c.deref_mut.ensures.len ∙ sym c.mark.auto.answers in
     record {
