@@ -22,6 +22,8 @@ mod kinds;
 pub mod laws;
 mod operators;
 mod shifts;
+#[cfg(test)]
+mod tests;
 
 pub use arithmetic::{add, mul, neg, sub};
 pub use bitwise::{and, not, or, xor};
