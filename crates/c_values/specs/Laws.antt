@@ -85,7 +85,8 @@ pub record UsualConversions (p q c : Kind) : Type 0 where
   pub greater_rank : p.signed ≡ q.signed → q.width ≤ p.width → c ≡ p
   -- the one without a sign, where its rank is not below the other's
   pub without_sign : p.signed ≡ false → q.signed ≡ true → q.width ≤ p.width → c ≡ p
-  -- the one with a sign, where it has all numbers of the other
+  -- the one with a sign, where its rank is above the other's: it then has all of the other's numbers, so that the
+  -- last rule, for one that has not, never applies
   pub with_sign : p.signed ≡ true → q.signed ≡ false → q.width < p.width → c ≡ p
 
 abbrev pub CommonKinds : Type 0
