@@ -1,13 +1,13 @@
 -- The bits of values: what `&`, `|`, `^` and `~` leave, and that fit keeps the lowest bits.
-use Rattle.std.proofs.Common.{◌≡◌, ℕ, ◌+◌, ◌-◌, ◌/◌, ◌%◌, ◌^◌, ◌<◌, ◌≤◌, Bool, true, false, ℤ, pos, ◌-ℤ◌, refl, sym, ap, ◌∙◌, subst, inl, inr, ⊎_elim, arith, bit_and, bit_or, bit_xor}
+use Rattle.std.proofs.Common.{◌≡◌, ℕ, ◌+◌, ◌-◌, ◌*◌, ◌/◌, ◌%◌, ◌^◌, ◌<◌, ◌≤◌, Bool, true, false, cond, ℤ, pos, ◌-ℤ◌, refl, sym, ap, ◌∙◌, subst, inl, inr, ⊎_elim, arith, bit_and, bit_or, bit_xor}
 use Rattle.std.specs.Prelude.{◌⊎◌}
 use Rattle.std.specs.Int.{bit_at, bit_not, w64}
 use Rattle.std.proofs.lemmas.Int.{ints}
-use Rattle.std.proofs.lemmas.Nat.{and_le_l, or_lt, xor_lt, and_shr, or_shr, xor_shr, shr_split}
-use Rattle.std.proofs.lemmas.Nat.Bits.{bit_at_not, bit_at_cat_low}
-use native.Mathlib.Nat.{mod-eq_of_lt}
+use Rattle.std.proofs.lemmas.Nat.{and_le_l, or_lt, xor_lt, and_shr, or_shr, xor_shr, shr_split, pow_pos, pow-add}
+use Rattle.std.proofs.lemmas.Nat.Bits.{bit_at_not, bit_at_cat_low, bit_at_cat_high, bit_at_above, bit_at_ones}
+use native.Mathlib.Nat.{mod-lt, mod-eq_of_lt}
 use Rattle.c_values.specs.declared.kinds.Kind.{Kind}
-use Rattle.c_values.specs.Kind.{IsKind, IsValue, IsInRange, least, greatest, number_of, reading, residue, pattern_of, fit, wrapped}
+use Rattle.c_values.specs.Kind.{IsKind, IsValue, IsInRange, least, greatest, number_of, reading, twos_complement, residue, pattern_of, fit, wrapped}
 use Rattle.c_values.specs.Operations.{complement_of}
 use Rattle.c_values.proofs.Residues.{residue_is}
 use Rattle.c_values.proofs.Fitting.{IsWidth, width_is, by_width, by_kind, twos_cases, residue-lt, residue-residue, value_parts, value_from_parts, IsValue-wrapped}
@@ -70,6 +70,69 @@ IsValue-complement_of kind a k = IsValue-wrapped kind (pos (bit_not w64 a)) k
 pub complement_of-machine : (kind : Kind) (a : ℕ) → wrapped kind (pos (bit_not w64 a)) ≡ complement_of kind a
 unfolding complement_of
 complement_of-machine kind a = refl
+
+-- ---- the bits above the width
+
+halved : (w r : ℕ) → 2 ^ (w - 1) ≤ r → r < 2 ^ w → 2 ^ w ≡ 2 ^ (w - 1) + 2 ^ (w - 1) → bit_at r (w - 1) ≡ 1
+halved w r low high e =
+    let rest = r - 2 ^ (w - 1) in
+    let is : r ≡ 1 * 2 ^ (w - 1) + rest = omega arith in
+    ap (λ x. bit_at x (w - 1)) is ∙ bit_at_cat_high 1 (w - 1) rest (w - 1) (omega arith) (omega arith)
+    ∙ ap (bit_at 1) (let z : w - 1 - (w - 1) ≡ 0 = omega arith in z)
+
+-- a kind without sign has zeros there
+high_unsigned : (w r i : ℕ) → IsWidth w → r < 2 ^ w → w ≤ i → bit_at (residue (pos r) (2 ^ 64)) i ≡ 0
+unfolding residue
+high_unsigned w r i k h l =
+    let a = k.halves in
+    let b = k.within in
+    let whole : r % 2 ^ 64 ≡ r = mod-eq_of_lt (omega arith) in
+    ap (λ x. bit_at x i) whole ∙ bit_at_above r w i h l
+
+-- one with a sign has its highest bit there
+ones_above : (w r i : ℕ) → w ≤ 64 → r < 2 ^ w → w ≤ i → i < 64 → bit_at (2 ^ 64 - 2 ^ w + r) i ≡ 1
+ones_above w r i m h l t =
+    let whole : 2 ^ (64 - w + w) ≡ 2 ^ (64 - w) * 2 ^ w = pow-add 2 (64 - w) w in
+    let same : 64 - w + w ≡ 64 = omega arith in
+    let product : 2 ^ 64 ≡ 2 ^ (64 - w) * 2 ^ w = ap (λ n. 2 ^ n) (sym same) ∙ whole in
+    let some = pow_pos (64 - w) in
+    let ones = 2 ^ (64 - w) - 1 in
+    let next : 2 ^ (64 - w) ≡ ones + 1 = omega arith in
+    let times : 2 ^ (64 - w) * 2 ^ w ≡ (ones + 1) * 2 ^ w = ap (λ x. x * 2 ^ w) next in
+    let is : 2 ^ 64 - 2 ^ w + r ≡ ones * 2 ^ w + r = omega arith in
+    ap (λ x. bit_at x i) is ∙ bit_at_cat_high ones w r i h l ∙ bit_at_ones (64 - w) (i - w) (omega arith)
+
+high_signed : (w r i : ℕ) → IsWidth w → 1 ≤ w → w ≤ 64 → r < 2 ^ w → w ≤ i → i < 64 → bit_at (residue (twos_complement w r) (2 ^ 64)) i ≡ bit_at r (w - 1)
+unfolding residue
+high_signed w r i k n m h l t =
+    let a = k.halves in
+    let b = k.within in
+    ⊎_elim
+    (λ c. (let small = c.0 in
+    let whole : r % 2 ^ 64 ≡ r = mod-eq_of_lt (omega arith) in
+    ap (λ z. bit_at (residue z (2 ^ 64)) i) c.1 ∙ ap (λ x. bit_at x i) whole
+    ∙ bit_at_above r w i h l ∙ sym (bit_at_above r (w - 1) (w - 1) small (omega arith))))
+    (λ c. (let large = c.0 in
+    let d = k.parts in
+    let whole = 2 ^ 64 - 2 ^ w + r in
+    let small : whole < 2 ^ 64 = omega arith in
+    let is : residue (pos r -ℤ pos (2 ^ w)) (2 ^ 64) ≡ whole =
+    residue_is (pos r -ℤ pos (2 ^ w)) (2 ^ 64) 1 whole (omega arith) (omega (arith, ints)) ∙ mod-eq_of_lt small in
+    ap (λ z. bit_at (residue z (2 ^ 64)) i) c.1 ∙ ap (λ x. bit_at x i) is ∙ ones_above w r i m h l t ∙ sym (halved w r large h a)))
+    (twos_cases w r)
+
+sign_place : (kind : Kind) (bits : ℕ) → IsKind kind → bit_at (bits % 2 ^ kind.width) (kind.width - 1) ≡ bit_at bits (kind.width - 1)
+sign_place kind bits k = let some = width_some kind k in sym (bit_at-low kind.width bits (kind.width - 1) (omega arith))
+
+high_bit : (s : Bool) (w bits i : ℕ) → IsWidth w → 1 ≤ w → w ≤ 64 → w ≤ i → i < 64 → bit_at (residue (reading s w (bits % 2 ^ w)) (2 ^ 64)) i ≡ cond s (bit_at (bits % 2 ^ w) (w - 1)) 0
+high_bit true w bits i k n m l t = high_signed w (bits % 2 ^ w) i k n m (mod-lt bits (omega (arith, k.halves, k.half))) l t
+high_bit false w bits i k n m l t = high_unsigned w (bits % 2 ^ w) i k (mod-lt bits (omega (arith, k.halves, k.half))) l
+
+pub bit_at-wrapped_high : (kind : Kind) (bits i : ℕ) → IsKind kind → kind.width ≤ i → i < 64 → bit_at (wrapped kind (pos bits)) i ≡ cond kind.signed (bit_at bits (kind.width - 1)) 0
+unfolding wrapped fit pattern_of residue
+bit_at-wrapped_high kind bits i k l t =
+    high_bit kind.signed kind.width bits i (width_is kind k) (width_some kind k) (width_below kind k) l t
+    ∙ ap (λ x. cond kind.signed x 0) (sign_place kind bits k)
 
 -- ---- the bits of two values
 

@@ -1,19 +1,24 @@
 -- The proofs of the laws.
-use Rattle.std.proofs.Common.{◌≡◌, ℕ, ◌+◌, ◌-◌, ◌*◌, ◌^◌, ◌<◌, ◌≤◌, Bool, true, false, cond, ℤ, pos, negsuc, ◌+ℤ◌, ◌-ℤ◌, ◌*ℤ◌, refl, sym, ap, ◌∙◌, subst, ⊎_elim, arith}
-use Rattle.std.specs.Prelude.{nat_le, int_div, int_rem, unsigned_abs}
+use Rattle.std.proofs.Common.{◌≡◌, ℕ, ◌+◌, ◌-◌, ◌*◌, ◌^◌, ◌<◌, ◌≤◌, Bool, true, false, cond, ℤ, pos, negsuc, ◌+ℤ◌, ◌-ℤ◌, ◌*ℤ◌, Some, None, refl, sym, ap, ◌∙◌, subst, ⊎_elim, arith, bit_and, bit_or, bit_xor}
+use Rattle.std.specs.Prelude.{◌↔◌, ◌≤ℤ◌, ◌||◌, not, nat_le, int_lt, int_div, int_rem, unsigned_abs, is_none, IsTrue}
+use Rattle.std.specs.Int.{int_shr}
 use Rattle.std.proofs.lemmas.Bool.{cases_lt}
 use Rattle.std.proofs.lemmas.Bool.Decides.{nat_tests}
 use Rattle.std.proofs.lemmas.Int.{ints, quot-rem, rem_below}
 use Rattle.std.proofs.Math.Nat.{pow-le-pow_right}
-use borrow.Author.Differences.{up, down, same_in, same_out, sum_is_lem, product_is}
+use borrow.Author.Differences.{up, down, same_in, same_out, sum_is_lem, product_is, false_is_lt}
 use lib.IntN.{*ℤ_comm}
 use Rattle.c_values.specs.declared.kinds.Kind.{Kind}
-use Rattle.c_values.specs.Kind.{IsKind, IsValue, IsInRange, least, greatest, number_of, reading, residue, pattern_of, fit, wrapped, converted, promoted, common, wider, joined}
-use Rattle.c_values.specs.Operations.{has_quotient}
-use Rattle.c_values.specs.Laws.{ResidueIsAMultipleAway, ValuesArePatternsOfNumbers, NumbersHavePatterns, FitIsTheOne, FitIsIdempotent, IsSameIn, FitOfSum, FitOfDifference, FitOfProduct, ConversionKeepsNumbersInRange, WideningKeepsNumbers, Promotions, UsualConversions, CommonKinds, CommonIsSymmetric, QuotientAndRemainder}
+use Rattle.c_values.specs.Kind.{IsKind, IsValue, IsInRange, least, greatest, number_of, reading, residue, pattern_of, fit, wrapped, converted, int, promoted, common, wider, joined}
+use Rattle.c_values.specs.declared.operators.UnaryOp.TheVariants.{Neg, Complement, Not}
+use Rattle.c_values.specs.declared.operators.BinaryOp.TheVariants.{Add, Sub, Mul, Div, Rem, Shl, Shr, And, Or, Xor, Less, LessEqual, Greater, GreaterEqual, Equal, NotEqual}
+use Rattle.c_values.specs.Operations.{is_zero_divisor, is_overflow_divisor, has_quotient, quotient_of, remainder_of, is_shift_amount, left_shift_of, right_shift_of, is_less, is_equal, sum_of, difference_of, product_of, truth_of}
+use Rattle.c_values.specs.Laws.{ResidueIsAMultipleAway, ValuesArePatternsOfNumbers, NumbersHavePatterns, FitIsTheOne, FitIsIdempotent, IsSameIn, FitOfSum, FitOfDifference, FitOfProduct, ConversionKeepsNumbersInRange, WideningKeepsNumbers, Promotions, UsualConversions, CommonKinds, CommonIsSymmetric, QuotientAndRemainder, UnaryValuesAreValues, BinaryValuesAreValues, MissingValues, Comparisons, BitsOfFit}
 use Rattle.c_values.proofs.Residues.{apart, residue-add, residue-sub, residue-mul_left}
-use Rattle.c_values.proofs.Fitting.{width_is, by_kind, residue-lt, fit_in_range, fit_same, value_parts, value_from_parts, IsValue-wrapped, number_of-wrapped, pattern_of-number_of, number_of-pattern_of}
-use Rattle.c_values.proofs.Bits.{residue-fit, width_some}
+use Rattle.c_values.proofs.Fitting.{width_is, by_kind, IsValue-truth_of, residue-lt, fit_in_range, fit_same, value_parts, value_from_parts, IsValue-wrapped, number_of-wrapped, pattern_of-number_of, number_of-pattern_of}
+use Rattle.c_values.proofs.Bits.{residue-fit, width_some, IsValue-complement_of, IsValue-bit_and, IsValue-bit_or, IsValue-bit_xor, bit_at-wrapped, bit_at-wrapped_high}
+use Rattle.c_values.proofs.Sums.{kind_of, IsValue-sum_of, IsValue-difference_of, IsValue-product_of, IsValue-negative_of}
+use Rattle.c_values.proofs.Machine.{is_less-tells, is_equal-tells}
 use Rattle.c_values.proofs.Quotients.{no_zero, quotient_of-some, quotient_of-none, remainder_of-some, number_of-quotient, number_of-remainder}
 use Rattle.c_values.proofs.Ranks.{promoted-narrow, promoted-wide, common-left, common-from, mixed-low, mixed-high}
 
@@ -218,3 +223,93 @@ quotient_and_remainder kind a b q r h k e f =
       subst (λ z. unsigned_abs z < unsigned_abs (number_of kind b)) (sym n) (rem_below (number_of kind a) (number_of kind b) some),
     ))
     (λ d. absurd (let x = quotient_of-none kind a b d in cc))
+
+-- ---- the values of operators
+
+pub unary_values_are_values : UnaryValuesAreValues
+unary_values_are_values Neg kind a h = IsValue-negative_of kind a (kind_of kind a h)
+unary_values_are_values Complement kind a h = IsValue-complement_of kind a (kind_of kind a h)
+unary_values_are_values Not kind a h = IsValue-truth_of (is_equal kind a 0)
+
+-- what a test of a number lets through
+some_value : (P : ℕ → Type 0) (t : Bool) (n v : ℕ) → P n → cond t None (Some n) ≡ Some v → P v
+some_value P true n v p e = cc
+some_value P false n v p e = (let same : n ≡ v = cc in subst P same p)
+
+shift_value : (P : ℕ → Type 0) (t : Bool) (n v : ℕ) → P n → cond t (Some n) None ≡ Some v → P v
+shift_value P true n v p e = (let same : n ≡ v = cc in subst P same p)
+shift_value P false n v p e = cc
+
+known : (P : ℕ → Type 0) (n v : ℕ) → P n → Some n ≡ Some v → P v
+known P n v p e = (let same : n ≡ v = cc in subst P same p)
+
+pub binary_values_are_values : BinaryValuesAreValues
+unfolding quotient_of remainder_of left_shift_of right_shift_of
+binary_values_are_values Add kind right a b v h k s e = known (IsValue kind) (sum_of kind a b) v (IsValue-sum_of kind a b (kind_of kind a h)) e
+binary_values_are_values Sub kind right a b v h k s e = known (IsValue kind) (difference_of kind a b) v (IsValue-difference_of kind a b (kind_of kind a h)) e
+binary_values_are_values Mul kind right a b v h k s e = known (IsValue kind) (product_of kind a b) v (IsValue-product_of kind a b (kind_of kind a h)) e
+binary_values_are_values Div kind right a b v h k s e =
+    let n = int_div (number_of kind a) (number_of kind b) in
+    some_value (IsValue kind) (is_zero_divisor kind b || is_overflow_divisor kind a b) (wrapped kind n) v (IsValue-wrapped kind n (kind_of kind a h)) e
+binary_values_are_values Rem kind right a b v h k s e =
+    let n = int_rem (number_of kind a) (number_of kind b) in
+    some_value (IsValue kind) (is_zero_divisor kind b || is_overflow_divisor kind a b) (wrapped kind n) v (IsValue-wrapped kind n (kind_of kind a h)) e
+binary_values_are_values Shl kind right a b v h k s e =
+    let n = number_of kind a *ℤ pos (2 ^ b) in
+    shift_value (IsValue kind) (is_shift_amount kind right b) (wrapped kind n) v (IsValue-wrapped kind n (kind_of kind a h)) e
+binary_values_are_values Shr kind right a b v h k s e =
+    let n = int_shr (number_of kind a) b in
+    shift_value (IsValue kind) (is_shift_amount kind right b) (wrapped kind n) v (IsValue-wrapped kind n (kind_of kind a h)) e
+binary_values_are_values And kind right a b v h k s e =
+    known (IsValue kind) (bit_and a b) v (IsValue-bit_and kind a b h (subst (λ x. IsValue x b) (s refl) k)) e
+binary_values_are_values Or kind right a b v h k s e =
+    known (IsValue kind) (bit_or a b) v (IsValue-bit_or kind a b h (subst (λ x. IsValue x b) (s refl) k)) e
+binary_values_are_values Xor kind right a b v h k s e =
+    known (IsValue kind) (bit_xor a b) v (IsValue-bit_xor kind a b h (subst (λ x. IsValue x b) (s refl) k)) e
+binary_values_are_values Less kind right a b v h k s e = known (IsValue int) (truth_of (is_less kind a b)) v (IsValue-truth_of (is_less kind a b)) e
+binary_values_are_values LessEqual kind right a b v h k s e = known (IsValue int) (truth_of (not (is_less kind b a))) v (IsValue-truth_of (not (is_less kind b a))) e
+binary_values_are_values Greater kind right a b v h k s e = known (IsValue int) (truth_of (is_less kind b a)) v (IsValue-truth_of (is_less kind b a)) e
+binary_values_are_values GreaterEqual kind right a b v h k s e = known (IsValue int) (truth_of (not (is_less kind a b))) v (IsValue-truth_of (not (is_less kind a b))) e
+binary_values_are_values Equal kind right a b v h k s e = known (IsValue int) (truth_of (is_equal kind a b)) v (IsValue-truth_of (is_equal kind a b)) e
+binary_values_are_values NotEqual kind right a b v h k s e = known (IsValue int) (truth_of (not (is_equal kind a b))) v (IsValue-truth_of (not (is_equal kind a b))) e
+
+no_value : (t : Bool) (n : ℕ) → is_none (cond t None (Some n)) ≡ (not (not t) || false)
+no_value true n = refl
+no_value false n = refl
+
+no_shift : (t : Bool) (n : ℕ) → is_none (cond t (Some n) None) ≡ not t
+no_shift true n = refl
+no_shift false n = refl
+
+pub missing_values : MissingValues
+unfolding quotient_of remainder_of left_shift_of right_shift_of
+missing_values Add kind right a b = refl
+missing_values Sub kind right a b = refl
+missing_values Mul kind right a b = refl
+missing_values Div kind right a b = no_value (is_zero_divisor kind b || is_overflow_divisor kind a b) (wrapped kind (int_div (number_of kind a) (number_of kind b)))
+missing_values Rem kind right a b = no_value (is_zero_divisor kind b || is_overflow_divisor kind a b) (wrapped kind (int_rem (number_of kind a) (number_of kind b)))
+missing_values Shl kind right a b = no_shift (is_shift_amount kind right b) (wrapped kind (number_of kind a *ℤ pos (2 ^ b)))
+missing_values Shr kind right a b = no_shift (is_shift_amount kind right b) (wrapped kind (int_shr (number_of kind a) b))
+missing_values And kind right a b = refl
+missing_values Or kind right a b = refl
+missing_values Xor kind right a b = refl
+missing_values Less kind right a b = refl
+missing_values LessEqual kind right a b = refl
+missing_values Greater kind right a b = refl
+missing_values GreaterEqual kind right a b = refl
+missing_values Equal kind right a b = refl
+missing_values NotEqual kind right a b = refl
+
+clear : (t : Bool) → not t ≡ true → t ≡ false
+clear true e = cc
+clear false e = refl
+
+not_below : (x y : ℤ) → IsTrue (not (int_lt y x)) ↔ (x ≤ℤ y)
+not_below x y = (λ t. (let e = clear (int_lt y x) t in omega (arith, ints)), λ h. ap not (sym (false_is_lt y x (omega (arith, ints)))))
+
+pub comparisons : Comparisons
+unfolding is_less
+comparisons kind a b = (is_less-tells kind a b, not_below (number_of kind a) (number_of kind b), is_equal-tells kind a b)
+
+pub bits_of_fit : BitsOfFit
+bits_of_fit kind bits i k h = (bit_at-wrapped kind bits i k, λ l. bit_at-wrapped_high kind bits i k l h)

@@ -1,8 +1,11 @@
 -- What follows from the definitions of kinds, fit and the operators, for those who rest on them.
-use Rattle.std.specs.Prelude.{◌≡◌, ◌↔◌, ℕ, ◌^◌, ◌<◌, ◌≤◌, true, false, ℤ, pos, ◌+ℤ◌, ◌-ℤ◌, ◌*ℤ◌, unsigned_abs, Some}
+use Rattle.std.specs.Prelude.{◌≡◌, ◌↔◌, ℕ, ◌^◌, ◌<◌, ◌≤◌, true, false, ℤ, pos, ◌+ℤ◌, ◌-ℤ◌, ◌*ℤ◌, unsigned_abs, Some, ◌-◌, ◌<ℤ◌, ◌≤ℤ◌, ◌&&◌, ◌||◌, not, is_none, IsTrue, if◌then◌else◌}
+use Rattle.std.specs.Int.{bit_at}
 use Rattle.c_values.specs.declared.kinds.Kind.{Kind}
-use Rattle.c_values.specs.Kind.{IsKind, IsValue, IsInRange, number_of, residue, pattern_of, fit, converted, int, promoted, common}
-use Rattle.c_values.specs.Operations.{quotient_of, remainder_of}
+use Rattle.c_values.specs.declared.operators.UnaryOp.{UnaryOp}
+use Rattle.c_values.specs.declared.operators.BinaryOp.{BinaryOp}
+use Rattle.c_values.specs.Kind.{IsKind, IsValue, IsInRange, number_of, residue, pattern_of, fit, wrapped, converted, int, promoted, common}
+use Rattle.c_values.specs.Operations.{quotient_of, remainder_of, has_quotient, is_shift_amount, is_less, is_equal, is_shift, is_division, unary_kind, unary_value, binary_kind, binary_value}
 
 -- the residue is below m, and a multiple of m away from the number
 abbrev pub ResidueIsAMultipleAway : Type 0
@@ -82,7 +85,8 @@ pub record UsualConversions (p q c : Kind) : Type 0 where
   pub greater_rank : p.signed ≡ q.signed → q.width ≤ p.width → c ≡ p
   -- the one without a sign, where its rank is not below the other's
   pub without_sign : p.signed ≡ false → q.signed ≡ true → q.width ≤ p.width → c ≡ p
-  -- the one with a sign, where it has all numbers of the other
+  -- the one with a sign, where its rank is above the other's: it then has all of the other's numbers, so that the
+  -- last rule, for one that has not, never applies
   pub with_sign : p.signed ≡ true → q.signed ≡ false → q.width < p.width → c ≡ p
 
 abbrev pub CommonKinds : Type 0
@@ -101,3 +105,35 @@ QuotientAndRemainder =
     quotient_of kind a b ≡ Some q → remainder_of kind a b ≡ Some r →
     (number_of kind q *ℤ number_of kind b +ℤ number_of kind r ≡ number_of kind a)
     × (unsigned_abs (number_of kind r) < unsigned_abs (number_of kind b))
+
+-- what an operator gives is a value of its kind
+abbrev pub UnaryValuesAreValues : Type 0
+UnaryValuesAreValues =
+    (op : UnaryOp) (kind : Kind) (a : ℕ) → IsValue kind a → IsValue (unary_kind op kind) (unary_value op kind a)
+
+abbrev pub BinaryValuesAreValues : Type 0
+BinaryValuesAreValues =
+    (op : BinaryOp) (kind right : Kind) (a b v : ℕ) → IsValue kind a → IsValue right b →
+    (is_shift op ≡ false → right ≡ kind) → binary_value op kind right a b ≡ Some v → IsValue (binary_kind op kind) v
+
+-- there is no value exactly at a division without quotient and at a shift by no amount of the kind
+abbrev pub MissingValues : Type 0
+MissingValues =
+    (op : BinaryOp) (kind right : Kind) (a b : ℕ) →
+    is_none (binary_value op kind right a b)
+    ≡ ((is_division op && not (has_quotient kind a b)) || (is_shift op && not (is_shift_amount kind right b)))
+
+-- the comparisons by numbers: `a <= b` is that b is not below a
+abbrev pub Comparisons : Type 0
+Comparisons =
+    (kind : Kind) (a b : ℕ) →
+    (IsTrue (is_less kind a b) ↔ (number_of kind a <ℤ number_of kind b))
+    × (IsTrue (not (is_less kind b a)) ↔ (number_of kind a ≤ℤ number_of kind b))
+    × (IsTrue (is_equal kind a b) ↔ (number_of kind a ≡ number_of kind b))
+
+-- fit bit by bit: the lowest bits stay, and above them each bit is that of the sign, or 0 in a kind without sign
+abbrev pub BitsOfFit : Type 0
+BitsOfFit =
+    (kind : Kind) (bits i : ℕ) → IsKind kind → i < 64 →
+    (i < kind.width → bit_at (wrapped kind (pos bits)) i ≡ bit_at bits i)
+    × (kind.width ≤ i → bit_at (wrapped kind (pos bits)) i ≡ (if kind.signed then bit_at bits (kind.width - 1) else 0))

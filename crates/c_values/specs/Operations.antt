@@ -40,6 +40,7 @@ is_equal kind a b = int_eq (number_of kind a) (number_of kind b)
 -- ---- quotients and remainders (6.5.5p5, 6.5.5p6): the quotient is rounded toward zero, and the remainder has the
 -- dividend's sign. There is none where the divisor is 0 or the quotient is no number of the kind
 
+-- the divisor is 0
 unfoldable pub is_zero_divisor : Kind → ℕ → Bool
 is_zero_divisor kind b = int_eq (number_of kind b) (pos 0)
 
@@ -48,9 +49,11 @@ unfoldable pub is_overflow_divisor : Kind → ℕ → ℕ → Bool
 is_overflow_divisor kind a b =
     kind.signed && int_eq (number_of kind a) (least kind) && int_eq (number_of kind b) (negsuc 0)
 
+-- neither of the two
 abbrev pub has_quotient : Kind → ℕ → ℕ → Bool
 has_quotient kind a b = not (is_zero_divisor kind b || is_overflow_divisor kind a b)
 
+-- the same as facts
 abbrev pub IsOverflowDivisor : Kind → ℕ → ℕ → Type 0
 IsOverflowDivisor kind a b =
     (kind.signed ≡ true) × (number_of kind a ≡ least kind) × (number_of kind b ≡ negsuc 0)
@@ -71,10 +74,12 @@ remainder_of kind a b =
 -- ---- shifts (6.5.7p3 to p5): to the left a product with a power of two, to the right a quotient by one, rounded
 -- down. There is none where the amount is negative or not below the width
 
+-- the amount is from 0 to the width less 1
 unfoldable pub is_shift_amount : Kind → Kind → ℕ → Bool
 is_shift_amount kind amount_kind amount =
     int_le (pos 0) (number_of amount_kind amount) && int_lt (number_of amount_kind amount) (pos kind.width)
 
+-- the same as a fact
 abbrev pub IsShiftAmount : Kind → Kind → ℕ → Type 0
 IsShiftAmount kind amount_kind amount =
     (pos 0 ≤ℤ number_of amount_kind amount) × (number_of amount_kind amount <ℤ pos kind.width)
@@ -112,6 +117,12 @@ abbrev pub is_shift : BinaryOp → Bool
 is_shift Shl = true
 is_shift Shr = true
 is_shift _ = false
+
+-- an operator that divides
+abbrev pub is_division : BinaryOp → Bool
+is_division Div = true
+is_division Rem = true
+is_division _ = false
 
 -- an operator that compares, whose value is an int (6.5.8p6, 6.5.9p3)
 abbrev pub is_comparison : BinaryOp → Bool

@@ -1,5 +1,5 @@
 //! Laws of the definitions in specs/. Each function does nothing: its contract is the law.
-ghost use Rattle.c_values.specs.Laws.{ResidueIsAMultipleAway, ValuesArePatternsOfNumbers, NumbersHavePatterns, FitIsTheOne, FitIsIdempotent, FitOfSum, FitOfDifference, FitOfProduct, ConversionKeepsNumbersInRange, WideningKeepsNumbers, Promotions, CommonKinds, CommonIsSymmetric, QuotientAndRemainder};
+ghost use Rattle.c_values.specs.Laws.{ResidueIsAMultipleAway, ValuesArePatternsOfNumbers, NumbersHavePatterns, FitIsTheOne, FitIsIdempotent, FitOfSum, FitOfDifference, FitOfProduct, ConversionKeepsNumbersInRange, WideningKeepsNumbers, Promotions, CommonKinds, CommonIsSymmetric, QuotientAndRemainder, UnaryValuesAreValues, BinaryValuesAreValues, MissingValues, Comparisons, BitsOfFit};
 
 /// The residue of a number modulo m is below m, and a multiple of m away from it.
 pub fn residue_is_a_multiple_away()
@@ -69,4 +69,29 @@ pub fn common_is_symmetric()
 /// Quotient and remainder give the dividend back, and the remainder is smaller than the divisor (6.5.5p6).
 pub fn quotient_and_remainder()
     ensures { QuotientAndRemainder }
+{}
+
+/// The value of an operator with one operand is a value of its kind.
+pub fn unary_values_are_values()
+    ensures { UnaryValuesAreValues }
+{}
+
+/// The value of an operator with two operands, where there is one, is a value of its kind.
+pub fn binary_values_are_values()
+    ensures { BinaryValuesAreValues }
+{}
+
+/// There is no value exactly at a division without quotient and at a shift by no amount of the kind.
+pub fn missing_values()
+    ensures { MissingValues }
+{}
+
+/// The comparisons compare numbers.
+pub fn comparisons()
+    ensures { Comparisons }
+{}
+
+/// Fit bit by bit: the lowest bits stay, and above them stands the sign, or 0 in a kind without sign.
+pub fn bits_of_fit()
+    ensures { BitsOfFit }
 {}
