@@ -240,3 +240,25 @@ suite 1 3\ncovered 4 of 4\n";
         (Status::Done, want, ""),
     )
 }
+
+// Whatever allocation is refused: the answer is the one without the refusal, or Memory with nothing on `err` and a first
+// part of the text on `out`. It is run with each allocation refused in turn, where the files and words of the test itself
+// may want memory too.
+#[test]
+fn memory_refused(rt: HostRuntime) -> Result<(), Fail> {
+    let alloc = rt.alloc();
+    let entries = [("a.c", A_C), ("in.txt", "5\n11\n")];
+    let mut files = files(alloc, &entries, &[])?;
+    let words = words(alloc, &["measure", "f", QUERY, "in.txt", "a.c"])?;
+    let mut out = VecSink::new(alloc);
+    let mut err = VecSink::new(alloc);
+    let status = run(alloc, &words, &mut files, &mut out, &mut err);
+    if status == Status::Memory {
+        assert!(rt; TWO_INPUTS.as_bytes().starts_with(out.taken()));
+    } else {
+        assert_eq!(rt; status, Status::Done);
+        assert_eq!(rt; out.taken(), TWO_INPUTS.as_bytes());
+    }
+    assert_eq!(rt; err.taken(), "".as_bytes());
+    Ok(())
+}
