@@ -1,7 +1,9 @@
 pub mod DueLaws
 pub mod Ended
 pub mod ExecutionLaws
+pub mod FirstCovering
 pub mod InputsLaws
+pub mod Irredundant
 pub mod MarksLaws
 pub mod ReportLaws
 pub mod SourceLaws

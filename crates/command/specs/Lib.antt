@@ -1,6 +1,7 @@
 pub mod Asked
 pub mod Execution
 pub mod Inputs
+pub mod Laws
 pub mod Marks
 pub mod Measured
 pub mod Refusal

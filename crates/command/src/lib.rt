@@ -15,6 +15,7 @@ mod answer;
 mod command;
 mod execution;
 mod input_text;
+pub mod laws;
 mod measurement;
 mod measurer;
 mod refusal;
