@@ -43,7 +43,14 @@ fn names_and_codes(rt: HostRuntime) -> Result<(), Fail> {
         (1, "NotBuilt"),
         (2, "Usage"),
         (7, "ReadFault"),
+        (10, "UnknownByte"),
+        (11, "OpenComment"),
+        (12, "Directive"),
+        (13, "LiteralTooWide"),
+        (14, "MacroLoop"),
+        (15, "TooManyTokens"),
         (0, ""),
+        (8, ""),
         (65535, ""),
     ] {
         assert_eq!(rt; code_name(code), want);
