@@ -5,6 +5,7 @@ use crate::vector::Vector;
 
 /// A type whose values can be compared, where equal means that contracts see the same value.
 pub trait Same {
+    /// Whether contracts see the two as one value.
     fn same(&self, other: &Self) -> bool
         ensures { IsTrue result ↔ (self.now ≡ other.now) };
 }

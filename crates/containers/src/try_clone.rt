@@ -6,6 +6,7 @@ use std::alloc::{AllocError, Global};
 
 /// A type whose values can be copied, where contracts see the copy as the same value.
 pub trait TryClone {
+    /// An equal value, or that memory was refused.
     fn try_clone(&self, alloc: Global) -> Result<Self, AllocError>
         ensures { IfOk result (λ copy. copy ≡ self.now) };
 }

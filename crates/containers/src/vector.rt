@@ -28,6 +28,7 @@ impl<T> Model for Vector<T> {
 }
 
 impl<T> Vector<T> {
+    /// An empty vector, which takes no memory yet.
     pub fn new(alloc: Global) -> Vector<T>
         ensures { result ≡ [] }
     {
@@ -36,12 +37,14 @@ impl<T> Vector<T> {
         }
     }
 
+    /// The elements of a `Vec`.
     pub fn from_vec(items: Vec<T>) -> Vector<T>
         ensures { result ≡ items.items }
     {
         Vector { items }
     }
 
+    /// The elements, as a `Vec`.
     pub fn into_vec(self) -> Vec<T>
         ensures { result.items ≡ self }
     {
@@ -49,34 +52,40 @@ impl<T> Vector<T> {
         items
     }
 
+    /// All elements, in order.
     pub fn as_slice(&self) -> &[T]
         ensures { result.now ≡ self.now }
     {
         self.items.as_slice()
     }
 
+    /// How many elements there are.
     pub fn len(&self) -> usize
         ensures { result ≡ length self.now }
     {
         self.items.len()
     }
 
+    /// Whether there are none.
     pub fn is_empty(&self) -> bool
         ensures { IsTrue result ↔ (self.now ≡ []) }
     {
         self.items.is_empty()
     }
 
+    /// The element at a place, from 0, or `None` past the end.
     pub fn get(&self, at: usize) -> Option<&T>
         ensures { option_copied result ≡ slice_get self.now at }
     {
         self.items.get(at)
     }
 
+    /// The allocator from which more room is taken.
     pub fn allocator(&self) -> Global {
         *self.items.allocator()
     }
 
+    /// Takes the last element off, or answers `None` where there is none.
     pub fn pop(&mut self) -> Option<T>
         ensures { MatchOption result ((self.old ≡ []) × (self.new ≡ [])) (λ last. self.old ≡ self.new ++ last ∷ []) }
     {
@@ -85,6 +94,7 @@ impl<T> Vector<T> {
 }
 
 impl<T: Drop> Vector<T> {
+    /// Adds an element at the end. Where memory is refused the vector stays as it was.
     pub fn push(&mut self, item: T) -> Result<(), AllocError>
         ensures ok { OnOk result (self.new ≡ self.old ++ item ∷ []) }
         ensures err { OnErr result (self.new ≡ self.old) }

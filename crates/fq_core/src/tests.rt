@@ -1,4 +1,5 @@
 use super::*;
+use containers::{Same, TryClone};
 use std::test::Fail;
 
 #[test]
@@ -39,6 +40,9 @@ fn names_and_codes(rt: HostRuntime) -> Result<(), Fail> {
         return Err(Fail::from("no memory"));
     };
     assert_eq!(rt; name.bytes(), b"a.c".as_slice());
+    let copy = name.try_clone(rt.alloc())?;
+    assert!(rt; copy.same(&name));
+    assert!(rt; name.clone()? < Name::new(rt.alloc(), b"b").map_err(|_| "no memory")?);
     for (code, want) in [
         (1, "NotBuilt"),
         (2, "Usage"),
