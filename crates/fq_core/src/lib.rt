@@ -9,6 +9,7 @@ mod memory;
 mod name;
 mod refusal;
 mod span;
+mod statement_kind;
 mod word;
 
 pub use code::code_name;
@@ -16,6 +17,7 @@ pub use memory::Memory;
 pub use name::Name;
 pub use refusal::{Fault, Place, Refusal};
 pub use span::Span;
+pub use statement_kind::StatementKind;
 pub use word::{WordText, word_of};
 
 #[cfg(test)]
