@@ -3,6 +3,7 @@
 
 mod expr;
 mod parts;
+mod rules;
 mod state;
 
 pub use c_values::{BinaryOp, UnaryOp};
