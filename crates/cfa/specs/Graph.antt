@@ -17,7 +17,7 @@ use Rattle.cfa.specs.declared.parts.Scope.{Scope}
 use Rattle.cfa.specs.declared.parts.Variable.{Variable}
 use Rattle.cfa.specs.declared.parts.VariablePlace.{VariablePlace}
 use Rattle.cfa.specs.declared.parts.VariablePlace.TheVariants as variable
-use Rattle.cfa.specs.Each.{Each}
+use Rattle.cfa.specs.Each.{Each, matched}
 use Rattle.cfa.specs.Rules.{Room, array_fits, place_fits, expr_fits, checked_kind, has_kind, is_length}
 
 -- ---- what the numbers name
@@ -75,19 +75,17 @@ abbrev pub dest_fits : Room → Option CellPlace → Bool
 dest_fits room None = true
 dest_fits room (Some place) = place_fits room place
 
--- an array that may be lent: its length is the parameter's
+-- arrays that may be lent, of these lengths
 abbrev pub arrays_fit : Room → List ArrayPlace → List ℕ → Bool
-arrays_fit room [] [] = true
-arrays_fit room (place ∷ places) (length ∷ lengths) = array_fits room place length && arrays_fit room places lengths
-arrays_fit room [] (length ∷ lengths) = false
-arrays_fit room (place ∷ places) [] = false
+arrays_fit room places lengths = matched (array_fits room) places lengths
 
--- words meet the rules, and are of these kinds
+-- a word meets the rules, and is of a kind
+abbrev pub word_fits : Room → Expr → Kind → Bool
+word_fits room word kind = has_kind (checked_kind room word) kind
+
+-- words of these kinds
 abbrev pub words_fit : Room → List Expr → List Kind → Bool
-words_fit room [] [] = true
-words_fit room (word ∷ words) (kind ∷ kinds) = has_kind (checked_kind room word) kind && words_fit room words kinds
-words_fit room [] (kind ∷ kinds) = false
-words_fit room (word ∷ words) [] = false
+words_fit room words kinds = matched (word_fits room) words kinds
 
 -- A call has one word for each integer parameter of the callee, of its kind, and one array for each array parameter,
 -- of its length (6.5.2.2p2).

@@ -1,6 +1,7 @@
 //! The control flow automaton of a program: its nodes, its edges with their operations, its functions and scopes.
 #![tactic(auto)]
 
+mod edge;
 mod expr;
 mod parts;
 mod rules;

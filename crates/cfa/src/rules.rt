@@ -65,7 +65,7 @@ pub(crate) fn place_fits(parts: &GraphParts, function: &Function, place: &CellPl
     }
 }
 
-fn has_kind(own: Option<Kind>, kind: Kind) -> bool
+pub(crate) fn has_kind(own: Option<Kind>, kind: Kind) -> bool
     ensures { result ≡ has_kind own kind }
 {
     match own {
