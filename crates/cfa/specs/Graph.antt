@@ -177,11 +177,6 @@ pub record NodeFits (parts : GraphParts) (n : Node) : Type 0 where
   pub file : n.file < length parts.files
   pub scope : n.scope < length parts.scopes
 
--- a frame has a cell for the result and one for each integer parameter, and at most 16,384 in all
-pub record CellsFit (f : Function) : Type 0 where
-  pub least : length f.parameters + 1 ≤ f.cells
-  pub most : f.cells ≤ 16384
-
 abbrev pub result_kind_fits : Option Kind → Bool
 result_kind_fits None = true
 result_kind_fits (Some kind) = is_kind kind
@@ -189,6 +184,17 @@ result_kind_fits (Some kind) = is_kind kind
 -- the kinds of a function are kinds
 abbrev pub signature_fits : Function → Bool
 signature_fits f = list_all is_kind f.parameters && result_kind_fits f.result
+
+-- The function of a number meets its rules.
+pub record FunctionFits (parts : GraphParts) (at : ℕ) (f : Function) : Type 0 where
+  -- its kinds are kinds
+  pub signature : IsTrue (signature_fits f)
+  -- its entry and exit are nodes of it
+  pub entry : IsNodeOf parts at f.entry
+  pub exit : IsNodeOf parts at f.exit
+  -- a frame has a cell for the result and one for each integer parameter, and at most 16,384 in all
+  pub least_cells : length f.parameters + 1 ≤ f.cells
+  pub most_cells : f.cells ≤ 16384
 
 -- how many cells a variable takes
 abbrev pub cell_count : Option ℕ → ℕ
@@ -219,22 +225,24 @@ scope_fits globals s = list_all (λ (v : Variable). is_kind v.kind && global_fit
 abbrev pub scope_fits_in : Room → Scope → Bool
 scope_fits_in room s = list_all (λ (v : Variable). variable_fits room v.length v.place) s.variables
 
+-- the variables of a scope lie within the globals and the frame of a function, and the arrays that are lent are its own
+abbrev pub SeesFit : GraphParts → ℕ → ℕ → Type 0
+SeesFit parts function scope = (f : Function) (s : Scope) → slice_get parts.functions function ≡ Some f → slice_get parts.scopes scope ≡ Some s → IsTrue (scope_fits_in (room_of parts f) s)
+
 -- The other parts of a graph meet their rules.
 pub record RestFits (parts : GraphParts) : Type 0 where
-  -- every other number names a thing that is there
+  -- every number of a node names a thing that is there
   pub nodes : Each parts.nodes (λ i n. NodeFits parts n)
-  pub signatures : Each parts.functions (λ i f. IsTrue (signature_fits f))
+  -- functions have their entries, exits and cells
+  pub functions : Each parts.functions (FunctionFits parts)
+  -- the kinds of answers and globals are kinds
   pub inputs : Each parts.inputs (λ i input. IsTrue (is_kind input.result))
   pub global_kinds : Each parts.globals (λ i global. IsTrue (is_kind global.0))
-  -- each function's entry and exit are nodes of it
-  pub entries : Each parts.functions (λ i f. IsNodeOf parts i f.entry)
-  pub exits : Each parts.functions (λ i f. IsNodeOf parts i f.exit)
-  -- a function has the cells that its parameters and result take, and not too many; nor have the globals
-  pub cells : Each parts.functions (λ i f. CellsFit f)
+  -- there are not too many cells of globals
   pub globals : length parts.globals ≤ 16384
-  -- the variables of a scope lie within the globals, and within the frame of each function that has a node of the scope
+  -- the variables of a scope are of kinds, and lie within the globals or the frame of each function with a node of it
   pub scopes : Each parts.scopes (λ i s. IsTrue (scope_fits (length parts.globals) s))
-  pub variables : Each parts.nodes (λ i n. (f : Function) (s : Scope) → slice_get parts.functions n.function ≡ Some f → slice_get parts.scopes n.scope ≡ Some s → IsTrue (scope_fits_in (room_of parts f) s))
+  pub variables : Each parts.nodes (λ i n. SeesFit parts n.function n.scope)
   -- every edge that leaves an exit is a return
   pub returns : Each parts.edges (λ i e. IsExit parts e.source → IsTrue (is_return e.operation))
   -- every other node has one outgoing edge that is no guard, or two guards of one test, that of truth first

@@ -9,12 +9,12 @@ use crate::parts::{Edge, Function, GraphParts, Operation};
 use crate::rules::{array_fits, checked_kind, has_kind, place_fits};
 use c_values::Kind;
 
-fn is_node_of(parts: &GraphParts, function: u32, node: u32) -> bool
+pub(crate) fn is_node_of(parts: &GraphParts, function: usize, node: u32) -> bool
     ensures { IsTrue result ↔ IsNodeOf parts.now function node }
 {
     match parts.nodes.get(node as usize) {
         None => false,
-        Some(n) => n.function == function,
+        Some(n) => n.function as usize == function,
     }
 }
 
@@ -73,7 +73,7 @@ fn source_fits(parts: &GraphParts, function: u32, source: u32, operation: &Opera
             None => false,
             Some(callee) => source == callee.exit,
         },
-        _ => is_node_of(parts, function, source),
+        _ => is_node_of(parts, function as usize, source),
     }
 }
 
@@ -85,7 +85,7 @@ fn target_fits(parts: &GraphParts, function: u32, target: u32, operation: &Opera
             None => false,
             Some(callee) => target == callee.entry,
         },
-        _ => is_node_of(parts, function, target),
+        _ => is_node_of(parts, function as usize, target),
     }
 }
 

@@ -4,6 +4,7 @@
 mod edge;
 mod expr;
 mod parts;
+mod rest;
 mod rules;
 mod state;
 

@@ -1,9 +1,9 @@
 // Whether the expressions and places of a function meet the rules.
-ghost use Rattle.std.specs.Prelude.{◌≡◌};
+ghost use Rattle.std.specs.Prelude.{◌≡◌, slice_get};
 ghost use Rattle.c_values.specs.Kind.{is_value};
 ghost use Rattle.cfa.specs.Graph.{room_of};
 ghost use Rattle.cfa.specs.Kinds.{same_kind, is_shift, unary_kind, binary_kind};
-ghost use Rattle.cfa.specs.Rules.{array_fits, place_fits, checked_kind, has_kind, right_fits};
+ghost use Rattle.cfa.specs.Rules.{is_length, array_fits, place_fits, checked_kind, has_kind, right_fits};
 
 use crate::expr::{ArrayPlace, CellPlace, Expr, binary_kind, unary_kind};
 use crate::parts::{Function, GraphParts};
@@ -27,6 +27,15 @@ fn is_shift(op: BinaryOp) -> bool
     matches!(op, BinaryOp::Shl | BinaryOp::Shr)
 }
 
+pub(crate) fn has_length(function: &Function, parameter: u32, length: u32) -> bool
+    ensures { result ≡ is_length (slice_get function.now.arrays parameter) length }
+{
+    match function.arrays.get(parameter as usize) {
+        None => false,
+        Some(own) => *own == length,
+    }
+}
+
 // An array of this length lies, whole, within the globals or the frame, or is an array parameter of this length.
 pub(crate) fn array_fits(
     parts: &GraphParts,
@@ -39,10 +48,7 @@ pub(crate) fn array_fits(
     match place {
         ArrayPlace::Global(first) => { first as u64 + length as u64 <= parts.globals.len() as u64 }
         ArrayPlace::Local(first) => first as u64 + length as u64 <= function.cells as u64,
-        ArrayPlace::Lent(parameter) => match function.arrays.get(parameter as usize) {
-            None => false,
-            Some(own) => *own == length,
-        },
+        ArrayPlace::Lent(parameter) => has_length(function, parameter, length),
     }
 }
 

@@ -1,9 +1,7 @@
-use Rattle.std.proofs.Common.{◌≡◌, ℕ, length, sym, ap, ◌∙◌, arith}
+use Rattle.std.proofs.Common.{sym, ◌∙◌, arith}
 use Rattle.std.proofs.lemmas.List.{get_or_default}
-use Rattle.c_values.specs.declared.kinds.Kind.{Kind}
-use Rattle.cfa.specs.declared.expr.Expr.{Expr}
 use Rattle.cfa.specs.Graph.{room_of}
-use Rattle.cfa.specs.Rules.{array_fits, has_kind, checked_kind}
+use Rattle.cfa.specs.Rules.{array_fits}
 use Rattle.cfa.proofs.Matched.{matched-apart, matched-end, matched_fails, matched_goes}
 use Rattle.cfa.proofs.edge.arrays_fit.Goals as goal
 

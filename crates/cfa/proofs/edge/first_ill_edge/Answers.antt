@@ -1,4 +1,4 @@
-use Rattle.std.proofs.Common.{◌<◌, length, ap, sym, ◌∙◌, arith, subst}
+use Rattle.std.proofs.Common.{length, ap, sym, ◌∙◌, arith}
 use Rattle.std.proofs.lemmas.Bool.{false≢true}
 use Rattle.cfa.specs.Graph.{EdgeFits}
 use Rattle.cfa.proofs.Eaches.{each_none, each_more, each_all, each_ill}

@@ -1,4 +1,4 @@
-use Rattle.std.proofs.Common.{◌≡◌, ℕ, length, sym, ap, ◌∙◌, arith}
+use Rattle.std.proofs.Common.{sym, ◌∙◌, arith}
 use Rattle.std.proofs.lemmas.List.{get_or_default}
 use Rattle.cfa.specs.Graph.{room_of, word_fits}
 use Rattle.cfa.proofs.Matched.{matched-apart, matched-end, matched_fails, matched_goes}

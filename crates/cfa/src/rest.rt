@@ -1,0 +1,178 @@
+// Whether the parts of a graph other than its edges meet their rules.
+ghost use Rattle.std.specs.Prelude.{◌≡◌, ◌↔◌, ◌<◌, ◌≤◌, ◌+◌, ◌^◌, length, slice_get, Some, IsTrue, IfOk};
+ghost use Rattle.std.specs.List.{list_all};
+ghost use Rattle.c_values.specs.Kind.{is_kind};
+ghost use Rattle.cfa.specs.Each.{Each};
+ghost use Rattle.cfa.specs.Graph.{room_of, IsNodeOf, NodeFits, FunctionFits, signature_fits, result_kind_fits, cell_count, lent_fits, variable_fits, global_fits, scope_fits, scope_fits_in, SeesFit, is_return, IsExit};
+
+use crate::edge::{is_node_of, is_return};
+use crate::parts::{Function, GraphParts, InputFunction, Node, Scope, Variable, VariablePlace};
+use crate::rules::has_length;
+use c_values::{Kind, is_kind};
+use std::alloc::{AllocError, Global};
+
+const MOST_CELLS: u32 = 16384;
+
+fn node_fits(parts: &GraphParts, node: &Node) -> bool
+    ensures { IsTrue result ↔ NodeFits parts.now node.now }
+{
+    (node.function as usize) < parts.functions.len()
+        && (node.file as usize) < parts.files.len()
+        && (node.scope as usize) < parts.scopes.len()
+}
+
+pub(crate) fn nodes_fit(parts: &GraphParts) -> bool
+    ensures { IsTrue result ↔ Each parts.now.nodes (λ i n. NodeFits parts.now n) }
+{
+    for node in parts.nodes.iter() {
+        if !node_fits(parts, node) {
+            return false;
+        }
+    }
+    true
+}
+
+fn are_kinds(kinds: &[Kind]) -> bool
+    ensures { result ≡ list_all is_kind kinds.now }
+{
+    kinds.iter().all(|kind| is_kind(*kind))
+}
+
+fn result_kind_fits(kind: Option<Kind>) -> bool
+    ensures { result ≡ result_kind_fits kind }
+{
+    match kind {
+        None => true,
+        Some(kind) => is_kind(kind),
+    }
+}
+
+fn signature_fits(function: &Function) -> bool
+    ensures { result ≡ signature_fits function.now }
+{
+    are_kinds(&function.parameters) && result_kind_fits(function.result)
+}
+
+fn function_fits(parts: &GraphParts, at: usize, function: &Function) -> bool
+    ensures { IsTrue result ↔ FunctionFits parts.now at function.now }
+{
+    signature_fits(function)
+        && is_node_of(parts, at, function.entry)
+        && is_node_of(parts, at, function.exit)
+        && function.parameters.len() < function.cells as usize
+        && function.cells <= MOST_CELLS
+}
+
+pub(crate) fn functions_fit(parts: &GraphParts) -> bool
+    ensures { IsTrue result ↔ Each parts.now.functions (FunctionFits parts.now) }
+{
+    for (i, function) in parts.functions.iter().enumerate() {
+        if !function_fits(parts, i, function) {
+            return false;
+        }
+    }
+    true
+}
+
+pub(crate) fn inputs_fit(inputs: &[InputFunction]) -> bool
+    ensures { IsTrue result ↔ Each inputs.now (λ i input. IsTrue (is_kind input.result)) }
+{
+    for input in inputs {
+        if !is_kind(input.result) {
+            return false;
+        }
+    }
+    true
+}
+
+pub(crate) fn global_kinds_fit(globals: &[(Kind, u64)]) -> bool
+    ensures { IsTrue result ↔ Each globals.now (λ i global. IsTrue (is_kind global.0)) }
+{
+    for global in globals {
+        if !is_kind(global.0) {
+            return false;
+        }
+    }
+    true
+}
+
+fn cell_count(length: Option<u32>) -> u64
+    ensures value { result ≡ cell_count length }
+    ensures small { result < 2 ^ 32 }
+{
+    match length {
+        None => 1,
+        Some(length) => length as u64,
+    }
+}
+
+fn global_fits(globals: usize, length: Option<u32>, place: VariablePlace) -> bool
+    ensures { result ≡ global_fits globals length place }
+{
+    match place {
+        VariablePlace::Global(first) => first as u64 + cell_count(length) <= globals as u64,
+        VariablePlace::Local(_) | VariablePlace::Lent(_) => true,
+    }
+}
+
+fn scope_fits(globals: usize, scope: &Scope) -> bool
+    ensures { result ≡ scope_fits globals scope.now }
+{
+    for variable in scope.variables.iter() {
+        if !(is_kind(variable.kind) && global_fits(globals, variable.length, variable.place)) {
+            return false;
+        }
+    }
+    true
+}
+
+pub(crate) fn scopes_fit(globals: usize, scopes: &[Scope]) -> bool
+    ensures { IsTrue result ↔ Each scopes.now (λ i s. IsTrue (scope_fits globals s)) }
+{
+    for scope in scopes {
+        if !scope_fits(globals, scope) {
+            return false;
+        }
+    }
+    true
+}
+
+fn variable_fits(parts: &GraphParts, function: &Function, variable: &Variable) -> bool
+    ensures { result ≡ variable_fits (room_of parts.now function.now) variable.now.length variable.now.place }
+{
+    match variable.place {
+        VariablePlace::Global(first) => {
+            first as u64 + cell_count(variable.length) <= parts.globals.len() as u64
+        }
+        VariablePlace::Local(first) => {
+            first as u64 + cell_count(variable.length) <= function.cells as u64
+        }
+        VariablePlace::Lent(parameter) => match variable.length {
+            None => false,
+            Some(length) => has_length(function, parameter, length),
+        },
+    }
+}
+
+fn scope_fits_in(parts: &GraphParts, function: &Function, scope: &Scope) -> bool
+    ensures { result ≡ scope_fits_in (room_of parts.now function.now) scope.now }
+{
+    for variable in scope.variables.iter() {
+        if !variable_fits(parts, function, variable) {
+            return false;
+        }
+    }
+    true
+}
+
+fn sees_fit(parts: &GraphParts, function: u32, scope: u32) -> bool
+    ensures { IsTrue result ↔ SeesFit parts.now function scope }
+{
+    let Some(function) = parts.functions.get(function as usize) else {
+        return true;
+    };
+    let Some(scope) = parts.scopes.get(scope as usize) else {
+        return true;
+    };
+    scope_fits_in(parts, function, scope)
+}
