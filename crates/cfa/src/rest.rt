@@ -6,7 +6,7 @@ ghost use Rattle.cfa.specs.Each.{Each};
 ghost use Rattle.cfa.specs.Graph.{room_of, IsNodeOf, NodeFits, FunctionFits, signature_fits, result_kind_fits, cell_count, lent_fits, variable_fits, global_fits, scope_fits, scope_fits_in, SeesFit, is_return, IsExit};
 
 use crate::edge::{is_node_of, is_return};
-use crate::parts::{Function, GraphParts, InputFunction, Node, Scope, Variable, VariablePlace};
+use crate::parts::{Edge, Function, GraphParts, InputFunction, Node, Scope, Variable, VariablePlace};
 use crate::rules::has_length;
 use c_values::{Kind, is_kind};
 use std::alloc::{AllocError, Global};
@@ -175,4 +175,56 @@ fn sees_fit(parts: &GraphParts, function: u32, scope: u32) -> bool
         return true;
     };
     scope_fits_in(parts, function, scope)
+}
+
+// Whether each node's function has room for what the node sees. Nodes of one function that share a scope and follow one
+// another are tested once.
+pub(crate) fn variables_fit(alloc: Global, parts: &GraphParts) -> Result<bool, AllocError>
+    requires { Each parts.now.nodes (λ i n. NodeFits parts.now n) }
+    ensures { IfOk result (λ fit. IsTrue fit ↔ Each parts.now.nodes (λ i n. SeesFit parts.now n.function n.scope)) }
+{
+    let mut tested: Vec<Option<u32>> = vec![in alloc; None; parts.scopes.len()]?;
+    for node in parts.nodes.iter() {
+        let scope = node.scope as usize;
+        if tested[scope] != Some(node.function) {
+            if !sees_fit(parts, node.function, node.scope) {
+                return Ok(false);
+            }
+            tested[scope] = Some(node.function);
+        }
+    }
+    Ok(true)
+}
+
+// Whether a node is the exit of a function.
+pub(crate) fn is_exit(parts: &GraphParts, node: u32) -> bool
+    requires { Each parts.now.functions (FunctionFits parts.now) }
+    ensures { IsTrue result ↔ IsExit parts.now node }
+{
+    match parts.nodes.get(node as usize) {
+        None => false,
+        Some(n) => match parts.functions.get(n.function as usize) {
+            None => false,
+            Some(function) => function.exit == node,
+        },
+    }
+}
+
+fn leaves_well(parts: &GraphParts, edge: &Edge) -> bool
+    requires { Each parts.now.functions (FunctionFits parts.now) }
+    ensures { IsTrue result ↔ (IsExit parts.now edge.now.source → IsTrue (is_return edge.now.operation)) }
+{
+    is_return(&edge.operation) || !is_exit(parts, edge.source)
+}
+
+pub(crate) fn returns_fit(parts: &GraphParts) -> bool
+    requires { Each parts.now.functions (FunctionFits parts.now) }
+    ensures { IsTrue result ↔ Each parts.now.edges (λ i e. IsExit parts.now e.source → IsTrue (is_return e.operation)) }
+{
+    for edge in parts.edges.iter() {
+        if !leaves_well(parts, edge) {
+            return false;
+        }
+    }
+    true
 }

@@ -1,5 +1,6 @@
 use Rattle.std.proofs.Common.{sym, ◌∙◌, refl}
 use Rattle.std.proofs.lemmas.Bool.{false≢true}
+use Rattle.std.proofs.lemmas.List.{get_or_default}
 use Rattle.std.specs.Prelude.{IsTrue}
 use Rattle.c_values.specs.Kind.{is_kind}
 use Rattle.cfa.specs.declared.parts.InputFunction.{InputFunction}
