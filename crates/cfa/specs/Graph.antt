@@ -1,5 +1,5 @@
 -- When parts make a control flow automaton.
-use Rattle.std.specs.Prelude.{◌≡◌, ℕ, ◌+◌, ◌<◌, ◌≤◌, Bool, true, false, not, ◌&&◌, ◌==◌, if◌then◌else◌, nat_le, List, [], ◌∷◌, length, Option, Some, None, slice_get, option_and_then, IsTrue}
+use Rattle.std.specs.Prelude.{◌≡◌, ℕ, ◌+◌, ◌<◌, ◌≤◌, Bool, true, false, not, ◌&&◌, ◌==◌, nat_le, List, [], ◌∷◌, length, Option, Some, None, slice_get, option_and_then, IsTrue}
 use Rattle.std.specs.Option.{is_some, IsSome, IsSomeAnd, OnSome}
 use Rattle.std.specs.List.{filter, list_all}
 use Rattle.c_values.specs.declared.kinds.Kind.{Kind}
@@ -147,16 +147,6 @@ pub record IsFirstIll (parts : GraphParts) (at : ℕ) : Type 0 where
 -- the edges that leave a node, in order
 abbrev pub edges_from : GraphParts → ℕ → List Edge
 edges_from parts node = filter (λ (e : Edge). e.source == node) parts.edges
-
--- their numbers, counted from one on
-abbrev pub numbers_from : ℕ → ℕ → List Edge → List ℕ
-numbers_from node first [] = []
-numbers_from node first (e ∷ es) =
-    if e.source == node then first ∷ numbers_from node (first + 1) es else numbers_from node (first + 1) es
-
--- the numbers of the edges that leave a node, rising
-abbrev pub outgoing_of : GraphParts → ℕ → List ℕ
-outgoing_of parts node = numbers_from node 0 parts.edges
 
 -- the exit of some function
 abbrev pub IsExit : GraphParts → ℕ → Type 0

@@ -1,8 +1,10 @@
 pub mod Contexts
 pub mod Each
+pub mod Fault
 pub mod Graph
 pub mod Kinds
 pub mod Predicates
 pub mod Rules
 pub mod States
+pub mod Table
 pub mod Values

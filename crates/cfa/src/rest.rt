@@ -6,7 +6,7 @@ ghost use Rattle.cfa.specs.Each.{Each};
 ghost use Rattle.cfa.specs.Graph.{room_of, IsNodeOf, NodeFits, FunctionFits, signature_fits, result_kind_fits, cell_count, lent_fits, variable_fits, global_fits, scope_fits, scope_fits_in, SeesFit, is_return, IsExit};
 
 use crate::edge::{is_node_of, is_return};
-use crate::parts::{Edge, Function, GraphParts, InputFunction, Node, Scope, Variable, VariablePlace};
+use crate::parts::{Edge, Function, GraphParts, Node, Scope, Variable, VariablePlace};
 use crate::rules::has_length;
 use c_values::{Kind, is_kind};
 use std::alloc::{AllocError, Global};
@@ -74,10 +74,10 @@ pub(crate) fn functions_fit(parts: &GraphParts) -> bool
     true
 }
 
-pub(crate) fn inputs_fit(inputs: &[InputFunction]) -> bool
-    ensures { IsTrue result ↔ Each inputs.now (λ i input. IsTrue (is_kind input.result)) }
+pub(crate) fn inputs_fit(parts: &GraphParts) -> bool
+    ensures { IsTrue result ↔ Each parts.now.inputs (λ i input. IsTrue (is_kind input.result)) }
 {
-    for input in inputs {
+    for input in parts.inputs.iter() {
         if !is_kind(input.result) {
             return false;
         }
@@ -85,10 +85,10 @@ pub(crate) fn inputs_fit(inputs: &[InputFunction]) -> bool
     true
 }
 
-pub(crate) fn global_kinds_fit(globals: &[(Kind, u64)]) -> bool
-    ensures { IsTrue result ↔ Each globals.now (λ i global. IsTrue (is_kind global.0)) }
+pub(crate) fn global_kinds_fit(parts: &GraphParts) -> bool
+    ensures { IsTrue result ↔ Each parts.now.globals (λ i global. IsTrue (is_kind global.0)) }
 {
-    for global in globals {
+    for global in parts.globals.iter() {
         if !is_kind(global.0) {
             return false;
         }
@@ -115,22 +115,24 @@ fn global_fits(globals: usize, length: Option<u32>, place: VariablePlace) -> boo
     }
 }
 
-fn scope_fits(globals: usize, scope: &Scope) -> bool
-    ensures { result ≡ scope_fits globals scope.now }
+fn scope_fits(parts: &GraphParts, scope: &Scope) -> bool
+    ensures { result ≡ scope_fits (length parts.now.globals) scope.now }
 {
     for variable in scope.variables.iter() {
-        if !(is_kind(variable.kind) && global_fits(globals, variable.length, variable.place)) {
+        if !(is_kind(variable.kind)
+            && global_fits(parts.globals.len(), variable.length, variable.place))
+        {
             return false;
         }
     }
     true
 }
 
-pub(crate) fn scopes_fit(globals: usize, scopes: &[Scope]) -> bool
-    ensures { IsTrue result ↔ Each scopes.now (λ i s. IsTrue (scope_fits globals s)) }
+pub(crate) fn scopes_fit(parts: &GraphParts) -> bool
+    ensures { IsTrue result ↔ Each parts.now.scopes (λ i s. IsTrue (scope_fits (length parts.now.globals) s)) }
 {
-    for scope in scopes {
-        if !scope_fits(globals, scope) {
+    for scope in parts.scopes.iter() {
+        if !scope_fits(parts, scope) {
             return false;
         }
     }
@@ -197,15 +199,15 @@ pub(crate) fn variables_fit(alloc: Global, parts: &GraphParts) -> Result<bool, A
 }
 
 // Whether a node is the exit of a function.
-pub(crate) fn is_exit(parts: &GraphParts, node: u32) -> bool
+pub(crate) fn is_exit(parts: &GraphParts, node: usize) -> bool
     requires { Each parts.now.functions (FunctionFits parts.now) }
     ensures { IsTrue result ↔ IsExit parts.now node }
 {
-    match parts.nodes.get(node as usize) {
+    match parts.nodes.get(node) {
         None => false,
         Some(n) => match parts.functions.get(n.function as usize) {
             None => false,
-            Some(function) => function.exit == node,
+            Some(function) => function.exit as usize == node,
         },
     }
 }
@@ -214,7 +216,7 @@ fn leaves_well(parts: &GraphParts, edge: &Edge) -> bool
     requires { Each parts.now.functions (FunctionFits parts.now) }
     ensures { IsTrue result ↔ (IsExit parts.now edge.now.source → IsTrue (is_return edge.now.operation)) }
 {
-    is_return(&edge.operation) || !is_exit(parts, edge.source)
+    is_return(&edge.operation) || !is_exit(parts, edge.source as usize)
 }
 
 pub(crate) fn returns_fit(parts: &GraphParts) -> bool

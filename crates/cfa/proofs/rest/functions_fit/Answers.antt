@@ -1,6 +1,5 @@
 use Rattle.std.proofs.Common.{sym, ◌∙◌, refl}
 use Rattle.std.proofs.lemmas.Bool.{false≢true}
-use Rattle.std.proofs.lemmas.List.{get_or_default}
 use Rattle.cfa.specs.Graph.{FunctionFits}
 use Rattle.cfa.proofs.Eaches.{each_none, each_more, each_all, each_fails}
 use Rattle.cfa.proofs.rest.functions_fit.Goals as goal

@@ -5,4 +5,4 @@ use Rattle.cfa.proofs.Eaches.{EachBelow}
 use Rattle.cfa.proofs.rest.global_kinds_fit.Given as goal
 
 abbrev pub invariant-loop-global : goal.invariant-loop-global
-invariant-loop-global l = EachBelow l.globals l.global-index (λ i (global : Kind × ℕ). IsTrue (is_kind global.0))
+invariant-loop-global l = EachBelow l.parts.globals l.global-index (λ i (global : Kind × ℕ). IsTrue (is_kind global.0))

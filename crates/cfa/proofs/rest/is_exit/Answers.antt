@@ -1,4 +1,4 @@
-use Rattle.std.proofs.Common.{sym, arith, refl, ap, ◌∙◌}
+use Rattle.std.proofs.Common.{sym}
 use Rattle.std.proofs.lemmas.Bool.{false≢true}
 use Rattle.std.proofs.lemmas.Bool.Decides.{Decides-eqb}
 use Rattle.cfa.proofs.Exits.{exit_no_node, exit_no_function, exit_tells}

@@ -1,6 +1,5 @@
 use Rattle.std.proofs.Common.{sym, ◌∙◌, refl}
 use Rattle.std.proofs.lemmas.Bool.{false≢true}
-use Rattle.std.proofs.lemmas.List.{get_or_default}
 use Rattle.std.specs.Prelude.{IsTrue}
 use Rattle.cfa.specs.Graph.{IsExit, is_return}
 use Rattle.cfa.proofs.Eaches.{each_none, each_more, each_all, each_fails}
