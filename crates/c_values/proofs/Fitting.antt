@@ -1,13 +1,14 @@
 -- Fit: its range, what it depends on, and the patterns that keep its numbers.
 use Rattle.std.proofs.Common.{◌≡◌, ℕ, ◌+◌, ◌-◌, ◌*◌, ◌^◌, ◌<◌, ◌≤◌, Bool, true, false, ℤ, pos, ◌-ℤ◌, refl, sym, ap, ◌∙◌, subst, inl, inr, ⊎_elim, arith}
-use Rattle.std.specs.Prelude.{◌⊎◌, ◌==◌, ◌||◌, ◌≤ℤ◌, ◌&&◌, nat_lt, int_le, IsTrue}
+use Rattle.std.specs.Prelude.{◌⊎◌, ◌==◌, ◌||◌, ◌≤ℤ◌, ◌&&◌, nat_lt, int_le, int_lt, ◌<ℤ◌, IsTrue}
 use Rattle.std.proofs.lemmas.Bool.{cases_lt}
 use Rattle.std.proofs.lemmas.Bool.Decides.{nat_tests}
 use Rattle.std.proofs.lemmas.Int.{ints}
-use borrow.Author.Differences.{up, down, same_in, same_out, sum_is_lem, true_is_le}
+use borrow.Author.Differences.{up, down, same_in, same_out, sum_is_lem, true_is_le, true_is_lt}
 use native.Mathlib.Nat.{mod-lt, mod-eq_of_lt}
 use Rattle.c_values.specs.declared.kinds.Kind.{Kind}
-use Rattle.c_values.specs.Kind.{is_kind, IsKind, is_value, IsValue, is_in_range, IsInRange, converted, least, greatest, number_of, reading, twos_complement, residue, pattern_of, fit, wrapped}
+use Rattle.c_values.specs.Operations.{truth_of}
+use Rattle.c_values.specs.Kind.{int, is_kind, IsKind, is_value, IsValue, is_in_range, IsInRange, converted, least, greatest, number_of, reading, twos_complement, residue, pattern_of, fit, wrapped}
 use Rattle.c_values.proofs.Residues.{same_residue, residue_is, lifted, apart}
 
 -- ---- the widths
@@ -16,6 +17,17 @@ pub by_width : (P : ℕ → Type 0) → P 8 → P 16 → P 32 → P 64 → (w : 
 by_width P a b c d w h =
     let is : (w ≡ 8) ⊎ ((w ≡ 16) ⊎ ((w ≡ 32) ⊎ (w ≡ 64))) = grind (arith, nat_tests) in
     ⊎_elim (λ e. subst P (sym e) a) (⊎_elim (λ e. subst P (sym e) b) (⊎_elim (λ e. subst P (sym e) c) (λ e. subst P (sym e) d))) is
+
+-- each of the eight kinds, by its width and its sign
+pub by_kind : (P : ℕ → Bool → Type 0) → P 8 true → P 8 false → P 16 true → P 16 false → P 32 true → P 32 false → P 64 true → P 64 false → (kind : Kind) → IsKind kind → P kind.width kind.signed
+by_kind P a b c d e f g h kind k =
+    let Q : ℕ → Type 0 = λ w. (s : Bool) → P w s in
+    by_width Q
+    (λ s. elim s as (λ t. P 8 t) [ true ↦ a | false ↦ b ])
+    (λ s. elim s as (λ t. P 16 t) [ true ↦ c | false ↦ d ])
+    (λ s. elim s as (λ t. P 32 t) [ true ↦ e | false ↦ f ])
+    (λ s. elim s as (λ t. P 64 t) [ true ↦ g | false ↦ h ])
+    kind.width k kind.signed
 
 pub record IsWidth (w : ℕ) : Type 0 where
   pub halves : 2 ^ w ≡ 2 ^ (w - 1) + 2 ^ (w - 1)
@@ -160,15 +172,15 @@ pub record ValueIs (kind : Kind) (p : ℕ) : Type 0 where
   pub pattern : p < 2 ^ 64
   pub range : IsInRange kind (number_of kind p)
 
-and_left : (a b : Bool) → IsTrue (a && b) → IsTrue a
+pub and_left : (a b : Bool) → IsTrue (a && b) → IsTrue a
 and_left true b h = refl
 and_left false b h = h
 
-and_right : (a b : Bool) → IsTrue (a && b) → IsTrue b
+pub and_right : (a b : Bool) → IsTrue (a && b) → IsTrue b
 and_right true b h = h
 and_right false b h = cc
 
-and_both : (a b : Bool) → IsTrue a → IsTrue b → IsTrue (a && b)
+pub and_both : (a b : Bool) → IsTrue a → IsTrue b → IsTrue (a && b)
 and_both true b h k = k
 and_both false b h k = h
 
@@ -178,11 +190,17 @@ below_is p m h = grind (arith, nat_tests)
 below_test : (p m : ℕ) → p < m → IsTrue (nat_lt p m)
 below_test p m h = grind (arith, nat_tests)
 
-le_is : (a b : ℤ) → IsTrue (int_le a b) → a ≤ℤ b
+pub le_is : (a b : ℤ) → IsTrue (int_le a b) → a ≤ℤ b
 le_is a b h = omega (arith, ints)
 
-le_test : (a b : ℤ) → a ≤ℤ b → IsTrue (int_le a b)
+pub le_test : (a b : ℤ) → a ≤ℤ b → IsTrue (int_le a b)
 le_test a b h = sym (true_is_le a b (omega (arith, ints)))
+
+pub lt_is : (a b : ℤ) → IsTrue (int_lt a b) → a <ℤ b
+lt_is a b h = omega (arith, ints)
+
+pub lt_test : (a b : ℤ) → a <ℤ b → IsTrue (int_lt a b)
+lt_test a b h = sym (true_is_lt a b (omega (arith, ints)))
 
 pub value_parts : (kind : Kind) (p : ℕ) → IsValue kind p → ValueIs kind p
 unfolding is_value
@@ -240,3 +258,14 @@ IsValue-converted from to p k = IsValue-wrapped to (number_of from p) k
 pub number_of-converted : (from to : Kind) (p : ℕ) → IsKind to → number_of to (converted from to p) ≡ fit to (number_of from p)
 unfolding converted
 number_of-converted from to p k = number_of-wrapped to (number_of from p) k
+
+-- ---- 0 and 1
+
+pub IsValue-zero : (kind : Kind) → IsKind kind → IsValue kind 0
+unfolding is_value number_of least greatest
+IsValue-zero = by_kind (λ w s. IsValue (record { width = w; signed = s }) 0) refl refl refl refl refl refl refl refl
+
+pub IsValue-truth_of : (test : Bool) → IsValue int (truth_of test)
+unfolding is_value number_of least greatest
+IsValue-truth_of true = refl
+IsValue-truth_of false = refl

@@ -1,6 +1,6 @@
 -- The operators of C on values of a kind: the operation on whole numbers, and then fit
 -- (ISO/IEC 9899:2011, 6.5.3.3, 6.5.5 to 6.5.12).
-use Rattle.std.specs.Prelude.{ℕ, ◌^◌, Bool, not, ◌&&◌, ◌||◌, if◌then◌else◌, pos, negsuc, neg_ℤ, ◌+ℤ◌, ◌-ℤ◌, ◌*ℤ◌, int_lt, int_le, int_div, int_rem, bit_and, bit_or, bit_xor, Option, Some, None}
+use Rattle.std.specs.Prelude.{◌≡◌, ◌⊎◌, ◌≤ℤ◌, ◌<ℤ◌, true, false, ℕ, ◌^◌, Bool, not, ◌&&◌, ◌||◌, if◌then◌else◌, pos, negsuc, neg_ℤ, ◌+ℤ◌, ◌-ℤ◌, ◌*ℤ◌, int_lt, int_le, int_div, int_rem, bit_and, bit_or, bit_xor, Option, Some, None}
 use Rattle.std.specs.Int.{int_shr, bit_not, w64}
 use Rattle.std.specs.Ordering.{int_eq}
 use Rattle.c_values.specs.declared.kinds.Kind.{Kind}
@@ -8,7 +8,7 @@ use Rattle.c_values.specs.declared.operators.UnaryOp.{UnaryOp}
 use Rattle.c_values.specs.declared.operators.UnaryOp.TheVariants.{Neg, Complement, Not}
 use Rattle.c_values.specs.declared.operators.BinaryOp.{BinaryOp}
 use Rattle.c_values.specs.declared.operators.BinaryOp.TheVariants.{Add, Sub, Mul, Div, Rem, Shl, Shr, And, Or, Xor, Less, LessEqual, Greater, GreaterEqual, Equal, NotEqual}
-use Rattle.c_values.specs.Kind.{number_of, least, wrapped}
+use Rattle.c_values.specs.Kind.{number_of, least, wrapped, int}
 
 -- ---- sums and products (6.5.5p4, 6.5.6p5, 6.5.6p6, 6.5.3.3p3)
 
@@ -48,6 +48,16 @@ unfoldable pub is_overflow_divisor : Kind → ℕ → ℕ → Bool
 is_overflow_divisor kind a b =
     kind.signed && int_eq (number_of kind a) (least kind) && int_eq (number_of kind b) (negsuc 0)
 
+abbrev pub has_quotient : Kind → ℕ → ℕ → Bool
+has_quotient kind a b = not (is_zero_divisor kind b || is_overflow_divisor kind a b)
+
+abbrev pub IsOverflowDivisor : Kind → ℕ → ℕ → Type 0
+IsOverflowDivisor kind a b =
+    (kind.signed ≡ true) × (number_of kind a ≡ least kind) × (number_of kind b ≡ negsuc 0)
+
+abbrev pub HasNoQuotient : Kind → ℕ → ℕ → Type 0
+HasNoQuotient kind a b = (number_of kind b ≡ pos 0) ⊎ IsOverflowDivisor kind a b
+
 unfoldable pub quotient_of : Kind → ℕ → ℕ → Option ℕ
 quotient_of kind a b =
     if is_zero_divisor kind b || is_overflow_divisor kind a b then None
@@ -65,6 +75,11 @@ unfoldable pub is_shift_amount : Kind → Kind → ℕ → Bool
 is_shift_amount kind amount_kind amount =
     int_le (pos 0) (number_of amount_kind amount) && int_lt (number_of amount_kind amount) (pos kind.width)
 
+abbrev pub IsShiftAmount : Kind → Kind → ℕ → Type 0
+IsShiftAmount kind amount_kind amount =
+    (pos 0 ≤ℤ number_of amount_kind amount) × (number_of amount_kind amount <ℤ pos kind.width)
+
+-- an amount that is not negative is its own pattern
 unfoldable pub left_shift_of : Kind → ℕ → Kind → ℕ → Option ℕ
 left_shift_of kind a amount_kind amount =
     if is_shift_amount kind amount_kind amount then Some (wrapped kind (number_of kind a *ℤ pos (2 ^ amount)))
@@ -86,6 +101,31 @@ abbrev pub unary_value : UnaryOp → Kind → ℕ → ℕ
 unary_value Neg kind a = negative_of kind a
 unary_value Complement kind a = complement_of kind a
 unary_value Not kind a = truth_of (is_equal kind a 0)
+
+-- the kind of that value
+abbrev pub unary_kind : UnaryOp → Kind → Kind
+unary_kind Not kind = int
+unary_kind _ kind = kind
+
+-- an operator that shifts, whose operands may differ in kind (6.5.7p3)
+abbrev pub is_shift : BinaryOp → Bool
+is_shift Shl = true
+is_shift Shr = true
+is_shift _ = false
+
+-- an operator that compares, whose value is an int (6.5.8p6, 6.5.9p3)
+abbrev pub is_comparison : BinaryOp → Bool
+is_comparison Less = true
+is_comparison LessEqual = true
+is_comparison Greater = true
+is_comparison GreaterEqual = true
+is_comparison Equal = true
+is_comparison NotEqual = true
+is_comparison _ = false
+
+-- the kind of an operator's value, at this kind of its first operand
+abbrev pub binary_kind : BinaryOp → Kind → Kind
+binary_kind op kind = if is_comparison op then int else kind
 
 -- The value of an operator with two operands: a value of the first kind, and one of the second, which differs from
 -- the first at shifts alone. That of a comparison is an int, the others have the first kind

@@ -1,0 +1,5 @@
+use Rattle.c_values.proofs.Bits.{IsValue-bit_xor}
+use Rattle.c_values.proofs.bitwise.xor.Goals as goal
+
+pub returns-clause-of_kind : goal.returns-clause-of_kind
+returns-clause-of_kind c = IsValue-bit_xor c.args.kind c.args.a c.args.b c.requires.left c.requires.right

@@ -1,0 +1,5 @@
+use Rattle.c_values.proofs.Consequences as laws
+use Rattle.c_values.proofs.laws.fit_of_sum.Goals as goal
+
+pub returns : goal.returns
+returns c = laws.fit_of_sum
