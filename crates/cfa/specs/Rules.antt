@@ -9,7 +9,8 @@ use Rattle.cfa.specs.declared.expr.ArrayPlace.TheVariants as array
 use Rattle.cfa.specs.declared.expr.CellPlace.{CellPlace, fold-CellPlace}
 use Rattle.cfa.specs.declared.expr.CellPlace.TheOpen.{CellPlace-F, Expr-F}
 use Rattle.cfa.specs.declared.expr.Expr.{Expr, fold-Expr}
-use Rattle.cfa.specs.Kinds.{same_kind, unary_kind, binary_kind, is_shift}
+use Rattle.c_values.specs.Operations.{unary_kind, binary_kind, is_shift}
+use Rattle.cfa.specs.Kinds.{same_kind}
 
 -- What the places of a function may name: how many cells the globals and the function's frame have, and the lengths of
 -- its array parameters.

@@ -4,7 +4,7 @@ use Rattle.c_values.specs.declared.kinds.Kind.{Kind}
 use Rattle.c_values.specs.declared.operators.BinaryOp.{BinaryOp}
 use Rattle.c_values.specs.declared.operators.BinaryOp.TheVariants.{Div, Rem}
 use Rattle.c_values.specs.Kind.{number_of, wrapped, converted}
-use Rattle.c_values.specs.Operations.{is_zero_divisor, unary_value, binary_value}
+use Rattle.c_values.specs.Operations.{is_zero_divisor, unary_value, binary_value, unary_kind, binary_kind}
 use Rattle.cfa.specs.declared.expr.ArrayPlace.{ArrayPlace}
 use Rattle.cfa.specs.declared.expr.ArrayPlace.TheVariants as array
 use Rattle.cfa.specs.declared.expr.CellPlace.{CellPlace, fold-CellPlace}
@@ -13,7 +13,7 @@ use Rattle.cfa.specs.declared.expr.Expr.{Expr, fold-Expr}
 use Rattle.cfa.specs.declared.state.Frame.{Frame}
 use Rattle.cfa.specs.declared.state.Trap.{Trap}
 use Rattle.cfa.specs.declared.state.Trap.TheVariants as trap
-use Rattle.cfa.specs.Kinds.{unary_kind, binary_kind}
+
 
 -- an index names an element where it is from 0 to length - 1 (6.5.6p8)
 abbrev pub is_index : ℕ → Kind → ℕ → Bool

@@ -1,6 +1,7 @@
 // Expressions without side effects, and the places of cells.
 ghost use Rattle.std.specs.Prelude.{◌≡◌, ◌↔◌, IsTrue, IfOk};
-ghost use Rattle.cfa.specs.Kinds.{kind_of, unary_kind, binary_kind, is_comparison};
+ghost use Rattle.c_values.specs.Operations.{unary_kind, binary_kind, is_comparison};
+ghost use Rattle.cfa.specs.Kinds.{kind_of};
 
 use c_values::{BinaryOp, Kind, UnaryOp};
 use containers::{Boxed, Same, TryClone};

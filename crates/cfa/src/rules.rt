@@ -1,19 +1,13 @@
 // Whether the expressions and places of a function meet the rules.
 ghost use Rattle.std.specs.Prelude.{◌≡◌, slice_get};
-ghost use Rattle.c_values.specs.Kind.{is_value};
 ghost use Rattle.cfa.specs.Graph.{room_of};
-ghost use Rattle.cfa.specs.Kinds.{same_kind, is_shift, unary_kind, binary_kind};
+ghost use Rattle.c_values.specs.Operations.{is_shift, unary_kind, binary_kind};
+ghost use Rattle.cfa.specs.Kinds.{same_kind};
 ghost use Rattle.cfa.specs.Rules.{is_length, array_fits, place_fits, checked_kind, has_kind, right_fits};
 
 use crate::expr::{ArrayPlace, CellPlace, Expr, binary_kind, unary_kind};
 use crate::parts::{Function, GraphParts};
-use c_values::{BinaryOp, Kind, convert, is_kind};
-
-fn is_value(kind: Kind, value: u64) -> bool
-    ensures { result ≡ is_value kind value }
-{
-    is_kind(kind) && convert(value, Kind::UNSIGNED_LONG, kind) == value
-}
+use c_values::{BinaryOp, Kind, is_kind, is_value};
 
 fn same_kind(a: Kind, b: Kind) -> bool
     ensures { result ≡ same_kind a b }
@@ -98,7 +92,7 @@ pub(crate) fn checked_kind(parts: &GraphParts, function: &Function, expr: &Expr)
 {
     match expr {
         Expr::Constant(value, kind) => {
-            if is_value(*kind, *value) {
+            if is_value(*value, *kind) {
                 Some(*kind)
             } else {
                 None
