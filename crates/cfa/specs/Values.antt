@@ -14,7 +14,6 @@ use Rattle.cfa.specs.declared.state.Frame.{Frame}
 use Rattle.cfa.specs.declared.state.Trap.{Trap}
 use Rattle.cfa.specs.declared.state.Trap.TheVariants as trap
 
-
 -- an index names an element where it is from 0 to length - 1 (6.5.6p8)
 abbrev pub is_index : ℕ → Kind → ℕ → Bool
 is_index length kind index = int_le (pos 0) (number_of kind index) && int_lt (number_of kind index) (pos length)

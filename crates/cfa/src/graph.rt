@@ -2,10 +2,12 @@
 ghost use Rattle.std.specs.Prelude.{◌≡◌, ◌<◌, ◌↔◌, length, slice_get, IsTrue, IfOk, IfErr};
 ghost use Rattle.cfa.specs.Fault.{IsFault};
 ghost use Rattle.cfa.specs.Graph.{IsGraph, EdgesFit, RestFits};
+ghost use Rattle.cfa.specs.Names.{IsFirstNamed};
 ghost use Rattle.cfa.specs.Table.{outgoing_of, IsOutgoing};
 
 use crate::edge::first_ill_edge;
 use crate::fault::GraphFault;
+use crate::names::{first_named, name_rows};
 use crate::parts::{Edge, Function, GraphParts, InputFunction, Node, Scope};
 use crate::rest::{
     functions_fit, global_kinds_fit, inputs_fit, nodes_fit, returns_fit, scopes_fit, variables_fit,
@@ -24,7 +26,10 @@ const MOST_GLOBALS: usize = 16384;
 #[derive(Debug, Drop)]
 pub struct Graph {
     parts: GraphParts,
+    /// By node, the numbers of the edges that leave it.
     rows: Vector<Vector<u32>>,
+    /// By a hash of their names, the numbers of the functions.
+    names: Vector<Vector<u32>>,
 }
 
 impl Model for Graph {
@@ -37,12 +42,11 @@ impl Model for Graph {
 
     ghost coded = { Prim.hlevel (codes, place.the_row.coded, expr.the_row.coded) };
 
-    ghost use Rattle.cfa.specs.Graph.{IsGraph};
-    ghost use Rattle.cfa.specs.Table.{IsOutgoing};
+    ghost use Rattle.cfa.specs.Coherent.{IsCoherent};
 
     ghost view = { λ g. g.parts };
 
-    ghost invariant = { λ g. IsGraph g.parts × IsOutgoing g.parts g.rows };
+    ghost invariant = { λ g. IsCoherent g.parts g.rows g.names };
 }
 
 // Whether the parts other than edges meet their rules.
@@ -84,12 +88,13 @@ impl Graph {
     /// # Errors
     ///
     /// `IllNumbered` names the first edge that breaks the rules for edges. `IllPart` says that no edge does and another
-    /// part breaks its own. `Memory` comes where an allocation is refused or there are 2^32 edges or more.
+    /// part breaks its own. `Memory` comes where an allocation is refused, or there are 2^32 edges or functions
+    /// or more.
     pub fn new(alloc: Global, parts: GraphParts) -> Result<Graph, GraphFault>
         ensures ok { IfOk result (λ g. (g ≡ parts) × IsGraph parts) }
         ensures err { IfErr result (λ fault. IsFault parts fault) }
     {
-        if parts.edges.len() > u32::MAX as usize {
+        if parts.edges.len() > u32::MAX as usize || parts.functions.len() > u32::MAX as usize {
             return Err(GraphFault::Memory);
         }
         match first_ill_edge(&parts) {
@@ -100,9 +105,11 @@ impl Graph {
         if !rest_fits(alloc, &parts, &rows)? {
             return Err(GraphFault::IllPart);
         }
+        let names = name_rows(alloc, &parts)?;
         Ok(Graph {
             parts,
             rows: Vector::from_vec(rows),
+            names: Vector::from_vec(names),
         })
     }
 
@@ -175,5 +182,12 @@ impl Graph {
         ensures { result.now ≡ outgoing_of self.now node }
     {
         &self.rows[node as usize]
+    }
+
+    /// The number of the defined function with this name, the least where several have it.
+    pub fn function_named(&self, name: &[u8]) -> Option<u32>
+        ensures { IsFirstNamed self.now.functions name.now result }
+    {
+        first_named(&self.parts, &self.names, name)
     }
 }

@@ -5,6 +5,7 @@ mod edge;
 mod expr;
 mod fault;
 mod graph;
+mod names;
 mod parts;
 mod rest;
 mod rules;
