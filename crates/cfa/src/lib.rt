@@ -21,3 +21,6 @@ pub use parts::{
     Edge, Function, GraphParts, InputFunction, Node, Operation, Scope, Variable, VariablePlace,
 };
 pub use state::{Frame, Predicates, State, Trap};
+
+#[cfg(test)]
+mod tests;
