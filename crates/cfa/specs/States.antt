@@ -1,13 +1,24 @@
 -- The states of a graph.
-use Rattle.std.specs.Prelude.{◌≡◌, ℕ, ◌+◌, ◌-◌, ◌≤◌, List, map, take, sum, length, Option, Some, None, slice_get}
+use Rattle.std.specs.Prelude.{◌≡◌, ℕ, ◌+◌, ◌-◌, ◌≤◌, List, [], map, take, sum, length, Option, Some, None, unwrap_or, Result, slice_get}
 use Rattle.std.specs.Option.{IsNone, IsSomeAnd}
 use Rattle.std.specs.List.{AllZip}
+use Rattle.cfa.specs.declared.expr.Expr.{Expr}
 use Rattle.cfa.specs.declared.parts.Function.{Function}
 use Rattle.cfa.specs.declared.parts.GraphParts.{GraphParts}
 use Rattle.cfa.specs.declared.state.Frame.{Frame}
 use Rattle.cfa.specs.declared.state.State.{State}
+use Rattle.cfa.specs.declared.state.Trap.{Trap}
 use Rattle.cfa.specs.Each.{Each}
 use Rattle.cfa.specs.Graph.{callee_of}
+use Rattle.cfa.specs.Values.{value_of}
+
+-- the frame that runs, the last one
+abbrev pub running_frame : State → Frame
+running_frame s = unwrap_or (slice_get s.frames (length s.frames - 1)) (record { call = None; base = 0; arrays = [] })
+
+-- the value of an expression in a state, or its trap
+abbrev pub value_in : State → Expr → Result ℕ Trap
+value_in s e = value_of s.cells (running_frame s) e
 
 abbrev pub function_cells : Option Function → ℕ
 function_cells None = 0

@@ -93,6 +93,9 @@ impl Graph {
     pub fn new(alloc: Global, parts: GraphParts) -> Result<Graph, GraphFault>
         ensures ok { IfOk result (λ g. (g ≡ parts) × IsGraph parts) }
         ensures err { IfErr result (λ fault. IsFault parts fault) }
+
+        // want of memory alone refuses a graph
+        ensures complete { IsGraph parts → IfErr result (λ fault. fault ≡ GraphFault.Memory) }
     {
         if parts.edges.len() > u32::MAX as usize || parts.functions.len() > u32::MAX as usize {
             return Err(GraphFault::Memory);

@@ -1,4 +1,9 @@
 //! The control flow automaton of a program: its nodes, its edges with their operations, its functions and scopes.
+//!
+//! It stands on `fq_core` for names and spans, on `c_values` for the arithmetic of C's integers, and on `containers`.
+//! `Graph::new` accepts exactly the parts that meet the rules of `IsGraph`, and each holder of a `Graph` has them.
+//! Beside the types stand the definitions that the layers above share: values of expressions, contexts and the edges
+//! between them, walks, states of a graph, and predicates that go with it.
 #![tactic(auto)]
 
 mod edge;

@@ -1,5 +1,4 @@
 use crate::*;
-use c_values::Kind;
 use std::alloc::Global;
 use std::test::Fail;
 
@@ -11,12 +10,12 @@ use broken::{Fault, OF_ARRAY, OF_CALL};
 use draft::{Change, Draft, long_parts};
 use worked::{ARRAY, BRANCH, CALL, LOOP, RECURSION};
 
-fn graph_of(alloc: Global, draft: Draft) -> Result<Graph, GraphFault> {
-    Graph::new(alloc, draft.parts(alloc, Change::Nothing, Change::Nothing)?)
+fn graph_of(alloc: Global, draft: &Draft) -> Result<Graph, GraphFault> {
+    Graph::new(alloc, draft.parts(alloc, Change::Nothing, Change::Nothing))
 }
 
 // By node, the numbers of the edges that leave it.
-fn ways_of(alloc: Global, graph: &Graph) -> Result<String, Fail> {
+fn ways_text(alloc: Global, graph: &Graph) -> Result<String, Fail> {
     let mut text = String::new(alloc);
     for i in 0..graph.nodes().len() {
         if let Ok(node) = u32::try_from(i) {
@@ -29,69 +28,104 @@ fn ways_of(alloc: Global, graph: &Graph) -> Result<String, Fail> {
     Ok(text)
 }
 
+fn ways_of(alloc: Global, draft: &Draft) -> Result<String, Fail> {
+    let graph = graph_of(alloc, draft)?;
+    ways_text(alloc, &graph)
+}
+
 #[test]
 fn worked_graphs_have_their_edges(rt: HostRuntime) -> Result<(), Fail> {
-    let alloc = rt.alloc();
     for (draft, want) in [
-        (BRANCH, "0 1 ||3 |2 |"),
-        (CALL, "0 |5 |1 ||2 3 |7 |4 |6 |"),
-        (LOOP, "0 ||1 |6 |2 3 |4 |5 |"),
-        (RECURSION, "0 1 |4 |3 |2 |5 |"),
-        (ARRAY, "0 |4 |1 ||2 |3 |5 |"),
+        (&BRANCH, "0 1 ||3 |2 |"),
+        (&CALL, "0 |5 |1 ||2 3 |7 |4 |6 |"),
+        (&LOOP, "0 ||1 |6 |2 3 |4 |5 |"),
+        (&RECURSION, "0 1 |4 |3 |2 |5 |"),
+        (&ARRAY, "0 |4 |1 ||2 |3 |5 |"),
     ] {
-        let graph = graph_of(alloc, draft)?;
-        assert_eq!(rt; ways_of(alloc, &graph)?.as_str(), want);
+        let ways = ways_of(rt.alloc(), draft)?;
+        assert_eq!(rt; ways.as_str(), want);
     }
     Ok(())
+}
+
+fn counts_of(graph: &Graph) -> [usize; 8] {
+    graph.well_formed();
+    [
+        graph.nodes().len(),
+        graph.edges().len(),
+        graph.functions().len(),
+        graph.files().len(),
+        graph.declared().len(),
+        graph.inputs().len(),
+        graph.scopes().len(),
+        graph.globals().len(),
+    ]
+}
+
+fn counts(alloc: Global, draft: &Draft) -> Result<[usize; 8], GraphFault> {
+    let graph = graph_of(alloc, draft)?;
+    Ok(counts_of(&graph))
+}
+
+fn named(alloc: Global, draft: &Draft, name: &str) -> Result<Option<u32>, GraphFault> {
+    let graph = graph_of(alloc, draft)?;
+    Ok(graph.function_named(name.as_bytes()))
 }
 
 #[test]
 fn accessors_give_the_parts(rt: HostRuntime) -> Result<(), Fail> {
-    let graph = graph_of(rt.alloc(), CALL)?;
-    assert_eq!(rt; graph.nodes().len(), 8);
-    assert_eq!(rt; graph.edges().len(), 8);
-    assert_eq!(rt; graph.functions().len(), 2);
-    assert_eq!(rt; graph.files().len(), 1);
-    assert_eq!(rt; graph.declared().len(), 0);
-    assert_eq!(rt; graph.inputs().len(), 0);
-    assert_eq!(rt; graph.scopes().len(), 3);
-    assert_eq!(rt; graph.globals().len(), 0);
-    graph.well_formed();
+    assert_eq!(rt; counts(rt.alloc(), &CALL)?, [8, 8, 2, 1, 0, 0, 3, 0]);
     for (name, want) in [("g", Some(0)), ("f", Some(1)), ("h", None), ("", None)] {
-        assert_eq!(rt; graph.function_named(name.as_bytes()), want, "{name}");
+        assert_eq!(rt; named(rt.alloc(), &CALL, name)?, want, "{name}");
     }
     Ok(())
 }
 
-fn answer_of(alloc: Global, draft: Draft, fault: &Fault) -> Option<GraphFault> {
-    match draft.parts(alloc, fault.1, fault.2) {
-        Err(_) => None,
-        Ok(parts) => Graph::new(alloc, parts).err(),
+fn answer_of(alloc: Global, draft: &Draft, fault: &Fault) -> Option<GraphFault> {
+    match Graph::new(alloc, draft.parts(alloc, fault.1, fault.2)) {
+        Ok(_) => None,
+        Err(answer) => Some(answer),
+    }
+}
+
+fn want_of(fault: &Fault) -> GraphFault {
+    match fault.3 {
+        Some(edge) => GraphFault::IllNumbered { edge },
+        None => GraphFault::IllPart,
     }
 }
 
 #[test]
 fn broken_parts_are_refused(rt: HostRuntime) {
-    for (draft, faults) in [(CALL, OF_CALL.as_slice()), (ARRAY, OF_ARRAY.as_slice())] {
+    for (draft, faults) in [(&CALL, OF_CALL.as_slice()), (&ARRAY, OF_ARRAY.as_slice())] {
         for fault in faults {
-            let want = match fault.3 {
-                Some(edge) => GraphFault::IllNumbered { edge },
-                None => GraphFault::IllPart,
-            };
             let answer = answer_of(rt.alloc(), draft, fault);
-            assert_eq!(rt; answer, Some(want), "{}", fault.0);
+            assert_eq!(rt; answer, Some(want_of(fault)), "{}", fault.0);
         }
     }
 }
 
+fn first_way(graph: &Graph, node: u32) -> Option<u32> {
+    if (node as usize) < graph.nodes().len() {
+        graph.outgoing(node).first().copied()
+    } else {
+        None
+    }
+}
+
+fn long_ways(alloc: Global) -> Result<[Option<u32>; 4], GraphFault> {
+    let graph = Graph::new(alloc, long_parts(alloc, 40_000))?;
+    Ok([
+        first_way(&graph, 0),
+        first_way(&graph, 1),
+        first_way(&graph, 20_000),
+        first_way(&graph, 40_000),
+    ])
+}
+
 #[test]
 fn long_graphs_take_linear_time(rt: HostRuntime) -> Result<(), Fail> {
-    let graph = Graph::new(rt.alloc(), long_parts(rt.alloc(), 40_000)?)?;
-    assert_eq!(rt; graph.edges().len(), 40_000);
-    assert!(rt; graph.nodes().len() > 40_000);
-    assert_eq!(rt; graph.outgoing(0), [0].as_slice());
-    assert_eq!(rt; graph.outgoing(1).len(), 0);
-    assert_eq!(rt; graph.outgoing(20_000), [20_000].as_slice());
-    assert_eq!(rt; graph.outgoing(40_000), [1].as_slice());
+    let want = [Some(0), None, Some(20_000), Some(1)];
+    assert_eq!(rt; long_ways(rt.alloc())?, want);
     Ok(())
 }

@@ -328,31 +328,41 @@ fn files(alloc: Global) -> Result<Vector<Name>, AllocError> {
     Ok(list)
 }
 
-impl Draft {
-    /// The parts of the graph with a change of its edges and one of its other parts.
-    pub fn parts(
-        &self,
-        alloc: Global,
-        row: Change,
-        other: Change,
-    ) -> Result<GraphParts, AllocError> {
-        Ok(GraphParts {
-            files: files(alloc)?,
-            nodes: nodes(alloc, self.nodes, other)?,
-            edges: edges(alloc, self.rows, row)?,
-            functions: functions(alloc, self.shapes, other)?,
-            declared: Vector::new(alloc),
-            inputs: inputs(alloc, other)?,
-            scopes: scopes(alloc, self.scopes, other)?,
-            globals: globals(alloc, other)?,
-        })
+// Without memory a list is empty, and the parts are not what the test wants.
+fn or_empty<T: Drop>(alloc: Global, list: Result<Vector<T>, AllocError>) -> Vector<T> {
+    match list {
+        Ok(list) => list,
+        Err(_) => Vector::new(alloc),
     }
 }
 
-/// The parts of a row of assignments between so many nodes, and an edge that leads from the last back to itself.
-pub fn long_parts(alloc: Global, count: u32) -> Result<GraphParts, AllocError> {
-    let mut nodes = Vector::new(alloc);
-    let mut edges = Vector::new(alloc);
+impl Draft {
+    /// The parts of the graph with a change of its edges and one of its other parts.
+    pub fn parts(&self, alloc: Global, row: Change, other: Change) -> GraphParts {
+        GraphParts {
+            files: or_empty(alloc, files(alloc)),
+            nodes: or_empty(alloc, nodes(alloc, self.nodes, other)),
+            edges: or_empty(alloc, edges(alloc, self.rows, row)),
+            functions: or_empty(alloc, functions(alloc, self.shapes, other)),
+            declared: Vector::new(alloc),
+            inputs: or_empty(alloc, inputs(alloc, other)),
+            scopes: or_empty(alloc, scopes(alloc, self.scopes, other)),
+            globals: or_empty(alloc, globals(alloc, other)),
+        }
+    }
+}
+
+fn long_nodes(alloc: Global, count: u32) -> Result<Vector<Node>, AllocError> {
+    let mut list = Vector::new(alloc);
+    for _ in 0..count {
+        list.push(place())?;
+    }
+    list.push(place())?;
+    Ok(list)
+}
+
+fn long_edges(alloc: Global, count: u32) -> Result<Vector<Edge>, AllocError> {
+    let mut list = Vector::new(alloc);
     for node in 0..count {
         let (source, target) = match node {
             0 => (0, 2),
@@ -360,32 +370,33 @@ pub fn long_parts(alloc: Global, count: u32) -> Result<GraphParts, AllocError> {
             _ => (node, node.saturating_add(1)),
         };
         let step = Step::Set(1, Word::Just(Part::Local(1)));
-        edges.push(edge(alloc, row_between(source, target, step))?)?;
-        nodes.push(place())?;
+        list.push(edge(alloc, row_between(source, target, step))?)?;
     }
-    nodes.push(place())?;
-    let shape = Shape {
-        name: "f",
-        ends: (0, 1),
-        parameters: &[],
-        arrays: &[],
-        result: None,
-        cells: 2,
-    };
-    Ok(GraphParts {
-        files: files(alloc)?,
-        nodes,
-        edges,
-        functions: functions(alloc, &[shape], Change::Nothing)?,
+    Ok(list)
+}
+
+static LONG: Shape = Shape {
+    name: "f",
+    ends: (0, 1),
+    parameters: &[],
+    arrays: &[],
+    result: None,
+    cells: 2,
+};
+
+/// The parts of a row of assignments between so many nodes, and an edge that leads from the last back to itself.
+pub fn long_parts(alloc: Global, count: u32) -> GraphParts {
+    let seen: &'static [Seen] = &[(None, VariablePlace::Local(1))];
+    GraphParts {
+        files: or_empty(alloc, files(alloc)),
+        nodes: or_empty(alloc, long_nodes(alloc, count)),
+        edges: or_empty(alloc, long_edges(alloc, count)),
+        functions: or_empty(alloc, functions(alloc, &[LONG], Change::Nothing)),
         declared: Vector::new(alloc),
         inputs: Vector::new(alloc),
-        scopes: scopes(
-            alloc,
-            &[&[(None, VariablePlace::Local(1))]],
-            Change::Nothing,
-        )?,
+        scopes: or_empty(alloc, scopes(alloc, &[seen], Change::Nothing)),
         globals: Vector::new(alloc),
-    })
+    }
 }
 
 fn row_between(source: u32, target: u32, step: Step) -> Row {
