@@ -1,0 +1,12 @@
+pub mod Coherent
+pub mod Contexts
+pub mod Each
+pub mod Fault
+pub mod Graph
+pub mod Kinds
+pub mod Names
+pub mod Predicates
+pub mod Rules
+pub mod States
+pub mod Table
+pub mod Values
