@@ -2,8 +2,8 @@
 use crate::*;
 use c_values::Kind;
 use containers::{Boxed, Vector};
-use fq_core::{Name, Span};
-use std::alloc::{AllocError, Global};
+use fq_core::{Memory, Name, Span};
+use std::alloc::Global;
 
 /// An operand of kind int, or of another.
 #[derive(Clone, Copy)]
@@ -106,7 +106,7 @@ fn element(
     array: ArrayPlace,
     index: Part,
     length: u32,
-) -> Result<CellPlace, AllocError> {
+) -> Result<CellPlace, Memory> {
     let index = Boxed::new(alloc, operand(index))?;
     Ok(CellPlace::Element {
         array,
@@ -115,7 +115,7 @@ fn element(
     })
 }
 
-fn expression(alloc: Global, word: Word) -> Result<Expr, AllocError> {
+fn expression(alloc: Global, word: Word) -> Result<Expr, Memory> {
     match word {
         Word::Just(only) => Ok(operand(only)),
         Word::Two(op, left, right) => {
@@ -138,7 +138,7 @@ fn expression(alloc: Global, word: Word) -> Result<Expr, AllocError> {
     }
 }
 
-fn expressions(alloc: Global, words: &[Word]) -> Result<Vector<Expr>, AllocError> {
+fn expressions(alloc: Global, words: &[Word]) -> Result<Vector<Expr>, Memory> {
     let mut list = Vector::new(alloc);
     for word in words {
         list.push(expression(alloc, *word)?)?;
@@ -151,7 +151,7 @@ fn call(
     callee: u32,
     words: &[Word],
     arrays: &[ArrayPlace],
-) -> Result<Operation, AllocError> {
+) -> Result<Operation, Memory> {
     let words = expressions(alloc, words)?;
     let arrays = Vector::from_vec(Vec::from_slice(alloc, arrays)?);
     Ok(Operation::Call {
@@ -165,7 +165,7 @@ fn assign(place: CellPlace, value: Expr) -> Operation {
     Operation::Assign { place, value }
 }
 
-fn operation(alloc: Global, step: Step) -> Result<Operation, AllocError> {
+fn operation(alloc: Global, step: Step) -> Result<Operation, Memory> {
     match step {
         Step::Skip => Ok(Operation::Skip),
         Step::Set(cell, word) => Ok(assign(CellPlace::Local(cell), expression(alloc, word)?)),
@@ -188,7 +188,7 @@ fn operation(alloc: Global, step: Step) -> Result<Operation, AllocError> {
     }
 }
 
-fn edge(alloc: Global, row: Row) -> Result<Edge, AllocError> {
+fn edge(alloc: Global, row: Row) -> Result<Edge, Memory> {
     Ok(Edge {
         source: row.ends.0,
         target: row.ends.1,
@@ -212,7 +212,7 @@ fn edge(alloc: Global, row: Row) -> Result<Edge, AllocError> {
     })
 }
 
-fn edges(alloc: Global, rows: &[Row], change: Change) -> Result<Vector<Edge>, AllocError> {
+fn edges(alloc: Global, rows: &[Row], change: Change) -> Result<Vector<Edge>, Memory> {
     let mut list = Vector::new(alloc);
     for (i, row) in rows.iter().enumerate() {
         let row = match change {
@@ -227,7 +227,7 @@ fn edges(alloc: Global, rows: &[Row], change: Change) -> Result<Vector<Edge>, Al
     Ok(list)
 }
 
-fn nodes(alloc: Global, table: &[Node], change: Change) -> Result<Vector<Node>, AllocError> {
+fn nodes(alloc: Global, table: &[Node], change: Change) -> Result<Vector<Node>, Memory> {
     let mut list = Vector::new(alloc);
     for (i, node) in table.iter().enumerate() {
         let node = match change {
@@ -242,7 +242,7 @@ fn nodes(alloc: Global, table: &[Node], change: Change) -> Result<Vector<Node>, 
     Ok(list)
 }
 
-fn function(alloc: Global, shape: Shape) -> Result<Function, AllocError> {
+fn function(alloc: Global, shape: Shape) -> Result<Function, Memory> {
     let name = Name::new(alloc, shape.name.as_bytes())?;
     let parameters = Vector::from_vec(Vec::from_slice(alloc, shape.parameters)?);
     let arrays = Vector::from_vec(Vec::from_slice(alloc, shape.arrays)?);
@@ -257,11 +257,7 @@ fn function(alloc: Global, shape: Shape) -> Result<Function, AllocError> {
     })
 }
 
-fn functions(
-    alloc: Global,
-    shapes: &[Shape],
-    change: Change,
-) -> Result<Vector<Function>, AllocError> {
+fn functions(alloc: Global, shapes: &[Shape], change: Change) -> Result<Vector<Function>, Memory> {
     let mut list = Vector::new(alloc);
     for (i, shape) in shapes.iter().enumerate() {
         let shape = match change {
@@ -273,7 +269,7 @@ fn functions(
     Ok(list)
 }
 
-fn scope(alloc: Global, variables: &[Seen]) -> Result<Scope, AllocError> {
+fn scope(alloc: Global, variables: &[Seen]) -> Result<Scope, Memory> {
     let mut list = Vector::new(alloc);
     for variable in variables {
         list.push(Variable {
@@ -290,7 +286,7 @@ fn scopes(
     alloc: Global,
     table: &[&'static [Seen]],
     change: Change,
-) -> Result<Vector<Scope>, AllocError> {
+) -> Result<Vector<Scope>, Memory> {
     let mut list = Vector::new(alloc);
     for (i, seen) in table.iter().enumerate() {
         let seen = match change {
@@ -305,7 +301,7 @@ fn scopes(
     Ok(list)
 }
 
-fn globals(alloc: Global, change: Change) -> Result<Vector<(Kind, u64)>, AllocError> {
+fn globals(alloc: Global, change: Change) -> Result<Vector<(Kind, u64)>, Memory> {
     let list = match change {
         Change::Globals(count, kind) => vec![in alloc; (kind, 0); count]?,
         _ => Vec::new(alloc),
@@ -313,7 +309,7 @@ fn globals(alloc: Global, change: Change) -> Result<Vector<(Kind, u64)>, AllocEr
     Ok(Vector::from_vec(list))
 }
 
-fn inputs(alloc: Global, change: Change) -> Result<Vector<InputFunction>, AllocError> {
+fn inputs(alloc: Global, change: Change) -> Result<Vector<InputFunction>, Memory> {
     let mut list = Vector::new(alloc);
     if let Change::Input(result) = change {
         let name = Name::new(alloc, b"in")?;
@@ -322,14 +318,14 @@ fn inputs(alloc: Global, change: Change) -> Result<Vector<InputFunction>, AllocE
     Ok(list)
 }
 
-fn files(alloc: Global) -> Result<Vector<Name>, AllocError> {
+fn files(alloc: Global) -> Result<Vector<Name>, Memory> {
     let mut list = Vector::new(alloc);
     list.push(Name::new(alloc, b"a.c")?)?;
     Ok(list)
 }
 
 // Without memory a list is empty, and the parts are not what the test wants.
-fn or_empty<T: Drop>(alloc: Global, list: Result<Vector<T>, AllocError>) -> Vector<T> {
+fn or_empty<T: Drop>(alloc: Global, list: Result<Vector<T>, Memory>) -> Vector<T> {
     match list {
         Ok(list) => list,
         Err(_) => Vector::new(alloc),
@@ -352,7 +348,7 @@ impl Draft {
     }
 }
 
-fn long_nodes(alloc: Global, count: u32) -> Result<Vector<Node>, AllocError> {
+fn long_nodes(alloc: Global, count: u32) -> Result<Vector<Node>, Memory> {
     let mut list = Vector::new(alloc);
     for _ in 0..count {
         list.push(place())?;
@@ -361,7 +357,7 @@ fn long_nodes(alloc: Global, count: u32) -> Result<Vector<Node>, AllocError> {
     Ok(list)
 }
 
-fn long_edges(alloc: Global, count: u32) -> Result<Vector<Edge>, AllocError> {
+fn long_edges(alloc: Global, count: u32) -> Result<Vector<Edge>, Memory> {
     let mut list = Vector::new(alloc);
     for node in 0..count {
         let (source, target) = match node {
