@@ -1,0 +1,3 @@
+pub mod Residues
+pub mod Fitting
+pub mod Machine
