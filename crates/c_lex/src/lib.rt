@@ -1,0 +1,10 @@
+//! The tokens of C: a text is cut into blanks, comments, directive lines and tokens, and macros are replaced.
+#![tactic(auto)]
+
+mod bytes;
+mod constant;
+mod cut;
+mod form;
+mod token;
+
+pub use token::{SourceText, Token, TokenKind};
