@@ -1,3 +1,5 @@
+pub mod Digits
 pub mod Longest
 pub mod Loops
+pub mod Numbers
 pub mod Scans

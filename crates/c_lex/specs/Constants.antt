@@ -95,30 +95,45 @@ number_in base text =
 unfoldable pub number_of : List ℕ → Option TokenKind
 number_of text = number_in (base_of text) (after_prefix (base_of text) text)
 
--- the words and marks of C that the profile leaves out (6.4.1, 6.4.6)
+-- the words of C that the profile leaves out: of ISO/IEC 9899:1990, 1999 and 2011 (6.4.1)
 abbrev pub foreign_words : List (List ℕ)
 foreign_words = codes "struct" ∷ codes "union" ∷ codes "typedef" ∷ codes "float" ∷ codes "double" ∷ codes "goto" ∷ codes "sizeof"
-    ∷ codes "volatile" ∷ codes "register" ∷ codes "auto" ∷ codes "restrict" ∷ codes "_Bool" ∷ codes "_Complex" ∷ codes "_Imaginary"
-    ∷ codes "_Alignas" ∷ codes "_Alignof" ∷ codes "_Atomic" ∷ codes "_Generic" ∷ codes "_Noreturn" ∷ codes "_Static_assert"
-    ∷ codes "_Thread_local" ∷ []
+    ∷ codes "volatile" ∷ codes "register" ∷ codes "auto" ∷ []
 
+abbrev pub foreign_words_of_1999 : List (List ℕ)
+foreign_words_of_1999 = codes "restrict" ∷ codes "_Bool" ∷ codes "_Complex" ∷ codes "_Imaginary" ∷ []
+
+abbrev pub foreign_words_of_2011 : List (List ℕ)
+foreign_words_of_2011 = codes "_Alignas" ∷ codes "_Alignof" ∷ codes "_Atomic" ∷ codes "_Generic" ∷ codes "_Noreturn"
+    ∷ codes "_Static_assert" ∷ codes "_Thread_local" ∷ []
+
+-- the marks of C that the profile leaves out (6.4.6)
 abbrev pub foreign_marks : List (List ℕ)
 foreign_marks = codes "." ∷ codes "->" ∷ codes "..." ∷ []
 
 abbrev pub is_among : List (List ℕ) → List ℕ → Bool
-is_among texts text = list_any (λ t. bytes_eq t text) texts
+is_among texts text = list_any (λ t. bytes_eq text t) texts
+
+abbrev pub is_foreign_word : List ℕ → Bool
+is_foreign_word text = is_among foreign_words text || is_among foreign_words_of_1999 text || is_among foreign_words_of_2011 text
 
 -- a character constant is an int (6.4.4.4p10)
 abbrev pub constant_kind : Option ℕ → TokenKind
 constant_kind None = Foreign
 constant_kind (Some value) = Number value int
 
+abbrev pub word_kind : List ℕ → TokenKind
+word_kind text = if is_foreign_word text then Foreign else Word
+
+abbrev pub mark_kind : List ℕ → TokenKind
+mark_kind text = if is_among foreign_marks text then Foreign else Mark
+
 -- what a token is; none for a number that is too wide for each of its kinds
 unfoldable pub token_kind : List ℕ → Option TokenKind
 token_kind [] = Some Foreign
 token_kind (b ∷ bs) =
-    if is_letter b then Some (if is_among foreign_words (b ∷ bs) then Foreign else Word)
+    if is_letter b then Some (word_kind (b ∷ bs))
     else (if is_digit b then number_of (b ∷ bs)
     else (if b == 39 then Some (constant_kind (constant_value bs))
     else (if b == 34 then Some Foreign
-    else Some (if is_among foreign_marks (b ∷ bs) then Foreign else Mark))))
+    else Some (mark_kind (b ∷ bs)))))
