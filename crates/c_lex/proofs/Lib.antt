@@ -3,3 +3,5 @@ pub mod Longest
 pub mod Loops
 pub mod Numbers
 pub mod Scans
+pub mod StepsLaws
+pub mod Within

@@ -1,5 +1,5 @@
 -- How a text is cut into blanks, comments, directive lines and tokens (ISO/IEC 9899:2011, 5.1.1.2p1 and 6.4).
-use Rattle.std.specs.Prelude.{◌≡◌, ℕ, ◌+◌, Bool, true, false, ◌&&◌, ◌==◌, if◌then◌else◌, List, [], ◌∷◌, take, drop, Option, Some, None, option_map, suc, codes}
+use Rattle.std.specs.Prelude.{◌≡◌, ℕ, ◌+◌, ◌<◌, ◌≤◌, length, Bool, true, false, ◌&&◌, ◌==◌, if◌then◌else◌, List, [], ◌∷◌, take, drop, Option, Some, None, option_map, suc, codes}
 use Rattle.std.specs.List.{list_all, prefix_len}
 use Rattle.std.specs.Str.{bytes_eq}
 use Rattle.c_lex.specs.declared.cut.Mode.{Mode}
@@ -8,6 +8,8 @@ use Rattle.c_lex.specs.declared.cut.Beginning.{Beginning}
 use Rattle.c_lex.specs.declared.cut.Beginning.TheVariants as begins
 use Rattle.c_lex.specs.declared.cut.Lexeme.{Lexeme}
 use Rattle.c_lex.specs.declared.cut.Lexeme.TheVariants as lexeme
+use Rattle.c_lex.specs.declared.cut.Step.{Step}
+use Rattle.c_lex.specs.declared.cut.Step.TheVariants as step
 use Rattle.c_lex.specs.Bytes.{is_blank, is_in_line}
 use Rattle.c_lex.specs.Forms.{longest}
 
@@ -75,3 +77,11 @@ pub data Cuts (text : List ℕ) : ℕ → Mode → List Lexeme → Type 0 where
       → Cuts text (at + n) modes.Within ls → Cuts text at m (lexeme.Directive at n ∷ ls)
   unknown : {at : ℕ} {m : Mode} → beginning m (drop at text) ≡ begins.Unknown → Cuts text at m (lexeme.Unknown at ∷ [])
   open_comment : {at : ℕ} {m : Mode} → beginning m (drop at text) ≡ begins.Open → Cuts text at m (lexeme.Open at ∷ [])
+
+-- what one step along a text finds
+abbrev pub Finds : (text : List ℕ) → ℕ → Mode → Step → Type 0
+Finds text at m step.End = Cuts text at m []
+Finds text at m (step.Gap next after) = (at < next) × (next ≤ length text) × ((ls : List Lexeme) → Cuts text next after ls → Cuts text at m ls)
+Finds text at m (step.Found l next after) =
+    (at < next) × (next ≤ length text) × ((ls : List Lexeme) → Cuts text next after ls → Cuts text at m (l ∷ ls))
+Finds text at m (step.Last l) = Cuts text at m (l ∷ [])

@@ -1,8 +1,8 @@
 // Where a text is cut.
-ghost use Rattle.std.specs.Prelude.{◌≡◌, ◌+◌, ◌<◌, ◌^◌, length};
-ghost use Rattle.std.specs.List.{prefix_len};
+ghost use Rattle.std.specs.Prelude.{◌≡◌, ◌+◌, ◌<◌, ◌≤◌, ◌^◌, drop, length};
+ghost use Rattle.std.specs.List.{list_all, prefix_len};
 ghost use Rattle.c_lex.specs.Bytes.{is_in_line};
-ghost use Rattle.c_lex.specs.Cuts.{beginning, block_comment, closes, closing, is_fresh, starts, token_or_none};
+ghost use Rattle.c_lex.specs.Cuts.{after_gap, after_token, beginning, block_comment, closes, closing, Finds, is_fresh, part, starts, token_or_none};
 ghost use Rattle.c_lex.specs.Forms.{longest};
 
 use crate::bytes::is_blank;
@@ -45,6 +45,19 @@ pub enum Lexeme {
     Directive(usize, usize),
     Unknown(usize),
     Open(usize),
+}
+
+/// What one step along a text finds.
+#[derive(Clone, Copy, Debug)]
+pub enum Step {
+    /// Nothing more.
+    End,
+    /// A blank or a comment, and where the text goes on.
+    Gap(usize, Mode),
+    /// A token or a directive line, and where the text goes on.
+    Found(Lexeme, usize, Mode),
+    /// What stops the cutting.
+    Last(Lexeme),
 }
 
 // How many bytes stand up to the line's end.
@@ -105,7 +118,8 @@ fn is_fresh(mode: Mode) -> bool
     }
 }
 
-fn starts(byte: u8, text: &[u8]) -> bool
+/// Whether the first byte is this one.
+pub fn starts(byte: u8, text: &[u8]) -> bool
     ensures { result ≡ starts byte text.now }
 {
     match text {
@@ -133,5 +147,72 @@ pub fn what_begins(mode: Mode, text: &[u8]) -> Beginning
                 token(mode, text)
             }
         }
+    }
+}
+
+/// `length` bytes of a text from a place on, as far as there are so many.
+pub fn part(text: &[u8], at: usize, length: usize) -> &[u8]
+    ensures { result.now ≡ part text.now at length }
+{
+    let rest = rest_of(text, at);
+    if length < rest.len() {
+        &rest[..length]
+    } else {
+        rest
+    }
+}
+
+/// The bytes of a text from a place on.
+pub fn rest_of(text: &[u8], at: usize) -> &[u8]
+    ensures { result.now ≡ drop at text.now }
+{
+    if at < text.len() { &text[at..] } else { &[] }
+}
+
+fn is_in_one_line(text: &[u8]) -> bool
+    ensures { result ≡ list_all is_in_line text.now }
+{
+    text.iter().all(|byte| *byte != b'\n')
+}
+
+fn after_gap(mode: Mode, gap: &[u8]) -> Mode
+    ensures { result ≡ after_gap mode gap.now }
+{
+    if is_in_one_line(gap) { mode } else { Mode::Fresh }
+}
+
+fn after_token(mode: Mode, token: &[u8]) -> Mode
+    ensures { result ≡ after_token mode token.now }
+{
+    match mode {
+        Mode::First => {
+            if token == b"include".as_slice() {
+                Mode::Header
+            } else {
+                Mode::Within
+            }
+        }
+        _ => Mode::Within,
+    }
+}
+
+/// One step along a text from a place on.
+pub fn next_step(text: &[u8], at: usize, mode: Mode) -> Step
+    requires { at ≤ length text.now }
+    ensures { Finds text.now at mode result }
+{
+    match what_begins(mode, rest_of(text, at)) {
+        Beginning::End => Step::End,
+        Beginning::Skip(length) => Step::Gap(at + length, after_gap(mode, part(text, at, length))),
+        Beginning::Directive(length) => {
+            Step::Found(Lexeme::Directive(at, length), at + length, Mode::Within)
+        }
+        Beginning::Token(length) => Step::Found(
+            Lexeme::Token(at, length),
+            at + length,
+            after_token(mode, part(text, at, length)),
+        ),
+        Beginning::Unknown => Step::Last(Lexeme::Unknown(at)),
+        Beginning::Open => Step::Last(Lexeme::Open(at)),
     }
 }

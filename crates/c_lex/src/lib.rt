@@ -4,7 +4,10 @@
 mod bytes;
 mod constant;
 mod cut;
+mod directive;
 mod form;
+mod macros;
+mod position;
 mod token;
 
 pub use token::{SourceText, Token, TokenKind};

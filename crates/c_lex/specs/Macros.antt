@@ -1,0 +1,18 @@
+-- The replacement of macros (ISO/IEC 9899:2011, 6.10.3 and 6.10.3.4).
+use Rattle.std.specs.Prelude.{◌≡◌, ℕ, ◌+◌, suc, List, [], ◌∷◌, ◌++◌, Option, Some, None, option_map, find}
+use Rattle.std.specs.Str.{bytes_eq}
+use Rattle.c_lex.specs.declared.macros.Replacement.{Replacement}
+use Rattle.c_lex.specs.declared.macros.Macro.{Macro}
+
+-- the list of the macro of a name
+unfoldable pub macro_of : List Macro → List ℕ → Option (List Replacement)
+macro_of table name = option_map (λ m. m.list) (find (λ m. bytes_eq m.name name) table)
+
+-- the tokens are replaced by these, with so many replacements: each word of a macro by the macro's list, in which the
+-- words of macros are replaced in turn
+pub data Expands (table : List Macro) : List Replacement → List Replacement → ℕ → Type 0 where
+  nothing : Expands table [] [] 0
+  stays : {r : Replacement} {rs us : List Replacement} {n : ℕ} → macro_of table r.text ≡ None → Expands table rs us n
+      → Expands table (r ∷ rs) (r ∷ us) n
+  is_replaced : {r : Replacement} {rs us vs list : List Replacement} {m n : ℕ} → macro_of table r.text ≡ Some list → Expands table list us m → Expands table rs vs n
+      → Expands table (r ∷ rs) (us ++ vs) (suc m + n)
