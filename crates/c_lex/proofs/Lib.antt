@@ -4,4 +4,5 @@ pub mod Loops
 pub mod Numbers
 pub mod Scans
 pub mod StepsLaws
+pub mod TableLaws
 pub mod Within

@@ -6,3 +6,4 @@ pub mod Forms
 pub mod Macros
 pub mod Places
 pub mod Scans
+pub mod Table

@@ -1,12 +1,18 @@
 -- The replacement of macros (ISO/IEC 9899:2011, 6.10.3 and 6.10.3.4).
-use Rattle.std.specs.Prelude.{◌≡◌, ℕ, ◌+◌, suc, List, [], ◌∷◌, ◌++◌, Option, Some, None, option_map, find}
+use Rattle.std.specs.Prelude.{◌≡◌, ℕ, ◌+◌, suc, List, [], ◌∷◌, ◌++◌, Option, Some, None, option_map, if◌then◌else◌}
 use Rattle.std.specs.Str.{bytes_eq}
 use Rattle.c_lex.specs.declared.macros.Replacement.{Replacement}
 use Rattle.c_lex.specs.declared.macros.Macro.{Macro}
 
 -- the list of the macro of a name
 unfoldable pub macro_of : List Macro → List ℕ → Option (List Replacement)
-macro_of table name = option_map (λ m. m.list) (find (λ m. bytes_eq m.name name) table)
+macro_of [] name = None
+macro_of (m ∷ ms) name = if bytes_eq m.name name then Some m.list else macro_of ms name
+
+-- the place of the macro of a name in the table
+unfoldable pub place_of : List Macro → List ℕ → Option ℕ
+place_of [] name = None
+place_of (m ∷ ms) name = if bytes_eq m.name name then Some 0 else option_map suc (place_of ms name)
 
 -- the tokens are replaced by these, with so many replacements: each word of a macro by the macro's list, in which the
 -- words of macros are replaced in turn
@@ -16,3 +22,7 @@ pub data Expands (table : List Macro) : List Replacement → List Replacement �
       → Expands table (r ∷ rs) (r ∷ us) n
   is_replaced : {r : Replacement} {rs us vs list : List Replacement} {m n : ℕ} → macro_of table r.text ≡ Some list → Expands table list us m → Expands table rs vs n
       → Expands table (r ∷ rs) (us ++ vs) (suc m + n)
+
+-- the replacement of these tokens has no end: a word is met within its own replacement (6.10.3.4p2)
+abbrev pub Endless : List Macro → List Replacement → Type 0
+Endless table rs = (us : List Replacement) (n : ℕ) → Expands table rs us n → ⊥

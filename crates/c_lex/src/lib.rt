@@ -8,6 +8,7 @@ mod directive;
 mod form;
 mod macros;
 mod position;
+mod table;
 mod token;
 
 pub use token::{SourceText, Token, TokenKind};
