@@ -5,4 +5,5 @@ pub mod Numbers
 pub mod Scans
 pub mod StepsLaws
 pub mod TableLaws
+pub mod TakingLaws
 pub mod Within

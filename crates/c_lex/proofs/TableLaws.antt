@@ -26,7 +26,7 @@ pub empty_get : (m : BTreeMap (List ℕ) ℕ) (ms : List Macro) → m.entries �
 unfolding place_of
 empty_get m ms e f q = rw (e, f) refl
 
-none_suc : (o : Option ℕ) → option_map suc o ≡ None → o ≡ None
+pub none_suc : (o : Option ℕ) → option_map suc o ≡ None → o ≡ None
 none_suc None h = refl
 none_suc (Some n) h = cc
 

@@ -60,6 +60,6 @@ abbrev pub replacement_at : (line : List ℕ) → Lexeme → Option Replacement
 replacement_at line (lexeme.Token at n) = replacement_of (part line at n)
 replacement_at line _ = None
 
--- the tokens of a macro's list, where none is a number that is too wide
+-- the tokens of a macro's list, where no number is too wide for its kinds
 unfoldable pub list_of : (line : List ℕ) → List Lexeme → Option (List Replacement)
-list_of line lexemes = all_there (map (replacement_at line) (drop 2 lexemes))
+list_of line lexemes = all_there (map (replacement_at line) lexemes)

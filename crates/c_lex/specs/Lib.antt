@@ -3,7 +3,9 @@ pub mod Constants
 pub mod Cuts
 pub mod Directives
 pub mod Forms
+pub mod Lexed
 pub mod Macros
 pub mod Places
 pub mod Scans
 pub mod Table
+pub mod Taking

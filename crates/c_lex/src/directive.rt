@@ -1,12 +1,21 @@
 // Directive lines.
-ghost use Rattle.std.specs.Prelude.{◌≡◌, ◌≤◌, length, IfOk};
+ghost use Rattle.std.specs.Prelude.{◌≡◌, ◌≤◌, drop, length, IfOk, OnOk};
 ghost use Rattle.c_lex.specs.Cuts.{Cuts};
 ghost use Rattle.c_lex.specs.declared.cut.Mode.TheVariants as modes;
 ghost use Rattle.std.specs.List.{list_all};
-ghost use Rattle.c_lex.specs.Directives.{is_ascii, is_word, all_tokens, include_of, define_of, named, directive_by, directive_of};
+ghost use Rattle.c_lex.specs.Directives.{is_ascii, is_word, all_tokens, include_of, define_of, named, directive_by, directive_of, replacement_at, list_of};
+ghost use Rattle.c_lex.specs.Table.{IsIndexed};
+ghost use Rattle.c_lex.specs.Taking.{DirectiveTaken};
+ghost use Rattle.fq_core.specs.declared.refusal.Place.TheVariants as place;
 
 use crate::bytes::is_letter;
+use crate::constant::token_kind;
 use crate::cut::{Lexeme, Mode, Step, next_step, part, rest_of, starts};
+use crate::macros::Replacement;
+use crate::refuse::refusal;
+use crate::table::Table;
+use containers::Vector;
+use fq_core::{Fault, Name, Place};
 use std::alloc::{AllocError, Global};
 
 /// What a directive line says.
@@ -132,5 +141,90 @@ pub fn line_lexemes(alloc: Global, line: &[u8]) -> Result<Vec<Lexeme>, AllocErro
                 return Ok(lexemes);
             }
         }
+    }
+}
+
+fn replacement_at(
+    alloc: Global,
+    line: &[u8],
+    lexeme: Lexeme,
+) -> Result<Option<Replacement>, AllocError>
+    ensures { IfOk result (λ r. r ≡ replacement_at line.now lexeme) }
+{
+    match lexeme {
+        Lexeme::Token(at, length) => {
+            let bytes = part(line, at, length);
+            match token_kind(bytes) {
+                Some(kind) => {
+                    let text = Name::new(alloc, bytes)?;
+                    Ok(Some(Replacement { kind, text }))
+                }
+                None => Ok(None),
+            }
+        }
+        _ => Ok(None),
+    }
+}
+
+/// The tokens of a macro's list: none where a number in it is too wide for its kinds.
+#[tactic(auto, unfolding(crate::specs::Directives::list_of))]
+fn list_of(
+    alloc: Global,
+    line: &[u8],
+    lexemes: &[Lexeme],
+) -> Result<Option<Vector<Replacement>>, AllocError>
+    ensures { IfOk result (λ list. list ≡ list_of line.now lexemes.now) }
+{
+    let mut list = Vector::new(alloc);
+    for lexeme in lexemes {
+        match replacement_at(alloc, line, *lexeme)? {
+            Some(replacement) => list.push(replacement)?,
+            None => return Ok(None),
+        }
+    }
+    Ok(Some(list))
+}
+
+/// Reads a directive line, with its `#`, and takes in the macro that it defines.
+pub fn take_directive(
+    alloc: Global,
+    line: &[u8],
+    file: u32,
+    number: u32,
+    table: &mut Table,
+) -> Result<(), Fault>
+    requires some { 1 ≤ length line.now }
+    requires indexed { IsIndexed table.old }
+    ensures taken { DirectiveTaken line.now (place.Source file number) table.old.macros.items table.new.macros.items result }
+    ensures indexed { OnOk result (IsIndexed table.new) }
+{
+    let lexemes = line_lexemes(alloc, line)?;
+    let here = Place::Source { file, line: number };
+    match directive_of(line, lexemes.as_slice()) {
+        Directive::Include => Ok(()),
+        Directive::UnknownByte => Err(refusal(10, here)),
+        Directive::Wrong => Err(refusal(12, here)),
+        Directive::Define(at, length) => {
+            let name = Name::new(alloc, part(line, at, length))?;
+            if table.place_of(&name).is_some() {
+                return Err(refusal(12, here));
+            }
+            match list_of(alloc, line, after_two(lexemes.as_slice()))? {
+                None => Err(refusal(13, here)),
+                Some(list) => {
+                    table.define(name, list)?;
+                    Ok(())
+                }
+            }
+        }
+    }
+}
+
+fn after_two(lexemes: &[Lexeme]) -> &[Lexeme]
+    ensures { result.now ≡ drop 2 lexemes.now }
+{
+    match lexemes {
+        [_, _, rest @ ..] => rest,
+        _ => &[],
     }
 }

@@ -8,6 +8,7 @@ mod directive;
 mod form;
 mod macros;
 mod position;
+mod refuse;
 mod table;
 mod token;
 
