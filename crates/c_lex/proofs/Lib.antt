@@ -1,7 +1,9 @@
 pub mod Digits
+pub mod ExpandingLaws
 pub mod Longest
 pub mod Loops
 pub mod Numbers
+pub mod Runs
 pub mod Scans
 pub mod StepsLaws
 pub mod TableLaws

@@ -1,5 +1,5 @@
 -- What tokens and directive lines come to.
-use Rattle.std.proofs.Common.{◌≡◌, ℕ, zero, suc, ◌+◌, ◌<◌, Bool, true, false, List, [], ◌∷◌, ◌++◌, length, get_or, refl, arith, ap, sym, ◌∙◌}
+use Rattle.std.proofs.Common.{◌≡◌, ℕ, zero, suc, ◌+◌, ◌<◌, Bool, true, false, List, [], ◌∷◌, ◌++◌, length, refl, arith, ap, sym, ◌∙◌}
 use Rattle.std.specs.Prelude.{Option, Some, None, option_map, if◌then◌else◌, is_some, Result, Err}
 use Rattle.std.specs.Str.{bytes_eq}
 use Rattle.std.specs.Result.{IsErrAnd}
@@ -10,27 +10,27 @@ use Rattle.fq_core.specs.declared.refusal.Fault.TheVariants as fault
 use Rattle.c_lex.specs.declared.cut.Lexeme.{Lexeme}
 use Rattle.c_lex.specs.declared.macros.Replacement.{Replacement}
 use Rattle.c_lex.specs.declared.macros.Macro.{Macro}
-use Rattle.c_lex.specs.Macros.{macro_of, place_of}
+use Rattle.c_lex.specs.Macros.{macro_of, place_of, list_at}
 use Rattle.c_lex.specs.Taking as taking
 use Rattle.c_lex.proofs.TableLaws.{none_suc}
 
 -- the place and the list of a macro
 pub record Found (ms : List Macro) (q : List ℕ) (i : ℕ) : Type 0 where
   pub within : i < length ms
-  pub list : (d : Macro) → macro_of ms q ≡ Some (get_or ms i d).list
+  pub list : macro_of ms q ≡ Some (list_at ms i)
 
 found_more : (m : Macro) (ms : List Macro) (q : List ℕ) (v : Bool) (o : Option ℕ) (i : ℕ) → bytes_eq m.name q ≡ v → place_of ms q ≡ o → ((j : ℕ) → o ≡ Some j → Found ms q j)
     → (if v then Some 0 else option_map suc o) ≡ Some i → Found (m ∷ ms) q i
-unfolding macro_of
+unfolding macro_of list_at
 found_more m ms q true o i e f h g =
     let z : i ≡ 0 = cc in
-    rw z (record { within = omega arith; list = λ d. rw e refl })
+    rw z (record { within = omega arith; list = rw e refl })
 found_more m ms q false None i e f h g = cc
 found_more m ms q false (Some j) i e f h g =
     let z : i ≡ suc j = cc in
     let k = h j refl in
     let within = k.within in
-    rw z (record { within = omega arith; list = λ d. rw e (k.list d) })
+    rw z (record { within = omega arith; list = rw e k.list })
 
 pub found : (ms : List Macro) (q : List ℕ) (i : ℕ) → place_of ms q ≡ Some i → Found ms q i
 unfolding place_of
@@ -61,7 +61,7 @@ module _ (ms : List Macro) (q name : List ℕ) (r : Option ℕ) (place : r ≡ p
       let s = some_is (place_of ms name) (ap is_some (sym place) ∙ sym test ∙ t) in
       let f = found ms name s.0 s.1 in
       let e = ap (macro_of ms) same in
-      let g = f.list (record { name = []; list = [] }) in cc
+      let g = f.list in cc
 
   pub is_unknown : b ≡ false → macro_of ms q ≡ None
   is_unknown t = ap (macro_of ms) (sym same) ∙ unknown ms name (sym place ∙ none_is ℕ r (sym test ∙ t))

@@ -1,5 +1,5 @@
 -- The replacement of macros (ISO/IEC 9899:2011, 6.10.3 and 6.10.3.4).
-use Rattle.std.specs.Prelude.{◌≡◌, ℕ, suc, List, [], ◌∷◌, ◌++◌, Option, Some, None, option_map, if◌then◌else◌}
+use Rattle.std.specs.Prelude.{◌≡◌, ℕ, zero, suc, List, [], ◌∷◌, ◌++◌, Option, Some, None, option_map, if◌then◌else◌}
 use Rattle.std.specs.Str.{bytes_eq}
 use Rattle.c_lex.specs.declared.macros.Replacement.{Replacement}
 use Rattle.c_lex.specs.declared.macros.Macro.{Macro}
@@ -13,6 +13,12 @@ macro_of (m ∷ ms) name = if bytes_eq m.name name then Some m.list else macro_o
 unfoldable pub place_of : List Macro → List ℕ → Option ℕ
 place_of [] name = None
 place_of (m ∷ ms) name = if bytes_eq m.name name then Some 0 else option_map suc (place_of ms name)
+
+-- the list of the macro at a place of the table
+unfoldable pub list_at : List Macro → ℕ → List Replacement
+list_at [] i = []
+list_at (m ∷ ms) zero = m.list
+list_at (m ∷ ms) (suc i) = list_at ms i
 
 -- the tokens give these, with so many replacements: the word of a macro is replaced by the macro's list, which is then
 -- read along with the tokens that follow, so that the words of macros in it are replaced in turn (6.10.3.4p1)

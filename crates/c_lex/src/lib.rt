@@ -5,6 +5,7 @@ mod bytes;
 mod constant;
 mod cut;
 mod directive;
+mod expand;
 mod form;
 mod macros;
 mod position;
