@@ -1,5 +1,6 @@
 pub mod Digits
 pub mod ExpandingLaws
+pub mod LexerLaws
 pub mod Longest
 pub mod Loops
 pub mod Numbers
@@ -7,5 +8,7 @@ pub mod Runs
 pub mod Scans
 pub mod StepsLaws
 pub mod TableLaws
+pub mod TakenLaws
 pub mod TakingLaws
+pub mod Total
 pub mod Within

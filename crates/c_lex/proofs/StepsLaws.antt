@@ -20,6 +20,14 @@ module _ (text rest : List ℕ) (at : ℕ) (m : Mode) (place : at ≤ length tex
   begins_at : (b : Beginning) → b ≡ beginning m rest → beginning m (drop at text) ≡ b
   begins_at b e = ap (beginning m) (sym here) ∙ sym e
 
+  not_at_end : (xs : List ℕ) → (begins.End ≡ beginning m xs → ⊥) → 0 < length xs
+  unfolding beginning
+  not_at_end [] f = absurd (f refl)
+  not_at_end (x ∷ xs) f = omega arith
+
+  more_left : (begins.End ≡ beginning m rest → ⊥) → at < length text
+  more_left f = let e : length rest ≡ length text - at = ap length here ∙ length-drop at text in omega (arith, not_at_end rest f, e)
+
   pub gap_fits : (n : ℕ) → begins.Skip n ≡ beginning m rest → at + n ≤ length text
   gap_fits n e = (bounds n (has (begins.Skip n) e)).1
 
@@ -40,15 +48,15 @@ module _ (text rest : List ℕ) (at : ℕ) (m : Mode) (place : at ≤ length tex
   pub a_token : (n : ℕ) (taken : List ℕ) (after : Mode) → begins.Token n ≡ beginning m rest → taken ≡ part text at n → after ≡ after_token m taken → Finds text at m (step.Found (lexeme.Token at n) (at + n) after)
   a_token n taken after e s a =
       let b = bounds n (has (begins.Token n) e) in
-      (b.0, b.1, λ ls d. token n (begins_at (begins.Token n) e) (rw (a, s) at d))
+      (b.0, b.1, λ ls d. token n (begins_at (begins.Token n) e) (rw (a, s) at d), (refl, refl))
 
   pub a_directive : (n : ℕ) → begins.Directive n ≡ beginning m rest → Finds text at m (step.Found (lexeme.Directive at n) (at + n) Within)
   a_directive n e =
       let b = bounds n (has (begins.Directive n) e) in
-      (b.0, b.1, λ ls d. directive n (begins_at (begins.Directive n) e) d)
+      (b.0, b.1, λ ls d. directive n (begins_at (begins.Directive n) e) d, (refl, refl))
 
   pub an_unknown : begins.Unknown ≡ beginning m rest → Finds text at m (step.Last (lexeme.Unknown at))
-  an_unknown e = unknown (begins_at begins.Unknown e)
+  an_unknown e = (more_left (λ f. let x : ⊥ = cc in x), unknown (begins_at begins.Unknown e), refl)
 
   pub an_open : begins.Open ≡ beginning m rest → Finds text at m (step.Last (lexeme.Open at))
-  an_open e = open_comment (begins_at begins.Open e)
+  an_open e = (more_left (λ f. let x : ⊥ = cc in x), open_comment (begins_at begins.Open e), refl)

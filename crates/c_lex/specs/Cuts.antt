@@ -78,10 +78,36 @@ pub data Cuts (text : List ℕ) : ℕ → Mode → List Lexeme → Type 0 where
   unknown : {at : ℕ} {m : Mode} → beginning m (drop at text) ≡ begins.Unknown → Cuts text at m (lexeme.Unknown at ∷ [])
   open_comment : {at : ℕ} {m : Mode} → beginning m (drop at text) ≡ begins.Open → Cuts text at m (lexeme.Open at ∷ [])
 
+-- it begins at the first place, and what follows it begins at the second
+abbrev pub Spans : Lexeme → ℕ → ℕ → Type 0
+Spans (lexeme.Token a n) at next = (a ≡ at) × (at + n ≡ next)
+Spans (lexeme.Directive a n) at next = (a ≡ at) × (at + n ≡ next)
+Spans (lexeme.Unknown a) at next = a ≡ at
+Spans (lexeme.Open a) at next = a ≡ at
+
+-- it stops the cutting at this place
+abbrev pub Stops : Lexeme → ℕ → Type 0
+Stops (lexeme.Unknown a) at = a ≡ at
+Stops (lexeme.Open a) at = a ≡ at
+Stops _ at = ⊥
+
 -- what one step along a text finds
 abbrev pub Finds : (text : List ℕ) → ℕ → Mode → Step → Type 0
 Finds text at m step.End = Cuts text at m []
 Finds text at m (step.Gap next after) = (at < next) × (next ≤ length text) × ((ls : List Lexeme) → Cuts text next after ls → Cuts text at m ls)
 Finds text at m (step.Found l next after) =
-    (at < next) × (next ≤ length text) × ((ls : List Lexeme) → Cuts text next after ls → Cuts text at m (l ∷ ls))
-Finds text at m (step.Last l) = Cuts text at m (l ∷ [])
+    (at < next) × (next ≤ length text) × ((ls : List Lexeme) → Cuts text next after ls → Cuts text at m (l ∷ ls)) × Spans l at next
+Finds text at m (step.Last l) = (at < length text) × Cuts text at m (l ∷ []) × Stops l at
+
+abbrev pub place_of_lexeme : Lexeme → ℕ
+place_of_lexeme (lexeme.Token at n) = at
+place_of_lexeme (lexeme.Directive at n) = at
+place_of_lexeme (lexeme.Unknown at) = at
+place_of_lexeme (lexeme.Open at) = at
+
+-- it has one byte at least, and its bytes are those of a text of this length
+abbrev pub IsInside : Lexeme → ℕ → Type 0
+IsInside (lexeme.Token at n) most = (1 ≤ n) × (at + n ≤ most)
+IsInside (lexeme.Directive at n) most = (1 ≤ n) × (at + n ≤ most)
+IsInside (lexeme.Unknown at) most = at < most
+IsInside (lexeme.Open at) most = at < most

@@ -1,5 +1,6 @@
 -- The tokens of texts, or the first place at which one is refused.
-use Rattle.std.specs.Prelude.{◌≡◌, ◌≢◌, ℕ, ◌+◌, ◌≤◌, List, [], ◌∷◌, ◌++◌, length, map, drop, Option, Some, None, Result, Ok, Err, ⊤}
+use Rattle.std.specs.Prelude.{◌≡◌, ◌≢◌, ℕ, ◌+◌, ◌≤◌, ◌<◌, ◌^◌, slice_index_or, Vec, List, [], ◌∷◌, ◌++◌, length, map, drop, Option, Some, None, Result, Ok, Err, ⊤}
+use Rattle.std.specs.declared.alloc.Global.{Global}
 use Rattle.fq_core.specs.declared.span.Span.{Span}
 use Rattle.fq_core.specs.declared.refusal.Place.{Place}
 use Rattle.fq_core.specs.declared.refusal.Place.TheVariants as place
@@ -116,3 +117,13 @@ Lexed texts tokens = (made replaced : ℕ) × ReadsTexts 0 0 0 texts (accepted t
 -- the texts are refused with this code, at this place
 abbrev pub Refused : List SourceText → (code : ℕ) → Place → Type 0
 Refused texts code place = ReadsTexts 0 0 0 texts (refused code place)
+
+-- each text has fewer than 2^32 bytes
+abbrev pub AreSmall : List SourceText → Type 0
+AreSmall texts = (i : ℕ) (d : SourceText) → i < length texts → length (slice_index_or texts i d).bytes < 2 ^ 32
+
+-- the answer on texts: their tokens, or the first refusal, or want of memory
+abbrev pub Answers : List SourceText → Result (Vec Token Global) Fault → Type 0
+Answers texts (Ok tokens) = Lexed texts tokens.items
+Answers texts (Err (fault.Refused r)) = Refused texts r.code r.place
+Answers texts (Err fault.Memory) = ⊤

@@ -1,5 +1,5 @@
 -- The replacement of macros (ISO/IEC 9899:2011, 6.10.3 and 6.10.3.4).
-use Rattle.std.specs.Prelude.{◌≡◌, ℕ, zero, suc, List, [], ◌∷◌, ◌++◌, Option, Some, None, option_map, if◌then◌else◌}
+use Rattle.std.specs.Prelude.{◌≡◌, ℕ, zero, suc, Bool, true, false, List, [], ◌∷◌, ◌++◌, Option, Some, None, option_map, if◌then◌else◌}
 use Rattle.std.specs.Str.{bytes_eq}
 use Rattle.c_lex.specs.declared.macros.Replacement.{Replacement}
 use Rattle.c_lex.specs.declared.macros.Macro.{Macro}
@@ -32,3 +32,8 @@ pub data Expands (table : List Macro) : List Replacement → List Replacement �
 -- the replacement of these tokens has no end: a word is met within its own replacement (6.10.3.4p2)
 abbrev pub Endless : List Macro → List Replacement → Type 0
 Endless table rs = (us : List Replacement) (n : ℕ) → Expands table rs us n → ⊥
+
+-- the answer to whether the replacement of these tokens has no end
+abbrev pub EndlessOrNot : List Macro → List Replacement → Bool → Type 0
+EndlessOrNot table rs true = Endless table rs
+EndlessOrNot table rs false = (us : List Replacement) × (n : ℕ) × Expands table rs us n

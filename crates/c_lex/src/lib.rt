@@ -5,12 +5,16 @@ mod bytes;
 mod constant;
 mod cut;
 mod directive;
+mod endless;
 mod expand;
 mod form;
+mod lexer;
 mod macros;
 mod position;
 mod refuse;
 mod table;
+mod take;
 mod token;
 
+pub use lexer::tokens;
 pub use token::{SourceText, Token, TokenKind};

@@ -15,7 +15,9 @@ pub struct Position {
 pub fn after_bytes(from: Position, bytes: &[u8]) -> Position
     requires line { from.line + length bytes.now < 2 ^ 64 }
     requires column { from.column + length bytes.now < 2 ^ 64 }
-    ensures { result ≡ after_bytes from bytes.now }
+    ensures value { result ≡ after_bytes from bytes.now }
+    ensures line { result.line ≤ from.line + length bytes.now }
+    ensures column { result.column ≤ from.column + length bytes.now }
 {
     let mut position = from;
     for byte in bytes {
