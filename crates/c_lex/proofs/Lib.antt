@@ -1,4 +1,5 @@
 pub mod Digits
+pub mod EndingLaws
 pub mod ExpandingLaws
 pub mod LexerLaws
 pub mod Longest

@@ -2,6 +2,7 @@ pub mod Bytes
 pub mod Constants
 pub mod Cuts
 pub mod Directives
+pub mod Ending
 pub mod Expanding
 pub mod Forms
 pub mod Lexed

@@ -18,3 +18,6 @@ mod token;
 
 pub use lexer::tokens;
 pub use token::{SourceText, Token, TokenKind};
+
+#[cfg(test)]
+mod tests;

@@ -6,6 +6,12 @@ abbrev pub code_table : List (ℕ × List ℕ)
 code_table = (1, codes "NotBuilt")
     ∷ (2, codes "Usage")
     ∷ (7, codes "ReadFault")
+    ∷ (10, codes "UnknownByte")
+    ∷ (11, codes "OpenComment")
+    ∷ (12, codes "Directive")
+    ∷ (13, codes "LiteralTooWide")
+    ∷ (14, codes "MacroLoop")
+    ∷ (15, codes "TooManyTokens")
     ∷ []
 
 -- the name of a code, empty where the table has none

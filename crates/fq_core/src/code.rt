@@ -10,6 +10,12 @@ pub fn code_name(code: u16) -> &'static str
         1 => "NotBuilt",
         2 => "Usage",
         7 => "ReadFault",
+        10 => "UnknownByte",
+        11 => "OpenComment",
+        12 => "Directive",
+        13 => "LiteralTooWide",
+        14 => "MacroLoop",
+        15 => "TooManyTokens",
         _ => "",
     }
 }

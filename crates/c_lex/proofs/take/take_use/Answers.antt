@@ -1,5 +1,6 @@
 use Rattle.std.proofs.Common.{ap, ◌∙◌}
 use Rattle.c_lex.specs.Taking.{refusal}
+use Rattle.c_lex.proofs.TakingLaws.{found}
 use Rattle.c_lex.proofs.TakenLaws.{token_memory, use_done, use_endless, use_passed}
 use Rattle.c_lex.proofs.take.take_use.Goals as goal
 
@@ -22,3 +23,6 @@ pub returns-else-branch : goal.returns-else-branch
 returns-else-branch c =
     rw c.refusal-else-branch.ensures (use_passed c.args.table.now.macros.items c.args.word.now c.args.span c.args.tokens.now.items c.expand.new.tokens.items c.args.replaced c.requires.kind c.args.place c.requires.place
     c.in_ok-is_endless-in-Passed.field-0 c.in_ok-is_endless-in-Passed.ensures c.if-branch.false (rw c.in-Passed.is at c.in_ok-count.ensures))
+
+pub is_endless-requires-clause-place : goal.is_endless-requires-clause-place
+is_endless-requires-clause-place c = (found c.args.table.now.macros.items c.args.word.now.text c.args.place c.requires.place).within
