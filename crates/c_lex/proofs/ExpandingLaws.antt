@@ -71,7 +71,7 @@ module _ (table shown : List Macro) (span : Span) (frames fs : List Frame) (f : 
     heads =
         let e : rest_of table f ≡ r ∷ drop (suc f.at) (list_at table f.place) = drop_get Replacement (list_at table f.place) f.at r (rw same at here) in
         let g : pending table after ≡ drop (suc f.at) (list_at table f.place) ++ pending table fs =
-            ap (pending table) pushed ∙ pending_push table fs (record { place = f.place; at = f.at + 1 }) ∙ ap (λ k. drop k (list_at table f.place) ++ pending table fs) (add-one f.at) in
+        ap (pending table) pushed ∙ pending_push table fs (record { place = f.place; at = f.at + 1 }) ∙ ap (λ k. drop k (list_at table f.place) ++ pending table fs) (add-one f.at) in
         ap (pending table) popped ∙ pending_push table fs f ∙ ap (λ xs. xs ++ pending table fs) e ∙ sym (ap (λ xs. r ∷ xs) g)
 
     same_length : length after ≡ length frames

@@ -5,6 +5,7 @@ pub mod LexerLaws
 pub mod Longest
 pub mod Loops
 pub mod Numbers
+pub mod OneReadingLaws
 pub mod Runs
 pub mod Scans
 pub mod StepsLaws

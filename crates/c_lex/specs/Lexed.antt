@@ -54,7 +54,6 @@ the_limit = place.Limit most
 -- of several causes at one token the one of the lowest code.
 pub data Reads (file : ℕ) (text : List ℕ) : List Macro → (made replaced : ℕ) → List Lexeme → Outcome → Type 0 where
   all_read : {table : List Macro} {made replaced : ℕ} → Reads file text table made replaced [] (accepted [] made replaced)
-
   -- a token: a number that is too wide for its kinds, one whose replacement has no end or gives more than the limits
   -- allow, or one that gives itself or what its macro gives
   too_wide : {table : List Macro} {made replaced : ℕ} {ls : List Lexeme} (at n : ℕ) → token_kind (part text at n) ≡ None
@@ -69,7 +68,6 @@ pub data Reads (file : ℕ) (text : List ℕ) : List Macro → (made replaced : 
       → Expands table (record { kind = kind; text = part text at n } ∷ []) us m → IsWithin (made + length us) (replaced + m)
       → Reads file text table (made + length us) (replaced + m) ls o
       → Reads file text table made replaced (lexeme.Token at n ∷ ls) (after (map (token_at (span_of file text at n)) us) o)
-
   -- a directive line, whose tokens are cut again
   included : {table : List Macro} {made replaced : ℕ} {ls : List Lexeme} {o : Outcome} (line : List Lexeme) (at n : ℕ) → Cuts (part text at n) 1 mode.First line
       → directive_of (part text at n) line ≡ says.Include → Reads file text table made replaced ls o
@@ -92,7 +90,6 @@ pub data Reads (file : ℕ) (text : List ℕ) : List Macro → (made replaced : 
       → list_of (part text at n) (drop 2 line) ≡ Some list
       → Reads file text (table ++ record { name = part (part text at n) b m; list = list } ∷ []) made replaced ls o
       → Reads file text table made replaced (lexeme.Directive at n ∷ ls) o
-
   unknown : {table : List Macro} {made replaced : ℕ} {ls : List Lexeme} (at : ℕ) → Reads file text table made replaced (lexeme.Unknown at ∷ ls) (refused 10 (line_of file text at))
   open_comment : {table : List Macro} {made replaced : ℕ} {ls : List Lexeme} (at : ℕ) → Reads file text table made replaced (lexeme.Open at ∷ ls) (refused 11 (line_of file text at))
 

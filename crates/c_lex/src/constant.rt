@@ -195,7 +195,9 @@ fn is_digit_of(base: Base, byte: u8) -> bool
 fn digits_length(base: Base, text: &[u8]) -> usize
     ensures { result ≡ prefix_len (λ b. char.is_digit b (radix base)) text.now }
 {
-    text.iter().take_while(|byte| is_digit_of(base, **byte)).count()
+    text.iter()
+        .take_while(|byte| is_digit_of(base, **byte))
+        .count()
 }
 
 // The number with one more digit, where it is below 2^64.
@@ -351,7 +353,10 @@ fn number_of(text: &[u8]) -> Option<TokenKind>
     ensures { result ≡ number_of text.now }
 {
     match base_of(text) {
-        Base::Hexadecimal => number_in(Base::Hexadecimal, if text.len() < 2 { text } else { &text[2..] }),
+        Base::Hexadecimal => number_in(
+            Base::Hexadecimal,
+            if text.len() < 2 { text } else { &text[2..] },
+        ),
         base => number_in(base, text),
     }
 }

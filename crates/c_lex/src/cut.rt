@@ -178,7 +178,11 @@ fn is_in_one_line(text: &[u8]) -> bool
 fn after_gap(mode: Mode, gap: &[u8]) -> Mode
     ensures { result ≡ after_gap mode gap.now }
 {
-    if is_in_one_line(gap) { mode } else { Mode::Fresh }
+    if is_in_one_line(gap) {
+        mode
+    } else {
+        Mode::Fresh
+    }
 }
 
 fn after_token(mode: Mode, token: &[u8]) -> Mode

@@ -49,7 +49,9 @@ fn is_word(text: &[u8]) -> bool
 fn all_tokens(lexemes: &[Lexeme]) -> bool
     ensures { result ≡ all_tokens lexemes.now }
 {
-    lexemes.iter().all(|lexeme| matches!(lexeme, Lexeme::Token(_, _)))
+    lexemes
+        .iter()
+        .all(|lexeme| matches!(lexeme, Lexeme::Token(_, _)))
 }
 
 fn include_of(header: &[u8], rest: &[Lexeme]) -> Directive

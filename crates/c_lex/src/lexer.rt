@@ -61,8 +61,20 @@ fn take_lexeme(
                 Err(fault) => Err(fault),
             }
         }
-        Lexeme::Unknown(_) => Err(refusal(10, Place::Source { file: spot.file, line })),
-        Lexeme::Open(_) => Err(refusal(11, Place::Source { file: spot.file, line })),
+        Lexeme::Unknown(_) => Err(refusal(
+            10,
+            Place::Source {
+                file: spot.file,
+                line,
+            },
+        )),
+        Lexeme::Open(_) => Err(refusal(
+            11,
+            Place::Source {
+                file: spot.file,
+                line,
+            },
+        )),
     }
 }
 
@@ -140,7 +152,13 @@ pub fn tokens(alloc: Global, texts: &[SourceText]) -> Result<Vec<Token>, Fault>
     let mut made = Vec::new(alloc);
     let mut replaced = 0;
     for (file, text) in texts.iter().enumerate() {
-        match read_text(alloc, file as u32, text.bytes.as_slice(), &mut made, replaced) {
+        match read_text(
+            alloc,
+            file as u32,
+            text.bytes.as_slice(),
+            &mut made,
+            replaced,
+        ) {
             Ok(count) => replaced = count,
             Err(fault) => return Err(fault),
         }

@@ -8,6 +8,7 @@ mod directive;
 mod endless;
 mod expand;
 mod form;
+mod laws;
 mod lexer;
 mod macros;
 mod position;
@@ -16,6 +17,7 @@ mod table;
 mod take;
 mod token;
 
+pub use laws::one_reading;
 pub use lexer::tokens;
 pub use token::{SourceText, Token, TokenKind};
 

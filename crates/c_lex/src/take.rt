@@ -36,7 +36,12 @@ fn take_plain(
     ensures { PlainTaken word span tokens.old.items replaced tokens.new.items result }
 {
     if tokens.len() >= MOST {
-        return Err(refusal(15, Place::Limit { number: MOST as u64 }));
+        return Err(refusal(
+            15,
+            Place::Limit {
+                number: MOST as u64,
+            },
+        ));
     }
     tokens.push(Token {
         kind: word.kind,
@@ -69,7 +74,12 @@ fn take_use(
             if is_endless(alloc, table, place)? {
                 Err(refusal(14, place_of_span(span)))
             } else {
-                Err(refusal(15, Place::Limit { number: MOST as u64 }))
+                Err(refusal(
+                    15,
+                    Place::Limit {
+                        number: MOST as u64,
+                    },
+                ))
             }
         }
     }
