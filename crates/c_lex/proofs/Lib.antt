@@ -1,0 +1,16 @@
+pub mod Digits
+pub mod EndingLaws
+pub mod ExpandingLaws
+pub mod LexerLaws
+pub mod Longest
+pub mod Loops
+pub mod Numbers
+pub mod OneReadingLaws
+pub mod Runs
+pub mod Scans
+pub mod StepsLaws
+pub mod TableLaws
+pub mod TakenLaws
+pub mod TakingLaws
+pub mod Total
+pub mod Within

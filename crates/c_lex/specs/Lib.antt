@@ -1,0 +1,14 @@
+pub mod Bytes
+pub mod Constants
+pub mod Cuts
+pub mod Directives
+pub mod Ending
+pub mod Expanding
+pub mod Forms
+pub mod Lexed
+pub mod Macros
+pub mod OneReading
+pub mod Places
+pub mod Scans
+pub mod Table
+pub mod Taking
