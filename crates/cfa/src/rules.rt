@@ -3,7 +3,7 @@ ghost use Rattle.std.specs.Prelude.{◌≡◌, slice_get};
 ghost use Rattle.cfa.specs.Graph.{room_of};
 ghost use Rattle.c_values.specs.Operations.{is_shift, unary_kind, binary_kind};
 ghost use Rattle.cfa.specs.Kinds.{same_kind};
-ghost use Rattle.cfa.specs.Rules.{is_length, array_fits, place_fits, checked_kind, has_kind, right_fits};
+ghost use Rattle.cfa.specs.Rules.{is_length, array_fits, place_fits, checked_kind, has_kind, kind_if, right_fits};
 
 use crate::expr::{ArrayPlace, CellPlace, Expr, binary_kind, unary_kind};
 use crate::parts::{Function, GraphParts};
@@ -84,6 +84,12 @@ fn right_fits(op: BinaryOp, right: Option<Kind>, kind: Kind) -> bool
     }
 }
 
+fn kind_if(fits: bool, kind: Kind) -> Option<Kind>
+    ensures { result ≡ kind_if fits kind }
+{
+    if fits { Some(kind) } else { None }
+}
+
 // The kind of an expression that meets the rules.
 #[cycle(rules)]
 #[tactic(auto, using(crate::proofs::Laws::expr_laws), unfolding(crate::specs::Rules::place_fits, crate::specs::Rules::checked_kind))]
@@ -91,42 +97,23 @@ pub(crate) fn checked_kind(parts: &GraphParts, function: &Function, expr: &Expr)
     ensures { result ≡ checked_kind (room_of parts.now function.now) expr.now }
 {
     match expr {
-        Expr::Constant(value, kind) => {
-            if is_value(*value, *kind) {
-                Some(*kind)
-            } else {
-                None
-            }
-        }
+        Expr::Constant(value, kind) => kind_if(is_value(*value, *kind), *kind),
         Expr::Load(place, kind) => {
-            if place_fits(parts, function, place) && is_kind(*kind) {
-                Some(*kind)
-            } else {
-                None
-            }
+            let fits = place_fits(parts, function, place) && is_kind(*kind);
+            kind_if(fits, *kind)
         }
         Expr::Convert(operand, kind) => {
-            if checked_kind(parts, function, operand).is_some() && is_kind(*kind) {
-                Some(*kind)
-            } else {
-                None
-            }
+            let fits = checked_kind(parts, function, operand).is_some() && is_kind(*kind);
+            kind_if(fits, *kind)
         }
         Expr::Unary(op, operand, kind) => {
-            if has_kind(checked_kind(parts, function, operand), *kind) {
-                Some(unary_kind(*op, *kind))
-            } else {
-                None
-            }
+            let fits = has_kind(checked_kind(parts, function, operand), *kind);
+            kind_if(fits, unary_kind(*op, *kind))
         }
         Expr::Binary(op, left, right, kind) => {
-            if has_kind(checked_kind(parts, function, left), *kind)
-                && right_fits(*op, checked_kind(parts, function, right), *kind)
-            {
-                Some(binary_kind(*op, *kind))
-            } else {
-                None
-            }
+            let fits = has_kind(checked_kind(parts, function, left), *kind)
+                && right_fits(*op, checked_kind(parts, function, right), *kind);
+            kind_if(fits, binary_kind(*op, *kind))
         }
     }
 }

@@ -1,51 +1,73 @@
 use crate::*;
 use std::alloc::Global;
-use std::test::Fail;
 
-mod broken;
+mod broken_edges;
+mod broken_parts;
 mod draft;
 mod worked;
 
-use broken::{Fault, OF_ARRAY, OF_CALL};
+use broken_edges::Fault;
 use draft::{Change, Draft, long_parts};
 use worked::{ARRAY, BRANCH, CALL, LOOP, RECURSION};
 
-fn graph_of(alloc: Global, draft: &Draft) -> Result<Graph, GraphFault> {
-    Graph::new(alloc, draft.parts(alloc, Change::Nothing, Change::Nothing))
+fn graph_of(alloc: Global, draft: &Draft) -> Option<Graph> {
+    match Graph::new(alloc, draft.parts(alloc, Change::Nothing, Change::Nothing)) {
+        Ok(graph) => Some(graph),
+        Err(_) => None,
+    }
 }
 
-// By node, the numbers of the edges that leave it.
-fn ways_text(alloc: Global, graph: &Graph) -> Result<String, Fail> {
-    let mut text = String::new(alloc);
-    for i in 0..graph.nodes().len() {
-        if let Ok(node) = u32::try_from(i) {
-            for edge in graph.outgoing(node) {
-                write!(text, "{edge} ")?;
-            }
-            write!(text, "|")?;
+// Whether these are, by node, the numbers of the edges that leave it.
+fn has_ways(graph: &Graph, want: &[&[u32]]) -> bool {
+    if want.len() != graph.nodes().len() {
+        return false;
+    }
+    for i in 0..want.len() {
+        let Ok(node) = u32::try_from(i) else {
+            return false;
+        };
+        if graph.outgoing(node) != want[i] {
+            return false;
         }
     }
-    Ok(text)
+    true
 }
 
-fn ways_of(alloc: Global, draft: &Draft) -> Result<String, Fail> {
-    let graph = graph_of(alloc, draft)?;
-    ways_text(alloc, &graph)
+fn goes(alloc: Global, draft: &Draft, want: &[&[u32]]) -> bool {
+    match graph_of(alloc, draft) {
+        None => false,
+        Some(graph) => has_ways(&graph, want),
+    }
 }
 
 #[test]
-fn worked_graphs_have_their_edges(rt: HostRuntime) -> Result<(), Fail> {
-    for (draft, want) in [
-        (&BRANCH, "0 1 ||3 |2 |"),
-        (&CALL, "0 |5 |1 ||2 3 |7 |4 |6 |"),
-        (&LOOP, "0 ||1 |6 |2 3 |4 |5 |"),
-        (&RECURSION, "0 1 |4 |3 |2 |5 |"),
-        (&ARRAY, "0 |4 |1 ||2 |3 |5 |"),
-    ] {
-        let ways = ways_of(rt.alloc(), draft)?;
-        assert_eq!(rt; ways.as_str(), want);
-    }
-    Ok(())
+fn branches_and_calls_have_their_edges(rt: HostRuntime) {
+    let branch = goes(rt.alloc(), &BRANCH, &[&[0, 1], &[], &[3], &[2]]);
+    assert!(rt; branch);
+    let call = goes(
+        rt.alloc(),
+        &CALL,
+        &[&[0], &[5], &[1], &[], &[2, 3], &[7], &[4], &[6]],
+    );
+    assert!(rt; call);
+}
+
+#[test]
+fn loops_and_recursions_have_their_edges(rt: HostRuntime) {
+    let turns = goes(
+        rt.alloc(),
+        &LOOP,
+        &[&[0], &[], &[1], &[6], &[2, 3], &[4], &[5]],
+    );
+    assert!(rt; turns);
+    let recursion = goes(rt.alloc(), &RECURSION, &[&[0, 1], &[4], &[3], &[2], &[5]]);
+    assert!(rt; recursion);
+    let array = goes(
+        rt.alloc(),
+        &ARRAY,
+        &[&[0], &[4], &[1], &[], &[2], &[3], &[5]],
+    );
+    assert!(rt; array);
 }
 
 fn counts_of(graph: &Graph) -> [usize; 8] {
@@ -62,27 +84,28 @@ fn counts_of(graph: &Graph) -> [usize; 8] {
     ]
 }
 
-fn counts(alloc: Global, draft: &Draft) -> Result<[usize; 8], GraphFault> {
+fn counts(alloc: Global, draft: &Draft) -> Option<[usize; 8]> {
     let graph = graph_of(alloc, draft)?;
-    Ok(counts_of(&graph))
+    Some(counts_of(&graph))
 }
 
-fn named(alloc: Global, draft: &Draft, name: &str) -> Result<Option<u32>, GraphFault> {
+fn named(alloc: Global, draft: &Draft, name: &str) -> Option<Option<u32>> {
     let graph = graph_of(alloc, draft)?;
-    Ok(graph.function_named(name.as_bytes()))
+    Some(graph.function_named(name.as_bytes()))
 }
 
 #[test]
-fn accessors_give_the_parts(rt: HostRuntime) -> Result<(), Fail> {
-    assert_eq!(rt; counts(rt.alloc(), &CALL)?, [8, 8, 2, 1, 0, 0, 3, 0]);
+fn accessors_give_the_parts(rt: HostRuntime) {
+    let found = counts(rt.alloc(), &CALL);
+    assert_eq!(rt; found, Some([8, 8, 2, 1, 0, 0, 3, 0]));
     for (name, want) in [("g", Some(0)), ("f", Some(1)), ("h", None), ("", None)] {
-        assert_eq!(rt; named(rt.alloc(), &CALL, name)?, want, "{name}");
+        let found = named(rt.alloc(), &CALL, name);
+        assert_eq!(rt; found, Some(want), "{name}");
     }
-    Ok(())
 }
 
-fn answer_of(alloc: Global, draft: &Draft, fault: &Fault) -> Option<GraphFault> {
-    match Graph::new(alloc, draft.parts(alloc, fault.1, fault.2)) {
+fn answer_of(alloc: Global, draft: &Draft, row: Change, other: Change) -> Option<GraphFault> {
+    match Graph::new(alloc, draft.parts(alloc, row, other)) {
         Ok(_) => None,
         Err(answer) => Some(answer),
     }
@@ -95,14 +118,36 @@ fn want_of(fault: &Fault) -> GraphFault {
     }
 }
 
-#[test]
-fn broken_parts_are_refused(rt: HostRuntime) {
-    for (draft, faults) in [(&CALL, OF_CALL.as_slice()), (&ARRAY, OF_ARRAY.as_slice())] {
-        for fault in faults {
-            let answer = answer_of(rt.alloc(), draft, fault);
-            assert_eq!(rt; answer, Some(want_of(fault)), "{}", fault.0);
+// What is broken where the answer is another than is wanted, the first of these.
+fn first_wrong(alloc: Global, draft: &Draft, faults: &[Fault]) -> Option<usize> {
+    for (i, fault) in faults.iter().enumerate() {
+        if answer_of(alloc, draft, fault.1, fault.2) != Some(want_of(fault)) {
+            return Some(i);
         }
     }
+    None
+}
+
+#[test]
+fn broken_edges_are_named(rt: HostRuntime) {
+    let numbers = first_wrong(rt.alloc(), &CALL, &broken_edges::NUMBERS_AND_ENDS);
+    assert_eq!(rt; numbers, None);
+    let places = first_wrong(rt.alloc(), &CALL, &broken_edges::PLACES_AND_KINDS);
+    assert_eq!(rt; places, None);
+    let calls = first_wrong(rt.alloc(), &CALL, &broken_edges::CALLS_AND_RETURNS);
+    assert_eq!(rt; calls, None);
+    let arrays = first_wrong(rt.alloc(), &ARRAY, &broken_edges::ARRAYS);
+    assert_eq!(rt; arrays, None);
+}
+
+#[test]
+fn broken_parts_are_refused(rt: HostRuntime) {
+    let functions = first_wrong(rt.alloc(), &CALL, &broken_parts::NODES_AND_FUNCTIONS);
+    assert_eq!(rt; functions, None);
+    let scopes = first_wrong(rt.alloc(), &CALL, &broken_parts::KINDS_AND_SCOPES);
+    assert_eq!(rt; scopes, None);
+    let ways = first_wrong(rt.alloc(), &CALL, &broken_parts::WAYS);
+    assert_eq!(rt; ways, None);
 }
 
 fn first_way(graph: &Graph, node: u32) -> Option<u32> {
@@ -113,19 +158,20 @@ fn first_way(graph: &Graph, node: u32) -> Option<u32> {
     }
 }
 
-fn long_ways(alloc: Global) -> Result<[Option<u32>; 4], GraphFault> {
-    let graph = Graph::new(alloc, long_parts(alloc, 40_000))?;
-    Ok([
-        first_way(&graph, 0),
-        first_way(&graph, 1),
-        first_way(&graph, 20_000),
-        first_way(&graph, 40_000),
-    ])
+fn long_ways(alloc: Global) -> Option<[Option<u32>; 4]> {
+    match Graph::new(alloc, long_parts(alloc, 40_000)) {
+        Err(_) => None,
+        Ok(graph) => Some([
+            first_way(&graph, 0),
+            first_way(&graph, 1),
+            first_way(&graph, 20_000),
+            first_way(&graph, 40_000),
+        ]),
+    }
 }
 
 #[test]
-fn long_graphs_take_linear_time(rt: HostRuntime) -> Result<(), Fail> {
-    let want = [Some(0), None, Some(20_000), Some(1)];
-    assert_eq!(rt; long_ways(rt.alloc())?, want);
-    Ok(())
+fn long_graphs_take_linear_time(rt: HostRuntime) {
+    let found = long_ways(rt.alloc());
+    assert_eq!(rt; found, Some([Some(0), None, Some(20_000), Some(1)]));
 }

@@ -60,8 +60,13 @@ pub struct Shape {
     pub cells: u32,
 }
 
-/// The length and place of a variable.
-pub type Seen = (Option<u32>, VariablePlace);
+/// A variable that a scope has: the number of the scope, the variable's length and its place.
+#[derive(Clone, Copy)]
+pub struct Seen {
+    pub scope: u32,
+    pub length: Option<u32>,
+    pub place: VariablePlace,
+}
 
 /// A graph.
 #[derive(Clone, Copy)]
@@ -69,7 +74,8 @@ pub struct Draft {
     pub nodes: &'static [Node],
     pub rows: &'static [Row],
     pub shapes: &'static [Shape],
-    pub scopes: &'static [&'static [Seen]],
+    pub scopes: u32,
+    pub seen: &'static [Seen],
 }
 
 /// What differs from a graph, by the place in its table, or at the end of it.
@@ -81,8 +87,9 @@ pub enum Change {
     Row(usize, Row),
     MoreRow(Row),
     Shape(usize, Shape),
-    Scope(usize, &'static [Seen]),
-    MoreScope(&'static [Seen]),
+    Seen(usize, Seen),
+    /// One scope more, in which a variable with this length and place is seen.
+    MoreScope(Seen),
     Globals(usize, Kind),
     Input(Kind),
 }
@@ -269,34 +276,41 @@ fn functions(alloc: Global, shapes: &[Shape], change: Change) -> Result<Vector<F
     Ok(list)
 }
 
-fn scope(alloc: Global, variables: &[Seen]) -> Result<Scope, Memory> {
-    let mut list = Vector::new(alloc);
-    for variable in variables {
-        list.push(Variable {
-            name: Name::new(alloc, b"x")?,
-            kind: Kind::INT,
-            length: variable.0,
-            place: variable.1,
-        })?;
+fn variable(alloc: Global, seen: Seen) -> Result<Variable, Memory> {
+    Ok(Variable {
+        name: Name::new(alloc, b"x")?,
+        kind: Kind::INT,
+        length: seen.length,
+        place: seen.place,
+    })
+}
+
+fn scope(alloc: Global, number: u32, table: &[Seen], change: Change) -> Result<Scope, Memory> {
+    let mut variables = Vector::new(alloc);
+    for (i, seen) in table.iter().enumerate() {
+        let seen = match change {
+            Change::Seen(at, other) if at == i => other,
+            _ => *seen,
+        };
+        if seen.scope == number {
+            variables.push(variable(alloc, seen)?)?;
+        }
     }
-    Ok(Scope { variables: list })
+    Ok(Scope { variables })
 }
 
 fn scopes(
     alloc: Global,
-    table: &[&'static [Seen]],
+    count: u32,
+    table: &[Seen],
     change: Change,
 ) -> Result<Vector<Scope>, Memory> {
     let mut list = Vector::new(alloc);
-    for (i, seen) in table.iter().enumerate() {
-        let seen = match change {
-            Change::Scope(at, other) if at == i => other,
-            _ => *seen,
-        };
-        list.push(scope(alloc, seen)?)?;
+    for number in 0..count {
+        list.push(scope(alloc, number, table, change)?)?;
     }
     if let Change::MoreScope(seen) = change {
-        list.push(scope(alloc, seen)?)?;
+        list.push(scope(alloc, seen.scope, &[seen], Change::Nothing)?)?;
     }
     Ok(list)
 }
@@ -342,7 +356,7 @@ impl Draft {
             functions: or_empty(alloc, functions(alloc, self.shapes, other)),
             declared: Vector::new(alloc),
             inputs: or_empty(alloc, inputs(alloc, other)),
-            scopes: or_empty(alloc, scopes(alloc, self.scopes, other)),
+            scopes: or_empty(alloc, scopes(alloc, self.scopes, self.seen, other)),
             globals: or_empty(alloc, globals(alloc, other)),
         }
     }
@@ -371,26 +385,25 @@ fn long_edges(alloc: Global, count: u32) -> Result<Vector<Edge>, Memory> {
     Ok(list)
 }
 
-static LONG: Shape = Shape {
+static LONG: [Shape; 1] = [Shape {
     name: "f",
     ends: (0, 1),
     parameters: &[],
     arrays: &[],
     result: None,
     cells: 2,
-};
+}];
 
 /// The parts of a row of assignments between so many nodes, and an edge that leads from the last back to itself.
 pub fn long_parts(alloc: Global, count: u32) -> GraphParts {
-    let seen: &'static [Seen] = &[(None, VariablePlace::Local(1))];
     GraphParts {
         files: or_empty(alloc, files(alloc)),
         nodes: or_empty(alloc, long_nodes(alloc, count)),
         edges: or_empty(alloc, long_edges(alloc, count)),
-        functions: or_empty(alloc, functions(alloc, &[LONG], Change::Nothing)),
+        functions: or_empty(alloc, functions(alloc, &LONG, Change::Nothing)),
         declared: Vector::new(alloc),
         inputs: Vector::new(alloc),
-        scopes: or_empty(alloc, scopes(alloc, &[seen], Change::Nothing)),
+        scopes: or_empty(alloc, scopes(alloc, 1, &[], Change::Nothing)),
         globals: Vector::new(alloc),
     }
 }

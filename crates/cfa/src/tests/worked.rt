@@ -1,5 +1,5 @@
 // Graphs of small programs, written out by hand.
-use super::draft::{Draft, Part, Row, Shape, Step, Word};
+use super::draft::{Draft, Part, Row, Seen, Shape, Step, Word};
 use crate::*;
 use c_values::Kind;
 
@@ -75,7 +75,12 @@ pub static BRANCH: Draft = Draft {
         result: Some(Kind::INT),
         cells: 2,
     }],
-    scopes: &[&[(None, VariablePlace::Local(1))]],
+    scopes: 1,
+    seen: &[Seen {
+        scope: 0,
+        length: None,
+        place: VariablePlace::Local(1),
+    }],
 };
 
 /// `int g(int v) { return v; }` and
@@ -213,13 +218,28 @@ pub static CALL: Draft = Draft {
             cells: 4,
         },
     ],
-    scopes: &[
-        &[(None, VariablePlace::Local(1))],
-        &[(None, VariablePlace::Local(1))],
-        &[
-            (None, VariablePlace::Local(2)),
-            (None, VariablePlace::Local(1)),
-        ],
+    scopes: 3,
+    seen: &[
+        Seen {
+            scope: 0,
+            length: None,
+            place: VariablePlace::Local(1),
+        },
+        Seen {
+            scope: 1,
+            length: None,
+            place: VariablePlace::Local(1),
+        },
+        Seen {
+            scope: 2,
+            length: None,
+            place: VariablePlace::Local(2),
+        },
+        Seen {
+            scope: 2,
+            length: None,
+            place: VariablePlace::Local(1),
+        },
     ],
 };
 
@@ -334,12 +354,23 @@ pub static LOOP: Draft = Draft {
         result: Some(Kind::INT),
         cells: 3,
     }],
-    scopes: &[
-        &[(None, VariablePlace::Local(1))],
-        &[
-            (None, VariablePlace::Local(2)),
-            (None, VariablePlace::Local(1)),
-        ],
+    scopes: 2,
+    seen: &[
+        Seen {
+            scope: 0,
+            length: None,
+            place: VariablePlace::Local(1),
+        },
+        Seen {
+            scope: 1,
+            length: None,
+            place: VariablePlace::Local(2),
+        },
+        Seen {
+            scope: 1,
+            length: None,
+            place: VariablePlace::Local(1),
+        },
     ],
 };
 
@@ -438,7 +469,12 @@ pub static RECURSION: Draft = Draft {
         result: Some(Kind::INT),
         cells: 3,
     }],
-    scopes: &[&[(None, VariablePlace::Local(1))]],
+    scopes: 1,
+    seen: &[Seen {
+        scope: 0,
+        length: None,
+        place: VariablePlace::Local(1),
+    }],
 };
 
 /// `int g(int a[3]) { return a[2]; }` and `int f(int x) { int b[3]; b[x] = 7; return g(b); }`.
@@ -550,12 +586,27 @@ pub static ARRAY: Draft = Draft {
             cells: 6,
         },
     ],
-    scopes: &[
-        &[(Some(3), VariablePlace::Lent(0))],
-        &[(None, VariablePlace::Local(1))],
-        &[
-            (Some(3), VariablePlace::Local(2)),
-            (None, VariablePlace::Local(1)),
-        ],
+    scopes: 3,
+    seen: &[
+        Seen {
+            scope: 0,
+            length: Some(3),
+            place: VariablePlace::Lent(0),
+        },
+        Seen {
+            scope: 1,
+            length: None,
+            place: VariablePlace::Local(1),
+        },
+        Seen {
+            scope: 2,
+            length: Some(3),
+            place: VariablePlace::Local(2),
+        },
+        Seen {
+            scope: 2,
+            length: None,
+            place: VariablePlace::Local(1),
+        },
     ],
 };

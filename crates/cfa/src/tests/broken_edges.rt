@@ -1,5 +1,5 @@
-// Parts with one fault each, made of the worked graphs.
-use super::draft::{Change, NO_KIND, Part, Row, Shape, Step, Word};
+// Graphs with one fault in an edge each, made of the worked graphs.
+use super::draft::{Change, Part, Row, Seen, Shape, Step, Word};
 use crate::*;
 use c_values::Kind;
 
@@ -8,7 +8,7 @@ use c_values::Kind;
 pub type Fault = (&'static str, Change, Change, Option<u32>);
 
 /// Faults in the graph `CALL`.
-pub static OF_CALL: [Fault; 57] = [
+pub static NUMBERS_AND_ENDS: [Fault; 11] = [
     (
         "an edge's file",
         Change::Row(
@@ -166,6 +166,10 @@ pub static OF_CALL: [Fault; 57] = [
         Change::Nothing,
         Some(5),
     ),
+];
+
+/// Faults in the graph `CALL`.
+pub static PLACES_AND_KINDS: [Fault; 10] = [
     (
         "a place past the frame",
         Change::Row(
@@ -306,6 +310,10 @@ pub static OF_CALL: [Fault; 57] = [
         Change::Nothing,
         Some(1),
     ),
+];
+
+/// Faults in the graph `CALL`.
+pub static CALLS_AND_RETURNS: [Fault; 10] = [
     (
         "a word too few",
         Change::Row(
@@ -459,325 +467,10 @@ pub static OF_CALL: [Fault; 57] = [
         ),
         Some(6),
     ),
-    (
-        "a node's file",
-        Change::Nothing,
-        Change::Node(
-            7,
-            Node {
-                function: 1,
-                file: 1,
-                line: 5,
-                scope: 2,
-                depth: 0,
-            },
-        ),
-        None,
-    ),
-    (
-        "a node's scope",
-        Change::Nothing,
-        Change::Node(
-            7,
-            Node {
-                function: 1,
-                file: 0,
-                line: 5,
-                scope: 3,
-                depth: 0,
-            },
-        ),
-        None,
-    ),
-    (
-        "a node's function",
-        Change::Nothing,
-        Change::MoreNode(Node {
-            function: 2,
-            file: 0,
-            line: 1,
-            scope: 0,
-            depth: 0,
-        }),
-        None,
-    ),
-    (
-        "an entry in another function",
-        Change::Nothing,
-        Change::Shape(
-            1,
-            Shape {
-                name: "f",
-                ends: (0, 3),
-                parameters: &[Kind::INT],
-                arrays: &[],
-                result: Some(Kind::INT),
-                cells: 4,
-            },
-        ),
-        None,
-    ),
-    (
-        "an entry that isn't there",
-        Change::Nothing,
-        Change::Shape(
-            1,
-            Shape {
-                name: "f",
-                ends: (99, 3),
-                parameters: &[Kind::INT],
-                arrays: &[],
-                result: Some(Kind::INT),
-                cells: 4,
-            },
-        ),
-        None,
-    ),
-    (
-        "an exit in another function",
-        Change::Nothing,
-        Change::Shape(
-            1,
-            Shape {
-                name: "f",
-                ends: (2, 1),
-                parameters: &[Kind::INT],
-                arrays: &[],
-                result: Some(Kind::INT),
-                cells: 4,
-            },
-        ),
-        None,
-    ),
-    (
-        "too few cells",
-        Change::Nothing,
-        Change::Shape(
-            1,
-            Shape {
-                name: "f",
-                ends: (2, 3),
-                parameters: &[Kind::INT, Kind::INT, Kind::INT, Kind::INT],
-                arrays: &[],
-                result: Some(Kind::INT),
-                cells: 4,
-            },
-        ),
-        None,
-    ),
-    (
-        "too many cells",
-        Change::Nothing,
-        Change::Shape(
-            1,
-            Shape {
-                name: "f",
-                ends: (2, 3),
-                parameters: &[Kind::INT],
-                arrays: &[],
-                result: Some(Kind::INT),
-                cells: 16385,
-            },
-        ),
-        None,
-    ),
-    (
-        "too many globals",
-        Change::Nothing,
-        Change::Globals(16385, Kind::INT),
-        None,
-    ),
-    (
-        "a result of no kind",
-        Change::Nothing,
-        Change::Shape(
-            1,
-            Shape {
-                name: "f",
-                ends: (2, 3),
-                parameters: &[Kind::INT],
-                arrays: &[],
-                result: Some(NO_KIND),
-                cells: 4,
-            },
-        ),
-        None,
-    ),
-    (
-        "a parameter of no kind",
-        Change::Nothing,
-        Change::Shape(
-            1,
-            Shape {
-                name: "f",
-                ends: (2, 3),
-                parameters: &[NO_KIND],
-                arrays: &[],
-                result: Some(Kind::INT),
-                cells: 4,
-            },
-        ),
-        None,
-    ),
-    (
-        "an answer of no kind",
-        Change::Nothing,
-        Change::Input(NO_KIND),
-        None,
-    ),
-    (
-        "a global of no kind",
-        Change::Nothing,
-        Change::Globals(1, NO_KIND),
-        None,
-    ),
-    (
-        "a variable past the frame",
-        Change::Nothing,
-        Change::Scope(2, &[(None, VariablePlace::Local(4))]),
-        None,
-    ),
-    (
-        "a variable partly past the frame",
-        Change::Nothing,
-        Change::Scope(2, &[(Some(3), VariablePlace::Local(2))]),
-        None,
-    ),
-    (
-        "a variable past the globals",
-        Change::Nothing,
-        Change::Scope(2, &[(None, VariablePlace::Global(0))]),
-        None,
-    ),
-    (
-        "a variable past the globals that no node sees",
-        Change::Nothing,
-        Change::MoreScope(&[(None, VariablePlace::Global(0))]),
-        None,
-    ),
-    (
-        "a variable lent by none",
-        Change::Nothing,
-        Change::Scope(2, &[(Some(3), VariablePlace::Lent(0))]),
-        None,
-    ),
-    (
-        "an edge from an exit",
-        Change::MoreRow(Row {
-            file: 0,
-            ends: (3, 3),
-            function: 1,
-            step: Step::Skip,
-        }),
-        Change::Nothing,
-        None,
-    ),
-    (
-        "a node with no way on",
-        Change::Nothing,
-        Change::MoreNode(Node {
-            function: 1,
-            file: 0,
-            line: 1,
-            scope: 1,
-            depth: 0,
-        }),
-        None,
-    ),
-    (
-        "a node with two ways",
-        Change::MoreRow(Row {
-            file: 0,
-            ends: (7, 5),
-            function: 1,
-            step: Step::Skip,
-        }),
-        Change::Nothing,
-        None,
-    ),
-    (
-        "a guard alone",
-        Change::Row(
-            6,
-            Row {
-                file: 0,
-                ends: (7, 5),
-                function: 1,
-                step: Step::Guard(
-                    Word::Two(BinaryOp::Greater, Part::Local(1), Part::Number(3)),
-                    true,
-                ),
-            },
-        ),
-        Change::Nothing,
-        None,
-    ),
-    (
-        "two guards of truth",
-        Change::Row(
-            3,
-            Row {
-                file: 0,
-                ends: (4, 5),
-                function: 1,
-                step: Step::Guard(
-                    Word::Two(BinaryOp::Greater, Part::Local(1), Part::Number(3)),
-                    true,
-                ),
-            },
-        ),
-        Change::Nothing,
-        None,
-    ),
-    (
-        "two guards of falsehood",
-        Change::Row(
-            2,
-            Row {
-                file: 0,
-                ends: (4, 6),
-                function: 1,
-                step: Step::Guard(
-                    Word::Two(BinaryOp::Greater, Part::Local(1), Part::Number(3)),
-                    false,
-                ),
-            },
-        ),
-        Change::Nothing,
-        None,
-    ),
-    (
-        "two guards of other tests",
-        Change::Row(
-            3,
-            Row {
-                file: 0,
-                ends: (4, 5),
-                function: 1,
-                step: Step::Guard(
-                    Word::Two(BinaryOp::Greater, Part::Local(1), Part::Number(4)),
-                    false,
-                ),
-            },
-        ),
-        Change::Nothing,
-        None,
-    ),
-    (
-        "three ways",
-        Change::MoreRow(Row {
-            file: 0,
-            ends: (4, 5),
-            function: 1,
-            step: Step::Skip,
-        }),
-        Change::Nothing,
-        None,
-    ),
 ];
 
 /// Faults in the graph `ARRAY`.
-pub static OF_ARRAY: [Fault; 7] = [
+pub static ARRAYS: [Fault; 7] = [
     (
         "an array parameter's length",
         Change::Row(
@@ -851,13 +544,27 @@ pub static OF_ARRAY: [Fault; 7] = [
     (
         "a lent variable's length",
         Change::Nothing,
-        Change::Scope(0, &[(Some(2), VariablePlace::Lent(0))]),
+        Change::Seen(
+            0,
+            Seen {
+                scope: 0,
+                length: Some(2),
+                place: VariablePlace::Lent(0),
+            },
+        ),
         None,
     ),
     (
         "a lent variable of no length",
         Change::Nothing,
-        Change::Scope(0, &[(None, VariablePlace::Lent(0))]),
+        Change::Seen(
+            0,
+            Seen {
+                scope: 0,
+                length: None,
+                place: VariablePlace::Lent(0),
+            },
+        ),
         None,
     ),
 ];
