@@ -5,6 +5,7 @@ pub mod LexerLaws
 pub mod Longest
 pub mod Loops
 pub mod Numbers
+pub mod NumbersLaws
 pub mod OneReadingLaws
 pub mod Runs
 pub mod Scans
@@ -13,4 +14,5 @@ pub mod TableLaws
 pub mod TakenLaws
 pub mod TakingLaws
 pub mod Total
+pub mod ValuesLaws
 pub mod Within

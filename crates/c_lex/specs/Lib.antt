@@ -7,6 +7,7 @@ pub mod Expanding
 pub mod Forms
 pub mod Lexed
 pub mod Macros
+pub mod NumbersOfKinds
 pub mod OneReading
 pub mod Places
 pub mod Scans

@@ -17,7 +17,7 @@ mod table;
 mod take;
 mod token;
 
-pub use laws::one_reading;
+pub use laws::{numbers_are_values, one_reading};
 pub use lexer::tokens;
 pub use token::{SourceText, Token, TokenKind};
 
