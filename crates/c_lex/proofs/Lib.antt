@@ -1,0 +1,11 @@
+pub mod Digits
+pub mod ExpandingLaws
+pub mod Longest
+pub mod Loops
+pub mod Numbers
+pub mod Runs
+pub mod Scans
+pub mod StepsLaws
+pub mod TableLaws
+pub mod TakingLaws
+pub mod Within

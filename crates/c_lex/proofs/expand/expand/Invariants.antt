@@ -1,0 +1,12 @@
+use Rattle.std.proofs.Common.{◌≤◌, ◌+◌, ◌-◌, ◌*◌, [], ◌∷◌, length}
+use Rattle.c_lex.specs.Lexed.{most}
+use Rattle.c_lex.specs.Expanding.{pending}
+use Rattle.c_lex.proofs.Runs.{Progress}
+use Rattle.c_lex.proofs.expand.expand.Given as goal
+
+abbrev pub invariant-turns : goal.invariant-turns
+invariant-turns l =
+    Progress l.table.macros.items l.span (l.word ∷ []) (pending l.table.macros.items l.frames.items) l.fn.tokens.items l.tokens.items l.fn.replaced l.count
+
+abbrev pub decreases-turns : goal.decreases-turns
+decreases-turns l = 3 * (most - length l.tokens.items) + 3 * (most - l.count) + length l.frames.items

@@ -1,0 +1,12 @@
+pub mod Bytes
+pub mod Constants
+pub mod Cuts
+pub mod Directives
+pub mod Expanding
+pub mod Forms
+pub mod Lexed
+pub mod Macros
+pub mod Places
+pub mod Scans
+pub mod Table
+pub mod Taking

@@ -1,0 +1,34 @@
+-- The replacement of macros (ISO/IEC 9899:2011, 6.10.3 and 6.10.3.4).
+use Rattle.std.specs.Prelude.{◌≡◌, ℕ, zero, suc, List, [], ◌∷◌, ◌++◌, Option, Some, None, option_map, if◌then◌else◌}
+use Rattle.std.specs.Str.{bytes_eq}
+use Rattle.c_lex.specs.declared.macros.Replacement.{Replacement}
+use Rattle.c_lex.specs.declared.macros.Macro.{Macro}
+
+-- the list of the macro of a name
+unfoldable pub macro_of : List Macro → List ℕ → Option (List Replacement)
+macro_of [] name = None
+macro_of (m ∷ ms) name = if bytes_eq m.name name then Some m.list else macro_of ms name
+
+-- the place of the macro of a name in the table
+unfoldable pub place_of : List Macro → List ℕ → Option ℕ
+place_of [] name = None
+place_of (m ∷ ms) name = if bytes_eq m.name name then Some 0 else option_map suc (place_of ms name)
+
+-- the list of the macro at a place of the table
+unfoldable pub list_at : List Macro → ℕ → List Replacement
+list_at [] i = []
+list_at (m ∷ ms) zero = m.list
+list_at (m ∷ ms) (suc i) = list_at ms i
+
+-- the tokens give these, with so many replacements: the word of a macro is replaced by the macro's list, which is then
+-- read along with the tokens that follow, so that the words of macros in it are replaced in turn (6.10.3.4p1)
+pub data Expands (table : List Macro) : List Replacement → List Replacement → ℕ → Type 0 where
+  nothing : Expands table [] [] 0
+  stays : {r : Replacement} {rs us : List Replacement} {n : ℕ} → macro_of table r.text ≡ None → Expands table rs us n
+      → Expands table (r ∷ rs) (r ∷ us) n
+  is_replaced : {r : Replacement} {rs us : List Replacement} {n : ℕ} (list : List Replacement) → macro_of table r.text ≡ Some list
+      → Expands table (list ++ rs) us n → Expands table (r ∷ rs) us (suc n)
+
+-- the replacement of these tokens has no end: a word is met within its own replacement (6.10.3.4p2)
+abbrev pub Endless : List Macro → List Replacement → Type 0
+Endless table rs = (us : List Replacement) (n : ℕ) → Expands table rs us n → ⊥
