@@ -2,7 +2,10 @@
 #![tactic(auto)]
 
 mod expr;
+mod operator;
+mod sign;
 mod statement;
+mod stop;
 mod unit;
 
 pub use expr::{ExprForm, ExprTree, Ident};
