@@ -1,6 +1,10 @@
+pub mod Expression
 pub mod Gives
 pub mod Grammar
+pub mod Limits
+pub mod Outcome
 pub mod Reading
+pub mod Scan
 pub mod Signs
 pub mod Trees
 pub mod Types

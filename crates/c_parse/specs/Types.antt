@@ -1,5 +1,5 @@
 -- Which words name an integer type (ISO/IEC 9899:2011, 6.7.2p2).
-use Rattle.std.specs.Prelude.{ℕ, ◌+◌, Bool, true, false, ◌&&◌, ◌||◌, ◌==◌, nat_le, nat_lt, if◌then◌else◌, List, [], ◌∷◌, length, count_by, Option, Some, None, option_map}
+use Rattle.std.specs.Prelude.{ℕ, ◌+◌, Bool, true, false, ◌&&◌, ◌||◌, ◌==◌, nat_le, if◌then◌else◌, List, [], ◌∷◌, count_by, Option, Some, None, option_map}
 use Rattle.std.specs.List.{list_all}
 use Rattle.c_values.specs.declared.kinds.Kind.{Kind}
 use Rattle.c_parse.specs.declared.sign.TypeWord.{TypeWord}
@@ -54,7 +54,7 @@ width_of char short int long =
 
 -- type specifiers, of which one at most is `signed` or `unsigned`
 abbrev pub are_specifiers : List TypeWord → Bool
-are_specifiers ws = nat_lt 0 (length ws) && list_all (λ w. is_none (alias_of w)) ws && nat_le (times words.Signed ws + times words.Unsigned ws) 1
+are_specifiers ws = list_all (λ w. is_none (alias_of w)) ws && nat_le (times words.Signed ws + times words.Unsigned ws) 1
 
 abbrev pub specified : List TypeWord → Option Kind
 specified ws =
