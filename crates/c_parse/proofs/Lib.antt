@@ -5,4 +5,5 @@ pub mod Loops
 pub mod OutcomeLaws
 pub mod Steps
 pub mod Takes
+pub mod TakesStatements
 pub mod Whole

@@ -5,11 +5,14 @@ mod calls;
 mod cursor;
 mod expr;
 mod expressions;
+pub mod laws;
 mod limits;
 mod operator;
 mod sign;
 mod statement;
 mod stop;
+#[cfg(test)]
+mod tests;
 mod types;
 mod unit;
 
