@@ -1,0 +1,17 @@
+pub mod Declarations
+pub mod Expression
+pub mod Gives
+pub mod Grammar
+pub mod Items
+pub mod Limits
+pub mod Marks
+pub mod Outcome
+pub mod Reading
+pub mod ReadingStatements
+pub mod Scan
+pub mod Separated
+pub mod Signs
+pub mod StatementTrees
+pub mod Statements
+pub mod Trees
+pub mod Types

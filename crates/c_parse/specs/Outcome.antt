@@ -1,0 +1,31 @@
+-- What the calls answer, by what is read. Nothing that is promised speaks of this.
+use Rattle.std.specs.Prelude.{◌≡◌, ℕ, List, Option, Some, None, Result, Ok, Err}
+use Rattle.fq_core.specs.declared.refusal.Place.{Place}
+use Rattle.fq_core.specs.declared.refusal.Place.TheVariants as place
+use Rattle.fq_core.specs.declared.refusal.Fault.{Fault}
+use Rattle.fq_core.specs.declared.refusal.Fault.TheVariants as fault
+use Rattle.c_parse.specs.declared.sign.Lexeme.{Lexeme}
+use Rattle.c_parse.specs.declared.expr.ExprTree.{ExprTree}
+use Rattle.c_parse.specs.Limits.{first_foreign, first_passed}
+use Rattle.c_parse.specs.Expression.{line_of, refusal}
+use Rattle.c_parse.specs.Reading.{whole_at}
+
+-- the code and the place of a token that the profile leaves out, or of a limit
+abbrev pub early_of : Option Lexeme → Option ℕ → Option (ℕ × Place)
+early_of (Some t) limit = Some (21, line_of t)
+early_of None (Some n) = Some (22, place.Limit n)
+early_of None None = None
+
+abbrev pub early_cause : List Lexeme → Option (ℕ × Place)
+early_cause ts = early_of (first_foreign ts) (first_passed ts)
+
+abbrev pub by_early : {X : Type 0} → Option (ℕ × Place) → Result X Fault → Result X Fault
+by_early None otherwise = otherwise
+by_early (Some c) otherwise = Err (refusal c.0 c.1)
+
+abbrev pub or_syntax : {X : Type 0} → Option X → Place → Result X Fault
+or_syntax None p = Err (refusal 20 p)
+or_syntax (Some x) p = Ok x
+
+unfoldable pub expression_outcome : List Lexeme → Result ExprTree Fault
+expression_outcome ts = by_early (early_cause ts) (or_syntax (whole_at ts) place.Nowhere)

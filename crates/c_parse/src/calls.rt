@@ -1,0 +1,72 @@
+// The calls of the crate.
+ghost use Rattle.std.specs.Prelude.{◌≡◌, ℕ, map, option_map, Ok, Err, IfOk, IsErrOf};
+ghost use Rattle.fq_core.specs.declared.refusal.Place.{Place};
+ghost use Rattle.c_parse.specs.declared.expr.ExprTree.{ExprTree};
+ghost use Rattle.c_parse.specs.Signs.{lexeme_of};
+ghost use Rattle.c_parse.specs.Expression.{refusal, IsExpression, IsRefusedExpression, IsUnlessMemory};
+ghost use Rattle.c_parse.specs.Outcome.{early_cause, expression_outcome};
+
+use crate::expr::ExprTree;
+use crate::expressions::whole;
+use crate::limits::{first_foreign, first_passed};
+use crate::sign::{Lexeme, lexemes};
+use crate::stop::Stop;
+use c_lex::Token;
+use fq_core::{Fault, Place, Refusal};
+use std::alloc::Global;
+
+fn refusal(code: u16, place: Place) -> Fault
+    ensures { result ≡ refusal code place }
+{
+    Fault::Refused(Refusal { code, place })
+}
+
+// The first token that the profile leaves out, and otherwise the first that passes a limit.
+fn early_fault(tokens: &[Lexeme]) -> Option<Fault>
+    ensures { result ≡ option_map (λ c. refusal c.0 c.1) (early_cause tokens.now) }
+{
+    if let Some(span) = first_foreign(tokens) {
+        let place = Place::Source {
+            file: span.file,
+            line: span.line,
+        };
+        return Some(refusal(21, place));
+    }
+    if let Some(number) = first_passed(tokens) {
+        return Some(refusal(22, Place::Limit { number }));
+    }
+    None
+}
+
+#[tactic(auto, unfolding(crate::specs::Outcome::expression_outcome))]
+fn read_expression(alloc: Global, tokens: &[Lexeme]) -> Result<ExprTree, Fault>
+    ensures { IsUnlessMemory result (expression_outcome tokens.now) }
+{
+    if let Some(fault) = early_fault(tokens) {
+        return Err(fault);
+    }
+    match whole(alloc, tokens) {
+        Ok(tree) => Ok(tree.into_inner()),
+        Err(Stop::Memory) => Err(Fault::Memory),
+        Err(Stop::Syntax) => Err(refusal(20, Place::Nowhere)),
+    }
+}
+
+/// The expression that all the tokens are (ISO/IEC 9899:2011, 6.5.15), also with calls, `&&`, `||` and `?:` in it.
+///
+/// Refused are, in this order, the first token that the profile leaves out (code 21, at its line), the first token at
+/// which more than 60 brackets are open or which is the 257th in a row with none of `;` `,` `{` `}` (code 22, with the
+/// limit), and tokens that are no expression (code 20, with no place).
+pub fn expression(alloc: Global, tokens: &[Token]) -> Result<ExprTree, Fault>
+    // What is answered is an expression of the tokens.
+    ensures accepted { IfOk result (λ tree. IsExpression (map lexeme_of tokens.now) tree) }
+    // The expression of the tokens is answered, where there is one.
+    ensures accepts { (tree : ExprTree) → IsExpression (map lexeme_of tokens.now) tree → IsUnlessMemory result (Ok tree) }
+    // A refusal has its cause.
+    ensures refused { (code : ℕ) (p : Place) → IsErrOf result (refusal code p) → IsRefusedExpression (map lexeme_of tokens.now) code p }
+    // Where there is a cause, it is refused.
+    ensures refuses { (code : ℕ) (p : Place) → IsRefusedExpression (map lexeme_of tokens.now) code p → IsUnlessMemory result (Err (refusal code p)) }
+{
+    let lexemes = lexemes(alloc, tokens)?;
+    read_expression(alloc, &lexemes)
+}

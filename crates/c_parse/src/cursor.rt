@@ -1,0 +1,184 @@
+// The first of the tokens that are left.
+ghost use Rattle.std.specs.Prelude.{◌≡◌, ◌==◌};
+ghost use Rattle.c_parse.specs.Gives.{Gives};
+ghost use Rattle.c_parse.specs.Grammar.{place_of};
+ghost use Rattle.c_parse.specs.Trees.{level};
+ghost use Rattle.c_parse.specs.Reading.{code_of, starts, starts_type, word_at, expect, tail, type_at, infix_of, infix_at, prefix_of};
+
+use crate::operator::{Infix, Prefix};
+use crate::sign::{Lexeme, Mark, Sign, TypeWord};
+use crate::stop::Stop;
+use crate::types::kind_of;
+use c_values::{BinaryOp, Kind, UnaryOp};
+use fq_core::Span;
+use std::alloc::Global;
+
+fn code(mark: Mark) -> u8
+    ensures { result ≡ code_of mark }
+{
+    mark as u8
+}
+
+pub fn is_same(a: Mark, b: Mark) -> bool
+    ensures { result ≡ code_of a == code_of b }
+{
+    code(a) == code(b)
+}
+
+pub fn starts_with(tokens: &[Lexeme], mark: Mark) -> bool
+    ensures { result ≡ starts mark tokens.now }
+{
+    match tokens {
+        [] => false,
+        [first, ..] => match &first.sign {
+            Sign::Mark(other) => is_same(*other, mark),
+            _ => false,
+        },
+    }
+}
+
+// The tokens behind the first.
+pub fn others(tokens: &[Lexeme]) -> &[Lexeme]
+    ensures { result.now ≡ tail tokens.now }
+{
+    match tokens {
+        [] => tokens,
+        [_, rest @ ..] => rest,
+    }
+}
+
+pub fn expect_mark(tokens: &[Lexeme], mark: Mark) -> Result<&[Lexeme], Stop>
+    ensures { Gives (λ x. x.now) result (expect mark tokens.now) }
+{
+    if starts_with(tokens, mark) {
+        Ok(others(tokens))
+    } else {
+        Err(Stop::Syntax)
+    }
+}
+
+// The place of the first token.
+pub fn first_place(tokens: &[Lexeme]) -> Span
+    ensures { result ≡ place_of tokens.now }
+{
+    match tokens {
+        [] => Span {
+            file: 0,
+            line: 0,
+            column: 0,
+            start: 0,
+            end: 0,
+        },
+        [first, ..] => first.span,
+    }
+}
+
+pub fn starts_with_type(tokens: &[Lexeme]) -> bool
+    ensures { result ≡ starts_type tokens.now }
+{
+    match tokens {
+        [] => false,
+        [first, ..] => match &first.sign {
+            Sign::Type(_) => true,
+            _ => false,
+        },
+    }
+}
+
+fn first_word(tokens: &[Lexeme]) -> Option<TypeWord>
+    ensures { result ≡ word_at tokens.now }
+{
+    match tokens {
+        [] => None,
+        [first, ..] => match &first.sign {
+            Sign::Type(word) => Some(*word),
+            _ => None,
+        },
+    }
+}
+
+#[tactic(auto, unfolding(crate::specs::Reading::type_at))]
+pub fn take_type(alloc: Global, tokens: &[Lexeme]) -> Result<(Kind, &[Lexeme]), Stop>
+    ensures { Gives (λ x. (x.0, x.1.now)) result (type_at tokens.now) }
+{
+    let mut words = Vec::new(alloc);
+    let mut rest = tokens;
+    while let Some(word) = first_word(rest) {
+        words.push(word)?;
+        rest = others(rest);
+    }
+    match kind_of(&words) {
+        Some(kind) => Ok((kind, rest)),
+        None => Err(Stop::Syntax),
+    }
+}
+
+fn infix_of_mark(mark: Mark) -> Option<Infix>
+    ensures { result ≡ infix_of mark }
+{
+    match mark {
+        Mark::Plus => Some(Infix::Binary(BinaryOp::Add)),
+        Mark::Minus => Some(Infix::Binary(BinaryOp::Sub)),
+        Mark::Star => Some(Infix::Binary(BinaryOp::Mul)),
+        Mark::Slash => Some(Infix::Binary(BinaryOp::Div)),
+        Mark::Percent => Some(Infix::Binary(BinaryOp::Rem)),
+        Mark::Shl => Some(Infix::Binary(BinaryOp::Shl)),
+        Mark::Shr => Some(Infix::Binary(BinaryOp::Shr)),
+        Mark::And => Some(Infix::Binary(BinaryOp::And)),
+        Mark::Or => Some(Infix::Binary(BinaryOp::Or)),
+        Mark::Caret => Some(Infix::Binary(BinaryOp::Xor)),
+        Mark::Less => Some(Infix::Binary(BinaryOp::Less)),
+        Mark::LessEqual => Some(Infix::Binary(BinaryOp::LessEqual)),
+        Mark::Greater => Some(Infix::Binary(BinaryOp::Greater)),
+        Mark::GreaterEqual => Some(Infix::Binary(BinaryOp::GreaterEqual)),
+        Mark::Equal => Some(Infix::Binary(BinaryOp::Equal)),
+        Mark::NotEqual => Some(Infix::Binary(BinaryOp::NotEqual)),
+        Mark::AndAnd => Some(Infix::Both),
+        Mark::OrOr => Some(Infix::Either),
+        _ => None,
+    }
+}
+
+pub fn first_infix(tokens: &[Lexeme]) -> Option<Infix>
+    ensures { result ≡ infix_at tokens.now }
+{
+    match tokens {
+        [] => None,
+        [first, ..] => match &first.sign {
+            Sign::Mark(mark) => infix_of_mark(*mark),
+            _ => None,
+        },
+    }
+}
+
+pub fn prefix_of(mark: Mark) -> Option<Prefix>
+    ensures { result ≡ prefix_of mark }
+{
+    match mark {
+        Mark::Plus => Some(Prefix::Plus),
+        Mark::Minus => Some(Prefix::Unary(UnaryOp::Neg)),
+        Mark::Tilde => Some(Prefix::Unary(UnaryOp::Complement)),
+        Mark::Not => Some(Prefix::Unary(UnaryOp::Not)),
+        _ => None,
+    }
+}
+
+// How tightly an operator binds, from 1 to 10.
+pub fn level_of(op: Infix) -> u8
+    ensures { result ≡ level op }
+{
+    match op {
+        Infix::Either => 1,
+        Infix::Both => 2,
+        Infix::Binary(op) => match op {
+            BinaryOp::Or => 3,
+            BinaryOp::Xor => 4,
+            BinaryOp::And => 5,
+            BinaryOp::Equal | BinaryOp::NotEqual => 6,
+            BinaryOp::Less | BinaryOp::LessEqual | BinaryOp::Greater | BinaryOp::GreaterEqual => 7,
+            BinaryOp::Shl | BinaryOp::Shr => 8,
+            BinaryOp::Add | BinaryOp::Sub => 9,
+            BinaryOp::Mul | BinaryOp::Div | BinaryOp::Rem => 10,
+        },
+    }
+}

@@ -1,0 +1,250 @@
+// Reading expressions from tokens (ISO/IEC 9899:2011, 6.5).
+ghost use Rattle.std.specs.Prelude.{◌≡◌, ◌<◌, length, IfOk};
+ghost use Rattle.c_parse.specs.Trees.{tree, prefixed, joined};
+ghost use Rattle.c_parse.specs.Gives.{Gives};
+ghost use Rattle.c_parse.specs.Reading.{arguments_at, after_name, after_open, after_prefix, operand_at, operators_at, level_by, choice_by, expr_at, whole_at};
+
+use crate::cursor::{
+    expect_mark, first_infix, first_place, is_same, level_of, others, prefix_of, starts_with,
+    starts_with_type, take_type,
+};
+use crate::expr::{ExprForm, ExprTree};
+use crate::operator::{Infix, Prefix};
+use crate::sign::{Lexeme, Mark, Sign};
+use crate::stop::Stop;
+use containers::{Boxed, Vector};
+use fq_core::{Name, Span};
+use std::alloc::{AllocError, Global};
+
+// A tree in a box of its own.
+fn node(alloc: Global, span: Span, form: ExprForm) -> Result<Boxed<ExprTree>, AllocError>
+    ensures { IfOk result (λ x. x ≡ tree span form) }
+{
+    Boxed::new(alloc, ExprTree { span, form })
+}
+
+fn prefixed(op: Prefix, operand: Boxed<ExprTree>) -> ExprForm
+    ensures { result ≡ prefixed op operand }
+{
+    match op {
+        Prefix::Plus => ExprForm::Plus(operand),
+        Prefix::Unary(op) => ExprForm::Unary(op, operand),
+    }
+}
+
+fn joined(op: Infix, left: Boxed<ExprTree>, right: Boxed<ExprTree>) -> ExprForm
+    ensures { result ≡ joined op left right }
+{
+    match op {
+        Infix::Binary(op) => ExprForm::Binary(op, left, right),
+        Infix::Both => ExprForm::Both(left, right),
+        Infix::Either => ExprForm::Either(left, right),
+    }
+}
+
+// Arguments up to the closing parenthesis, of which there is at least one.
+#[cycle(expr)]
+pub fn arguments(
+    alloc: Global,
+    depth: usize,
+    tokens: &[Lexeme],
+) -> Result<(Vector<ExprTree>, &[Lexeme]), Stop>
+    ensures { Gives (λ x. (x.0, x.1.now)) result (arguments_at (expr_at depth) (length tokens.now) tokens.now) }
+{
+    let mut list = Vector::new(alloc);
+    let mut rest = tokens;
+    for _ in 0..tokens.len() {
+        let (argument, after) = conditional(alloc, depth, 0, rest)?;
+        list.push(argument.into_inner())?;
+        if !starts_with(after, Mark::Comma) {
+            let after = expect_mark(after, Mark::Close)?;
+            return Ok((list, after));
+        }
+        rest = others(after);
+    }
+    Err(Stop::Syntax)
+}
+
+// What follows a name.
+#[cycle(expr)]
+#[tactic(auto, unfolding(crate::specs::Reading::after_name))]
+fn named(
+    alloc: Global,
+    depth: usize,
+    span: Span,
+    name: Name,
+    tokens: &[Lexeme],
+) -> Result<(Boxed<ExprTree>, &[Lexeme]), Stop>
+    ensures { Gives (λ x. (x.0, x.1.now)) result (after_name (expr_at depth) span name tokens.now) }
+{
+    if starts_with(tokens, Mark::OpenIndex) {
+        let (index, rest) = conditional(alloc, depth, 0, others(tokens))?;
+        let rest = expect_mark(rest, Mark::CloseIndex)?;
+        return Ok((node(alloc, span, ExprForm::Element(name, index))?, rest));
+    }
+    if !starts_with(tokens, Mark::Open) {
+        return Ok((node(alloc, span, ExprForm::Name(name))?, tokens));
+    }
+    let rest = others(tokens);
+    if starts_with(rest, Mark::Close) {
+        let call = ExprForm::Call(name, Vector::new(alloc));
+        return Ok((node(alloc, span, call)?, others(rest)));
+    }
+    let (list, rest) = arguments(alloc, depth, rest)?;
+    Ok((node(alloc, span, ExprForm::Call(name, list))?, rest))
+}
+
+// What follows an opening parenthesis.
+#[cycle(expr)]
+#[tactic(auto, unfolding(crate::specs::Reading::after_open))]
+fn opened(
+    alloc: Global,
+    depth: usize,
+    span: Span,
+    tokens: &[Lexeme],
+) -> Result<(Boxed<ExprTree>, &[Lexeme]), Stop>
+    ensures { Gives (λ x. (x.0, x.1.now)) result (after_open (expr_at depth) span tokens.now) }
+{
+    if starts_with_type(tokens) {
+        let (kind, rest) = take_type(alloc, tokens)?;
+        let rest = expect_mark(rest, Mark::Close)?;
+        let (operand, rest) = conditional(alloc, depth, 11, rest)?;
+        Ok((node(alloc, span, ExprForm::Cast(kind, operand))?, rest))
+    } else {
+        let (inner, rest) = conditional(alloc, depth, 0, tokens)?;
+        let rest = expect_mark(rest, Mark::Close)?;
+        Ok((inner, rest))
+    }
+}
+
+// What follows an operator before its operand.
+#[cycle(expr)]
+fn prefix(
+    alloc: Global,
+    depth: usize,
+    span: Span,
+    op: Option<Prefix>,
+    tokens: &[Lexeme],
+) -> Result<(Boxed<ExprTree>, &[Lexeme]), Stop>
+    ensures { Gives (λ x. (x.0, x.1.now)) result (after_prefix (expr_at depth) op span tokens.now) }
+{
+    let Some(op) = op else {
+        return Err(Stop::Syntax);
+    };
+    let (operand, rest) = conditional(alloc, depth, 11, tokens)?;
+    Ok((node(alloc, span, prefixed(op, operand))?, rest))
+}
+
+// An operand.
+#[cycle(expr)]
+#[tactic(auto, unfolding(crate::specs::Reading::operand_at))]
+fn operand(
+    alloc: Global,
+    depth: usize,
+    tokens: &[Lexeme],
+) -> Result<(Boxed<ExprTree>, &[Lexeme]), Stop>
+    ensures { Gives (λ x. (x.0, x.1.now)) result (operand_at (expr_at depth) tokens.now) }
+{
+    let [first, rest @ ..] = tokens else {
+        return Err(Stop::Syntax);
+    };
+    let span = first.span;
+    match &first.sign {
+        Sign::Number(value, kind) => {
+            Ok((node(alloc, span, ExprForm::Number(*value, *kind))?, rest))
+        }
+        Sign::Name(name) => {
+            let name = Name::new(alloc, name.bytes())?;
+            named(alloc, depth, span, name, rest)
+        }
+        Sign::Mark(mark) => {
+            if is_same(*mark, Mark::Open) {
+                opened(alloc, depth, span, rest)
+            } else {
+                prefix(alloc, depth, span, prefix_of(*mark), rest)
+            }
+        }
+        _ => Err(Stop::Syntax),
+    }
+}
+
+// An operand at a level: operands with operators of that level or above between them.
+#[cycle(expr)]
+#[tactic(auto, unfolding(crate::specs::Reading::level_by))]
+fn operation(
+    alloc: Global,
+    depth: usize,
+    level: u8,
+    tokens: &[Lexeme],
+) -> Result<(Boxed<ExprTree>, &[Lexeme]), Stop>
+    requires { level < 100 }
+    ensures { Gives (λ x. (x.0, x.1.now)) result (level_by (expr_at depth) level tokens.now) }
+{
+    let span = first_place(tokens);
+    let (mut tree, mut rest) = operand(alloc, depth, tokens)?;
+    for _ in 0..rest.len() {
+        let Some(op) = first_infix(rest) else { break };
+        let binds = level_of(op);
+        if binds < level {
+            break;
+        }
+        let (right, after) = conditional(alloc, depth, binds + 1, others(rest))?;
+        tree = node(alloc, span, joined(op, tree, right))?;
+        rest = after;
+    }
+    Ok((tree, rest))
+}
+
+// A choice, or an operand at level 1.
+#[cycle(expr)]
+#[tactic(auto, unfolding(crate::specs::Reading::choice_by))]
+fn choice(
+    alloc: Global,
+    depth: usize,
+    tokens: &[Lexeme],
+) -> Result<(Boxed<ExprTree>, &[Lexeme]), Stop>
+    ensures { Gives (λ x. (x.0, x.1.now)) result (choice_by (expr_at depth) tokens.now) }
+{
+    let span = first_place(tokens);
+    let (test, rest) = operation(alloc, depth, 1, tokens)?;
+    if !starts_with(rest, Mark::Question) {
+        return Ok((test, rest));
+    }
+    let (yes, rest) = conditional(alloc, depth, 0, others(rest))?;
+    let rest = expect_mark(rest, Mark::Colon)?;
+    let (no, rest) = conditional(alloc, depth, 0, rest)?;
+    Ok((node(alloc, span, ExprForm::Choice(test, yes, no))?, rest))
+}
+
+// An expression at level 0, an operand at a higher level. At most `depth` of them lie in one another.
+#[cycle(expr)]
+#[tactic(auto, unfolding(crate::specs::Reading::expr_at))]
+pub fn conditional(
+    alloc: Global,
+    depth: usize,
+    level: u8,
+    tokens: &[Lexeme],
+) -> Result<(Boxed<ExprTree>, &[Lexeme]), Stop>
+    requires { level < 100 }
+    ensures { Gives (λ x. (x.0, x.1.now)) result (expr_at depth level tokens.now) }
+{
+    if depth == 0 {
+        Err(Stop::Syntax)
+    } else if level == 0 {
+        choice(alloc, depth - 1, tokens)
+    } else {
+        operation(alloc, depth - 1, level, tokens)
+    }
+}
+
+// The expression that all the tokens are.
+#[tactic(auto, unfolding(crate::specs::Reading::whole_at))]
+pub fn whole(alloc: Global, tokens: &[Lexeme]) -> Result<Boxed<ExprTree>, Stop>
+    ensures { Gives (λ x. x) result (whole_at tokens.now) }
+{
+    let (tree, rest) = conditional(alloc, tokens.len() + 1, 0, tokens)?;
+    match rest {
+        [] => Ok(tree),
+        _ => Err(Stop::Syntax),
+    }
+}

@@ -1,0 +1,111 @@
+// The trees of statements.
+use crate::expr::{ExprTree, Ident};
+use c_values::{BinaryOp, Kind};
+use containers::{Boxed, Vector};
+use fq_core::Span;
+
+/// What is assigned to: a variable, or an element of an array by its index.
+#[derive(Debug, Drop)]
+pub struct PlaceTree {
+    pub name: Ident,
+    pub index: Option<ExprTree>,
+}
+
+/// What a declared variable or array begins as (6.7.9).
+#[derive(Debug, Drop)]
+pub enum Initial {
+    One(ExprTree),
+    List(Vector<ExprTree>),
+}
+
+/// A declared name, the length of an array, and what it begins as (6.7.6).
+#[derive(Debug, Drop)]
+pub struct Declarator {
+    pub name: Ident,
+    pub length: Option<ExprTree>,
+    pub first: Option<Initial>,
+}
+
+/// A `case` with its value, or `default` where there is none (6.8.1).
+#[derive(Debug, Drop)]
+pub struct CaseLabel {
+    /// The place of the word `case` or `default`.
+    pub span: Span,
+    pub value: Option<ExprTree>,
+}
+
+/// The labels of a `switch` that stand in a row, and the statements after them.
+#[cycle(statement)]
+#[derive(Debug, Drop)]
+pub struct Group {
+    pub labels: Vector<CaseLabel>,
+    pub body: Vector<Statement>,
+}
+
+/// A statement or a declaration in a block (6.8, 6.7).
+#[cycle(statement)]
+#[derive(Debug, Drop)]
+pub struct Statement {
+    /// The place of its first token.
+    pub span: Span,
+    pub form: Form,
+}
+
+/// What a statement is made of.
+#[cycle(statement)]
+#[derive(Debug, Drop)]
+pub enum Form {
+    Block(Vector<Statement>),
+    Empty,
+    Local {
+        kind: Kind,
+        list: Vector<Declarator>,
+    },
+    /// `=` where there is no operator, and otherwise a compound assignment (6.5.16).
+    Assign {
+        place: PlaceTree,
+        operator: Option<BinaryOp>,
+        value: ExprTree,
+    },
+    /// `++` or `--`, before the place or after it.
+    Step {
+        place: PlaceTree,
+        up: bool,
+    },
+    Call {
+        name: Ident,
+        arguments: Vector<ExprTree>,
+    },
+    Label {
+        name: Ident,
+        body: Boxed<Statement>,
+    },
+    /// An `if` with its `else if` arms, and its last `else` (6.8.4.1).
+    If {
+        arms: Vector<(ExprTree, Statement)>,
+        otherwise: Option<Boxed<Statement>>,
+    },
+    While {
+        test: ExprTree,
+        body: Boxed<Statement>,
+    },
+    Do {
+        body: Boxed<Statement>,
+        test: ExprTree,
+    },
+    For {
+        first: Option<Boxed<Statement>>,
+        test: Option<ExprTree>,
+        next: Option<Boxed<Statement>>,
+        body: Boxed<Statement>,
+    },
+    Switch {
+        value: ExprTree,
+        groups: Vector<Group>,
+    },
+    Break,
+    Continue,
+    Return(Option<ExprTree>),
+    Assert(ExprTree),
+    Assume(ExprTree),
+}
