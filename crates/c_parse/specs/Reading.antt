@@ -20,7 +20,6 @@ use Rattle.c_parse.specs.declared.operator.Infix.TheVariants as infixes
 use Rattle.c_parse.specs.Types.{kind_of}
 use Rattle.c_parse.specs.Trees.{tree, prefixed, joined, level}
 use Rattle.c_parse.specs.Grammar.{Text, place_of}
-
 pub use Rattle.c_parse.specs.Marks.{code_of, is_mark, starts}
 
 infixl 10 ◌>>=◌
