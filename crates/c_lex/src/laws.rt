@@ -11,5 +11,4 @@ pub fn one_reading()
 /// Each number among the tokens of texts is a value of its kind.
 pub fn numbers_are_values()
     ensures { NumbersAreValues }
-{
-}
+{}

@@ -136,3 +136,40 @@ fn several_texts(rt: HostRuntime) -> Result<(), Fail> {
     assert_eq!(rt; got.as_str(), "10 1:2");
     Ok(())
 }
+
+// A row of macros, each of which gives the next one twice or once, and the use of the first.
+fn macros_in_a_row(alloc: Global, count: usize, twice: bool) -> Result<String, Fail> {
+    let mut text = String::new(alloc);
+    for i in 0..count {
+        let next = i + 1;
+        let line = if twice {
+            format!(in alloc; "#define a{i} a{next} a{next}\n")?
+        } else {
+            format!(in alloc; "#define a{i} a{next}\n")?
+        };
+        text.push_str(line.as_str())?;
+    }
+    text.push_str("a0")?;
+    Ok(text)
+}
+
+#[test]
+fn hostile_texts(rt: HostRuntime) -> Result<(), Fail> {
+    let alloc = rt.alloc();
+    let chain = macros_in_a_row(alloc, 10_000, false)?;
+    let got = shown(alloc, &[chain.as_bytes()])?;
+    assert_eq!(rt; got.as_str(), "10001:1w=a10000 ");
+    let doubling = macros_in_a_row(alloc, 20, true)?;
+    let got = shown(alloc, &[doubling.as_bytes()])?;
+    assert_eq!(rt; got.as_str(), "15 limit 200000");
+    let blanks = vec![in alloc; b' '; 1 << 22]?;
+    let got = shown(alloc, &[blanks.as_slice()])?;
+    assert_eq!(rt; got.as_str(), "");
+    let slashes = vec![in alloc; b'/'; 4_000_000]?;
+    let got = shown(alloc, &[slashes.as_slice()])?;
+    assert_eq!(rt; got.as_str(), "");
+    let marks = vec![in alloc; b';'; 200_001]?;
+    let got = shown(alloc, &[marks.as_slice()])?;
+    assert_eq!(rt; got.as_str(), "15 limit 200000");
+    Ok(())
+}
