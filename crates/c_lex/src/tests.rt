@@ -16,8 +16,12 @@ fn shown(alloc: Global, texts: &[&[u8]]) -> Result<String, Fail> {
     for text in texts {
         sources.push(source(alloc, b"a.c", text)?)?;
     }
+    let list = sources.as_slice();
+    if list.len() >= 1 << 32 || !are_small(list) {
+        return Err(Fail::from("the texts are too large"));
+    }
     let mut line = String::new(alloc);
-    match tokens(alloc, sources.as_slice()) {
+    match tokens(alloc, list) {
         Ok(list) => {
             for token in list.iter() {
                 let text = std::str::from_utf8(token.text.bytes()).unwrap_or("?");
