@@ -5,7 +5,7 @@ use std::alloc::{AllocError, Global};
 use std::test::Fail;
 
 fn source(alloc: Global, name: &[u8], bytes: &[u8]) -> Result<SourceText, AllocError> {
-    let name = Name::new(alloc, name)?;
+    let name = Name::new(alloc, name).map_err(|_| AllocError)?;
     let bytes = Vector::from_vec(Vec::from_slice(alloc, bytes)?);
     Ok(SourceText { name, bytes })
 }
