@@ -9,6 +9,7 @@ ghost use Rattle.c_lex.specs.Forms.{constant_value};
 ghost use Rattle.c_lex.specs.Constants.{is_u, is_l, suffix_of, plain_kinds, long_kinds, kind_of_number, base_of, radix, number_in, number_of, foreign_words, foreign_words_of_1999, foreign_words_of_2011, foreign_marks, is_among, is_foreign_word, with_suffix, after_prefix, of_kind, constant_kind, word_kind, mark_kind, token_kind};
 
 use crate::bytes::{is_constant_byte, is_digit, is_letter};
+use crate::cut::rest_of;
 use crate::form::escape;
 use crate::token::TokenKind;
 use c_values::Kind;
@@ -353,10 +354,7 @@ fn number_of(text: &[u8]) -> Option<TokenKind>
     ensures { result ≡ number_of text.now }
 {
     match base_of(text) {
-        Base::Hexadecimal => number_in(
-            Base::Hexadecimal,
-            if text.len() < 2 { text } else { &text[2..] },
-        ),
+        Base::Hexadecimal => number_in(Base::Hexadecimal, rest_of(text, 2)),
         base => number_in(base, text),
     }
 }

@@ -49,6 +49,20 @@ fn mark(table: &Table, ended: &mut [bool]) -> bool
     marked
 }
 
+// The same from the last macro on, so that a long row of macros takes few rounds, whichever of them names the other.
+fn mark_backward(table: &Table, ended: &mut [bool])
+    requires indexed { IsIndexed table.now }
+    requires lengths { length ended.old ≡ length table.now.macros.items }
+    requires sound { AreSound table.now.macros.items ended.old }
+    ensures { AreSound table.now.macros.items ended.new }
+{
+    for i in (0..ended.len()).rev() {
+        if !ended[i] && list_ends(table, ended, table.macros[i].list.as_slice()) {
+            ended[i] = true;
+        }
+    }
+}
+
 /// Whether the replacement of the macro at a place has no end.
 pub fn is_endless(alloc: Global, table: &Table, place: usize) -> Result<bool, AllocError>
     requires indexed { IsIndexed table.now }
@@ -58,6 +72,7 @@ pub fn is_endless(alloc: Global, table: &Table, place: usize) -> Result<bool, Al
     let mut ended = vec![in alloc; false; table.macros.len()]?;
     // Each round but the last marks one more macro.
     'rounds: for _ in 0..=table.macros.len() {
+        mark_backward(table, ended.as_mut_slice());
         if !mark(table, ended.as_mut_slice()) {
             return Ok(!ended[place]);
         }

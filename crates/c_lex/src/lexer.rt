@@ -1,5 +1,5 @@
 // The pass along a text.
-ghost use Rattle.std.specs.Prelude.{◌≡◌, ◌≤◌, ◌<◌, ◌+◌, ◌^◌, length, IfOk};
+ghost use Rattle.std.specs.Prelude.{◌≡◌, ◌≤◌, ◌<◌, ◌+◌, ◌^◌, length, IfOk, IsTrue, ◌↔◌};
 ghost use Rattle.c_lex.specs.Cuts.{IsInside, place_of_lexeme};
 ghost use Rattle.c_lex.specs.Lexed.{Answers, AreSmall, most};
 ghost use Rattle.c_lex.specs.Places.{position_at, span_of};
@@ -135,6 +135,13 @@ pub fn read_text(
             }
         }
     }
+}
+
+/// Whether each text has fewer than 2^32 bytes, as `tokens` requires.
+pub fn are_small(texts: &[SourceText]) -> bool
+    ensures { IsTrue result ↔ AreSmall texts.now }
+{
+    texts.iter().all(|text| text.bytes.len() < 1 << 32)
 }
 
 /// The tokens of texts, with macros replaced (ISO/IEC 9899:2011, 6.4 and 6.10.3).

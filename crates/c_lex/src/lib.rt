@@ -1,4 +1,9 @@
-//! The tokens of C: a text is cut into blanks, comments, directive lines and tokens, and macros are replaced.
+//! Tokens and macros of C (ISO/IEC 9899:2011, 6.4 and 6.10.3): a text is cut into blanks, comments, directive lines and
+//! tokens, each token the longest that begins there, and macros are replaced.
+//!
+//! It stands on `containers`, `fq_core` and `c_values`. The layers above use the contract of `tokens`, which gives the
+//! one list of tokens of its texts or refuses the first place at which there is a cause, and the laws `one_reading` and
+//! `numbers_are_values`.
 #![tactic(auto)]
 
 mod bytes;
@@ -18,7 +23,7 @@ mod take;
 mod token;
 
 pub use laws::{numbers_are_values, one_reading};
-pub use lexer::tokens;
+pub use lexer::{are_small, tokens};
 pub use token::{SourceText, Token, TokenKind};
 
 #[cfg(test)]

@@ -5,7 +5,7 @@ use std::alloc::{AllocError, Global};
 use std::test::Fail;
 
 fn source(alloc: Global, name: &[u8], bytes: &[u8]) -> Result<SourceText, AllocError> {
-    let name = Name::new(alloc, name)?;
+    let name = Name::new(alloc, name).map_err(|_| AllocError)?;
     let bytes = Vector::from_vec(Vec::from_slice(alloc, bytes)?);
     Ok(SourceText { name, bytes })
 }
@@ -16,8 +16,12 @@ fn shown(alloc: Global, texts: &[&[u8]]) -> Result<String, Fail> {
     for text in texts {
         sources.push(source(alloc, b"a.c", text)?)?;
     }
+    let list = sources.as_slice();
+    if list.len() >= 1 << 32 || !are_small(list) {
+        return Err(Fail::from("the texts are too large"));
+    }
     let mut line = String::new(alloc);
-    match tokens(alloc, sources.as_slice()) {
+    match tokens(alloc, list) {
         Ok(list) => {
             for token in list.iter() {
                 let text = std::str::from_utf8(token.text.bytes()).unwrap_or("?");
@@ -134,5 +138,42 @@ fn several_texts(rt: HostRuntime) -> Result<(), Fail> {
     assert_eq!(rt; got.as_str(), "2:1n1s32=1 1:1w=A 1:2m=; ");
     let got = shown(alloc, &[b"A".as_slice(), b"\n@".as_slice()])?;
     assert_eq!(rt; got.as_str(), "10 1:2");
+    Ok(())
+}
+
+// A row of macros, each of which gives the next one twice or once, and the use of the first.
+fn macros_in_a_row(alloc: Global, count: usize, twice: bool) -> Result<String, Fail> {
+    let mut text = String::new(alloc);
+    for i in 0..count {
+        let next = i + 1;
+        let line = if twice {
+            format!(in alloc; "#define a{i} a{next} a{next}\n")?
+        } else {
+            format!(in alloc; "#define a{i} a{next}\n")?
+        };
+        text.push_str(line.as_str())?;
+    }
+    text.push_str("a0")?;
+    Ok(text)
+}
+
+#[test]
+fn hostile_texts(rt: HostRuntime) -> Result<(), Fail> {
+    let alloc = rt.alloc();
+    let chain = macros_in_a_row(alloc, 10_000, false)?;
+    let got = shown(alloc, &[chain.as_bytes()])?;
+    assert_eq!(rt; got.as_str(), "10001:1w=a10000 ");
+    let doubling = macros_in_a_row(alloc, 20, true)?;
+    let got = shown(alloc, &[doubling.as_bytes()])?;
+    assert_eq!(rt; got.as_str(), "15 limit 200000");
+    let blanks = vec![in alloc; b' '; 1 << 22]?;
+    let got = shown(alloc, &[blanks.as_slice()])?;
+    assert_eq!(rt; got.as_str(), "");
+    let slashes = vec![in alloc; b'/'; 4_000_000]?;
+    let got = shown(alloc, &[slashes.as_slice()])?;
+    assert_eq!(rt; got.as_str(), "");
+    let marks = vec![in alloc; b';'; 200_001]?;
+    let got = shown(alloc, &[marks.as_slice()])?;
+    assert_eq!(rt; got.as_str(), "15 limit 200000");
     Ok(())
 }
