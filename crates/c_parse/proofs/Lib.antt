@@ -1,9 +1,17 @@
 pub mod Again
+pub mod AgainItems
+pub mod AgainParts
+pub mod AgainStatements
 pub mod Firsts
 pub mod LimitsLaws
 pub mod Loops
+pub mod LoopsItems
+pub mod LoopsStatements
 pub mod OutcomeLaws
 pub mod Steps
 pub mod Takes
+pub mod TakesItems
 pub mod TakesStatements
+pub mod UnitLaws
+pub mod UnitOutcome
 pub mod Whole

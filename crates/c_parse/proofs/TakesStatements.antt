@@ -70,7 +70,7 @@ first_takes ts =
     (λ e. let a = starts-true marks.Assign ts e in
     either_some (starts marks.OpenBrace (tail ts)) _ _ _
     (λ f. let b = starts-true marks.OpenBrace (tail ts) f in
-    then_some (separated_at choice_in true marks.CloseBrace (length ts) (tail (tail ts))) _ _ (separated_takes DerivesChoice choice_in true marks.CloseBrace choice_in_takes (length ts) (tail (tail ts))) (λ es d.
+    then_some (separated_at choice_in true marks.CloseBrace (length (tail (tail ts))) (tail (tail ts))) _ _ (separated_takes DerivesChoice choice_in true marks.CloseBrace choice_in_takes (length (tail (tail ts))) (tail (tail ts))) (λ es d.
     record { front = _; parts = cc; fact = some_first a.0 b.0 d.fact }))
     (λ _. then_some (choice_in (tail ts)) _ _ (choice_in_takes (tail ts)) (λ t d.
     record { front = _; parts = cc; fact = one_first a.0 d.fact })))

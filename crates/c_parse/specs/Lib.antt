@@ -7,6 +7,7 @@ pub mod Limits
 pub mod Marks
 pub mod Outcome
 pub mod Reading
+pub mod ReadingItems
 pub mod ReadingStatements
 pub mod Scan
 pub mod Separated
@@ -15,3 +16,4 @@ pub mod StatementTrees
 pub mod Statements
 pub mod Trees
 pub mod Types
+pub mod UnitForm

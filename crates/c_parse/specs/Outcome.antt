@@ -1,5 +1,5 @@
 -- What the calls answer, by what is read. Nothing that is promised speaks of this.
-use Rattle.std.specs.Prelude.{◌≡◌, ℕ, List, Option, Some, None, Result, Ok, Err}
+use Rattle.std.specs.Prelude.{◌≡◌, ℕ, List, [], ◌∷◌, length, Option, Some, None, Result, Ok, Err}
 use Rattle.fq_core.specs.declared.refusal.Place.{Place}
 use Rattle.fq_core.specs.declared.refusal.Place.TheVariants as place
 use Rattle.fq_core.specs.declared.refusal.Fault.{Fault}
@@ -8,7 +8,10 @@ use Rattle.c_parse.specs.declared.sign.Lexeme.{Lexeme}
 use Rattle.c_parse.specs.declared.expr.ExprTree.{ExprTree}
 use Rattle.c_parse.specs.Limits.{first_foreign, first_passed}
 use Rattle.c_parse.specs.Expression.{line_of, refusal}
+use Rattle.c_parse.specs.declared.unit.Item.{Item}
+use Rattle.c_parse.specs.declared.unit.Unit.{Unit as Whole}
 use Rattle.c_parse.specs.Reading.{whole_at}
+use Rattle.c_parse.specs.ReadingItems.{items_at}
 
 -- the code and the place of a token that the profile leaves out, or of a limit
 abbrev pub early_of : Option Lexeme → Option ℕ → Option (ℕ × Place)
@@ -29,3 +32,11 @@ or_syntax (Some x) p = Ok x
 
 unfoldable pub expression_outcome : List Lexeme → Result ExprTree Fault
 expression_outcome ts = by_early (early_cause ts) (or_syntax (whole_at ts) place.Nowhere)
+
+-- the items that were read, where nothing is left
+abbrev pub by_rest : List Item → List Lexeme → Result Whole Fault
+by_rest items [] = Ok (record { items = items })
+by_rest items (t ∷ ts) = Err (refusal 20 (line_of t))
+
+unfoldable pub unit_outcome : List Lexeme → Result Whole Fault
+unit_outcome ts = by_early (early_cause ts) (by_rest (items_at (length ts) ts).0 (items_at (length ts) ts).1)

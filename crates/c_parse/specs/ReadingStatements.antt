@@ -56,7 +56,7 @@ unfoldable pub first_at : List Lexeme → Read (Option Initial)
 first_at ts =
     if starts marks.Assign ts
     then (if starts marks.OpenBrace (tail ts)
-    then (separated_at choice_in true marks.CloseBrace (length ts) (tail (tail ts)) >>= λ es. Some (Some (initial.List es.0), es.1))
+    then (separated_at choice_in true marks.CloseBrace (length (tail (tail ts))) (tail (tail ts)) >>= λ es. Some (Some (initial.List es.0), es.1))
     else (choice_in (tail ts) >>= λ t. Some (Some (initial.One t.0), t.1)))
     else Some (None, ts)
 

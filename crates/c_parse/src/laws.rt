@@ -2,9 +2,16 @@
 ghost use Rattle.std.specs.Prelude.{◌≡◌, List};
 ghost use Rattle.c_parse.specs.declared.sign.Lexeme.{Lexeme};
 ghost use Rattle.c_parse.specs.declared.expr.ExprTree.{ExprTree};
+ghost use Rattle.c_parse.specs.declared.unit.Item.{Item};
 ghost use Rattle.c_parse.specs.Grammar.{DerivesChoice};
+ghost use Rattle.c_parse.specs.Items.{DerivesItems};
 
 /// Tokens spell at most one expression.
 pub fn one_expression()
     ensures { (ts : List Lexeme) (t u : ExprTree) → DerivesChoice t ts → DerivesChoice u ts → t ≡ u }
+{}
+
+/// Tokens spell at most one list of items.
+pub fn one_unit()
+    ensures { (ts : List Lexeme) (is js : List Item) → DerivesItems is ts → DerivesItems js ts → is ≡ js }
 {}

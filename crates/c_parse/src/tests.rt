@@ -1,5 +1,6 @@
 //! Texts with the trees or the refusals that they have, worked by hand from C11's grammar (6.5).
 mod tokens;
+mod units;
 
 use crate::{ExprForm, ExprTree, expression};
 use c_values::{BinaryOp, Kind, UnaryOp};
@@ -122,7 +123,7 @@ fn number_of(place: &Place) -> u64 {
 }
 
 // The code of a refusal, and the line or the limit of its place; 0 for want of memory.
-fn cause_of(fault: &Fault) -> (u16, u64) {
+pub fn cause_of(fault: &Fault) -> (u16, u64) {
     match fault {
         Fault::Refused(refusal) => (refusal.code, number_of(&refusal.place)),
         Fault::Memory => (0, 0),

@@ -1,0 +1,132 @@
+// Reading declarators and declarations (ISO/IEC 9899:2011, 6.7).
+ghost use Rattle.std.specs.Prelude.{◌≡◌, length, IfOk};
+ghost use Rattle.c_parse.specs.Gives.{Gives};
+ghost use Rattle.c_parse.specs.StatementTrees.{statement};
+ghost use Rattle.c_parse.specs.ReadingStatements.{choice_in, name_at, bracketed_at, first_at, declarator_at, declarators_at, past_consts, starts_local, local_at};
+
+use crate::cursor::{expect_mark, first_place, others, starts_with, starts_with_type, take_type};
+use crate::expr::{ExprTree, Ident};
+use crate::expressions::conditional;
+use crate::separated::{Part, separated};
+use crate::sign::{Lexeme, Mark, Sign};
+use crate::statement::{Declarator, Form, Initial, Statement};
+use crate::stop::Stop;
+use containers::{Boxed, Vector};
+use fq_core::{Name, Span};
+use std::alloc::{AllocError, Global};
+
+// An expression, nested as deep as its tokens allow.
+#[tactic(auto, unfolding(crate::specs::ReadingStatements::choice_in))]
+pub fn choice(alloc: Global, tokens: &[Lexeme]) -> Result<(Boxed<ExprTree>, &[Lexeme]), Stop>
+    ensures { Gives (λ x. (x.0, x.1.now)) result (choice_in tokens.now) }
+{
+    conditional(alloc, tokens.len() + 1, 0, tokens)
+}
+
+impl Part for ExprTree {
+    ghost reads = { choice_in };
+
+    fn read(alloc: Global, tokens: &[Lexeme]) -> Result<(ExprTree, &[Lexeme]), Stop> {
+        let (tree, rest) = choice(alloc, tokens)?;
+        Ok((tree.into_inner(), rest))
+    }
+}
+
+// A statement in a box of its own.
+pub fn node(alloc: Global, span: Span, form: Form) -> Result<Boxed<Statement>, AllocError>
+    ensures { IfOk result (λ x. x ≡ statement span form) }
+{
+    Boxed::new(alloc, Statement { span, form })
+}
+
+// The name in front.
+pub fn first_name(alloc: Global, tokens: &[Lexeme]) -> Result<Name, Stop>
+    ensures { Gives (λ x. x) result (name_at tokens.now) }
+{
+    match tokens {
+        [] => Err(Stop::Syntax),
+        [first, ..] => match &first.sign {
+            Sign::Name(name) => Ok(Name::new(alloc, name.bytes())?),
+            _ => Err(Stop::Syntax),
+        },
+    }
+}
+
+// An expression in brackets, if there is one.
+#[tactic(auto, unfolding(crate::specs::ReadingStatements::bracketed_at))]
+pub fn bracketed(alloc: Global, tokens: &[Lexeme]) -> Result<(Option<ExprTree>, &[Lexeme]), Stop>
+    ensures { Gives (λ x. (x.0, x.1.now)) result (bracketed_at tokens.now) }
+{
+    if !starts_with(tokens, Mark::OpenIndex) {
+        return Ok((None, tokens));
+    }
+    let (tree, rest) = choice(alloc, others(tokens))?;
+    let rest = expect_mark(rest, Mark::CloseIndex)?;
+    Ok((Some(tree.into_inner()), rest))
+}
+
+// What a name begins as, if it is given.
+#[tactic(auto, unfolding(crate::specs::ReadingStatements::first_at))]
+fn first_value(alloc: Global, tokens: &[Lexeme]) -> Result<(Option<Initial>, &[Lexeme]), Stop>
+    ensures { Gives (λ x. (x.0, x.1.now)) result (first_at tokens.now) }
+{
+    if !starts_with(tokens, Mark::Assign) {
+        return Ok((None, tokens));
+    }
+    let rest = others(tokens);
+    if starts_with(rest, Mark::OpenBrace) {
+        let (list, rest) = separated(alloc, true, Mark::CloseBrace, others(rest))?;
+        return Ok((Some(Initial::List(list)), rest));
+    }
+    let (tree, rest) = choice(alloc, rest)?;
+    Ok((Some(Initial::One(tree.into_inner())), rest))
+}
+
+impl Part for Declarator {
+    ghost reads = { declarator_at };
+
+    #[tactic(auto, unfolding(crate::specs::ReadingStatements::declarator_at))]
+    fn read(alloc: Global, tokens: &[Lexeme]) -> Result<(Declarator, &[Lexeme]), Stop> {
+        let span = first_place(tokens);
+        let name = first_name(alloc, tokens)?;
+        let (length, rest) = bracketed(alloc, others(tokens))?;
+        let (first, rest) = first_value(alloc, rest)?;
+        let name = Ident { name, span };
+        Ok((
+            Declarator {
+                name,
+                length,
+                first,
+            },
+            rest,
+        ))
+    }
+}
+
+// What follows the words `const` in front.
+pub fn after_consts(tokens: &[Lexeme]) -> &[Lexeme]
+    ensures { result.now ≡ past_consts tokens.now }
+{
+    let mut rest = tokens;
+    while starts_with(rest, Mark::Const) {
+        rest = others(rest);
+    }
+    rest
+}
+
+pub fn starts_with_local(tokens: &[Lexeme]) -> bool
+    ensures { result ≡ starts_local tokens.now }
+{
+    starts_with(tokens, Mark::Const) || starts_with_type(tokens)
+}
+
+// A declaration in a block.
+#[tactic(auto, unfolding(crate::specs::ReadingStatements::local_at))]
+pub fn local(alloc: Global, tokens: &[Lexeme]) -> Result<(Boxed<Statement>, &[Lexeme]), Stop>
+    ensures { Gives (λ x. (x.0, x.1.now)) result (local_at tokens.now) }
+{
+    let span = first_place(tokens);
+    let (kind, rest) = take_type(alloc, after_consts(tokens))?;
+    let (list, rest) = separated(alloc, false, Mark::Semicolon, rest)?;
+    Ok((node(alloc, span, Form::Local { kind, list })?, rest))
+}

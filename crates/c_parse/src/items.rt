@@ -1,0 +1,304 @@
+// Reading items from tokens (ISO/IEC 9899:2011, 6.9 and 6.7).
+ghost use Rattle.std.specs.Prelude.{◌≡◌, length, option_map, IfOk};
+ghost use Rattle.c_parse.specs.Gives.{Gives};
+ghost use Rattle.c_parse.specs.Marks.{is_mark};
+ghost use Rattle.c_parse.specs.ReadingStatements.{name_at};
+ghost use Rattle.c_parse.specs.ReadingItems.{is_shared, is_of_functions, is_before, starts_before, past_before, for_variables, by_name, parameter_at, parameters_at, end_at, function_at, past_named, constant_at, enum_at, typed_at, void_at, item_at, items_at};
+
+use crate::cursor::{expect_mark, first_place, is_same, others, starts_with, take_type};
+use crate::declarations::{after_consts, bracketed, choice, first_name};
+use crate::expr::{ExprTree, Ident};
+use crate::separated::{Part, separated};
+use crate::sign::{Lexeme, Mark, Sign};
+use crate::statements::body;
+use crate::stop::Stop;
+use crate::unit::{Body, Item, Parameter};
+use c_values::Kind;
+use containers::Vector;
+use fq_core::{Name, Span};
+use std::alloc::{AllocError, Global};
+
+fn is_mark(sign: &Sign, mark: Mark) -> bool
+    ensures { result ≡ is_mark mark sign.now }
+{
+    match sign {
+        Sign::Mark(other) => is_same(*other, mark),
+        _ => false,
+    }
+}
+
+// Whether a word may stand before the type of variables, and of functions.
+fn is_shared(sign: &Sign) -> bool
+    ensures { result ≡ is_shared sign.now }
+{
+    is_mark(sign, Mark::Static) || is_mark(sign, Mark::Const)
+}
+
+fn is_of_functions(sign: &Sign) -> bool
+    ensures { result ≡ is_of_functions sign.now }
+{
+    is_mark(sign, Mark::Extern) || is_mark(sign, Mark::Inline)
+}
+
+fn starts_with_word(tokens: &[Lexeme]) -> bool
+    ensures { result ≡ starts_before tokens.now }
+{
+    match tokens {
+        [] => false,
+        [first, ..] => is_shared(&first.sign) || is_of_functions(&first.sign),
+    }
+}
+
+// What follows the words in front.
+fn after_words(tokens: &[Lexeme]) -> &[Lexeme]
+    ensures { result.now ≡ past_before tokens.now }
+{
+    let mut rest = tokens;
+    while starts_with_word(rest) {
+        rest = others(rest);
+    }
+    rest
+}
+
+// Whether variables may be declared behind the words in front.
+fn are_for_variables(tokens: &[Lexeme]) -> bool
+    ensures { result ≡ for_variables tokens.now }
+{
+    for token in tokens {
+        if !is_shared(&token.sign) {
+            return !is_of_functions(&token.sign);
+        }
+    }
+    true
+}
+
+// The name in front, if there is one.
+fn name_of(tokens: &[Lexeme]) -> Option<&Name>
+    ensures { option_map (λ n. n.now) result ≡ name_at tokens.now }
+{
+    match tokens {
+        [] => None,
+        [first, ..] => match &first.sign {
+            Sign::Name(name) => Some(name),
+            _ => None,
+        },
+    }
+}
+
+/// The name and the length of a parameter, and the tokens behind them.
+#[derive(Drop)]
+struct Named<'a> {
+    name: Option<Ident>,
+    length: Option<ExprTree>,
+    rest: &'a [Lexeme],
+}
+
+fn parameter_name(alloc: Global, tokens: &[Lexeme]) -> Result<Named<'_>, Stop>
+    ensures { Gives (λ x. ((x.name, x.length), x.rest.now)) result (by_name (name_at tokens.now) tokens.now) }
+{
+    let Some(name) = name_of(tokens) else {
+        return Ok(Named {
+            name: None,
+            length: None,
+            rest: tokens,
+        });
+    };
+    let name = Name::new(alloc, name.bytes())?;
+    let span = first_place(tokens);
+    let (length, rest) = bracketed(alloc, others(tokens))?;
+    let name = Some(Ident { name, span });
+    Ok(Named { name, length, rest })
+}
+
+impl Part for Parameter {
+    ghost reads = { parameter_at };
+
+    #[tactic(auto, unfolding(crate::specs::ReadingItems::parameter_at))]
+    fn read(alloc: Global, tokens: &[Lexeme]) -> Result<(Parameter, &[Lexeme]), Stop> {
+        let span = first_place(tokens);
+        let (kind, rest) = take_type(alloc, after_consts(tokens))?;
+        let Named { name, length, rest } = parameter_name(alloc, rest)?;
+        Ok((
+            Parameter {
+                span,
+                kind,
+                name,
+                length,
+            },
+            rest,
+        ))
+    }
+}
+
+// The parameters of a function, and the closing parenthesis.
+#[tactic(auto, unfolding(crate::specs::ReadingItems::parameters_at))]
+fn parameters(alloc: Global, tokens: &[Lexeme]) -> Result<(Vector<Parameter>, &[Lexeme]), Stop>
+    ensures { Gives (λ x. (x.0, x.1.now)) result (parameters_at tokens.now) }
+{
+    if starts_with(tokens, Mark::Close) {
+        return Ok((Vector::new(alloc), others(tokens)));
+    }
+    if starts_with(tokens, Mark::Void) {
+        let rest = expect_mark(others(tokens), Mark::Close)?;
+        return Ok((Vector::new(alloc), rest));
+    }
+    separated(alloc, false, Mark::Close, tokens)
+}
+
+// A semicolon, or the block of a function.
+#[tactic(auto, unfolding(crate::specs::ReadingItems::end_at))]
+fn end(alloc: Global, tokens: &[Lexeme]) -> Result<(Option<Body>, &[Lexeme]), Stop>
+    ensures { Gives (λ x. (x.0, x.1.now)) result (end_at tokens.now) }
+{
+    if starts_with(tokens, Mark::Semicolon) {
+        return Ok((None, others(tokens)));
+    }
+    let rest = expect_mark(tokens, Mark::OpenBrace)?;
+    let (statements, rest) = body(alloc, rest.len() + 1, rest)?;
+    let close = first_place(rest);
+    let rest = expect_mark(rest, Mark::CloseBrace)?;
+    Ok((Some(Body { statements, close }), rest))
+}
+
+// What follows the name of a function.
+#[tactic(auto, unfolding(crate::specs::ReadingItems::function_at))]
+fn function(
+    alloc: Global,
+    span: Span,
+    result_kind: Option<Kind>,
+    name: Ident,
+    tokens: &[Lexeme],
+) -> Result<(Item, &[Lexeme]), Stop>
+    ensures { Gives (λ x. (x.0, x.1.now)) result (function_at span result_kind name tokens.now) }
+{
+    let rest = expect_mark(tokens, Mark::Open)?;
+    let (parameters, rest) = parameters(alloc, rest)?;
+    let (body, rest) = end(alloc, rest)?;
+    Ok((
+        Item::Function {
+            span,
+            result: result_kind,
+            name,
+            parameters,
+            body,
+        },
+        rest,
+    ))
+}
+
+impl Part for (Ident, Option<ExprTree>) {
+    ghost reads = { constant_at };
+
+    #[tactic(auto, unfolding(crate::specs::ReadingItems::constant_at))]
+    fn read(
+        alloc: Global,
+        tokens: &[Lexeme],
+    ) -> Result<((Ident, Option<ExprTree>), &[Lexeme]), Stop> {
+        let span = first_place(tokens);
+        let name = first_name(alloc, tokens)?;
+        let name = Ident { name, span };
+        let rest = others(tokens);
+        if !starts_with(rest, Mark::Assign) {
+            return Ok(((name, None), rest));
+        }
+        let (value, rest) = choice(alloc, others(rest))?;
+        Ok(((name, Some(value.into_inner())), rest))
+    }
+}
+
+// What follows a name that may be there.
+fn after_tag(tokens: &[Lexeme]) -> &[Lexeme]
+    ensures { result.now ≡ past_named (name_at tokens.now) tokens.now }
+{
+    if name_of(tokens).is_some() {
+        others(tokens)
+    } else {
+        tokens
+    }
+}
+
+// What follows `enum`.
+#[tactic(auto, unfolding(crate::specs::ReadingItems::enum_at))]
+fn constants(alloc: Global, span: Span, tokens: &[Lexeme]) -> Result<(Item, &[Lexeme]), Stop>
+    ensures { Gives (λ x. (x.0, x.1.now)) result (enum_at span tokens.now) }
+{
+    let rest = expect_mark(after_tag(tokens), Mark::OpenBrace)?;
+    let (list, rest) = separated(alloc, true, Mark::CloseBrace, rest)?;
+    let rest = expect_mark(rest, Mark::Semicolon)?;
+    Ok((Item::Constants { span, list }, rest))
+}
+
+// A function or variables, from the type on; `all` are the tokens with the words before it.
+#[tactic(auto, unfolding(crate::specs::ReadingItems::typed_at))]
+fn typed<'a>(
+    alloc: Global,
+    all: &'a [Lexeme],
+    tokens: &'a [Lexeme],
+) -> Result<(Item, &'a [Lexeme]), Stop>
+    ensures { Gives (λ x. (x.0, x.1.now)) result (typed_at all.now tokens.now) }
+{
+    let span = first_place(all);
+    let (kind, rest) = take_type(alloc, tokens)?;
+    let place = first_place(rest);
+    let name = first_name(alloc, rest)?;
+    let behind = others(rest);
+    if starts_with(behind, Mark::Open) {
+        let name = Ident { name, span: place };
+        return function(alloc, span, Some(kind), name, behind);
+    }
+    if !are_for_variables(all) {
+        return Err(Stop::Syntax);
+    }
+    let (list, rest) = separated(alloc, false, Mark::Semicolon, rest)?;
+    Ok((Item::Variables { span, kind, list }, rest))
+}
+
+// A function that gives nothing, from behind `void` on.
+#[tactic(auto, unfolding(crate::specs::ReadingItems::void_at))]
+fn procedure<'a>(
+    alloc: Global,
+    all: &'a [Lexeme],
+    tokens: &'a [Lexeme],
+) -> Result<(Item, &'a [Lexeme]), Stop>
+    ensures { Gives (λ x. (x.0, x.1.now)) result (void_at all.now tokens.now) }
+{
+    let span = first_place(tokens);
+    let name = first_name(alloc, tokens)?;
+    let name = Ident { name, span };
+    function(alloc, first_place(all), None, name, others(tokens))
+}
+
+// An item, and the tokens behind it.
+#[tactic(auto, unfolding(crate::specs::ReadingItems::item_at))]
+fn item(alloc: Global, tokens: &[Lexeme]) -> Result<(Item, &[Lexeme]), Stop>
+    ensures { Gives (λ x. (x.0, x.1.now)) result (item_at tokens.now) }
+{
+    if starts_with(tokens, Mark::Enum) {
+        return constants(alloc, first_place(tokens), others(tokens));
+    }
+    let rest = after_words(tokens);
+    if starts_with(rest, Mark::Void) {
+        procedure(alloc, tokens, others(rest))
+    } else {
+        typed(alloc, tokens, rest)
+    }
+}
+
+/// As many items as there are, and the tokens behind them.
+pub fn items(alloc: Global, tokens: &[Lexeme]) -> Result<(Vector<Item>, &[Lexeme]), AllocError>
+    ensures { IfOk result (λ x. (x.0, x.1.now) ≡ items_at (length tokens.now) tokens.now) }
+{
+    let mut list = Vector::new(alloc);
+    let mut rest = tokens;
+    for _ in 0..tokens.len() {
+        match item(alloc, rest) {
+            Ok((next, after)) => {
+                list.push(next)?;
+                rest = after;
+            }
+            Err(Stop::Memory) => return Err(AllocError),
+            Err(Stop::Syntax) => break,
+        }
+    }
+    Ok((list, rest))
+}

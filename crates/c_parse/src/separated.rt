@@ -1,0 +1,53 @@
+// Forms with commas between them, and a mark behind the last.
+ghost use Rattle.std.specs.Prelude.{◌≡◌, ◌&&◌, List, length};
+ghost use Rattle.c_parse.specs.declared.sign.Lexeme.{Lexeme};
+ghost use Rattle.c_parse.specs.Gives.{Gives};
+ghost use Rattle.c_parse.specs.Reading.{Read, starts};
+ghost use Rattle.c_parse.specs.ReadingStatements.{separated_at};
+
+use crate::cursor::{expect_mark, others, starts_with};
+use crate::sign::{Lexeme, Mark};
+use crate::stop::Stop;
+use containers::Vector;
+use std::alloc::Global;
+
+/// A form of which several stand with commas between them.
+pub trait Part: Drop {
+    ghost reads: { List Lexeme → Read Self };
+
+    fn read(alloc: Global, tokens: &[Lexeme]) -> Result<(Self, &[Lexeme]), Stop>
+        ensures { Gives (λ x. (x.0, x.1.now)) result (reads tokens.now) };
+}
+
+// Whether the comma before these tokens is the last one.
+fn ends_by_comma(comma: bool, last: Mark, tokens: &[Lexeme]) -> bool
+    ensures { result ≡ (comma && starts last tokens.now) }
+{
+    comma && starts_with(tokens, last)
+}
+
+// One form or more, and the mark behind the last, before which a comma may stand where it is allowed.
+pub fn separated<T: Part>(
+    alloc: Global,
+    comma: bool,
+    last: Mark,
+    tokens: &[Lexeme],
+) -> Result<(Vector<T>, &[Lexeme]), Stop>
+    ensures { Gives (λ x. (x.0, x.1.now)) result (separated_at T.reads comma last (length tokens.now) tokens.now) }
+{
+    let mut list = Vector::new(alloc);
+    let mut rest = tokens;
+    for _ in 0..tokens.len() {
+        let (next, after) = T::read(alloc, rest)?;
+        list.push(next)?;
+        if !starts_with(after, Mark::Comma) {
+            let after = expect_mark(after, last)?;
+            return Ok((list, after));
+        }
+        rest = others(after);
+        if ends_by_comma(comma, last, rest) {
+            return Ok((list, others(rest)));
+        }
+    }
+    Err(Stop::Syntax)
+}

@@ -1,0 +1,267 @@
+// Reading statements without statements in them (ISO/IEC 9899:2011, 6.8.3 and 6.5.16).
+ghost use Rattle.std.specs.Prelude.{◌≡◌, length};
+ghost use Rattle.c_parse.specs.Gives.{Gives};
+ghost use Rattle.c_parse.specs.StatementTrees.{assigned_by, step_by};
+ghost use Rattle.c_parse.specs.ReadingStatements.{mark_at, changed_by, changed_at, named_at, stepped_at, simple_at, test_at, optional_at, begin_at, next_at, starts_label, label_at, labels_at};
+
+use crate::cursor::{expect_mark, first_place, others, starts_with};
+use crate::declarations::{bracketed, choice, first_name, local, node, starts_with_local};
+use crate::expr::{ExprTree, Ident};
+use crate::expressions::arguments;
+use crate::sign::{Lexeme, Mark, Sign};
+use crate::statement::{CaseLabel, Form, PlaceTree, Statement};
+use crate::stop::Stop;
+use c_values::BinaryOp;
+use containers::{Boxed, Vector};
+use fq_core::{Name, Span};
+use std::alloc::Global;
+
+// The operator in an assignment by a mark, if it has one (6.5.16).
+fn assigned_by(mark: Mark) -> Option<Option<BinaryOp>>
+    ensures { result ≡ assigned_by mark }
+{
+    match mark {
+        Mark::Assign => Some(None),
+        Mark::MulAssign => Some(Some(BinaryOp::Mul)),
+        Mark::DivAssign => Some(Some(BinaryOp::Div)),
+        Mark::RemAssign => Some(Some(BinaryOp::Rem)),
+        Mark::AddAssign => Some(Some(BinaryOp::Add)),
+        Mark::SubAssign => Some(Some(BinaryOp::Sub)),
+        Mark::ShlAssign => Some(Some(BinaryOp::Shl)),
+        Mark::ShrAssign => Some(Some(BinaryOp::Shr)),
+        Mark::AndAssign => Some(Some(BinaryOp::And)),
+        Mark::XorAssign => Some(Some(BinaryOp::Xor)),
+        Mark::OrAssign => Some(Some(BinaryOp::Or)),
+        _ => None,
+    }
+}
+
+// Whether a mark adds 1 or takes 1 off (6.5.2.4, 6.5.3.1).
+fn step_by(mark: Mark) -> Option<bool>
+    ensures { result ≡ step_by mark }
+{
+    match mark {
+        Mark::Increment => Some(true),
+        Mark::Decrement => Some(false),
+        _ => None,
+    }
+}
+
+fn first_mark(tokens: &[Lexeme]) -> Option<Mark>
+    ensures { result ≡ mark_at tokens.now }
+{
+    match tokens {
+        [] => None,
+        [first, ..] => match &first.sign {
+            Sign::Mark(mark) => Some(*mark),
+            _ => None,
+        },
+    }
+}
+
+// What is done with a place, by the mark behind it.
+fn changed_by(
+    alloc: Global,
+    step: Option<bool>,
+    how: Option<Option<BinaryOp>>,
+    span: Span,
+    place: PlaceTree,
+    tokens: &[Lexeme],
+) -> Result<(Boxed<Statement>, &[Lexeme]), Stop>
+    ensures { Gives (λ x. (x.0, x.1.now)) result (changed_by step how span place tokens.now) }
+{
+    if let Some(up) = step {
+        return Ok((node(alloc, span, Form::Step { place, up })?, tokens));
+    }
+    let Some(operator) = how else {
+        return Err(Stop::Syntax);
+    };
+    let (value, rest) = choice(alloc, tokens)?;
+    let form = Form::Assign {
+        place,
+        operator,
+        value: value.into_inner(),
+    };
+    Ok((node(alloc, span, form)?, rest))
+}
+
+#[tactic(auto, unfolding(crate::specs::ReadingStatements::changed_at))]
+fn changed(
+    alloc: Global,
+    span: Span,
+    place: PlaceTree,
+    tokens: &[Lexeme],
+) -> Result<(Boxed<Statement>, &[Lexeme]), Stop>
+    ensures { Gives (λ x. (x.0, x.1.now)) result (changed_at span place tokens.now) }
+{
+    let Some(mark) = first_mark(tokens) else {
+        return Err(Stop::Syntax);
+    };
+    changed_by(
+        alloc,
+        step_by(mark),
+        assigned_by(mark),
+        span,
+        place,
+        others(tokens),
+    )
+}
+
+// What follows a name that is no label: a call, an assignment or a step.
+#[tactic(auto, unfolding(crate::specs::ReadingStatements::named_at))]
+pub fn named(
+    alloc: Global,
+    span: Span,
+    name: Name,
+    tokens: &[Lexeme],
+) -> Result<(Boxed<Statement>, &[Lexeme]), Stop>
+    ensures { Gives (λ x. (x.0, x.1.now)) result (named_at span name tokens.now) }
+{
+    let name = Ident { name, span };
+    if !starts_with(tokens, Mark::Open) {
+        let (index, rest) = bracketed(alloc, tokens)?;
+        return changed(alloc, span, PlaceTree { name, index }, rest);
+    }
+    let rest = others(tokens);
+    if starts_with(rest, Mark::Close) {
+        let arguments = Vector::new(alloc);
+        let form = Form::Call { name, arguments };
+        return Ok((node(alloc, span, form)?, others(rest)));
+    }
+    let (arguments, rest) = arguments(alloc, tokens.len() + 1, rest)?;
+    let form = Form::Call { name, arguments };
+    Ok((node(alloc, span, form)?, rest))
+}
+
+// What follows the mark of a step.
+#[tactic(auto, unfolding(crate::specs::ReadingStatements::stepped_at))]
+pub fn stepped(
+    alloc: Global,
+    span: Span,
+    mark: Mark,
+    tokens: &[Lexeme],
+) -> Result<(Boxed<Statement>, &[Lexeme]), Stop>
+    ensures { Gives (λ x. (x.0, x.1.now)) result (stepped_at span mark tokens.now) }
+{
+    let Some(up) = step_by(mark) else {
+        return Err(Stop::Syntax);
+    };
+    let at = first_place(tokens);
+    let name = first_name(alloc, tokens)?;
+    let (index, rest) = bracketed(alloc, others(tokens))?;
+    let name = Ident { name, span: at };
+    let place = PlaceTree { name, index };
+    Ok((node(alloc, span, Form::Step { place, up })?, rest))
+}
+
+#[tactic(auto, unfolding(crate::specs::ReadingStatements::simple_at))]
+fn simple(alloc: Global, tokens: &[Lexeme]) -> Result<(Boxed<Statement>, &[Lexeme]), Stop>
+    ensures { Gives (λ x. (x.0, x.1.now)) result (simple_at tokens.now) }
+{
+    let [first, rest @ ..] = tokens else {
+        return Err(Stop::Syntax);
+    };
+    let span = first.span;
+    match &first.sign {
+        Sign::Name(name) => {
+            let name = Name::new(alloc, name.bytes())?;
+            named(alloc, span, name, rest)
+        }
+        Sign::Mark(mark) => stepped(alloc, span, *mark, rest),
+        _ => Err(Stop::Syntax),
+    }
+}
+
+// A test in parentheses.
+#[tactic(auto, unfolding(crate::specs::ReadingStatements::test_at))]
+pub fn test(alloc: Global, tokens: &[Lexeme]) -> Result<(Boxed<ExprTree>, &[Lexeme]), Stop>
+    ensures { Gives (λ x. (x.0, x.1.now)) result (test_at tokens.now) }
+{
+    let rest = expect_mark(tokens, Mark::Open)?;
+    let (tree, rest) = choice(alloc, rest)?;
+    let rest = expect_mark(rest, Mark::Close)?;
+    Ok((tree, rest))
+}
+
+// An expression, or nothing before a semicolon.
+#[tactic(auto, unfolding(crate::specs::ReadingStatements::optional_at))]
+pub fn optional(alloc: Global, tokens: &[Lexeme]) -> Result<(Option<ExprTree>, &[Lexeme]), Stop>
+    ensures { Gives (λ x. (x.0, x.1.now)) result (optional_at tokens.now) }
+{
+    if starts_with(tokens, Mark::Semicolon) {
+        return Ok((None, tokens));
+    }
+    let (tree, rest) = choice(alloc, tokens)?;
+    Ok((Some(tree.into_inner()), rest))
+}
+
+// What a `for` begins with.
+#[tactic(auto, unfolding(crate::specs::ReadingStatements::begin_at))]
+pub fn begin(
+    alloc: Global,
+    tokens: &[Lexeme],
+) -> Result<(Option<Boxed<Statement>>, &[Lexeme]), Stop>
+    ensures { Gives (λ x. (x.0, x.1.now)) result (begin_at tokens.now) }
+{
+    if starts_with(tokens, Mark::Semicolon) {
+        return Ok((None, others(tokens)));
+    }
+    if starts_with_local(tokens) {
+        let (first, rest) = local(alloc, tokens)?;
+        return Ok((Some(first), rest));
+    }
+    let (first, rest) = simple(alloc, tokens)?;
+    let rest = expect_mark(rest, Mark::Semicolon)?;
+    Ok((Some(first), rest))
+}
+
+// What a `for` does behind each turn.
+#[tactic(auto, unfolding(crate::specs::ReadingStatements::next_at))]
+pub fn next(alloc: Global, tokens: &[Lexeme]) -> Result<(Option<Boxed<Statement>>, &[Lexeme]), Stop>
+    ensures { Gives (λ x. (x.0, x.1.now)) result (next_at tokens.now) }
+{
+    if starts_with(tokens, Mark::Close) {
+        return Ok((None, tokens));
+    }
+    let (next, rest) = simple(alloc, tokens)?;
+    Ok((Some(next), rest))
+}
+
+pub fn starts_with_label(tokens: &[Lexeme]) -> bool
+    ensures { result ≡ starts_label tokens.now }
+{
+    starts_with(tokens, Mark::Case) || starts_with(tokens, Mark::Default)
+}
+
+#[tactic(auto, unfolding(crate::specs::ReadingStatements::label_at))]
+fn label(alloc: Global, tokens: &[Lexeme]) -> Result<(CaseLabel, &[Lexeme]), Stop>
+    ensures { Gives (λ x. (x.0, x.1.now)) result (label_at tokens.now) }
+{
+    let span = first_place(tokens);
+    if starts_with(tokens, Mark::Case) {
+        let (value, rest) = choice(alloc, others(tokens))?;
+        let rest = expect_mark(rest, Mark::Colon)?;
+        let value = Some(value.into_inner());
+        return Ok((CaseLabel { span, value }, rest));
+    }
+    let rest = expect_mark(tokens, Mark::Default)?;
+    let rest = expect_mark(rest, Mark::Colon)?;
+    Ok((CaseLabel { span, value: None }, rest))
+}
+
+// The labels in a row.
+pub fn labels(alloc: Global, tokens: &[Lexeme]) -> Result<(Vector<CaseLabel>, &[Lexeme]), Stop>
+    ensures { Gives (λ x. (x.0, x.1.now)) result (labels_at (length tokens.now) tokens.now) }
+{
+    let mut list = Vector::new(alloc);
+    let mut rest = tokens;
+    for _ in 0..tokens.len() {
+        let (next, after) = label(alloc, rest)?;
+        list.push(next)?;
+        if !starts_with_label(after) {
+            return Ok((list, after));
+        }
+        rest = after;
+    }
+    Err(Stop::Syntax)
+}
