@@ -5,7 +5,7 @@ use Rattle.std.proofs.lemmas.List.{append-nil, length-append}
 use Rattle.fq_core.specs.declared.span.Span.{Span}
 use Rattle.c_values.specs.declared.kinds.Kind.{Kind}
 use Rattle.c_values.specs.declared.operators.BinaryOp.{BinaryOp}
-use Rattle.c_parse.specs.declared.sign.Lexeme.{Lexeme}
+use Rattle.c_parse.specs.declared.sign.Terminal.{Terminal}
 use Rattle.c_parse.specs.declared.sign.TypeWord.{TypeWord}
 use Rattle.c_parse.specs.declared.sign.Sign.{Sign}
 use Rattle.c_parse.specs.declared.sign.Sign.TheVariants as sign
@@ -52,7 +52,7 @@ begins (sign.Mark marks.Increment) = true
 begins (sign.Mark marks.Decrement) = true
 begins _ = false
 
-abbrev pub Begins : List Lexeme → Type 0
+abbrev pub Begins : List Terminal → Type 0
 Begins xs = BeginsBy begins xs
 
 simple_too : (s : Sign) → begins_simple_by s ≡ true → begins s ≡ true
@@ -61,7 +61,7 @@ simple_too (sign.Mark marks.Increment) e = refl
 simple_too (sign.Mark marks.Decrement) e = refl
 simple_too _ e = absurd cc
 
-pub statement_begins : {o : Bool} {s : Statement} {xs : List Lexeme} → DerivesStatement o s xs → Begins xs
+pub statement_begins : {o : Bool} {s : Statement} {xs : List Terminal} → DerivesStatement o s xs → Begins xs
 statement_begins (a_block q d) = record { head = _; others = _; is = refl; fits = refl }
 statement_begins an_empty = record { head = _; others = _; is = refl; fits = refl }
 statement_begins (a_simple q d) = let b = simple_begins d in BeginsBy-append _ _ (record { head = b.head; others = b.others; is = b.is; fits = simple_too b.head.sign b.fits })
@@ -78,12 +78,12 @@ statement_begins (an_assert q r u d) = record { head = _; others = _; is = refl;
 statement_begins (an_assume q r u d) = record { head = _; others = _; is = refl; fits = refl }
 
 -- what does not begin with `if` does not where more follows
-no_if : (xs rest : List Lexeme) → Begins xs → starts marks.If xs ≡ false → starts marks.If (xs ++ rest) ≡ false
+no_if : (xs rest : List Terminal) → Begins xs → starts marks.If xs ≡ false → starts marks.If (xs ++ rest) ≡ false
 no_if [] rest b e = let h = b.is in absurd cc
 no_if (x ∷ xs) rest b e = e
 
 -- what ends a body
-ends_no_else : (ts : List Lexeme) → ends_body ts ≡ true → starts marks.Else ts ≡ false
+ends_no_else : (ts : List Terminal) → ends_body ts ≡ true → starts marks.Else ts ≡ false
 ends_no_else [] e = refl
 ends_no_else (t ∷ ts) e = at t.sign e
   where
@@ -92,7 +92,7 @@ ends_no_else (t ∷ ts) e = at t.sign e
     at (sign.Mark _) e = refl
     at _ e = refl
 
-no_end_first : {f : Sign → Bool} (xs ys : List Lexeme) → f (sign.Mark marks.CloseBrace) ≡ false → f (sign.Mark marks.Case) ≡ false → f (sign.Mark marks.Default) ≡ false → BeginsBy f xs → ends_body (xs ++ ys) ≡ false
+no_end_first : {f : Sign → Bool} (xs ys : List Terminal) → f (sign.Mark marks.CloseBrace) ≡ false → f (sign.Mark marks.Case) ≡ false → f (sign.Mark marks.Default) ≡ false → BeginsBy f xs → ends_body (xs ++ ys) ≡ false
 no_end_first xs ys a b c d = rw (not_first marks.CloseBrace a xs ys d, not_first marks.Case b xs ys d, not_first marks.Default c xs ys d) refl
 
 -- what a declaration begins with
@@ -101,7 +101,7 @@ begins_local_by (sign.Type w) = true
 begins_local_by (sign.Mark marks.Const) = true
 begins_local_by _ = false
 
-pub local_begins : {s : Statement} {xs : List Lexeme} → DerivesLocal s xs → BeginsBy begins_local_by xs
+pub local_begins : {s : Statement} {xs : List Terminal} → DerivesLocal s xs → BeginsBy begins_local_by xs
 unfolding kind_of
 local_begins (a_local (a_const p c) t d) = record { head = _; others = _; is = refl; fits = refl }
 local_begins (a_local no_const (a_type end k) d) = absurd cc
@@ -109,41 +109,41 @@ local_begins (a_local no_const (a_type (word p w) k) d) = record { head = _; oth
 
 -- ---- a rule at a time: r is a reader, and the premises say what it gives at the parts
 
-block_again : (r : Reads) (p q : Span) (ss : List Statement) (ts rest : List Lexeme) → body_at r (length (ts ++ mark marks.CloseBrace q ∷ rest)) (ts ++ mark marks.CloseBrace q ∷ rest) ≡ Some (ss, mark marks.CloseBrace q ∷ rest)
+block_again : (r : Reads) (p q : Span) (ss : List Statement) (ts rest : List Terminal) → body_at r (length (ts ++ mark marks.CloseBrace q ∷ rest)) (ts ++ mark marks.CloseBrace q ∷ rest) ≡ Some (ss, mark marks.CloseBrace q ∷ rest)
     → statement_by r (mark marks.OpenBrace p ∷ (ts ++ mark marks.CloseBrace q ∷ []) ++ rest) ≡ Some (statement p (form.Block ss), rest)
 unfolding statement_by
 block_again r p q ss ts rest e = rw (append_assoc, e) refl
 
-empty_again : (r : Reads) (p : Span) (rest : List Lexeme) → statement_by r (mark marks.Semicolon p ∷ rest) ≡ Some (statement p form.Empty, rest)
+empty_again : (r : Reads) (p : Span) (rest : List Terminal) → statement_by r (mark marks.Semicolon p ∷ rest) ≡ Some (statement p form.Empty, rest)
 unfolding statement_by
 empty_again r p rest = refl
 
 -- a statement that begins with the mark of a step
-of_step : (r : Reads) (m : Mark) (p : Span) (ts : List Lexeme) (up : Bool) → step_by m ≡ Some up
-    → statement_of_mark r m p ts ≡ (stepped_at p m ts >>= λ s. expect marks.Semicolon s.1 >>= λ rest. let x : Statement × List Lexeme = (s.0, rest) in Some x)
+of_step : (r : Reads) (m : Mark) (p : Span) (ts : List Terminal) (up : Bool) → step_by m ≡ Some up
+    → statement_of_mark r m p ts ≡ (stepped_at p m ts >>= λ s. expect marks.Semicolon s.1 >>= λ rest. let x : Statement × List Terminal = (s.0, rest) in Some x)
 of_step r marks.Increment p ts up e = refl
 of_step r marks.Decrement p ts up e = refl
 of_step r _ p ts up e = absurd cc
 
-read_statement : (r : Reads) (q : Span) (s : Statement) (xs rest : List Lexeme) → IsRead s xs (mark marks.Semicolon q ∷ rest) → statement_by r (xs ++ mark marks.Semicolon q ∷ rest) ≡ Some (s, rest)
+read_statement : (r : Reads) (q : Span) (s : Statement) (xs rest : List Terminal) → IsRead s xs (mark marks.Semicolon q ∷ rest) → statement_by r (xs ++ mark marks.Semicolon q ∷ rest) ≡ Some (s, rest)
 unfolding statement_by labelled_at
 read_statement r q s xs rest (by_name p w us parts no_label e) = rw (parts, no_label, e) refl
 read_statement r q s xs rest (by_step p m up us parts step e) = rw (parts, of_step r m p us up step, e) refl
 
-simple_statement_again : (r : Reads) (q : Span) (s : Statement) (ts rest : List Lexeme) → DerivesSimple s ts → statement_by r (ts ++ mark marks.Semicolon q ∷ [] ++ rest) ≡ Some (s, rest)
+simple_statement_again : (r : Reads) (q : Span) (s : Statement) (ts rest : List Terminal) → DerivesSimple s ts → statement_by r (ts ++ mark marks.Semicolon q ∷ [] ++ rest) ≡ Some (s, rest)
 simple_statement_again r q s ts rest d =
     simp append_assoc (read_statement r q s ts rest (simple_is_read d (mark marks.Semicolon q ∷ rest) (Stays_mark _ _ _ refl refl refl refl) refl))
 
-label_again : (r : Reads) (p q : Span) (w : Text) (s : Statement) (ts rest : List Lexeme) → r (ts ++ rest) ≡ Some (s, rest) → statement_by r (name_token w p ∷ mark marks.Colon q ∷ (ts ++ rest)) ≡ Some (statement p (form.Label (ident w p) s), rest)
+label_again : (r : Reads) (p q : Span) (w : Text) (s : Statement) (ts rest : List Terminal) → r (ts ++ rest) ≡ Some (s, rest) → statement_by r (name_token w p ∷ mark marks.Colon q ∷ (ts ++ rest)) ≡ Some (statement p (form.Label (ident w p) s), rest)
 unfolding statement_by labelled_at
 label_again r p q w s ts rest e = rw e refl
 
-while_again : (r : Reads) (p q u : Span) (c : ExprTree) (s : Statement) (xs ys rest : List Lexeme) → DerivesChoice c xs → r (ys ++ rest) ≡ Some (s, rest)
+while_again : (r : Reads) (p q u : Span) (c : ExprTree) (s : Statement) (xs ys rest : List Terminal) → DerivesChoice c xs → r (ys ++ rest) ≡ Some (s, rest)
     → statement_by r (mark marks.While p ∷ mark marks.Open q ∷ (xs ++ mark marks.Close u ∷ ys) ++ rest) ≡ Some (statement p (form.While c s), rest)
 unfolding statement_by
 while_again r p q u c s xs ys rest d e = rw (append_assoc, test_again q u c xs (ys ++ rest) d, e) refl
 
-do_again : (r : Reads) (p q a b v : Span) (s : Statement) (c : ExprTree) (xs ys rest : List Lexeme) → DerivesChoice c ys
+do_again : (r : Reads) (p q a b v : Span) (s : Statement) (c : ExprTree) (xs ys rest : List Terminal) → DerivesChoice c ys
     → r (xs ++ mark marks.While q ∷ mark marks.Open a ∷ (ys ++ mark marks.Close b ∷ mark marks.Semicolon v ∷ rest)) ≡ Some (s, mark marks.While q ∷ mark marks.Open a ∷ (ys ++ mark marks.Close b ∷ mark marks.Semicolon v ∷ rest))
     → statement_by r (mark marks.Do p ∷ (xs ++ mark marks.While q ∷ mark marks.Open a ∷ (ys ++ mark marks.Close b ∷ mark marks.Semicolon v ∷ [])) ++ rest) ≡ Some (statement p (form.Do s c), rest)
 unfolding statement_by do_at
@@ -151,14 +151,14 @@ do_again r p q a b v s c xs ys rest d e =
     let regroup : (xs ++ mark marks.While q ∷ mark marks.Open a ∷ (ys ++ mark marks.Close b ∷ mark marks.Semicolon v ∷ [])) ++ rest ≡ xs ++ mark marks.While q ∷ mark marks.Open a ∷ (ys ++ mark marks.Close b ∷ mark marks.Semicolon v ∷ rest) = simp append_assoc in
     rw (regroup, e, test_again a b c ys (mark marks.Semicolon v ∷ rest) d) refl
 
-for_again : (r : Reads) (p q a b : Span) (i j : Option Statement) (c : Option ExprTree) (s : Statement) (xs ys zs us rest : List Lexeme) → DerivesBegin i xs → DerivesOptional c ys → DerivesNext j zs → r (us ++ rest) ≡ Some (s, rest)
+for_again : (r : Reads) (p q a b : Span) (i j : Option Statement) (c : Option ExprTree) (s : Statement) (xs ys zs us rest : List Terminal) → DerivesBegin i xs → DerivesOptional c ys → DerivesNext j zs → r (us ++ rest) ≡ Some (s, rest)
     → statement_by r (mark marks.For p ∷ mark marks.Open q ∷ (xs ++ (ys ++ mark marks.Semicolon a ∷ (zs ++ mark marks.Close b ∷ us))) ++ rest) ≡ Some (statement p (form.For i c j s), rest)
 unfolding statement_by for_at
 for_again r p q a b i j c s xs ys zs us rest di dc dj e =
     let regroup : (xs ++ (ys ++ mark marks.Semicolon a ∷ (zs ++ mark marks.Close b ∷ us))) ++ rest ≡ xs ++ (ys ++ mark marks.Semicolon a ∷ (zs ++ mark marks.Close b ∷ (us ++ rest))) = simp append_assoc in
     rw (regroup, begin_again di (ys ++ mark marks.Semicolon a ∷ (zs ++ mark marks.Close b ∷ (us ++ rest))), optional_again dc a (zs ++ mark marks.Close b ∷ (us ++ rest)), next_again dj b (us ++ rest), e) refl
 
-switch_again : (r : Reads) (p q a b v : Span) (c : ExprTree) (gs : List Group) (xs ys rest : List Lexeme) → DerivesChoice c xs
+switch_again : (r : Reads) (p q a b v : Span) (c : ExprTree) (gs : List Group) (xs ys rest : List Terminal) → DerivesChoice c xs
     → groups_at r (length (ys ++ mark marks.CloseBrace v ∷ rest)) (ys ++ mark marks.CloseBrace v ∷ rest) ≡ Some (gs, rest)
     → statement_by r (mark marks.Switch p ∷ mark marks.Open q ∷ (xs ++ mark marks.Close a ∷ mark marks.OpenBrace b ∷ (ys ++ mark marks.CloseBrace v ∷ [])) ++ rest) ≡ Some (statement p (form.Switch c gs), rest)
 unfolding statement_by switch_at
@@ -166,41 +166,41 @@ switch_again r p q a b v c gs xs ys rest d e =
     let regroup : (xs ++ mark marks.Close a ∷ mark marks.OpenBrace b ∷ (ys ++ mark marks.CloseBrace v ∷ [])) ++ rest ≡ xs ++ mark marks.Close a ∷ mark marks.OpenBrace b ∷ (ys ++ mark marks.CloseBrace v ∷ rest) = simp append_assoc in
     rw (regroup, test_again q a c xs (mark marks.OpenBrace b ∷ (ys ++ mark marks.CloseBrace v ∷ rest)) d, e) refl
 
-break_again : (r : Reads) (p q : Span) (rest : List Lexeme) → statement_by r (mark marks.Break p ∷ mark marks.Semicolon q ∷ rest) ≡ Some (statement p form.Break, rest)
+break_again : (r : Reads) (p q : Span) (rest : List Terminal) → statement_by r (mark marks.Break p ∷ mark marks.Semicolon q ∷ rest) ≡ Some (statement p form.Break, rest)
 unfolding statement_by
 break_again r p q rest = refl
 
-continue_again : (r : Reads) (p q : Span) (rest : List Lexeme) → statement_by r (mark marks.Continue p ∷ mark marks.Semicolon q ∷ rest) ≡ Some (statement p form.Continue, rest)
+continue_again : (r : Reads) (p q : Span) (rest : List Terminal) → statement_by r (mark marks.Continue p ∷ mark marks.Semicolon q ∷ rest) ≡ Some (statement p form.Continue, rest)
 unfolding statement_by
 continue_again r p q rest = refl
 
-return_again : (r : Reads) (p q : Span) (t : Option ExprTree) (ts rest : List Lexeme) → DerivesOptional t ts → statement_by r (mark marks.Return p ∷ (ts ++ mark marks.Semicolon q ∷ []) ++ rest) ≡ Some (statement p (form.Return t), rest)
+return_again : (r : Reads) (p q : Span) (t : Option ExprTree) (ts rest : List Terminal) → DerivesOptional t ts → statement_by r (mark marks.Return p ∷ (ts ++ mark marks.Semicolon q ∷ []) ++ rest) ≡ Some (statement p (form.Return t), rest)
 unfolding statement_by return_at
 return_again r p q t ts rest d = rw (append_assoc, optional_again d q rest) refl
 
-assert_again : (r : Reads) (p q a b : Span) (t : ExprTree) (ts rest : List Lexeme) → DerivesChoice t ts
+assert_again : (r : Reads) (p q a b : Span) (t : ExprTree) (ts rest : List Terminal) → DerivesChoice t ts
     → statement_by r (mark marks.Assert p ∷ mark marks.Open q ∷ (ts ++ mark marks.Close a ∷ mark marks.Semicolon b ∷ []) ++ rest) ≡ Some (statement p (form.Assert t), rest)
 unfolding statement_by assert_at
 assert_again r p q a b t ts rest d = rw (append_assoc, test_again q a t ts (mark marks.Semicolon b ∷ rest) d) refl
 
-assume_again : (r : Reads) (p q a b : Span) (t : ExprTree) (ts rest : List Lexeme) → DerivesChoice t ts
+assume_again : (r : Reads) (p q a b : Span) (t : ExprTree) (ts rest : List Terminal) → DerivesChoice t ts
     → statement_by r (mark marks.Assume p ∷ mark marks.Open q ∷ (ts ++ mark marks.Close a ∷ mark marks.Semicolon b ∷ []) ++ rest) ≡ Some (statement p (form.Assume t), rest)
 unfolding statement_by assume_at
 assume_again r p q a b t ts rest d = rw (append_assoc, test_again q a t ts (mark marks.Semicolon b ∷ rest) d) refl
 
-if_again : (r : Reads) (p : Span) (arms : List (ExprTree × Statement)) (o : Option Statement) (ts rest : List Lexeme) → arms_at r (length (ts ++ rest)) (ts ++ rest) ≡ Some ((arms, o), rest)
+if_again : (r : Reads) (p : Span) (arms : List (ExprTree × Statement)) (o : Option Statement) (ts rest : List Terminal) → arms_at r (length (ts ++ rest)) (ts ++ rest) ≡ Some ((arms, o), rest)
     → statement_by r (mark marks.If p ∷ (ts ++ rest)) ≡ Some (statement p (form.If arms o), rest)
 unfolding statement_by
 if_again r p arms o ts rest e = rw e refl
 
-no_else_again : (r : Reads) (k : ℕ) (p q : Span) (c : ExprTree) (s : Statement) (xs ys rest : List Lexeme) → DerivesChoice c xs → r (ys ++ rest) ≡ Some (s, rest) → starts marks.Else rest ≡ false
+no_else_again : (r : Reads) (k : ℕ) (p q : Span) (c : ExprTree) (s : Statement) (xs ys rest : List Terminal) → DerivesChoice c xs → r (ys ++ rest) ≡ Some (s, rest) → starts marks.Else rest ≡ false
     → arms_at r (suc k) (mark marks.Open p ∷ (xs ++ mark marks.Close q ∷ (ys ++ [])) ++ rest) ≡ Some (((c, s) ∷ [], None), rest)
 unfolding arms_at
 no_else_again r k p q c s xs ys rest d e last =
     let regroup : (xs ++ mark marks.Close q ∷ (ys ++ [])) ++ rest ≡ xs ++ mark marks.Close q ∷ (ys ++ rest) = simp (append_assoc, append-nil) in
     rw (regroup, test_again p q c xs (ys ++ rest) d, e, last) refl
 
-else_again : (r : Reads) (k : ℕ) (p q u : Span) (c : ExprTree) (s o : Statement) (xs ys zs rest : List Lexeme) → DerivesChoice c xs → r (ys ++ mark marks.Else u ∷ (zs ++ rest)) ≡ Some (s, mark marks.Else u ∷ (zs ++ rest))
+else_again : (r : Reads) (k : ℕ) (p q u : Span) (c : ExprTree) (s o : Statement) (xs ys zs rest : List Terminal) → DerivesChoice c xs → r (ys ++ mark marks.Else u ∷ (zs ++ rest)) ≡ Some (s, mark marks.Else u ∷ (zs ++ rest))
     → starts marks.If (zs ++ rest) ≡ false → r (zs ++ rest) ≡ Some (o, rest)
     → arms_at r (suc k) (mark marks.Open p ∷ (xs ++ mark marks.Close q ∷ (ys ++ mark marks.Else u ∷ zs)) ++ rest) ≡ Some (((c, s) ∷ [], Some o), rest)
 unfolding arms_at
@@ -208,7 +208,7 @@ else_again r k p q u c s o xs ys zs rest d e other f =
     let regroup : (xs ++ mark marks.Close q ∷ (ys ++ mark marks.Else u ∷ zs)) ++ rest ≡ xs ++ mark marks.Close q ∷ (ys ++ mark marks.Else u ∷ (zs ++ rest)) = simp append_assoc in
     rw (regroup, test_again p q c xs (ys ++ mark marks.Else u ∷ (zs ++ rest)) d, e, other, f) refl
 
-else_if_again : (r : Reads) (k : ℕ) (p q u v : Span) (c : ExprTree) (s : Statement) (arms : List (ExprTree × Statement)) (o : Option Statement) (xs ys zs rest : List Lexeme) → DerivesChoice c xs
+else_if_again : (r : Reads) (k : ℕ) (p q u v : Span) (c : ExprTree) (s : Statement) (arms : List (ExprTree × Statement)) (o : Option Statement) (xs ys zs rest : List Terminal) → DerivesChoice c xs
     → r (ys ++ mark marks.Else u ∷ mark marks.If v ∷ (zs ++ rest)) ≡ Some (s, mark marks.Else u ∷ mark marks.If v ∷ (zs ++ rest)) → arms_at r k (zs ++ rest) ≡ Some ((arms, o), rest)
     → arms_at r (suc k) (mark marks.Open p ∷ (xs ++ mark marks.Close q ∷ (ys ++ mark marks.Else u ∷ mark marks.If v ∷ zs)) ++ rest) ≡ Some (((c, s) ∷ arms, o), rest)
 unfolding arms_at
@@ -216,29 +216,29 @@ else_if_again r k p q u v c s arms o xs ys zs rest d e f =
     let regroup : (xs ++ mark marks.Close q ∷ (ys ++ mark marks.Else u ∷ mark marks.If v ∷ zs)) ++ rest ≡ xs ++ mark marks.Close q ∷ (ys ++ mark marks.Else u ∷ mark marks.If v ∷ (zs ++ rest)) = simp append_assoc in
     rw (regroup, test_again p q c xs (ys ++ mark marks.Else u ∷ mark marks.If v ∷ (zs ++ rest)) d, e, f) refl
 
-end_again : (r : Reads) (m : ℕ) (rest : List Lexeme) → 0 < m → ends_body rest ≡ true → body_at r m rest ≡ Some ([], rest)
+end_again : (r : Reads) (m : ℕ) (rest : List Terminal) → 0 < m → ends_body rest ≡ true → body_at r m rest ≡ Some ([], rest)
 unfolding body_at
 end_again r zero rest some e = absurd (omega arith)
 end_again r (suc m) rest some e = rw e refl
 
-then_again : (r : Reads) (m : ℕ) (s : Statement) (ss : List Statement) (xs ys rest : List Lexeme) → 0 < m → ends_body (xs ++ (ys ++ rest)) ≡ false
+then_again : (r : Reads) (m : ℕ) (s : Statement) (ss : List Statement) (xs ys rest : List Terminal) → 0 < m → ends_body (xs ++ (ys ++ rest)) ≡ false
     → one_at r (xs ++ (ys ++ rest)) ≡ Some (s, ys ++ rest) → ((k : ℕ) → suc k ≡ m → body_at r k (ys ++ rest) ≡ Some (ss, rest)) → body_at r m (xs ++ ys ++ rest) ≡ Some (s ∷ ss, rest)
 unfolding body_at
 then_again r zero s ss xs ys rest some more e f = absurd (omega arith)
 then_again r (suc m) s ss xs ys rest some more e f = rw (append_assoc, more, e, f m refl) refl
 
-one_local : (r : Reads) (ts : List Lexeme) (x : Read Statement) → starts_local ts ≡ true → local_at ts ≡ x → one_at r ts ≡ x
+one_local : (r : Reads) (ts : List Terminal) (x : Read Statement) → starts_local ts ≡ true → local_at ts ≡ x → one_at r ts ≡ x
 one_local r ts x e f = rw e f
 
-one_statement : (r : Reads) (ts : List Lexeme) (x : Read Statement) → starts_local ts ≡ false → r ts ≡ x → one_at r ts ≡ x
+one_statement : (r : Reads) (ts : List Terminal) (x : Read Statement) → starts_local ts ≡ false → r ts ≡ x → one_at r ts ≡ x
 one_statement r ts x e f = rw e f
 
-close_again : (r : Reads) (m : ℕ) (q : Span) (rest : List Lexeme) → 0 < m → groups_at r m (mark marks.CloseBrace q ∷ rest) ≡ Some ([], rest)
+close_again : (r : Reads) (m : ℕ) (q : Span) (rest : List Terminal) → 0 < m → groups_at r m (mark marks.CloseBrace q ∷ rest) ≡ Some ([], rest)
 unfolding groups_at
 close_again r zero q rest some = absurd (omega arith)
 close_again r (suc m) q rest some = refl
 
-group_again : (r : Reads) (m : ℕ) (q : Span) (ls : List CaseLabel) (ss : List Statement) (gs : List Group) (xs ys zs rest : List Lexeme) → 0 < m
+group_again : (r : Reads) (m : ℕ) (q : Span) (ls : List CaseLabel) (ss : List Statement) (gs : List Group) (xs ys zs rest : List Terminal) → 0 < m
     → starts marks.CloseBrace (xs ++ (ys ++ (zs ++ mark marks.CloseBrace q ∷ rest))) ≡ false
     → labels_at (length (xs ++ (ys ++ (zs ++ mark marks.CloseBrace q ∷ rest)))) (xs ++ (ys ++ (zs ++ mark marks.CloseBrace q ∷ rest))) ≡ Some (ls, ys ++ (zs ++ mark marks.CloseBrace q ∷ rest))
     → body_at r (length (ys ++ (zs ++ mark marks.CloseBrace q ∷ rest))) (ys ++ (zs ++ mark marks.CloseBrace q ∷ rest)) ≡ Some (ss, zs ++ mark marks.CloseBrace q ∷ rest)
@@ -250,44 +250,44 @@ group_again r (suc m) q ls ss gs xs ys zs rest some a b c d =
     let regroup : (xs ++ (ys ++ zs)) ++ mark marks.CloseBrace q ∷ rest ≡ xs ++ (ys ++ (zs ++ mark marks.CloseBrace q ∷ rest)) = simp append_assoc in
     rw (regroup, a, b, c, d m refl) refl
 
-at_statement : (n : ℕ) (ts : List Lexeme) (x : Read Statement) → 0 < n → ((m : ℕ) → suc m ≡ n → statement_by (statement_at m) ts ≡ x) → statement_at n ts ≡ x
+at_statement : (n : ℕ) (ts : List Terminal) (x : Read Statement) → 0 < n → ((m : ℕ) → suc m ≡ n → statement_by (statement_at m) ts ≡ x) → statement_at n ts ≡ x
 unfolding statement_at
 at_statement zero ts x some d = absurd (omega arith)
 at_statement (suc m) ts x some d = d m refl
 
-at_arms : (r : Reads) (m : ℕ) (ts : List Lexeme) (x : Read (List (ExprTree × Statement) × Option Statement)) → 0 < m → ((k : ℕ) → suc k ≡ m → arms_at r (suc k) ts ≡ x) → arms_at r m ts ≡ x
+at_arms : (r : Reads) (m : ℕ) (ts : List Terminal) (x : Read (List (ExprTree × Statement) × Option Statement)) → 0 < m → ((k : ℕ) → suc k ≡ m → arms_at r (suc k) ts ≡ x) → arms_at r m ts ≡ x
 at_arms r zero ts x some d = absurd (omega arith)
 at_arms r (suc k) ts x some d = d k refl
 
 -- ---- what follows the parts of a body
 
-body_no_else : {ss : List Statement} {ys : List Lexeme} → DerivesBody ss ys → (rest : List Lexeme) → ends_body rest ≡ true → starts marks.Else (ys ++ rest) ≡ false
+body_no_else : {ss : List Statement} {ys : List Terminal} → DerivesBody ss ys → (rest : List Terminal) → ends_body rest ≡ true → starts marks.Else (ys ++ rest) ≡ false
 body_no_else no_more rest e = ends_no_else rest e
 body_no_else (local_then {xs = xs} d ds) rest e = rw append_assoc (not_first marks.Else refl xs _ (local_begins d))
 body_no_else (statement_then {xs = xs} d ds) rest e = rw append_assoc (not_first marks.Else refl xs _ (statement_begins d))
 
-no_label_first : {f : Sign → Bool} (xs ys : List Lexeme) → f (sign.Mark marks.Case) ≡ false → f (sign.Mark marks.Default) ≡ false → BeginsBy f xs → starts_label (xs ++ ys) ≡ false
+no_label_first : {f : Sign → Bool} (xs ys : List Terminal) → f (sign.Mark marks.Case) ≡ false → f (sign.Mark marks.Default) ≡ false → BeginsBy f xs → starts_label (xs ++ ys) ≡ false
 no_label_first xs ys b c d = rw (not_first marks.Case b xs ys d, not_first marks.Default c xs ys d) refl
 
-body_no_label : {ss : List Statement} {ys : List Lexeme} → DerivesBody ss ys → (zs : List Lexeme) (q : Span) (rest : List Lexeme) → (ys ≡ [] → zs ≡ []) → starts_label (ys ++ (zs ++ mark marks.CloseBrace q ∷ rest)) ≡ false
+body_no_label : {ss : List Statement} {ys : List Terminal} → DerivesBody ss ys → (zs : List Terminal) (q : Span) (rest : List Terminal) → (ys ≡ [] → zs ≡ []) → starts_label (ys ++ (zs ++ mark marks.CloseBrace q ∷ rest)) ≡ false
 body_no_label no_more zs q rest none = let h = none refl in rw h refl
 body_no_label (local_then {xs = xs} d ds) zs q rest none = rw append_assoc (no_label_first xs _ refl refl (local_begins d))
 body_no_label (statement_then {xs = xs} d ds) zs q rest none = rw append_assoc (no_label_first xs _ refl refl (statement_begins d))
 
-label_ends : (ts : List Lexeme) → starts_label ts ≡ true → ends_body ts ≡ true
+label_ends : (ts : List Terminal) → starts_label ts ≡ true → ends_body ts ≡ true
 label_ends ts e = at (starts marks.CloseBrace ts) (starts_label ts) e
   where
     at : (a b : Bool) → b ≡ true → (a || b) ≡ true
     at true b e = refl
     at false b e = e
 
-groups_end : {gs : List Group} {zs : List Lexeme} → DerivesGroups gs zs → (q : Span) (rest : List Lexeme) → ends_body (zs ++ mark marks.CloseBrace q ∷ rest) ≡ true
+groups_end : {gs : List Group} {zs : List Terminal} → DerivesGroups gs zs → (q : Span) (rest : List Terminal) → ends_body (zs ++ mark marks.CloseBrace q ∷ rest) ≡ true
 groups_end no_group q rest = refl
 groups_end (a_group {xs = xs} {ys = ys} {zs = zs} d ds none gs) q rest =
-    let behind : List Lexeme = (ys ++ zs) ++ mark marks.CloseBrace q ∷ rest in
+    let behind : List Terminal = (ys ++ zs) ++ mark marks.CloseBrace q ∷ rest in
     rw append_assoc (label_ends (xs ++ behind) (labels_start d behind))
 
-label_no_close : (ts : List Lexeme) → starts_label ts ≡ true → starts marks.CloseBrace ts ≡ false
+label_no_close : (ts : List Terminal) → starts_label ts ≡ true → starts marks.CloseBrace ts ≡ false
 label_no_close [] e = refl
 label_no_close (t ∷ ts) e = at t.sign e
   where
@@ -296,61 +296,61 @@ label_no_close (t ∷ ts) e = at t.sign e
     at (sign.Mark _) e = refl
     at _ e = refl
 
-labels_there : {ls : List CaseLabel} {xs : List Lexeme} → DerivesLabels ls xs → 0 < length xs
+labels_there : {ls : List CaseLabel} {xs : List Terminal} → DerivesLabels ls xs → 0 < length xs
 labels_there {xs = xs} d = at xs (labels_start d [])
   where
-    at : (xs : List Lexeme) → starts_label (xs ++ []) ≡ true → 0 < length xs
+    at : (xs : List Terminal) → starts_label (xs ++ []) ≡ true → 0 < length xs
     at [] e = absurd cc
     at (x ∷ xs) e = omega arith
 
 mutual
-  pub statement_by_again : {o : Bool} {s : Statement} {xs : List Lexeme} → DerivesStatement o s xs → (n : ℕ) (rest : List Lexeme) → length xs + length rest ≤ n → Closed o rest → statement_by (statement_at n) (xs ++ rest) ≡ Some (s, rest)
-  statement_by_again (a_block {ts = ts} q d) n rest le closed = block_again (statement_at n) _ q _ ts rest (body_again d n (length (ts ++ mark marks.CloseBrace q ∷ rest)) (mark marks.CloseBrace q ∷ rest) (omega (arith, length-append {A = Lexeme})) (omega (arith, length-append {A = Lexeme})) refl)
+  pub statement_by_again : {o : Bool} {s : Statement} {xs : List Terminal} → DerivesStatement o s xs → (n : ℕ) (rest : List Terminal) → length xs + length rest ≤ n → Closed o rest → statement_by (statement_at n) (xs ++ rest) ≡ Some (s, rest)
+  statement_by_again (a_block {ts = ts} q d) n rest le closed = block_again (statement_at n) _ q _ ts rest (body_again d n (length (ts ++ mark marks.CloseBrace q ∷ rest)) (mark marks.CloseBrace q ∷ rest) (omega (arith, length-append {A = Terminal})) (omega (arith, length-append {A = Terminal})) refl)
   statement_by_again an_empty n rest le closed = empty_again (statement_at n) _ rest
   statement_by_again (a_simple {ts = ts} q d) n rest le closed = simple_statement_again (statement_at n) q _ ts rest d
   statement_by_again (a_label {ts = ts} q d) n rest le closed = label_again (statement_at n) _ q _ _ ts rest (at_statement n _ _ (omega arith) (λ m e. statement_by_again d m rest (omega arith) closed))
   statement_by_again (an_if {ts = ts} d) n rest le closed = if_again (statement_at n) _ _ _ ts rest (arms_again d n (length (ts ++ rest)) rest (omega arith) (omega (arith, length-append ts rest)) closed)
-  statement_by_again (a_while {xs = xs} {ys = ys} q r c d) n rest le closed = while_again (statement_at n) _ q r _ _ xs ys rest c (at_statement n _ _ (omega arith) (λ m e. statement_by_again d m rest (omega (arith, length-append {A = Lexeme})) closed))
+  statement_by_again (a_while {xs = xs} {ys = ys} q r c d) n rest le closed = while_again (statement_at n) _ q r _ _ xs ys rest c (at_statement n _ _ (omega arith) (λ m e. statement_by_again d m rest (omega (arith, length-append {A = Terminal})) closed))
   statement_by_again (a_do {xs = xs} {ys = ys} q a b v d c) n rest le closed =
-      do_again (statement_at n) _ q a b v _ _ xs ys rest c (at_statement n _ _ (omega arith) (λ m e. statement_by_again d m _ (omega (arith, length-append {A = Lexeme})) (λ opens. refl)))
+      do_again (statement_at n) _ q a b v _ _ xs ys rest c (at_statement n _ _ (omega arith) (λ m e. statement_by_again d m _ (omega (arith, length-append {A = Terminal})) (λ opens. refl)))
   statement_by_again (a_for {xs = xs} {ys = ys} {zs = zs} {us = us} q a b di dc dj d) n rest le closed =
-      for_again (statement_at n) _ q a b _ _ _ _ xs ys zs us rest di dc dj (at_statement n _ _ (omega arith) (λ m e. statement_by_again d m rest (omega (arith, length-append {A = Lexeme})) closed))
+      for_again (statement_at n) _ q a b _ _ _ _ xs ys zs us rest di dc dj (at_statement n _ _ (omega arith) (λ m e. statement_by_again d m rest (omega (arith, length-append {A = Terminal})) closed))
   statement_by_again (a_switch {xs = xs} {ys = ys} q a b v c d) n rest le closed =
-      switch_again (statement_at n) _ q a b v _ _ xs ys rest c (groups_again d n (length (ys ++ mark marks.CloseBrace v ∷ rest)) v rest (omega (arith, length-append {A = Lexeme})) (omega (arith, length-append {A = Lexeme})))
+      switch_again (statement_at n) _ q a b v _ _ xs ys rest c (groups_again d n (length (ys ++ mark marks.CloseBrace v ∷ rest)) v rest (omega (arith, length-append {A = Terminal})) (omega (arith, length-append {A = Terminal})))
   statement_by_again (a_break q) n rest le closed = break_again (statement_at n) _ q rest
   statement_by_again (a_continue q) n rest le closed = continue_again (statement_at n) _ q rest
   statement_by_again (a_return {ts = ts} q d) n rest le closed = return_again (statement_at n) _ q _ ts rest d
   statement_by_again (an_assert {ts = ts} q a b d) n rest le closed = assert_again (statement_at n) _ q a b _ ts rest d
   statement_by_again (an_assume {ts = ts} q a b d) n rest le closed = assume_again (statement_at n) _ q a b _ ts rest d
 
-  pub body_again : {ss : List Statement} {xs : List Lexeme} → DerivesBody ss xs → (n m : ℕ) (rest : List Lexeme) → length xs + length rest < n → length xs < m → ends_body rest ≡ true
+  pub body_again : {ss : List Statement} {xs : List Terminal} → DerivesBody ss xs → (n m : ℕ) (rest : List Terminal) → length xs + length rest < n → length xs < m → ends_body rest ≡ true
       → body_at (statement_at n) m (xs ++ rest) ≡ Some (ss, rest)
   body_again no_more n m rest le lm ends = end_again (statement_at n) m rest (omega arith) ends
   body_again (local_then {xs = xs} {ys = ys} d ds) n m rest le lm ends =
       then_again (statement_at n) m _ _ xs ys rest (omega arith) (no_end_first xs _ refl refl refl (local_begins d)) (one_local (statement_at n) _ _ (local_starts d (ys ++ rest)) (local_again d (ys ++ rest)))
-      (λ k e. body_again ds n k rest (omega (arith, length-append {A = Lexeme})) (omega (arith, length-append {A = Lexeme}, first_there xs (local_begins d))) ends)
+      (λ k e. body_again ds n k rest (omega (arith, length-append {A = Terminal})) (omega (arith, length-append {A = Terminal}, first_there xs (local_begins d))) ends)
   body_again (statement_then {xs = xs} {ys = ys} d ds) n m rest le lm ends =
       then_again (statement_at n) m _ _ xs ys rest (omega arith) (no_end_first xs _ refl refl refl (statement_begins d))
       (one_statement (statement_at n) _ _ (no_local_first (λ w. refl) refl xs (ys ++ rest) (statement_begins d))
-      (at_statement n _ _ (omega (arith, length-append {A = Lexeme}, first_there xs (statement_begins d))) (λ k e. statement_by_again d k (ys ++ rest) (omega (arith, length-append {A = Lexeme})) (λ opens. body_no_else ds rest ends))))
-      (λ k e. body_again ds n k rest (omega (arith, length-append {A = Lexeme})) (omega (arith, length-append {A = Lexeme}, first_there xs (statement_begins d))) ends)
+      (at_statement n _ _ (omega (arith, length-append {A = Terminal}, first_there xs (statement_begins d))) (λ k e. statement_by_again d k (ys ++ rest) (omega (arith, length-append {A = Terminal})) (λ opens. body_no_else ds rest ends))))
+      (λ k e. body_again ds n k rest (omega (arith, length-append {A = Terminal})) (omega (arith, length-append {A = Terminal}, first_there xs (statement_begins d))) ends)
 
-  pub groups_again : {gs : List Group} {xs : List Lexeme} → DerivesGroups gs xs → (n m : ℕ) (q : Span) (rest : List Lexeme) → length xs + suc (length rest) < n → length xs < m
+  pub groups_again : {gs : List Group} {xs : List Terminal} → DerivesGroups gs xs → (n m : ℕ) (q : Span) (rest : List Terminal) → length xs + suc (length rest) < n → length xs < m
       → groups_at (statement_at n) m (xs ++ mark marks.CloseBrace q ∷ rest) ≡ Some (gs, rest)
   groups_again no_group n m q rest le lm = close_again (statement_at n) m q rest (omega arith)
   groups_again (a_group {xs = xs} {ys = ys} {zs = zs} d ds none gs) n m q rest le lm =
       group_again (statement_at n) m q _ _ _ xs ys zs rest (omega arith) (label_no_close (xs ++ (ys ++ (zs ++ mark marks.CloseBrace q ∷ rest))) (labels_start d (ys ++ (zs ++ mark marks.CloseBrace q ∷ rest))))
       (labels_again d (length (xs ++ (ys ++ (zs ++ mark marks.CloseBrace q ∷ rest)))) (ys ++ (zs ++ mark marks.CloseBrace q ∷ rest)) (omega (arith, length-append xs (ys ++ (zs ++ mark marks.CloseBrace q ∷ rest)))) (body_no_label ds zs q rest none))
-      (body_again ds n (length (ys ++ (zs ++ mark marks.CloseBrace q ∷ rest))) (zs ++ mark marks.CloseBrace q ∷ rest) (omega (arith, length-append {A = Lexeme})) (omega (arith, length-append {A = Lexeme})) (groups_end gs q rest))
-      (λ k e. groups_again gs n k q rest (omega (arith, length-append {A = Lexeme})) (omega (arith, length-append {A = Lexeme}, labels_there d)))
+      (body_again ds n (length (ys ++ (zs ++ mark marks.CloseBrace q ∷ rest))) (zs ++ mark marks.CloseBrace q ∷ rest) (omega (arith, length-append {A = Terminal})) (omega (arith, length-append {A = Terminal})) (groups_end gs q rest))
+      (λ k e. groups_again gs n k q rest (omega (arith, length-append {A = Terminal})) (omega (arith, length-append {A = Terminal}, labels_there d)))
 
-  pub arms_again : {o : Bool} {arms : List (ExprTree × Statement)} {other : Option Statement} {xs : List Lexeme} → DerivesArms o arms other xs → (n m : ℕ) (rest : List Lexeme) → length xs + length rest < n → length xs ≤ m → Closed o rest
+  pub arms_again : {o : Bool} {arms : List (ExprTree × Statement)} {other : Option Statement} {xs : List Terminal} → DerivesArms o arms other xs → (n m : ℕ) (rest : List Terminal) → length xs + length rest < n → length xs ≤ m → Closed o rest
       → arms_at (statement_at n) m (xs ++ rest) ≡ Some ((arms, other), rest)
   arms_again (an_arm {xs = xs} {ys = ys} p q c d fits no_else) n m rest le lm closed =
-      at_arms (statement_at n) m _ _ (omega arith) (λ k e. no_else_again (statement_at n) k p q _ _ xs ys rest c (at_statement n _ _ (omega arith) (λ h f. statement_by_again d h rest (omega (arith, length-append {A = Lexeme})) (λ opens. closed refl))) (closed refl))
+      at_arms (statement_at n) m _ _ (omega arith) (λ k e. no_else_again (statement_at n) k p q _ _ xs ys rest c (at_statement n _ _ (omega arith) (λ h f. statement_by_again d h rest (omega (arith, length-append {A = Terminal})) (λ opens. closed refl))) (closed refl))
   arms_again (an_arm {xs = xs} {ys = ys} p q c d fits (an_else {ts = ts} u other o)) n m rest le lm closed =
       at_arms (statement_at n) m _ _ (omega arith) (λ k e. else_again (statement_at n) k p q u _ _ _ xs ys ts rest c
-      (at_statement n _ _ (omega arith) (λ h f. statement_by_again d h (mark marks.Else u ∷ (ts ++ rest)) (omega (arith, length-append {A = Lexeme})) (λ opens. let h = fits opens in absurd cc))) (no_if ts rest (statement_begins o) other) (at_statement n _ _ (omega arith) (λ h f. statement_by_again o h rest (omega (arith, length-append {A = Lexeme})) closed)))
+      (at_statement n _ _ (omega arith) (λ h f. statement_by_again d h (mark marks.Else u ∷ (ts ++ rest)) (omega (arith, length-append {A = Terminal})) (λ opens. let h = fits opens in absurd cc))) (no_if ts rest (statement_begins o) other) (at_statement n _ _ (omega arith) (λ h f. statement_by_again o h rest (omega (arith, length-append {A = Terminal})) closed)))
   arms_again (an_arm {xs = xs} {ys = ys} p q c d fits (else_if {ts = ts} u v ds)) n m rest le lm closed =
       at_arms (statement_at n) m _ _ (omega arith) (λ k e. else_if_again (statement_at n) k p q u v _ _ _ _ xs ys ts rest c
-      (at_statement n _ _ (omega arith) (λ h f. statement_by_again d h (mark marks.Else u ∷ mark marks.If v ∷ (ts ++ rest)) (omega (arith, length-append {A = Lexeme})) (λ opens. let h = fits opens in absurd cc))) (arms_again ds n k rest (omega (arith, length-append {A = Lexeme})) (omega (arith, length-append {A = Lexeme})) closed))
+      (at_statement n _ _ (omega arith) (λ h f. statement_by_again d h (mark marks.Else u ∷ mark marks.If v ∷ (ts ++ rest)) (omega (arith, length-append {A = Terminal})) (λ opens. let h = fits opens in absurd cc))) (arms_again ds n k rest (omega (arith, length-append {A = Terminal})) (omega (arith, length-append {A = Terminal})) closed))

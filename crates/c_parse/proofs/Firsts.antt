@@ -1,6 +1,6 @@
 -- What the tokens of a form begin with.
 use Rattle.std.proofs.Common.{◌≡◌, ◌<◌, Bool, true, false, List, ◌∷◌, ◌++◌, length, refl, sym, ap, ◌∙◌, arith}
-use Rattle.c_parse.specs.declared.sign.Lexeme.{Lexeme}
+use Rattle.c_parse.specs.declared.sign.Terminal.{Terminal}
 use Rattle.c_parse.specs.declared.sign.Sign.{Sign}
 use Rattle.c_parse.specs.declared.sign.Sign.TheVariants as sign
 use Rattle.c_parse.specs.declared.sign.Mark.{Mark}
@@ -9,20 +9,20 @@ use Rattle.c_parse.specs.Reading.{starts, tail}
 use Rattle.c_parse.proofs.Steps.{starts-true}
 
 -- there is a first token, and it is one of these
-pub record BeginsBy (fits_first : Sign → Bool) (xs : List Lexeme) : Type 0 where
-  pub head : Lexeme
-  pub others : List Lexeme
+pub record BeginsBy (fits_first : Sign → Bool) (xs : List Terminal) : Type 0 where
+  pub head : Terminal
+  pub others : List Terminal
   pub is : xs ≡ head ∷ others
   pub fits : fits_first head.sign ≡ true
 
-pub BeginsBy-append : {f : Sign → Bool} (xs ys : List Lexeme) → BeginsBy f xs → BeginsBy f (xs ++ ys)
-BeginsBy-append xs ys b = record { head = b.head; others = b.others ++ ys; is = ap (λ (us : List Lexeme). us ++ ys) b.is; fits = b.fits }
+pub BeginsBy-append : {f : Sign → Bool} (xs ys : List Terminal) → BeginsBy f xs → BeginsBy f (xs ++ ys)
+BeginsBy-append xs ys b = record { head = b.head; others = b.others ++ ys; is = ap (λ (us : List Terminal). us ++ ys) b.is; fits = b.fits }
 
-pub some_first : {f : Sign → Bool} (xs : List Lexeme) → BeginsBy f xs → 0 < length xs
+pub some_first : {f : Sign → Bool} (xs : List Terminal) → BeginsBy f xs → 0 < length xs
 some_first xs b = rw b.is (omega arith)
 
 -- a mark that is none of them does not come first
-pub not_first : {f : Sign → Bool} (m : Mark) → f (sign.Mark m) ≡ false → (xs ys : List Lexeme) → BeginsBy f xs → starts m (xs ++ ys) ≡ false
+pub not_first : {f : Sign → Bool} (m : Mark) → f (sign.Mark m) ≡ false → (xs ys : List Terminal) → BeginsBy f xs → starts m (xs ++ ys) ≡ false
 not_first {f} m other xs ys b = at (starts m (xs ++ ys)) refl
   where
     at : (o : Bool) → starts m (xs ++ ys) ≡ o → starts m (xs ++ ys) ≡ false

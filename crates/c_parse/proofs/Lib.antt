@@ -12,6 +12,7 @@ pub mod Steps
 pub mod Takes
 pub mod TakesItems
 pub mod TakesStatements
+pub mod TreeLaws
 pub mod UnitLaws
 pub mod UnitOutcome
 pub mod Whole

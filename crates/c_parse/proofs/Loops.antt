@@ -1,7 +1,7 @@
 -- Loops of the parser.
 use Rattle.std.proofs.Common.{◌≡◌, ℕ, suc, ◌+◌, ◌-◌, ◌≤◌, ◌<◌, true, false, leb, add-one, List, [], ◌∷◌, ◌++◌, Some, None, refl, sym, ap, ◌∙◌, append_assoc, arith}
 use Rattle.std.proofs.lemmas.Bool.{le-leb}
-use Rattle.c_parse.specs.declared.sign.Lexeme.{Lexeme}
+use Rattle.c_parse.specs.declared.sign.Terminal.{Terminal}
 use Rattle.c_parse.specs.declared.sign.Mark.TheVariants as marks
 use Rattle.c_parse.specs.declared.stop.Stop.{Stop}
 use Rattle.c_parse.specs.declared.stop.Stop.TheVariants.{Memory, Syntax}
@@ -18,22 +18,22 @@ use Rattle.c_parse.proofs.Again.{operators_end}
 abbrev pub with_front : {A : Type 0} → List A → Read (List A) → Read (List A)
 with_front front read = read >>= λ x. Some (front ++ x.0, x.1)
 
-module _ (r : Reader) (list : List ExprTree) (len i : ℕ) (rest : List Lexeme) (total : Read (List ExprTree)) (so_far : with_front list (arguments_at r (len - i) rest) ≡ total) where
+module _ (r : Reader) (list : List ExprTree) (len i : ℕ) (rest : List Terminal) (total : Read (List ExprTree)) (so_far : with_front list (arguments_at r (len - i) rest) ≡ total) where
   pub argument_fails : (e : Stop) → i < len → Fails e (r 0 rest) → Fails e total
   unfolding arguments_at
   argument_fails Memory lt h = tt
   argument_fails Syntax lt h = let k : len - i ≡ suc (len - (i + 1)) = omega arith in sym so_far ∙ rw (k, h) refl
 
-  pub close_fails : (e : Stop) (a : ExprTree) (after : List Lexeme) → i < len → r 0 rest ≡ Some (a, after) → starts marks.Comma after ≡ false → Fails e (expect marks.Close after) → Fails e total
+  pub close_fails : (e : Stop) (a : ExprTree) (after : List Terminal) → i < len → r 0 rest ≡ Some (a, after) → starts marks.Comma after ≡ false → Fails e (expect marks.Close after) → Fails e total
   unfolding arguments_at
   close_fails Memory a after lt h comma c = tt
   close_fails Syntax a after lt h comma c = let k : len - i ≡ suc (len - (i + 1)) = omega arith in sym so_far ∙ rw (k, h, comma, c) refl
 
-  pub arguments_end : (a : ExprTree) (after behind : List Lexeme) → i < len → r 0 rest ≡ Some (a, after) → starts marks.Comma after ≡ false → expect marks.Close after ≡ Some behind → total ≡ Some ((list ++ a ∷ []), behind)
+  pub arguments_end : (a : ExprTree) (after behind : List Terminal) → i < len → r 0 rest ≡ Some (a, after) → starts marks.Comma after ≡ false → expect marks.Close after ≡ Some behind → total ≡ Some ((list ++ a ∷ []), behind)
   unfolding arguments_at
   arguments_end a after behind lt h comma c = let k : len - i ≡ suc (len - (i + 1)) = omega arith in sym so_far ∙ rw (k, h, comma, c) refl
 
-  pub arguments_go_on : (a : ExprTree) (after : List Lexeme) → i < len → r 0 rest ≡ Some (a, after) → starts marks.Comma after ≡ true → with_front (list ++ a ∷ []) (arguments_at r (len - (i + 1)) (tail after)) ≡ total
+  pub arguments_go_on : (a : ExprTree) (after : List Terminal) → i < len → r 0 rest ≡ Some (a, after) → starts marks.Comma after ≡ true → with_front (list ++ a ∷ []) (arguments_at r (len - (i + 1)) (tail after)) ≡ total
   unfolding arguments_at
   arguments_go_on a after lt h comma =
       let k : len - i ≡ suc (len - (i + 1)) = omega arith in
@@ -48,7 +48,7 @@ module _ (r : Reader) (list : List ExprTree) (len i : ℕ) (rest : List Lexeme) 
   unfolding arguments_at
   arguments_run_out le = let k : len - i ≡ 0 = omega arith in sym so_far ∙ rw k refl
 
-module _ (r : Reader) (len i k : ℕ) (p : Span) (t : ExprTree) (rest : List Lexeme) (total : Read ExprTree) (so_far : operators_at r (len - i) k p t rest ≡ total) where
+module _ (r : Reader) (len i k : ℕ) (p : Span) (t : ExprTree) (rest : List Terminal) (total : Read ExprTree) (so_far : operators_at r (len - i) k p t rest ≡ total) where
   pub operand_fails : (e : Stop) (op : Infix) → i < len → Some op ≡ infix_at rest → k ≤ level op → Fails e (r (level op + 1) (tail rest)) → Fails e total
   unfolding operators_at
   operand_fails Memory op lt o le h = tt
@@ -57,7 +57,7 @@ module _ (r : Reader) (len i k : ℕ) (p : Span) (t : ExprTree) (rest : List Lex
       let at : leb k (level op) ≡ true = le-leb _ _ le in
       sym so_far ∙ rw (f, ← o, at, ← add-one, h) refl
 
-  pub operators_go_on : (op : Infix) (b : ExprTree) (after : List Lexeme) → i < len → Some op ≡ infix_at rest → k ≤ level op → r (level op + 1) (tail rest) ≡ Some (b, after) → operators_at r (len - (i + 1)) k p (tree p (joined op t b)) after ≡ total
+  pub operators_go_on : (op : Infix) (b : ExprTree) (after : List Terminal) → i < len → Some op ≡ infix_at rest → k ≤ level op → r (level op + 1) (tail rest) ≡ Some (b, after) → operators_at r (len - (i + 1)) k p (tree p (joined op t b)) after ≡ total
   unfolding operators_at
   operators_go_on op b after lt o le h =
       let f : len - i ≡ suc (len - (i + 1)) = omega arith in

@@ -2,7 +2,7 @@
 use Rattle.std.proofs.Common.{◌≡◌, ℕ, zero, suc, get_or, take, drop, ◌+◌, ◌-◌, ◌≤◌, ◌<◌, Bool, true, false, List, [], ◌∷◌, ◌++◌, length, Option, Some, None, refl, sym, ap, ◌∙◌, append_assoc, arith}
 use Rattle.std.specs.Prelude.{◌&&◌}
 use Rattle.std.proofs.lemmas.List.{append-nil, take_all}
-use Rattle.c_parse.specs.declared.sign.Lexeme.{Lexeme}
+use Rattle.c_parse.specs.declared.sign.Terminal.{Terminal}
 use Rattle.fq_core.specs.declared.span.Span.{Span}
 use Rattle.c_parse.specs.declared.sign.Sign.{Sign}
 use Rattle.c_parse.specs.declared.sign.Sign.TheVariants as sign
@@ -25,19 +25,19 @@ regroup : {Y : Type 0} (front : List Y) (y : Y) (read : Read (List Y)) → with_
 regroup front y None = refl
 regroup front y (Some x) = ap (λ ys. Some (ys, x.1)) (sym (append_assoc front (y ∷ []) x.0))
 
-module _ {Y : Type 0} (one : List Lexeme → Read Y) (comma : Bool) (last : Mark) (list : List Y) (len i : ℕ) (rest : List Lexeme) (total : Read (List Y)) (so_far : with_front list (separated_at one comma last (len - i) rest) ≡ total) where
+module _ {Y : Type 0} (one : List Terminal → Read Y) (comma : Bool) (last : Mark) (list : List Y) (len i : ℕ) (rest : List Terminal) (total : Read (List Y)) (so_far : with_front list (separated_at one comma last (len - i) rest) ≡ total) where
   pub one_fails : (e : Stop) → i < len → Fails e (one rest) → Fails e total
   unfolding separated_at
   one_fails Memory lt h = tt
   one_fails Syntax lt h = let k : len - i ≡ suc (len - (i + 1)) = omega arith in sym so_far ∙ rw (k, h) refl
 
-  module _ (d : Y) (after : List Lexeme) (lt : i < len) (h : one rest ≡ Some (d, after)) where
+  module _ (d : Y) (after : List Terminal) (lt : i < len) (h : one rest ≡ Some (d, after)) where
     pub close_fails : (e : Stop) → starts marks.Comma after ≡ false → Fails e (expect last after) → Fails e total
     unfolding separated_at
     close_fails Memory no_comma c = tt
     close_fails Syntax no_comma c = let k : len - i ≡ suc (len - (i + 1)) = omega arith in sym so_far ∙ rw (k, h, no_comma, c) refl
 
-    pub closes : (behind : List Lexeme) → starts marks.Comma after ≡ false → expect last after ≡ Some behind → total ≡ Some (list ++ d ∷ [], behind)
+    pub closes : (behind : List Terminal) → starts marks.Comma after ≡ false → expect last after ≡ Some behind → total ≡ Some (list ++ d ∷ [], behind)
     unfolding separated_at
     closes behind no_comma c = let k : len - i ≡ suc (len - (i + 1)) = omega arith in sym so_far ∙ rw (k, h, no_comma, c) refl
 
@@ -56,17 +56,17 @@ module _ {Y : Type 0} (one : List Lexeme → Read Y) (comma : Bool) (last : Mark
   unfolding separated_at
   runs_out le = let k : len - i ≡ 0 = omega arith in sym so_far ∙ rw k refl
 
-module _ (list : List CaseLabel) (len i : ℕ) (rest : List Lexeme) (total : Read (List CaseLabel)) (so_far : with_front list (labels_at (len - i) rest) ≡ total) where
+module _ (list : List CaseLabel) (len i : ℕ) (rest : List Terminal) (total : Read (List CaseLabel)) (so_far : with_front list (labels_at (len - i) rest) ≡ total) where
   pub label_fails : (e : Stop) → i < len → Fails e (label_at rest) → Fails e total
   unfolding labels_at
   label_fails Memory lt h = tt
   label_fails Syntax lt h = let k : len - i ≡ suc (len - (i + 1)) = omega arith in sym so_far ∙ rw (k, h) refl
 
-  pub labels_end : (d : CaseLabel) (after : List Lexeme) → i < len → label_at rest ≡ Some (d, after) → starts_label after ≡ false → total ≡ Some (list ++ d ∷ [], after)
+  pub labels_end : (d : CaseLabel) (after : List Terminal) → i < len → label_at rest ≡ Some (d, after) → starts_label after ≡ false → total ≡ Some (list ++ d ∷ [], after)
   unfolding labels_at
   labels_end d after lt h e = let k : len - i ≡ suc (len - (i + 1)) = omega arith in sym so_far ∙ rw (k, h, e) refl
 
-  pub labels_go_on : (d : CaseLabel) (after : List Lexeme) → i < len → label_at rest ≡ Some (d, after) → starts_label after ≡ true → with_front (list ++ d ∷ []) (labels_at (len - (i + 1)) after) ≡ total
+  pub labels_go_on : (d : CaseLabel) (after : List Terminal) → i < len → label_at rest ≡ Some (d, after) → starts_label after ≡ true → with_front (list ++ d ∷ []) (labels_at (len - (i + 1)) after) ≡ total
   unfolding labels_at
   labels_go_on d after lt h e =
       let k : len - i ≡ suc (len - (i + 1)) = omega arith in
@@ -77,7 +77,7 @@ module _ (list : List CaseLabel) (len i : ℕ) (rest : List Lexeme) (total : Rea
   unfolding labels_at
   labels_run_out le = let k : len - i ≡ 0 = omega arith in sym so_far ∙ rw k refl
 
-module _ (r : Reads) (list : List Statement) (len i : ℕ) (rest : List Lexeme) (total : Read (List Statement)) (so_far : with_front list (body_at r (len - i) rest) ≡ total) where
+module _ (r : Reads) (list : List Statement) (len i : ℕ) (rest : List Terminal) (total : Read (List Statement)) (so_far : with_front list (body_at r (len - i) rest) ≡ total) where
   pub body_ends : i < len → ends_body rest ≡ true → total ≡ Some (list, rest)
   unfolding body_at
   body_ends lt e = let k : len - i ≡ suc (len - (i + 1)) = omega arith in sym so_far ∙ rw (k, e, append-nil) refl
@@ -87,7 +87,7 @@ module _ (r : Reads) (list : List Statement) (len i : ℕ) (rest : List Lexeme) 
   one_of_body_fails Memory lt c h = tt
   one_of_body_fails Syntax lt c h = let k : len - i ≡ suc (len - (i + 1)) = omega arith in sym so_far ∙ rw (k, c, h) refl
 
-  pub body_goes_on : (x : Statement) (after : List Lexeme) → i < len → ends_body rest ≡ false → one_at r rest ≡ Some (x, after) → with_front (list ++ x ∷ []) (body_at r (len - (i + 1)) after) ≡ total
+  pub body_goes_on : (x : Statement) (after : List Terminal) → i < len → ends_body rest ≡ false → one_at r rest ≡ Some (x, after) → with_front (list ++ x ∷ []) (body_at r (len - (i + 1)) after) ≡ total
   unfolding body_at
   body_goes_on x after lt c h =
       let k : len - i ≡ suc (len - (i + 1)) = omega arith in
@@ -98,7 +98,7 @@ module _ (r : Reads) (list : List Statement) (len i : ℕ) (rest : List Lexeme) 
   unfolding body_at
   body_runs_out le = let k : len - i ≡ 0 = omega arith in sym so_far ∙ rw k refl
 
-module _ (r : Reads) (list : List Group) (len i : ℕ) (rest : List Lexeme) (total : Read (List Group)) (so_far : with_front list (groups_at r (len - i) rest) ≡ total) where
+module _ (r : Reads) (list : List Group) (len i : ℕ) (rest : List Terminal) (total : Read (List Group)) (so_far : with_front list (groups_at r (len - i) rest) ≡ total) where
   pub groups_closed : i < len → starts marks.CloseBrace rest ≡ true → total ≡ Some (list, tail rest)
   unfolding groups_at
   groups_closed lt e = let k : len - i ≡ suc (len - (i + 1)) = omega arith in sym so_far ∙ rw (k, e, append-nil) refl
@@ -108,13 +108,13 @@ module _ (r : Reads) (list : List Group) (len i : ℕ) (rest : List Lexeme) (tot
   labels_of_group_fail Memory lt c h = tt
   labels_of_group_fail Syntax lt c h = let k : len - i ≡ suc (len - (i + 1)) = omega arith in sym so_far ∙ rw (k, c, h) refl
 
-  module _ (ls : List CaseLabel) (behind : List Lexeme) (lt : i < len) (c : starts marks.CloseBrace rest ≡ false) (l : labels_at (length rest) rest ≡ Some (ls, behind)) where
+  module _ (ls : List CaseLabel) (behind : List Terminal) (lt : i < len) (c : starts marks.CloseBrace rest ≡ false) (l : labels_at (length rest) rest ≡ Some (ls, behind)) where
     pub body_of_group_fails : (e : Stop) → Fails e (body_at r (length behind) behind) → Fails e total
     unfolding groups_at
     body_of_group_fails Memory h = tt
     body_of_group_fails Syntax h = let k : len - i ≡ suc (len - (i + 1)) = omega arith in sym so_far ∙ rw (k, c, l, h) refl
 
-    pub groups_go_on : (ss : List Statement) (after : List Lexeme) → body_at r (length behind) behind ≡ Some (ss, after) → with_front (list ++ group ls ss ∷ []) (groups_at r (len - (i + 1)) after) ≡ total
+    pub groups_go_on : (ss : List Statement) (after : List Terminal) → body_at r (length behind) behind ≡ Some (ss, after) → with_front (list ++ group ls ss ∷ []) (groups_at r (len - (i + 1)) after) ≡ total
     unfolding groups_at
     groups_go_on ss after h =
         let k : len - i ≡ suc (len - (i + 1)) = omega arith in
@@ -135,18 +135,18 @@ regroup_arms : (front : List Arm) (a : Arm) (read : Read (List Arm × Option Sta
 regroup_arms front a None = refl
 regroup_arms front a (Some x) = ap (λ arms. Some ((arms, x.0.1), x.1)) (sym (append_assoc front (a ∷ []) x.0.0))
 
-module _ (r : Reads) (list : List Arm) (len i : ℕ) (rest : List Lexeme) (total : Read (List Arm × Option Statement)) (so_far : with_arms list (arms_at r (len - i) rest) ≡ total) where
+module _ (r : Reads) (list : List Arm) (len i : ℕ) (rest : List Terminal) (total : Read (List Arm × Option Statement)) (so_far : with_arms list (arms_at r (len - i) rest) ≡ total) where
   pub test_fails : (e : Stop) → i < len → Fails e (test_at rest) → Fails e total
   unfolding arms_at
   test_fails Memory lt h = tt
   test_fails Syntax lt h = let k : len - i ≡ suc (len - (i + 1)) = omega arith in sym so_far ∙ rw (k, h) refl
 
-  pub body_fails : (e : Stop) (c : ExprTree) (ts : List Lexeme) → i < len → test_at rest ≡ Some (c, ts) → Fails e (r ts) → Fails e total
+  pub body_fails : (e : Stop) (c : ExprTree) (ts : List Terminal) → i < len → test_at rest ≡ Some (c, ts) → Fails e (r ts) → Fails e total
   unfolding arms_at
   body_fails Memory c ts lt t h = tt
   body_fails Syntax c ts lt t h = let k : len - i ≡ suc (len - (i + 1)) = omega arith in sym so_far ∙ rw (k, t, h) refl
 
-  module _ (c : ExprTree) (s : Statement) (ts after : List Lexeme) (lt : i < len) (t : test_at rest ≡ Some (c, ts)) (b : r ts ≡ Some (s, after)) where
+  module _ (c : ExprTree) (s : Statement) (ts after : List Terminal) (lt : i < len) (t : test_at rest ≡ Some (c, ts)) (b : r ts ≡ Some (s, after)) where
     pub arms_end : starts marks.Else after ≡ false → total ≡ Some ((list ++ (c, s) ∷ [], None), after)
     unfolding arms_at
     arms_end e = let k : len - i ≡ suc (len - (i + 1)) = omega arith in sym so_far ∙ rw (k, t, b, e) refl
@@ -156,7 +156,7 @@ module _ (r : Reads) (list : List Arm) (len i : ℕ) (rest : List Lexeme) (total
     else_fails Memory e f h = tt
     else_fails Syntax e f h = let k : len - i ≡ suc (len - (i + 1)) = omega arith in sym so_far ∙ rw (k, t, b, e, f, h) refl
 
-    pub else_ends : (o : Statement) (behind : List Lexeme) → starts marks.Else after ≡ true → starts marks.If (tail after) ≡ false → r (tail after) ≡ Some (o, behind) → total ≡ Some ((list ++ (c, s) ∷ [], Some o), behind)
+    pub else_ends : (o : Statement) (behind : List Terminal) → starts marks.Else after ≡ true → starts marks.If (tail after) ≡ false → r (tail after) ≡ Some (o, behind) → total ≡ Some ((list ++ (c, s) ∷ [], Some o), behind)
     unfolding arms_at
     else_ends o behind e f h = let k : len - i ≡ suc (len - (i + 1)) = omega arith in sym so_far ∙ rw (k, t, b, e, f, h) refl
 
@@ -172,14 +172,14 @@ module _ (r : Reads) (list : List Arm) (len i : ℕ) (rest : List Lexeme) (total
   arms_run_out le = let k : len - i ≡ 0 = omega arith in sym so_far ∙ rw k refl
 
 -- a statement that begins with a mark
-pub begun_by_mark : (d : ℕ) (ts : List Lexeme) (t : Lexeme) (m : Mark) → 0 < d → 1 ≤ length ts → t ≡ get_or ts 0 t → t.sign ≡ sign.Mark m
+pub begun_by_mark : (d : ℕ) (ts : List Terminal) (t : Terminal) (m : Mark) → 0 < d → 1 ≤ length ts → t ≡ get_or ts 0 t → t.sign ≡ sign.Mark m
     → statement_at d ts ≡ statement_of_mark (statement_at (d - 1)) m t.span (take (length ts - 1) (drop 1 ts))
 unfolding statement_at statement_by
 begun_by_mark zero ts t m some there is e = absurd (omega arith)
 begun_by_mark (suc k) [] t m some there is e = absurd (omega arith)
 begun_by_mark (suc k) (x ∷ xs) t m some there is e =
     let one_less : suc k - 1 ≡ k = omega arith in
-    let first : x.sign ≡ sign.Mark m = ap (λ (y : Lexeme). y.sign) (sym is) ∙ e in
-    let place : x.span ≡ t.span = ap (λ (y : Lexeme). y.span) (sym is) in
+    let first : x.sign ≡ sign.Mark m = ap (λ (y : Terminal). y.sign) (sym is) ∙ e in
+    let place : x.span ≡ t.span = ap (λ (y : Terminal). y.span) (sym is) in
     let all : take (suc (length xs) - 1) xs ≡ xs = take_all (suc (length xs) - 1) xs (omega arith) in
     rw (all, one_less, first, place) refl

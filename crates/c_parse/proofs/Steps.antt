@@ -2,7 +2,7 @@
 use Rattle.std.proofs.Common.{◌≡◌, ℕ, suc, ◌≤◌, Bool, true, false, cond, List, [], ◌∷◌, get_or, Option, Some, None, refl, sym, ap, ◌∙◌, arith}
 use Rattle.std.specs.Prelude.{IfSome, nat_le}
 use Rattle.std.proofs.lemmas.Bool.{eqb-true, leb-true, leb-false}
-use Rattle.c_parse.specs.declared.sign.Lexeme.{Lexeme}
+use Rattle.c_parse.specs.declared.sign.Terminal.{Terminal}
 use Rattle.c_parse.specs.declared.sign.Sign.{Sign}
 use Rattle.c_parse.specs.declared.sign.Sign.TheVariants as sign
 use Rattle.c_parse.specs.declared.sign.Mark.{Mark}
@@ -103,15 +103,15 @@ pub is_mark-true : (m : Mark) (s : Sign) → is_mark m s ≡ true → s ≡ sign
 is_mark-true m (sign.Mark x) e = ap sign.Mark (same_mark x m (eqb-true _ _ e))
 is_mark-true m _ e = absurd cc
 
-pub starts-true : (m : Mark) (ts : List Lexeme) → starts m ts ≡ true → (p : Span) × (ts ≡ mark m p ∷ tail ts)
+pub starts-true : (m : Mark) (ts : List Terminal) → starts m ts ≡ true → (p : Span) × (ts ≡ mark m p ∷ tail ts)
 starts-true m [] e = absurd cc
-starts-true m (t ∷ ts) e = (t.span, ap (λ (s : Sign). (let u : Lexeme = record { sign = s; span = t.span } in u) ∷ ts) (is_mark-true m t.sign e))
+starts-true m (t ∷ ts) e = (t.span, ap (λ (s : Sign). (let u : Terminal = record { sign = s; span = t.span } in u) ∷ ts) (is_mark-true m t.sign e))
 
-pub expect_takes : (m : Mark) (ts : List Lexeme) → IfSome (expect m ts) (λ rest. (p : Span) × (ts ≡ mark m p ∷ rest))
+pub expect_takes : (m : Mark) (ts : List Terminal) → IfSome (expect m ts) (λ rest. (p : Span) × (ts ≡ mark m p ∷ rest))
 expect_takes m ts = either_some (starts m ts) _ _ _ (λ e. starts-true m ts e) (λ e. tt)
 
 -- the operator in front, if there is one, is below level k
-abbrev pub Stops : ℕ → List Lexeme → Type 0
+abbrev pub Stops : ℕ → List Terminal → Type 0
 Stops k ts = (op : Infix) → infix_at ts ≡ Some op → suc (level op) ≤ k
 
 pub by_operator_some : {A : Type 0} (k : ℕ) (o : Option Infix) (f : Infix → Option A) (d : Option A) (P : A → Type 0)
@@ -146,9 +146,9 @@ infix_of_sign-some : (s : Sign) (op : Infix) → infix_of_sign s ≡ Some op →
 infix_of_sign-some (sign.Mark m) op e = ap sign.Mark (infix_of-some m op e)
 infix_of_sign-some _ op e = absurd cc
 
-pub infix_at-some : (op : Infix) (ts : List Lexeme) → infix_at ts ≡ Some op → (p : Span) × (ts ≡ mark (infix_mark op) p ∷ tail ts)
+pub infix_at-some : (op : Infix) (ts : List Terminal) → infix_at ts ≡ Some op → (p : Span) × (ts ≡ mark (infix_mark op) p ∷ tail ts)
 infix_at-some op [] e = absurd cc
-infix_at-some op (t ∷ ts) e = (t.span, ap (λ (s : Sign). (let u : Lexeme = record { sign = s; span = t.span } in u) ∷ ts) (infix_of_sign-some t.sign op e))
+infix_at-some op (t ∷ ts) e = (t.span, ap (λ (s : Sign). (let u : Terminal = record { sign = s; span = t.span } in u) ∷ ts) (infix_of_sign-some t.sign op e))
 
 pub level_pos : (op : Infix) → 1 ≤ level op
 level_pos (infixes.Binary ops.Add) = omega arith

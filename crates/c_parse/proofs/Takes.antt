@@ -5,7 +5,7 @@ use Rattle.std.proofs.lemmas.List.{length-append}
 use Rattle.std.proofs.lemmas.Option.{IfSome_then}
 use Rattle.fq_core.specs.declared.span.Span.{Span}
 use Rattle.c_values.specs.declared.kinds.Kind.{Kind}
-use Rattle.c_parse.specs.declared.sign.Lexeme.{Lexeme}
+use Rattle.c_parse.specs.declared.sign.Terminal.{Terminal}
 use Rattle.c_parse.specs.declared.sign.TypeWord.{TypeWord}
 use Rattle.c_parse.specs.declared.sign.Sign.{Sign}
 use Rattle.c_parse.specs.declared.sign.Sign.TheVariants as sign
@@ -21,25 +21,25 @@ use Rattle.c_parse.specs.Reading.{◌>>=◌, Reader, is_mark, starts, starts_typ
 use Rattle.c_parse.proofs.Steps.{then_some, either_some, starts-true, expect_takes, Stops, by_operator_some, infix_at-some, prefix_of-some, is_mark-true, level_pos}
 
 -- the tokens are some with this fact, and then the rest
-pub record Takes (P : List Lexeme → Type 0) (tokens rest : List Lexeme) : Type 0 where
-  pub front : List Lexeme
+pub record Takes (P : List Terminal → Type 0) (tokens rest : List Terminal) : Type 0 where
+  pub front : List Terminal
   pub parts : tokens ≡ front ++ rest
   pub fact : P front
 
 -- an expression at level 0, an operand at a level above
-abbrev pub DerivesAt : ℕ → ExprTree → List Lexeme → Type 0
+abbrev pub DerivesAt : ℕ → ExprTree → List Terminal → Type 0
 DerivesAt zero t ts = DerivesChoice t ts
 DerivesAt (suc k) t ts = Derives (suc k) t ts
 
 -- a reader whose answers derive
 abbrev pub IsSound : Reader → Type 0
-IsSound r = (k : ℕ) (ts : List Lexeme) → IfSome (r k ts) (λ x. Takes (DerivesAt k x.0) ts x.1 × Stops k x.1)
+IsSound r = (k : ℕ) (ts : List Terminal) → IfSome (r k ts) (λ x. Takes (DerivesAt k x.0) ts x.1 × Stops k x.1)
 
-pub length-parts : (ts front rest : List Lexeme) → ts ≡ front ++ rest → length rest ≤ length ts
+pub length-parts : (ts front rest : List Terminal) → ts ≡ front ++ rest → length rest ≤ length ts
 length-parts ts front rest e = omega (arith, simp length-append at (ap length e))
 
 -- the first token of an expression is that of its tokens, whatever follows
-pub first_stays : {k : ℕ} {t : ExprTree} {xs : List Lexeme} → Derives k t xs → (ys : List Lexeme) → place_of (xs ++ ys) ≡ place_of xs
+pub first_stays : {k : ℕ} {t : ExprTree} {xs : List Terminal} → Derives k t xs → (ys : List Terminal) → place_of (xs ++ ys) ≡ place_of xs
 first_stays a_number ys = refl
 first_stays a_name ys = refl
 first_stays (an_element q r d) ys = refl
@@ -51,23 +51,23 @@ first_stays (a_prefix op d) ys = refl
 first_stays (an_infix op p le a b) ys = simp (append_assoc, first_stays a)
 
 -- what an operator may follow: the tree, whose first token stands at p, derives at level k, and at that of the operator in front
-record Operand (k : ℕ) (p : Span) (t : ExprTree) (all ts : List Lexeme) : Type 0 where
-  front : List Lexeme
+record Operand (k : ℕ) (p : Span) (t : ExprTree) (all ts : List Terminal) : Type 0 where
+  front : List Terminal
   parts : all ≡ front ++ ts
   here : Derives k t front
   next : (op : Infix) → infix_at ts ≡ Some op → Derives (level op) t front
   place : p ≡ place_of front
 
-nothing_stops : (k : ℕ) (ts : List Lexeme) → length ts ≤ 0 → Stops k ts
+nothing_stops : (k : ℕ) (ts : List Terminal) → length ts ≤ 0 → Stops k ts
 nothing_stops k [] le = λ op e. absurd cc
 nothing_stops k (t ∷ ts) le = absurd (omega arith)
 
 -- the words in front
-words_take : (ts : List Lexeme) → Takes (AreWords (words_of ts)) ts (past_words ts)
+words_take : (ts : List Terminal) → Takes (AreWords (words_of ts)) ts (past_words ts)
 words_take [] = record { front = []; parts = refl; fact = end }
 words_take (t ∷ ts) = words_take_at t.sign t.span ts (words_take ts)
   where
-    words_take_at : (s : Sign) (p : Span) (ts : List Lexeme) → Takes (AreWords (words_of ts)) ts (past_words ts) → (let u : Lexeme = record { sign = s; span = p } in Takes (AreWords (words_of (u ∷ ts))) (u ∷ ts) (past_words (u ∷ ts)))
+    words_take_at : (s : Sign) (p : Span) (ts : List Terminal) → Takes (AreWords (words_of ts)) ts (past_words ts) → (let u : Terminal = record { sign = s; span = p } in Takes (AreWords (words_of (u ∷ ts))) (u ∷ ts) (past_words (u ∷ ts)))
     words_take_at (sign.Type w) p ts d = record { front = _; parts = cc; fact = word p d.fact }
     words_take_at (sign.Number n k) p ts d = record { front = []; parts = refl; fact = end }
     words_take_at (sign.Name n) p ts d = record { front = []; parts = refl; fact = end }
@@ -75,23 +75,23 @@ words_take (t ∷ ts) = words_take_at t.sign t.span ts (words_take ts)
     words_take_at sign.Foreign p ts d = record { front = []; parts = refl; fact = end }
     words_take_at sign.Unknown p ts d = record { front = []; parts = refl; fact = end }
 
-pub type_takes : (ts : List Lexeme) → IfSome (type_at ts) (λ x. (words : List TypeWord) × Takes (λ us. AreWords words us × (kind_of words ≡ Some x.0)) ts x.1)
+pub type_takes : (ts : List Terminal) → IfSome (type_at ts) (λ x. (words : List TypeWord) × Takes (λ us. AreWords words us × (kind_of words ≡ Some x.0)) ts x.1)
 unfolding type_at
 type_takes ts = is_kind (kind_of (words_of ts)) refl
   where
-    is_kind : (o : Option Kind) → kind_of (words_of ts) ≡ o → IfSome {T = Kind × List Lexeme} (o >>= λ kind. Some (kind, past_words ts)) (λ x. (words : List TypeWord) × Takes (λ us. AreWords words us × (kind_of words ≡ Some x.0)) ts x.1)
+    is_kind : (o : Option Kind) → kind_of (words_of ts) ≡ o → IfSome {T = Kind × List Terminal} (o >>= λ kind. Some (kind, past_words ts)) (λ x. (words : List TypeWord) × Takes (λ us. AreWords words us × (kind_of words ≡ Some x.0)) ts x.1)
     is_kind None e = tt
     is_kind (Some kind) e = let d = words_take ts in (words_of ts, record { front = d.front; parts = d.parts; fact = (d.fact, e) })
 
 -- an operand derives at each level
-abbrev DerivesOperand : ExprTree → List Lexeme → Type 0
+abbrev DerivesOperand : ExprTree → List Terminal → Type 0
 DerivesOperand t ts = (k : ℕ) → Derives k t ts
 
-stops_at_0 : (ts : List Lexeme) → Stops 1 ts → Stops 0 ts
+stops_at_0 : (ts : List Terminal) → Stops 1 ts → Stops 0 ts
 stops_at_0 ts d op e = omega (arith, d op e, level_pos op)
 
 module _ (r : Reader) (sound : IsSound r) where
-  pub arguments_take : (n : ℕ) (ts : List Lexeme) → IfSome (arguments_at r n ts) (λ x. (q : Span) × Takes (λ us. DerivesArguments x.0 us) ts (mark marks.Close q ∷ x.1))
+  pub arguments_take : (n : ℕ) (ts : List Terminal) → IfSome (arguments_at r n ts) (λ x. (q : Span) × Takes (λ us. DerivesArguments x.0 us) ts (mark marks.Close q ∷ x.1))
   unfolding arguments_at
   arguments_take zero ts = tt
   arguments_take (suc n) ts =
@@ -103,7 +103,7 @@ module _ (r : Reader) (sound : IsSound r) where
       (λ e. then_some (expect marks.Close first.1) _ _ (expect_takes marks.Close first.1) (λ rest c.
       (c.0, record { front = d.0.front; parts = cc; fact = the_last d.0.fact }))))
 
-  after_name_takes : (p : Span) (w : Text) (ts : List Lexeme) → IfSome (after_name r p w ts) (λ x. Takes (DerivesOperand x.0) (name_token w p ∷ ts) x.1)
+  after_name_takes : (p : Span) (w : Text) (ts : List Terminal) → IfSome (after_name r p w ts) (λ x. Takes (DerivesOperand x.0) (name_token w p ∷ ts) x.1)
   unfolding after_name
   after_name_takes p w ts =
       either_some (starts marks.OpenIndex ts) _ _ _
@@ -120,7 +120,7 @@ module _ (r : Reader) (sound : IsSound r) where
       record { front = _; parts = simp append_assoc cc; fact = λ k. a_call c.0 d.0 d.1.fact })))
       (λ _. record { front = _; parts = refl; fact = λ k. a_name }))
 
-  after_open_takes : (p : Span) (ts : List Lexeme) → IfSome (after_open r p ts) (λ x. Takes (DerivesOperand x.0) (mark marks.Open p ∷ ts) x.1)
+  after_open_takes : (p : Span) (ts : List Terminal) → IfSome (after_open r p ts) (λ x. Takes (DerivesOperand x.0) (mark marks.Open p ∷ ts) x.1)
   unfolding after_open
   after_open_takes p ts =
       either_some (starts_type ts) _ _ _
@@ -132,19 +132,19 @@ module _ (r : Reader) (sound : IsSound r) where
       then_some (expect marks.Close x.1) _ _ (expect_takes marks.Close x.1) (λ rest f.
       record { front = _; parts = simp append_assoc cc; fact = λ k. parens p f.0 d.0.fact })))
 
-  after_prefix_takes : (o : Option Prefix) (m : Mark) (p : Span) (ts : List Lexeme) → prefix_of m ≡ o → IfSome (after_prefix r o p ts) (λ x. Takes (DerivesOperand x.0) (mark m p ∷ ts) x.1)
+  after_prefix_takes : (o : Option Prefix) (m : Mark) (p : Span) (ts : List Terminal) → prefix_of m ≡ o → IfSome (after_prefix r o p ts) (λ x. Takes (DerivesOperand x.0) (mark m p ∷ ts) x.1)
   after_prefix_takes None m p ts e = tt
   after_prefix_takes (Some op) m p ts e =
       let same = prefix_of-some m op e in
       then_some (r 11 ts) _ _ (sound 11 ts) (λ x d. rw same (record { front = mark (prefix_mark op) p ∷ d.0.front; parts = cc; fact = λ k. a_prefix {p = p} op d.0.fact }))
 
-  operand_of_mark_takes : (m : Mark) (p : Span) (ts : List Lexeme) → IfSome (operand_of r (sign.Mark m) p ts) (λ x. Takes (DerivesOperand x.0) (mark m p ∷ ts) x.1)
+  operand_of_mark_takes : (m : Mark) (p : Span) (ts : List Terminal) → IfSome (operand_of r (sign.Mark m) p ts) (λ x. Takes (DerivesOperand x.0) (mark m p ∷ ts) x.1)
   operand_of_mark_takes m p ts =
       either_some (is_mark marks.Open (sign.Mark m)) _ _ _
       (λ e. let same : sign.Mark m ≡ sign.Mark marks.Open = is_mark-true marks.Open (sign.Mark m) e in let is : m ≡ marks.Open = cc in rw is (after_open_takes p ts))
       (λ _. after_prefix_takes (prefix_of m) m p ts refl)
 
-  operand_of_takes : (s : Sign) (p : Span) (ts : List Lexeme) → IfSome (operand_of r s p ts) (λ x. Takes (DerivesOperand x.0) (record { sign = s; span = p } ∷ ts) x.1)
+  operand_of_takes : (s : Sign) (p : Span) (ts : List Terminal) → IfSome (operand_of r s p ts) (λ x. Takes (DerivesOperand x.0) (record { sign = s; span = p } ∷ ts) x.1)
   operand_of_takes (sign.Number n kind) p ts = record { front = _; parts = refl; fact = λ k. a_number }
   operand_of_takes (sign.Name w) p ts = after_name_takes p w ts
   operand_of_takes (sign.Mark m) p ts = operand_of_mark_takes m p ts
@@ -152,12 +152,12 @@ module _ (r : Reader) (sound : IsSound r) where
   operand_of_takes sign.Foreign p ts = tt
   operand_of_takes sign.Unknown p ts = tt
 
-  operand_takes : (ts : List Lexeme) → IfSome (operand_at r ts) (λ x. Takes (DerivesOperand x.0) ts x.1)
+  operand_takes : (ts : List Terminal) → IfSome (operand_at r ts) (λ x. Takes (DerivesOperand x.0) ts x.1)
   unfolding operand_at
   operand_takes [] = tt
   operand_takes (t ∷ ts) = operand_of_takes t.sign t.span ts
 
-  operators_take : (n k : ℕ) (p : Span) (t : ExprTree) (all ts : List Lexeme) → length ts ≤ n → Operand k p t all ts
+  operators_take : (n k : ℕ) (p : Span) (t : ExprTree) (all ts : List Terminal) → length ts ≤ n → Operand k p t all ts
       → IfSome (operators_at r n k p t ts) (λ x. Operand k p x.0 all x.1 × Stops k x.1)
   unfolding operators_at
   operators_take zero k p t all ts small d = (d, nothing_stops k ts small)
@@ -174,7 +174,7 @@ module _ (r : Reader) (sound : IsSound r) where
       })))
       (λ stays. (d, stays))
 
-  level_takes : (k : ℕ) (ts : List Lexeme) → IfSome (level_by r k ts) (λ x. Takes (λ us. Derives k x.0 us × (place_of ts ≡ place_of us)) ts x.1 × Stops k x.1)
+  level_takes : (k : ℕ) (ts : List Terminal) → IfSome (level_by r k ts) (λ x. Takes (λ us. Derives k x.0 us × (place_of ts ≡ place_of us)) ts x.1 × Stops k x.1)
   unfolding level_by
   level_takes k ts =
       then_some (operand_at r ts) _ _ (operand_takes ts) (λ t d.
@@ -187,7 +187,7 @@ module _ (r : Reader) (sound : IsSound r) where
         place = ap place_of d.parts ∙ first_stays (d.fact 0) t.1;
       })) (λ x g. (record { front = g.0.front; parts = g.0.parts; fact = (g.0.here, g.0.place) }, g.1)))
 
-  choice_takes : (ts : List Lexeme) → IfSome (choice_by r ts) (λ x. Takes (DerivesChoice x.0) ts x.1 × Stops 0 x.1)
+  choice_takes : (ts : List Terminal) → IfSome (choice_by r ts) (λ x. Takes (DerivesChoice x.0) ts x.1 × Stops 0 x.1)
   unfolding choice_by
   choice_takes ts =
       then_some (level_by r 1 ts) _ _ (level_takes 1 ts) (λ c d.

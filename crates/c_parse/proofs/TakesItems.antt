@@ -4,7 +4,7 @@ use Rattle.std.specs.Prelude.{IfSome, ◌||◌}
 use Rattle.std.proofs.lemmas.Option.{IfSome_then}
 use Rattle.fq_core.specs.declared.span.Span.{Span}
 use Rattle.c_values.specs.declared.kinds.Kind.{Kind}
-use Rattle.c_parse.specs.declared.sign.Lexeme.{Lexeme}
+use Rattle.c_parse.specs.declared.sign.Terminal.{Terminal}
 use Rattle.c_parse.specs.declared.sign.Sign.{Sign}
 use Rattle.c_parse.specs.declared.sign.Sign.TheVariants as sign
 use Rattle.c_parse.specs.declared.sign.Mark.{Mark}
@@ -40,12 +40,12 @@ variable_word (sign.Mark marks.Static) e = (record { m = marks.Static; is = refl
 variable_word (sign.Mark marks.Const) e = (record { m = marks.Const; is = refl; fits = const_variable }, refl)
 variable_word _ e = absurd cc
 
-one_word : {Fits : Mark → Type 0} (t : Lexeme) (ts rest : List Lexeme) → IsWord Fits t.sign → Takes (AreAll Fits) ts rest → Takes (AreAll Fits) (t ∷ ts) rest
+one_word : {Fits : Mark → Type 0} (t : Terminal) (ts rest : List Terminal) → IsWord Fits t.sign → Takes (AreAll Fits) ts rest → Takes (AreAll Fits) (t ∷ ts) rest
 one_word t ts rest w d =
-    let same : t ≡ mark w.m t.span = ap (λ (s : Sign). (let u : Lexeme = record { sign = s; span = t.span } in u)) w.is in
+    let same : t ≡ mark w.m t.span = ap (λ (s : Sign). (let u : Terminal = record { sign = s; span = t.span } in u)) w.is in
     record { front = mark w.m t.span ∷ d.front; parts = (let h = d.parts in cc); fact = one_more_word w.m t.span w.fits d.fact }
 
-before_take : (ts : List Lexeme) → Takes (AreAll ForFunction) ts (past_before ts)
+before_take : (ts : List Terminal) → Takes (AreAll ForFunction) ts (past_before ts)
 before_take [] = record { front = []; parts = refl; fact = none_left }
 before_take (t ∷ ts) = at (is_before t.sign) refl (before_take ts)
   where
@@ -53,7 +53,7 @@ before_take (t ∷ ts) = at (is_before t.sign) refl (before_take ts)
     at true e d = rw e (one_word t ts (past_before ts) (before_word t.sign e) d)
     at false e d = rw e (record { front = []; parts = refl; fact = none_left })
 
-variables_take : (ts : List Lexeme) → for_variables ts ≡ true → Takes (AreAll ForVariable) ts (past_before ts)
+variables_take : (ts : List Terminal) → for_variables ts ≡ true → Takes (AreAll ForVariable) ts (past_before ts)
 variables_take [] f = record { front = []; parts = refl; fact = none_left }
 variables_take (t ∷ ts) f = at (is_shared t.sign) (is_of_functions t.sign) refl refl (λ g. variables_take ts g)
   where
@@ -65,7 +65,7 @@ variables_take (t ∷ ts) f = at (is_shared t.sign) (is_of_functions t.sign) ref
 
 -- ---- parameters
 
-named_takes : (ts : List Lexeme) → IfSome (by_name (name_at ts) ts) (λ x. Takes (λ us. DerivesNamed x.0.0 x.0.1 us) ts x.1)
+named_takes : (ts : List Terminal) → IfSome (by_name (name_at ts) ts) (λ x. Takes (λ us. DerivesNamed x.0.0 x.0.1 us) ts x.1)
 named_takes ts = at (name_at ts) (name_takes ts)
   where
     at : (o : Option Text) → IfSome o (λ w. ts ≡ name_token w (place_of ts) ∷ tail ts) → IfSome (by_name o ts) (λ x. Takes (λ us. DerivesNamed x.0.0 x.0.1 us) ts x.1)
@@ -74,7 +74,7 @@ named_takes ts = at (name_at ts) (name_takes ts)
         then_some (bracketed_at (tail ts)) _ _ (bracketed_takes (tail ts)) (λ l d.
         record { front = name_token w (place_of ts) ∷ d.front; parts = cc; fact = with_name d.fact })
 
-parameter_takes : (ts : List Lexeme) → IfSome (parameter_at ts) (λ x. Takes (λ us. DerivesParameter x.0 us) ts x.1)
+parameter_takes : (ts : List Terminal) → IfSome (parameter_at ts) (λ x. Takes (λ us. DerivesParameter x.0 us) ts x.1)
 unfolding parameter_at
 parameter_takes ts =
     let c = consts_take ts in
@@ -83,7 +83,7 @@ parameter_takes ts =
     let place : place_of ts ≡ place_of (c.front ++ d.front) = ap place_of (c.parts ∙ ap (λ us. c.front ++ us) d.parts) ∙ type_first d.fact c.front kind.1 in
     rw place (record { front = c.front ++ (d.front ++ g.front); parts = simp append_assoc cc; fact = a_parameter c.fact d.fact g.fact })))
 
-parameters_take : (ts : List Lexeme) → IfSome (parameters_at ts) (λ x. Takes (λ us. DerivesParameters x.0 us) ts x.1)
+parameters_take : (ts : List Terminal) → IfSome (parameters_at ts) (λ x. Takes (λ us. DerivesParameters x.0 us) ts x.1)
 unfolding parameters_at
 parameters_take ts =
     either_some (starts marks.Close ts) _ _ _
@@ -97,7 +97,7 @@ parameters_take ts =
 
 -- ---- items
 
-end_takes : (ts : List Lexeme) → IfSome (end_at ts) (λ x. Takes (λ us. DerivesEnd x.0 us) ts x.1)
+end_takes : (ts : List Terminal) → IfSome (end_at ts) (λ x. Takes (λ us. DerivesEnd x.0 us) ts x.1)
 unfolding end_at
 end_takes ts =
     either_some (starts marks.Semicolon ts) _ _ _
@@ -108,7 +108,7 @@ end_takes ts =
     let place : place_of ss.1 ≡ f.0 = ap place_of f.1 in
     rw place (record { front = mark marks.OpenBrace e.0 ∷ (d.0.front ++ mark marks.CloseBrace f.0 ∷ []); parts = (let h = d.0.parts in simp append_assoc cc); fact = defined e.0 f.0 d.0.fact })))))
 
-function_takes : (all before type ts : List Lexeme) (result : Option Kind) (w : Text) (q : Span) → all ≡ before ++ (type ++ name_token w q ∷ ts) → AreAll ForFunction before → DerivesResult result type → place_of all ≡ place_of (before ++ type)
+function_takes : (all before type ts : List Terminal) (result : Option Kind) (w : Text) (q : Span) → all ≡ before ++ (type ++ name_token w q ∷ ts) → AreAll ForFunction before → DerivesResult result type → place_of all ≡ place_of (before ++ type)
     → IfSome (function_at (place_of all) result (ident w q) ts) (λ x. Takes (λ us. DerivesItem x.0 us) all x.1)
 unfolding function_at
 function_takes all before type ts result w q parts b r place =
@@ -117,7 +117,7 @@ function_takes all before type ts result w q parts b r place =
     then_some (end_at ps.1) _ _ (end_takes ps.1) (λ o f.
     rw place (record { front = before ++ (type ++ name_token w q ∷ mark marks.Open e.0 ∷ (d.front ++ f.front)); parts = simp append_assoc cc; fact = a_function q e.0 b r d.fact f.fact }))))
 
-constant_takes : (ts : List Lexeme) → IfSome (constant_at ts) (λ x. Takes (λ us. DerivesConstant x.0 us) ts x.1)
+constant_takes : (ts : List Terminal) → IfSome (constant_at ts) (λ x. Takes (λ us. DerivesConstant x.0 us) ts x.1)
 unfolding constant_at
 constant_takes ts =
     then_some (name_at ts) _ _ (name_takes ts) (λ w e.
@@ -127,14 +127,14 @@ constant_takes ts =
     record { front = name_token w (place_of ts) ∷ mark marks.Assign a.0 ∷ d.front; parts = cc; fact = with_value a.0 d.fact }))
     (λ _. record { front = name_token w (place_of ts) ∷ []; parts = e; fact = plain_constant }))
 
-tag_takes : (ts : List Lexeme) → Takes AreTag ts (past_named (name_at ts) ts)
+tag_takes : (ts : List Terminal) → Takes AreTag ts (past_named (name_at ts) ts)
 tag_takes ts = at (name_at ts) (name_takes ts)
   where
     at : (o : Option Text) → IfSome o (λ w. ts ≡ name_token w (place_of ts) ∷ tail ts) → Takes AreTag ts (past_named o ts)
     at None e = record { front = []; parts = refl; fact = no_tag }
     at (Some w) e = record { front = name_token w (place_of ts) ∷ []; parts = e; fact = a_tag }
 
-enum_takes : (p : Span) (ts : List Lexeme) → IfSome (enum_at p ts) (λ x. Takes (λ us. DerivesItem x.0 us) (mark marks.Enum p ∷ ts) x.1)
+enum_takes : (p : Span) (ts : List Terminal) → IfSome (enum_at p ts) (λ x. Takes (λ us. DerivesItem x.0 us) (mark marks.Enum p ∷ ts) x.1)
 unfolding enum_at
 enum_takes p ts =
     let t = tag_takes ts in
@@ -143,7 +143,7 @@ enum_takes p ts =
     then_some (expect marks.Semicolon cs.1) _ _ (expect_takes marks.Semicolon cs.1) (λ rest f.
     record { front = mark marks.Enum p ∷ (t.front ++ mark marks.OpenBrace e.0 ∷ (d.front ++ mark marks.Semicolon f.0 ∷ [])); parts = simp append_assoc cc; fact = some_constants p e.0 f.0 t.fact d.fact })))
 
-typed_takes : (all : List Lexeme) → IfSome (typed_at all (past_before all)) (λ x. Takes (λ us. DerivesItem x.0 us) all x.1)
+typed_takes : (all : List Terminal) → IfSome (typed_at all (past_before all)) (λ x. Takes (λ us. DerivesItem x.0 us) all x.1)
 unfolding typed_at
 typed_takes all =
     let b = before_take all in
@@ -160,21 +160,21 @@ typed_takes all =
     rw place (record { front = v.front ++ (d.front ++ g.front); parts = simp append_assoc cc; fact = some_variables v.fact d.fact g.fact })))
     (λ _. tt))))
 
-void_first : (us : List Lexeme) (p : Span) (vs : List Lexeme) → place_of (us ++ (mark marks.Void p ∷ vs)) ≡ place_of (us ++ mark marks.Void p ∷ [])
+void_first : (us : List Terminal) (p : Span) (vs : List Terminal) → place_of (us ++ (mark marks.Void p ∷ vs)) ≡ place_of (us ++ mark marks.Void p ∷ [])
 void_first [] p vs = refl
 void_first (u ∷ us) p vs = refl
 
-void_takes : (all : List Lexeme) (p : Span) → past_before all ≡ mark marks.Void p ∷ tail (past_before all) → IfSome (void_at all (tail (past_before all))) (λ x. Takes (λ us. DerivesItem x.0 us) all x.1)
+void_takes : (all : List Terminal) (p : Span) → past_before all ≡ mark marks.Void p ∷ tail (past_before all) → IfSome (void_at all (tail (past_before all))) (λ x. Takes (λ us. DerivesItem x.0 us) all x.1)
 unfolding void_at
 void_takes all p e =
     let b = before_take all in
-    let rest : List Lexeme = tail (past_before all) in
+    let rest : List Terminal = tail (past_before all) in
     let parts : all ≡ b.front ++ (mark marks.Void p ∷ rest) = b.parts ∙ ap (λ us. b.front ++ us) e in
     then_some (name_at rest) _ _ (name_takes rest) (λ w f.
     function_takes all b.front (mark marks.Void p ∷ []) (tail rest) None w (place_of rest)
     (parts ∙ ap (λ us. b.front ++ (mark marks.Void p ∷ us)) f) b.fact (nothing_given p) (ap place_of parts ∙ void_first b.front p rest))
 
-pub item_takes : (ts : List Lexeme) → IfSome (item_at ts) (λ x. Takes (λ us. DerivesItem x.0 us) ts x.1)
+pub item_takes : (ts : List Terminal) → IfSome (item_at ts) (λ x. Takes (λ us. DerivesItem x.0 us) ts x.1)
 unfolding item_at
 item_takes ts =
     either_some (starts marks.Enum ts) _ _ _

@@ -6,7 +6,7 @@ use Rattle.std.proofs.lemmas.Option.{IfSome_then}
 use Rattle.fq_core.specs.declared.span.Span.{Span}
 use Rattle.c_values.specs.declared.kinds.Kind.{Kind}
 use Rattle.c_values.specs.declared.operators.BinaryOp.{BinaryOp}
-use Rattle.c_parse.specs.declared.sign.Lexeme.{Lexeme}
+use Rattle.c_parse.specs.declared.sign.Terminal.{Terminal}
 use Rattle.c_parse.specs.declared.sign.TypeWord.{TypeWord}
 use Rattle.c_parse.specs.declared.sign.Sign.{Sign}
 use Rattle.c_parse.specs.declared.sign.Sign.TheVariants as sign
@@ -28,7 +28,7 @@ use Rattle.c_parse.specs.ReadingStatements.{choice_in, separated_at, name_of, na
 use Rattle.c_parse.proofs.Steps.{then_some, either_some, starts-true, expect_takes, is_mark-true}
 use Rattle.c_parse.proofs.Takes.{Takes, expr_takes, arguments_take, type_takes}
 
-pub choice_in_takes : (ts : List Lexeme) → IfSome (choice_in ts) (λ x. Takes (λ us. DerivesChoice x.0 us) ts x.1)
+pub choice_in_takes : (ts : List Terminal) → IfSome (choice_in ts) (λ x. Takes (λ us. DerivesChoice x.0 us) ts x.1)
 unfolding choice_in
 choice_in_takes ts = IfSome_then (expr_at (suc (length ts)) 0 ts) (expr_takes (suc (length ts)) 0 ts) (λ x d. d.0)
 
@@ -37,8 +37,8 @@ both-true : (a b : Bool) → (a && b) ≡ true → (a ≡ true) × (b ≡ true)
 both-true true b e = (refl, e)
 both-true false b e = absurd cc
 
-pub separated_takes : {Y : Type 0} (One : Y → List Lexeme → Type 0) (one : List Lexeme → Read Y) (comma : Bool) (last : Mark) → ((ts : List Lexeme) → IfSome (one ts) (λ x. Takes (λ us. One x.0 us) ts x.1))
-    → (n : ℕ) (ts : List Lexeme) → IfSome (separated_at one comma last n ts) (λ x. Takes (λ us. DerivesSeparated One comma last x.0 us) ts x.1)
+pub separated_takes : {Y : Type 0} (One : Y → List Terminal → Type 0) (one : List Terminal → Read Y) (comma : Bool) (last : Mark) → ((ts : List Terminal) → IfSome (one ts) (λ x. Takes (λ us. One x.0 us) ts x.1))
+    → (n : ℕ) (ts : List Terminal) → IfSome (separated_at one comma last n ts) (λ x. Takes (λ us. DerivesSeparated One comma last x.0 us) ts x.1)
 unfolding separated_at
 separated_takes One one comma last sound zero ts = tt
 separated_takes One one comma last sound (suc n) ts =
@@ -53,7 +53,7 @@ separated_takes One one comma last sound (suc n) ts =
     (λ _. then_some (expect last y.1) _ _ (expect_takes last y.1) (λ rest e.
     record { front = d.front ++ mark last e.0 ∷ []; parts = simp append_assoc cc; fact = the_only e.0 d.fact })))
 
-pub bracketed_takes : (ts : List Lexeme) → IfSome (bracketed_at ts) (λ x. Takes (λ us. DerivesBracketed x.0 us) ts x.1)
+pub bracketed_takes : (ts : List Terminal) → IfSome (bracketed_at ts) (λ x. Takes (λ us. DerivesBracketed x.0 us) ts x.1)
 unfolding bracketed_at
 bracketed_takes ts =
     either_some (starts marks.OpenIndex ts) _ _ _
@@ -63,7 +63,7 @@ bracketed_takes ts =
     record { front = _; parts = simp append_assoc cc; fact = in_brackets a.0 f.0 d.fact })))
     (λ _. record { front = []; parts = refl; fact = no_bracket })
 
-first_takes : (ts : List Lexeme) → IfSome (first_at ts) (λ x. Takes (λ us. DerivesFirst x.0 us) ts x.1)
+first_takes : (ts : List Terminal) → IfSome (first_at ts) (λ x. Takes (λ us. DerivesFirst x.0 us) ts x.1)
 unfolding first_at
 first_takes ts =
     either_some (starts marks.Assign ts) _ _ _
@@ -77,11 +77,11 @@ first_takes ts =
     (λ _. record { front = []; parts = refl; fact = no_first })
 
 -- the name in front
-pub name_takes : (ts : List Lexeme) → IfSome (name_at ts) (λ w. ts ≡ name_token w (place_of ts) ∷ tail ts)
+pub name_takes : (ts : List Terminal) → IfSome (name_at ts) (λ w. ts ≡ name_token w (place_of ts) ∷ tail ts)
 name_takes [] = tt
 name_takes (t ∷ ts) = at t.sign t.span
   where
-    at : (s : Sign) (p : Span) → IfSome (name_of s) (λ w. (let u : Lexeme = record { sign = s; span = p } in u ∷ ts) ≡ name_token w p ∷ ts)
+    at : (s : Sign) (p : Span) → IfSome (name_of s) (λ w. (let u : Terminal = record { sign = s; span = p } in u ∷ ts) ≡ name_token w p ∷ ts)
     at (sign.Name w) p = refl
     at (sign.Mark m) p = tt
     at (sign.Number n k) p = tt
@@ -89,7 +89,7 @@ name_takes (t ∷ ts) = at t.sign t.span
     at sign.Foreign p = tt
     at sign.Unknown p = tt
 
-pub declarator_takes : (ts : List Lexeme) → IfSome (declarator_at ts) (λ x. Takes (λ us. DerivesDeclarator x.0 us) ts x.1)
+pub declarator_takes : (ts : List Terminal) → IfSome (declarator_at ts) (λ x. Takes (λ us. DerivesDeclarator x.0 us) ts x.1)
 unfolding declarator_at
 declarator_takes ts =
     then_some (name_at ts) _ _ (name_takes ts) (λ w e.
@@ -97,11 +97,11 @@ declarator_takes ts =
     then_some (first_at l.1) _ _ (first_takes l.1) (λ f g.
     record { front = name_token w (place_of ts) ∷ (d.front ++ g.front); parts = simp append_assoc cc; fact = a_declarator d.fact g.fact })))
 
-pub declarators_take : (ts : List Lexeme) → IfSome (declarators_at ts) (λ x. Takes (λ us. DerivesDeclarators x.0 us) ts x.1)
+pub declarators_take : (ts : List Terminal) → IfSome (declarators_at ts) (λ x. Takes (λ us. DerivesDeclarators x.0 us) ts x.1)
 declarators_take ts = separated_takes DerivesDeclarator declarator_at false marks.Semicolon declarator_takes (length ts) ts
 
 -- the words `const` in front
-pub consts_take : (ts : List Lexeme) → Takes AreConsts ts (past_consts ts)
+pub consts_take : (ts : List Terminal) → Takes AreConsts ts (past_consts ts)
 consts_take [] = record { front = []; parts = refl; fact = no_const }
 consts_take (t ∷ ts) = at (is_mark marks.Const t.sign) refl (consts_take ts)
   where
@@ -109,17 +109,17 @@ consts_take (t ∷ ts) = at (is_mark marks.Const t.sign) refl (consts_take ts)
     at true e d = let a = starts-true marks.Const (t ∷ ts) e in rw e (record { front = mark marks.Const a.0 ∷ d.front; parts = (let h = a.1 in cc); fact = a_const a.0 d.fact })
     at false e d = rw e (record { front = []; parts = refl; fact = no_const })
 
-pub derives_type : (ts : List Lexeme) → IfSome (type_at ts) (λ x. Takes (λ us. DerivesType x.0 us) ts x.1)
+pub derives_type : (ts : List Terminal) → IfSome (type_at ts) (λ x. Takes (λ us. DerivesType x.0 us) ts x.1)
 derives_type ts = IfSome_then (type_at ts) (type_takes ts) (λ x d. record { front = d.1.front; parts = d.1.parts; fact = a_type d.1.fact.0 d.1.fact.1 })
 
 -- a type has a first token
-pub type_first : {kind : Kind} {ts : List Lexeme} → DerivesType kind ts → (us vs : List Lexeme) → place_of (us ++ (ts ++ vs)) ≡ place_of (us ++ ts)
+pub type_first : {kind : Kind} {ts : List Terminal} → DerivesType kind ts → (us vs : List Terminal) → place_of (us ++ (ts ++ vs)) ≡ place_of (us ++ ts)
 unfolding kind_of
 type_first d (u ∷ us) vs = refl
 type_first (a_type end k) [] vs = absurd cc
 type_first (a_type (word p w) k) [] vs = refl
 
-pub local_takes : (ts : List Lexeme) → IfSome (local_at ts) (λ x. Takes (λ us. DerivesLocal x.0 us) ts x.1)
+pub local_takes : (ts : List Terminal) → IfSome (local_at ts) (λ x. Takes (λ us. DerivesLocal x.0 us) ts x.1)
 unfolding local_at
 local_takes ts =
     let c = consts_take ts in
@@ -130,11 +130,11 @@ local_takes ts =
 
 -- ---- simple statements
 
-mark_takes : (ts : List Lexeme) → IfSome (mark_at ts) (λ m. (p : Span) × (ts ≡ mark m p ∷ tail ts))
+mark_takes : (ts : List Terminal) → IfSome (mark_at ts) (λ m. (p : Span) × (ts ≡ mark m p ∷ tail ts))
 mark_takes [] = tt
 mark_takes (t ∷ ts) = at t.sign t.span
   where
-    at : (s : Sign) (p : Span) → IfSome (mark_of s) (λ m. (q : Span) × ((let u : Lexeme = record { sign = s; span = p } in u ∷ ts) ≡ mark m q ∷ ts))
+    at : (s : Sign) (p : Span) → IfSome (mark_of s) (λ m. (q : Span) × ((let u : Terminal = record { sign = s; span = p } in u ∷ ts) ≡ mark m q ∷ ts))
     at (sign.Mark m) p = (p, refl)
     at (sign.Name w) p = tt
     at (sign.Number n k) p = tt
@@ -142,7 +142,7 @@ mark_takes (t ∷ ts) = at t.sign t.span
     at sign.Foreign p = tt
     at sign.Unknown p = tt
 
-changed_take : (o : Option Bool) (how : Option (Option BinaryOp)) (to : PlaceTree) (m : Mark) (q : Span) (us ts : List Lexeme) → DerivesPlace to us → step_by m ≡ o → assigned_by m ≡ how
+changed_take : (o : Option Bool) (how : Option (Option BinaryOp)) (to : PlaceTree) (m : Mark) (q : Span) (us ts : List Terminal) → DerivesPlace to us → step_by m ≡ o → assigned_by m ≡ how
     → IfSome (changed_by o how (place_of us) to ts) (λ x. Takes (λ vs. DerivesSimple x.0 vs) (us ++ mark m q ∷ ts) x.1)
 changed_take (Some up) how to m q us ts d e f = record { front = us ++ mark m q ∷ []; parts = simp append_assoc refl; fact = a_step_after m q d e }
 changed_take None (Some op) to m q us ts d e f =
@@ -150,14 +150,14 @@ changed_take None (Some op) to m q us ts d e f =
     record { front = us ++ mark m q ∷ g.front; parts = simp append_assoc cc; fact = an_assignment m q d f g.fact })
 changed_take None None to m q us ts d e f = tt
 
-changed_takes : (to : PlaceTree) (us ts : List Lexeme) → DerivesPlace to us → IfSome (changed_at (place_of us) to ts) (λ x. Takes (λ vs. DerivesSimple x.0 vs) (us ++ ts) x.1)
+changed_takes : (to : PlaceTree) (us ts : List Terminal) → DerivesPlace to us → IfSome (changed_at (place_of us) to ts) (λ x. Takes (λ vs. DerivesSimple x.0 vs) (us ++ ts) x.1)
 unfolding changed_at
 changed_takes to us ts d =
     then_some (mark_at ts) _ _ (mark_takes ts) (λ m e.
     let same : us ++ ts ≡ us ++ mark m e.0 ∷ tail ts = ap (λ vs. us ++ vs) e.1 in
     rw same (changed_take (step_by m) (assigned_by m) to m e.0 us (tail ts) d refl refl))
 
-pub named_takes : (p : Span) (w : Text) (ts : List Lexeme) → IfSome (named_at p w ts) (λ x. Takes (λ us. DerivesSimple x.0 us) (name_token w p ∷ ts) x.1)
+pub named_takes : (p : Span) (w : Text) (ts : List Terminal) → IfSome (named_at p w ts) (λ x. Takes (λ us. DerivesSimple x.0 us) (name_token w p ∷ ts) x.1)
 unfolding named_at
 named_takes p w ts =
     either_some (starts marks.Open ts) _ _ _
@@ -171,18 +171,18 @@ named_takes p w ts =
     let same : name_token w p ∷ ts ≡ (name_token w p ∷ d.front) ++ i.1 = ap (λ us. name_token w p ∷ us) d.parts in
     rw same (changed_takes (place_tree w p i.0) (name_token w p ∷ d.front) i.1 (a_place {w = w} {p = p} d.fact))))
 
-pub stepped_takes : (p : Span) (m : Mark) (ts : List Lexeme) → IfSome (stepped_at p m ts) (λ x. Takes (λ us. DerivesSimple x.0 us) (mark m p ∷ ts) x.1)
+pub stepped_takes : (p : Span) (m : Mark) (ts : List Terminal) → IfSome (stepped_at p m ts) (λ x. Takes (λ us. DerivesSimple x.0 us) (mark m p ∷ ts) x.1)
 unfolding stepped_at
 stepped_takes p m ts = at (step_by m) refl
   where
-    at : (o : Option Bool) → step_by m ≡ o → IfSome {T = Statement × List Lexeme} (o >>= λ up. name_at ts >>= λ w. bracketed_at (tail ts) >>= λ i. Some (statement p (form.Step (place_tree w (place_of ts) i.0) up), i.1)) (λ x. Takes (λ us. DerivesSimple x.0 us) (mark m p ∷ ts) x.1)
+    at : (o : Option Bool) → step_by m ≡ o → IfSome {T = Statement × List Terminal} (o >>= λ up. name_at ts >>= λ w. bracketed_at (tail ts) >>= λ i. Some (statement p (form.Step (place_tree w (place_of ts) i.0) up), i.1)) (λ x. Takes (λ us. DerivesSimple x.0 us) (mark m p ∷ ts) x.1)
     at None e = tt
     at (Some up) e =
         then_some (name_at ts) _ _ (name_takes ts) (λ w f.
         then_some (bracketed_at (tail ts)) _ _ (bracketed_takes (tail ts)) (λ i d.
         record { front = mark m p ∷ name_token w (place_of ts) ∷ d.front; parts = cc; fact = a_step_before m p e (a_place d.fact) }))
 
-simple_takes : (ts : List Lexeme) → IfSome (simple_at ts) (λ x. Takes (λ us. DerivesSimple x.0 us) ts x.1)
+simple_takes : (ts : List Terminal) → IfSome (simple_at ts) (λ x. Takes (λ us. DerivesSimple x.0 us) ts x.1)
 unfolding simple_at
 simple_takes [] = tt
 simple_takes (t ∷ ts) = at t.sign t.span
@@ -198,14 +198,14 @@ simple_takes (t ∷ ts) = at t.sign t.span
 -- ---- the parts of statements
 
 -- a test in parentheses
-record Tests (c : ExprTree) (tokens rest : List Lexeme) : Type 0 where
+record Tests (c : ExprTree) (tokens rest : List Terminal) : Type 0 where
   p : Span
   q : Span
-  front : List Lexeme
+  front : List Terminal
   parts : tokens ≡ mark marks.Open p ∷ (front ++ mark marks.Close q ∷ rest)
   fact : DerivesChoice c front
 
-test_takes : (ts : List Lexeme) → IfSome (test_at ts) (λ x. Tests x.0 ts x.1)
+test_takes : (ts : List Terminal) → IfSome (test_at ts) (λ x. Tests x.0 ts x.1)
 unfolding test_at
 test_takes ts =
     then_some (expect marks.Open ts) _ _ (expect_takes marks.Open ts) (λ a e.
@@ -213,14 +213,14 @@ test_takes ts =
     then_some (expect marks.Close c.1) _ _ (expect_takes marks.Close c.1) (λ b f.
     record { p = e.0; q = f.0; front = d.front; parts = cc; fact = d.fact })))
 
-optional_takes : (ts : List Lexeme) → IfSome (optional_at ts) (λ x. Takes (λ us. DerivesOptional x.0 us) ts x.1)
+optional_takes : (ts : List Terminal) → IfSome (optional_at ts) (λ x. Takes (λ us. DerivesOptional x.0 us) ts x.1)
 unfolding optional_at
 optional_takes ts =
     either_some (starts marks.Semicolon ts) _ _ _
     (λ _. record { front = []; parts = refl; fact = no_choice })
     (λ _. then_some (choice_in ts) _ _ (choice_in_takes ts) (λ t d. record { front = d.front; parts = d.parts; fact = some_choice d.fact }))
 
-begin_takes : (ts : List Lexeme) → IfSome (begin_at ts) (λ x. Takes (λ us. DerivesBegin x.0 us) ts x.1)
+begin_takes : (ts : List Terminal) → IfSome (begin_at ts) (λ x. Takes (λ us. DerivesBegin x.0 us) ts x.1)
 unfolding begin_at
 begin_takes ts =
     either_some (starts marks.Semicolon ts) _ _ _
@@ -231,14 +231,14 @@ begin_takes ts =
     then_some (expect marks.Semicolon s.1) _ _ (expect_takes marks.Semicolon s.1) (λ rest e.
     record { front = d.front ++ mark marks.Semicolon e.0 ∷ []; parts = simp append_assoc cc; fact = begins_simple e.0 d.fact }))))
 
-next_takes : (ts : List Lexeme) → IfSome (next_at ts) (λ x. Takes (λ us. DerivesNext x.0 us) ts x.1)
+next_takes : (ts : List Terminal) → IfSome (next_at ts) (λ x. Takes (λ us. DerivesNext x.0 us) ts x.1)
 unfolding next_at
 next_takes ts =
     either_some (starts marks.Close ts) _ _ _
     (λ _. record { front = []; parts = refl; fact = no_next })
     (λ _. then_some (simple_at ts) _ _ (simple_takes ts) (λ s d. record { front = d.front; parts = d.parts; fact = a_next d.fact }))
 
-label_takes : (ts : List Lexeme) → IfSome (label_at ts) (λ x. Takes (λ us. DerivesLabel x.0 us) ts x.1)
+label_takes : (ts : List Terminal) → IfSome (label_at ts) (λ x. Takes (λ us. DerivesLabel x.0 us) ts x.1)
 unfolding label_at
 label_takes ts =
     either_some (starts marks.Case ts) _ _ _
@@ -252,7 +252,7 @@ label_takes ts =
     rw place (record { front = mark marks.Default e.0 ∷ mark marks.Colon f.0 ∷ []; parts = cc; fact = a_default e.0 f.0 }))))
 
 -- what follows labels is no label
-labels_take : (n : ℕ) (ts : List Lexeme) → IfSome (labels_at n ts) (λ x. Takes (λ us. DerivesLabels x.0 us) ts x.1 × (starts_label x.1 ≡ false))
+labels_take : (n : ℕ) (ts : List Terminal) → IfSome (labels_at n ts) (λ x. Takes (λ us. DerivesLabels x.0 us) ts x.1 × (starts_label x.1 ≡ false))
 unfolding labels_at
 labels_take zero ts = tt
 labels_take (suc n) ts =
@@ -263,34 +263,34 @@ labels_take (suc n) ts =
     (λ e. (record { front = d.front; parts = d.parts; fact = last_label d.fact }, e)))
 
 -- an `else` that follows would be its own
-abbrev pub Closed : Bool → List Lexeme → Type 0
+abbrev pub Closed : Bool → List Terminal → Type 0
 Closed opens rest = opens ≡ true → starts marks.Else rest ≡ false
 
 -- a statement was taken
-abbrev pub TakesStatement : Statement → List Lexeme → List Lexeme → Type 0
+abbrev pub TakesStatement : Statement → List Terminal → List Terminal → Type 0
 TakesStatement s ts rest = (o : Bool) × Takes (λ us. DerivesStatement o s us) ts rest × Closed o rest
 
 abbrev pub IsSoundHere : Reads → Type 0
-IsSoundHere r = (ts : List Lexeme) → IfSome (r ts) (λ x. TakesStatement x.0 ts x.1)
+IsSoundHere r = (ts : List Terminal) → IfSome (r ts) (λ x. TakesStatement x.0 ts x.1)
 
-never_open : (rest : List Lexeme) → Closed false rest
+never_open : (rest : List Terminal) → Closed false rest
 never_open rest opens = absurd cc
 
-return_takes : (p : Span) (ts : List Lexeme) → IfSome (return_at p ts) (λ x. TakesStatement x.0 (mark marks.Return p ∷ ts) x.1)
+return_takes : (p : Span) (ts : List Terminal) → IfSome (return_at p ts) (λ x. TakesStatement x.0 (mark marks.Return p ∷ ts) x.1)
 unfolding return_at
 return_takes p ts =
     then_some (optional_at ts) _ _ (optional_takes ts) (λ t d.
     then_some (expect marks.Semicolon t.1) _ _ (expect_takes marks.Semicolon t.1) (λ rest e.
     (false, record { front = _; parts = simp append_assoc cc; fact = a_return {p = p} e.0 d.fact }, never_open rest)))
 
-assert_takes : (p : Span) (ts : List Lexeme) → IfSome (assert_at p ts) (λ x. TakesStatement x.0 (mark marks.Assert p ∷ ts) x.1)
+assert_takes : (p : Span) (ts : List Terminal) → IfSome (assert_at p ts) (λ x. TakesStatement x.0 (mark marks.Assert p ∷ ts) x.1)
 unfolding assert_at
 assert_takes p ts =
     then_some (test_at ts) _ _ (test_takes ts) (λ t d.
     then_some (expect marks.Semicolon t.1) _ _ (expect_takes marks.Semicolon t.1) (λ rest e.
     (false, record { front = _; parts = (let h = d.parts in simp append_assoc cc); fact = an_assert {p = p} d.p d.q e.0 d.fact }, never_open rest)))
 
-assume_takes : (p : Span) (ts : List Lexeme) → IfSome (assume_at p ts) (λ x. TakesStatement x.0 (mark marks.Assume p ∷ ts) x.1)
+assume_takes : (p : Span) (ts : List Terminal) → IfSome (assume_at p ts) (λ x. TakesStatement x.0 (mark marks.Assume p ∷ ts) x.1)
 unfolding assume_at
 assume_takes p ts =
     then_some (test_at ts) _ _ (test_takes ts) (λ t d.
@@ -298,38 +298,38 @@ assume_takes p ts =
     (false, record { front = _; parts = (let h = d.parts in simp append_assoc cc); fact = an_assume {p = p} d.p d.q e.0 d.fact }, never_open rest)))
 
 -- a simple statement with its semicolon
-with_semicolon : (o : Read Statement) (all : List Lexeme) → IfSome o (λ x. Takes (λ us. DerivesSimple x.0 us) all x.1)
-    → IfSome (o >>= λ s. expect marks.Semicolon s.1 >>= λ rest. let x : Statement × List Lexeme = (s.0, rest) in Some x) (λ x. TakesStatement x.0 all x.1)
+with_semicolon : (o : Read Statement) (all : List Terminal) → IfSome o (λ x. Takes (λ us. DerivesSimple x.0 us) all x.1)
+    → IfSome (o >>= λ s. expect marks.Semicolon s.1 >>= λ rest. let x : Statement × List Terminal = (s.0, rest) in Some x) (λ x. TakesStatement x.0 all x.1)
 with_semicolon o all given =
     then_some o _ _ given (λ s d.
     then_some (expect marks.Semicolon s.1) _ _ (expect_takes marks.Semicolon s.1) (λ rest e.
     (false, record { front = d.front ++ mark marks.Semicolon e.0 ∷ []; parts = simp append_assoc cc; fact = a_simple e.0 d.fact }, never_open rest)))
 
 -- groups were taken, and the closing brace behind them
-record TakesGroups (gs : List Group) (tokens rest : List Lexeme) : Type 0 where
+record TakesGroups (gs : List Group) (tokens rest : List Terminal) : Type 0 where
   q : Span
-  front : List Lexeme
+  front : List Terminal
   parts : tokens ≡ front ++ mark marks.CloseBrace q ∷ rest
   fact : DerivesGroups gs front
   bare : starts marks.CloseBrace tokens ≡ true → front ≡ []
 
 -- a statement has a first token
-pub record HasFirst (xs : List Lexeme) : Type 0 where
-  pub head : Lexeme
-  pub others : List Lexeme
+pub record HasFirst (xs : List Terminal) : Type 0 where
+  pub head : Terminal
+  pub others : List Terminal
   pub is : xs ≡ head ∷ others
 
-simple_first : {s : Statement} {xs : List Lexeme} → DerivesSimple s xs → HasFirst xs
+simple_first : {s : Statement} {xs : List Terminal} → DerivesSimple s xs → HasFirst xs
 simple_first (an_assignment m q (a_place d) e t) = record { head = _; others = _; is = refl }
 simple_first (a_step_after m q (a_place d) e) = record { head = _; others = _; is = refl }
 simple_first (a_step_before m q e d) = record { head = _; others = _; is = refl }
 simple_first (a_bare_run q r) = record { head = _; others = _; is = refl }
 simple_first (a_run q r d) = record { head = _; others = _; is = refl }
 
-first-append : {xs : List Lexeme} → HasFirst xs → (ys : List Lexeme) → HasFirst (xs ++ ys)
+first-append : {xs : List Terminal} → HasFirst xs → (ys : List Terminal) → HasFirst (xs ++ ys)
 first-append h ys = record { head = h.head; others = h.others ++ ys; is = ap (λ us. us ++ ys) h.is }
 
-pub statement_first : {o : Bool} {s : Statement} {xs : List Lexeme} → DerivesStatement o s xs → HasFirst xs
+pub statement_first : {o : Bool} {s : Statement} {xs : List Terminal} → DerivesStatement o s xs → HasFirst xs
 statement_first (a_block q d) = record { head = _; others = _; is = refl }
 statement_first an_empty = record { head = _; others = _; is = refl }
 statement_first (a_simple q d) = first-append (simple_first d) _
@@ -346,24 +346,24 @@ statement_first (an_assert q r u d) = record { head = _; others = _; is = refl }
 statement_first (an_assume q r u d) = record { head = _; others = _; is = refl }
 
 -- what a statement begins with is what it and what follows begin with
-pub no_if_front : (xs rest : List Lexeme) → starts marks.If (xs ++ rest) ≡ false → starts marks.If xs ≡ false
+pub no_if_front : (xs rest : List Terminal) → starts marks.If (xs ++ rest) ≡ false → starts marks.If xs ≡ false
 no_if_front [] rest e = refl
 no_if_front (x ∷ xs) rest e = e
 
 -- a declaration or a statement was taken, and may stand before others
-record TakesOne (s : Statement) (tokens rest : List Lexeme) : Type 0 where
-  front : List Lexeme
+record TakesOne (s : Statement) (tokens rest : List Terminal) : Type 0 where
+  front : List Terminal
   parts : tokens ≡ front ++ rest
-  fact : (ss : List Statement) (us : List Lexeme) → DerivesBody ss us → DerivesBody (s ∷ ss) (front ++ us)
+  fact : (ss : List Statement) (us : List Terminal) → DerivesBody ss us → DerivesBody (s ∷ ss) (front ++ us)
 
 module _ (r : Reads) (sound : IsSoundHere r) where
-  one_takes : (ts : List Lexeme) → IfSome (one_at r ts) (λ x. TakesOne x.0 ts x.1)
+  one_takes : (ts : List Terminal) → IfSome (one_at r ts) (λ x. TakesOne x.0 ts x.1)
   one_takes ts =
       either_some (starts_local ts) _ _ _
       (λ _. IfSome_then (local_at ts) (local_takes ts) (λ s d. record { front = d.front; parts = d.parts; fact = λ ss us ds. local_then d.fact ds }))
       (λ _. IfSome_then (r ts) (sound ts) (λ s d. record { front = d.1.front; parts = d.1.parts; fact = λ ss us ds. statement_then d.1.fact ds }))
 
-  pub body_take : (n : ℕ) (ts : List Lexeme) → IfSome (body_at r n ts) (λ x. Takes (λ us. DerivesBody x.0 us) ts x.1 × (ends_body x.1 ≡ true))
+  pub body_take : (n : ℕ) (ts : List Terminal) → IfSome (body_at r n ts) (λ x. Takes (λ us. DerivesBody x.0 us) ts x.1 × (ends_body x.1 ≡ true))
   unfolding body_at
   body_take zero ts = tt
   body_take (suc n) ts =
@@ -374,14 +374,14 @@ module _ (r : Reads) (sound : IsSoundHere r) where
       (record { front = d.front ++ ds.0.front; parts = (let h = ds.0.parts in simp append_assoc cc); fact = d.fact _ _ ds.0.fact }, ds.1))))
 
   -- behind a group without statements nothing but the closing brace may follow, since its labels were all that stand in a row
-  no_label_ends : (ts : List Lexeme) → starts_label ts ≡ false → ends_body ts ≡ true → starts marks.CloseBrace ts ≡ true
+  no_label_ends : (ts : List Terminal) → starts_label ts ≡ false → ends_body ts ≡ true → starts marks.CloseBrace ts ≡ true
   no_label_ends ts e f = at (starts marks.CloseBrace ts) (starts_label ts) e f
     where
       at : (a b : Bool) → b ≡ false → (a || b) ≡ true → a ≡ true
       at true b e f = refl
       at false b e f = cc
 
-  groups_take : (n : ℕ) (ts : List Lexeme) → IfSome (groups_at r n ts) (λ x. TakesGroups x.0 ts x.1)
+  groups_take : (n : ℕ) (ts : List Terminal) → IfSome (groups_at r n ts) (λ x. TakesGroups x.0 ts x.1)
   unfolding groups_at
   groups_take zero ts = tt
   groups_take (suc n) ts =
@@ -398,7 +398,7 @@ module _ (r : Reads) (sound : IsSoundHere r) where
         bare = λ f. absurd cc;
       }))))
 
-  arms_take : (n : ℕ) (ts : List Lexeme) → IfSome (arms_at r n ts) (λ x. (o : Bool) × Takes (λ us. DerivesArms o x.0.0 x.0.1 us) ts x.1 × Closed o x.1)
+  arms_take : (n : ℕ) (ts : List Terminal) → IfSome (arms_at r n ts) (λ x. (o : Bool) × Takes (λ us. DerivesArms o x.0.0 x.0.1 us) ts x.1 × Closed o x.1)
   unfolding arms_at
   arms_take zero ts = tt
   arms_take (suc n) ts =
@@ -414,7 +414,7 @@ module _ (r : Reads) (sound : IsSoundHere r) where
       (h.0, record { front = _; parts = (let i = d.parts in let j = g.1.parts in let k = h.1.parts in simp append_assoc cc); fact = an_arm d.p d.q d.fact g.1.fact (λ opens. absurd (let i = g.2 opens in cc)) (an_else a.0 (no_if_front h.1.front o.1 (rw (← h.1.parts) f)) h.1.fact) }, h.2))))
       (λ e. (true, record { front = _; parts = (let i = d.parts in let j = g.1.parts in simp (append_assoc, append-nil) cc); fact = an_arm d.p d.q d.fact g.1.fact (λ opens. refl) no_else }, λ opens. e))))
 
-  labelled_takes : (p : Span) (w : Text) (ts : List Lexeme) → IfSome (labelled_at r p w ts) (λ x. TakesStatement x.0 (name_token w p ∷ ts) x.1)
+  labelled_takes : (p : Span) (w : Text) (ts : List Terminal) → IfSome (labelled_at r p w ts) (λ x. TakesStatement x.0 (name_token w p ∷ ts) x.1)
   unfolding labelled_at
   labelled_takes p w ts =
       either_some (starts marks.Colon ts) _ _ _
@@ -422,7 +422,7 @@ module _ (r : Reads) (sound : IsSoundHere r) where
       then_some (r (tail ts)) _ _ (sound (tail ts)) (λ s d. (d.0, record { front = _; parts = (let b = d.1.parts in cc); fact = a_label {w = w} {p = p} a.0 d.1.fact }, d.2)))
       (λ _. with_semicolon (named_at p w ts) (name_token w p ∷ ts) (named_takes p w ts))
 
-  do_takes : (p : Span) (ts : List Lexeme) → IfSome (do_at r p ts) (λ x. TakesStatement x.0 (mark marks.Do p ∷ ts) x.1)
+  do_takes : (p : Span) (ts : List Terminal) → IfSome (do_at r p ts) (λ x. TakesStatement x.0 (mark marks.Do p ∷ ts) x.1)
   unfolding do_at
   do_takes p ts =
       then_some (r ts) _ _ (sound ts) (λ s d.
@@ -431,7 +431,7 @@ module _ (r : Reads) (sound : IsSoundHere r) where
       then_some (expect marks.Semicolon c.1) _ _ (expect_takes marks.Semicolon c.1) (λ rest g.
       (false, record { front = _; parts = (let b = d.1.parts in let h = f.parts in simp append_assoc cc); fact = a_do {p = p} e.0 f.p f.q g.0 d.1.fact f.fact }, never_open rest)))))
 
-  for_takes : (p : Span) (ts : List Lexeme) → IfSome (for_at r p ts) (λ x. TakesStatement x.0 (mark marks.For p ∷ ts) x.1)
+  for_takes : (p : Span) (ts : List Terminal) → IfSome (for_at r p ts) (λ x. TakesStatement x.0 (mark marks.For p ∷ ts) x.1)
   unfolding for_at
   for_takes p ts =
       then_some (expect marks.Open ts) _ _ (expect_takes marks.Open ts) (λ a e.
@@ -443,7 +443,7 @@ module _ (r : Reads) (sound : IsSoundHere r) where
       then_some (r z) _ _ (sound z) (λ s m.
       (m.0, record { front = _; parts = (let l = m.1.parts in simp append_assoc cc); fact = a_for {p = p} e.0 g.0 k.0 d.fact f.fact h.fact m.1.fact }, m.2))))))))
 
-  switch_takes : (p : Span) (ts : List Lexeme) → IfSome (switch_at r p ts) (λ x. TakesStatement x.0 (mark marks.Switch p ∷ ts) x.1)
+  switch_takes : (p : Span) (ts : List Terminal) → IfSome (switch_at r p ts) (λ x. TakesStatement x.0 (mark marks.Switch p ∷ ts) x.1)
   unfolding switch_at
   switch_takes p ts =
       then_some (test_at ts) _ _ (test_takes ts) (λ c d.
@@ -451,7 +451,7 @@ module _ (r : Reads) (sound : IsSoundHere r) where
       then_some (groups_at r (length a) a) _ _ (groups_take (length a) a) (λ gs g.
       (false, record { front = _; parts = (let b = d.parts in let h = g.parts in simp append_assoc cc); fact = a_switch {p = p} d.p d.q e.0 g.q d.fact g.fact }, never_open gs.1))))
 
-  of_mark_takes : (m : Mark) (p : Span) (ts : List Lexeme) → IfSome (statement_of_mark r m p ts) (λ x. TakesStatement x.0 (mark m p ∷ ts) x.1)
+  of_mark_takes : (m : Mark) (p : Span) (ts : List Terminal) → IfSome (statement_of_mark r m p ts) (λ x. TakesStatement x.0 (mark m p ∷ ts) x.1)
   of_mark_takes marks.OpenBrace p ts =
       then_some (body_at r (length ts) ts) _ _ (body_take (length ts) ts) (λ ss d.
       then_some (expect marks.CloseBrace ss.1) _ _ (expect_takes marks.CloseBrace ss.1) (λ rest e.
@@ -474,7 +474,7 @@ module _ (r : Reads) (sound : IsSoundHere r) where
   of_mark_takes marks.Assume p ts = assume_takes p ts
   of_mark_takes m p ts = with_semicolon (stepped_at p m ts) (mark m p ∷ ts) (stepped_takes p m ts)
 
-  of_sign_takes : (s : Sign) (p : Span) (ts : List Lexeme) → IfSome (statement_of r s p ts) (λ x. TakesStatement x.0 (record { sign = s; span = p } ∷ ts) x.1)
+  of_sign_takes : (s : Sign) (p : Span) (ts : List Terminal) → IfSome (statement_of r s p ts) (λ x. TakesStatement x.0 (record { sign = s; span = p } ∷ ts) x.1)
   of_sign_takes (sign.Mark m) p ts = of_mark_takes m p ts
   of_sign_takes (sign.Name w) p ts = labelled_takes p w ts
   of_sign_takes (sign.Number n k) p ts = tt

@@ -3,7 +3,7 @@ use Rattle.std.proofs.Common.{◌≡◌, suc, List, [], ◌∷◌, ◌++◌, len
 use Rattle.std.specs.Prelude.{IfOk, IfSome, IsErrOf}
 use Rattle.std.proofs.lemmas.List.{append-nil}
 use Rattle.std.proofs.lemmas.Option.{same_Some}
-use Rattle.c_parse.specs.declared.sign.Lexeme.{Lexeme}
+use Rattle.c_parse.specs.declared.sign.Terminal.{Terminal}
 use Rattle.c_parse.specs.declared.stop.Stop.{Stop}
 use Rattle.c_parse.specs.declared.stop.Stop.TheVariants.{Memory, Syntax}
 use Rattle.c_parse.specs.Gives.{Gives}
@@ -14,26 +14,26 @@ use Rattle.c_parse.proofs.Steps.{then_some}
 use Rattle.c_parse.proofs.Takes.{expr_takes}
 use Rattle.c_parse.proofs.Again.{Stays, choice_again}
 
-pub at_end-some : {A : Type 0} (x : A) (rest : List Lexeme) (P : A → Type 0) → (rest ≡ [] → P x) → IfSome (at_end (x, rest)) P
+pub at_end-some : {A : Type 0} (x : A) (rest : List Terminal) (P : A → Type 0) → (rest ≡ [] → P x) → IfSome (at_end (x, rest)) P
 at_end-some x [] P f = f refl
 at_end-some x (t ∷ ts) P f = tt
 
 nothing_stays : Stays []
 nothing_stays = record { ends = record { no_index = refl; no_call = refl }; no_operator = λ op e. absurd cc; no_question = refl }
 
-pub whole_takes : (ts : List Lexeme) → IfSome (whole_at ts) (λ t. DerivesChoice t ts)
+pub whole_takes : (ts : List Terminal) → IfSome (whole_at ts) (λ t. DerivesChoice t ts)
 unfolding whole_at
 whole_takes ts =
     then_some (expr_at (suc (length ts)) 0 ts) _ _ (expr_takes (suc (length ts)) 0 ts) (λ x d.
     at_end-some x.0 x.1 _ (λ e. subst (λ us. DerivesChoice x.0 us) (sym (d.0.parts ∙ ap (λ rest. d.0.front ++ rest) e ∙ append-nil d.0.front)) d.0.fact))
 
-pub whole_again : (t : ExprTree) (ts : List Lexeme) → DerivesChoice t ts → whole_at ts ≡ Some t
+pub whole_again : (t : ExprTree) (ts : List Terminal) → DerivesChoice t ts → whole_at ts ≡ Some t
 unfolding whole_at
 whole_again t ts d =
     let e : expr_at (suc (length ts)) 0 ts ≡ Some (t, []) = ap (expr_at (suc (length ts)) 0) (sym (append-nil ts)) ∙ choice_again d (suc (length ts)) [] (omega arith) nothing_stays in
     rw e refl
 
-pub one_expression : (ts : List Lexeme) (t u : ExprTree) → DerivesChoice t ts → DerivesChoice u ts → t ≡ u
+pub one_expression : (ts : List Terminal) (t u : ExprTree) → DerivesChoice t ts → DerivesChoice u ts → t ≡ u
 one_expression ts t u d e = same_Some t u (sym (whole_again t ts d) ∙ whole_again u ts e)
 
 -- ---- what a function says whose result is what is read

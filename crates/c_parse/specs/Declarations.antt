@@ -4,7 +4,7 @@ use Rattle.fq_core.specs.declared.span.Span.{Span}
 use Rattle.c_values.specs.declared.kinds.Kind.{Kind}
 use Rattle.c_parse.specs.declared.sign.Mark.TheVariants as marks
 use Rattle.c_parse.specs.declared.sign.TypeWord.{TypeWord}
-use Rattle.c_parse.specs.declared.sign.Lexeme.{Lexeme}
+use Rattle.c_parse.specs.declared.sign.Terminal.{Terminal}
 use Rattle.c_parse.specs.declared.expr.ExprTree.{ExprTree}
 use Rattle.c_parse.specs.declared.statement.Initial.{Initial}
 use Rattle.c_parse.specs.declared.statement.Initial.TheVariants as initial
@@ -15,26 +15,26 @@ use Rattle.c_parse.specs.StatementTrees.{declarator}
 use Rattle.c_parse.specs.Separated.{DerivesSeparated}
 
 -- a type: its words, in any order
-pub data DerivesType : Kind → List Lexeme → Type 0 where
-  a_type : {kind : Kind} {words : List TypeWord} {ts : List Lexeme} → AreWords words ts → kind_of words ≡ Some kind → DerivesType kind ts
+pub data DerivesType : Kind → List Terminal → Type 0 where
+  a_type : {kind : Kind} {words : List TypeWord} {ts : List Terminal} → AreWords words ts → kind_of words ≡ Some kind → DerivesType kind ts
 
 -- an expression in brackets, or nothing: the length of an array (6.7.6.2), or the index of an element (6.5.2.1)
-pub data DerivesBracketed : Option ExprTree → List Lexeme → Type 0 where
+pub data DerivesBracketed : Option ExprTree → List Terminal → Type 0 where
   no_bracket : DerivesBracketed None []
-  in_brackets : {t : ExprTree} {ts : List Lexeme} (p q : Span) → DerivesChoice t ts
+  in_brackets : {t : ExprTree} {ts : List Terminal} (p q : Span) → DerivesChoice t ts
       → DerivesBracketed (Some t) (mark marks.OpenIndex p ∷ (ts ++ mark marks.CloseIndex q ∷ []))
 
 -- what a name begins as, behind `=`, or nothing; a list may end in a comma
-pub data DerivesFirst : Option Initial → List Lexeme → Type 0 where
+pub data DerivesFirst : Option Initial → List Terminal → Type 0 where
   no_first : DerivesFirst None []
-  one_first : {t : ExprTree} {ts : List Lexeme} (p : Span) → DerivesChoice t ts → DerivesFirst (Some (initial.One t)) (mark marks.Assign p ∷ ts)
-  some_first : {es : List ExprTree} {ts : List Lexeme} (p q : Span) → DerivesSeparated DerivesChoice true marks.CloseBrace es ts
+  one_first : {t : ExprTree} {ts : List Terminal} (p : Span) → DerivesChoice t ts → DerivesFirst (Some (initial.One t)) (mark marks.Assign p ∷ ts)
+  some_first : {es : List ExprTree} {ts : List Terminal} (p q : Span) → DerivesSeparated DerivesChoice true marks.CloseBrace es ts
       → DerivesFirst (Some (initial.List es)) (mark marks.Assign p ∷ mark marks.OpenBrace q ∷ ts)
 
-pub data DerivesDeclarator : Declarator → List Lexeme → Type 0 where
-  a_declarator : {w : Text} {p : Span} {length : Option ExprTree} {first : Option Initial} {xs ys : List Lexeme} → DerivesBracketed length xs → DerivesFirst first ys
+pub data DerivesDeclarator : Declarator → List Terminal → Type 0 where
+  a_declarator : {w : Text} {p : Span} {length : Option ExprTree} {first : Option Initial} {xs ys : List Terminal} → DerivesBracketed length xs → DerivesFirst first ys
       → DerivesDeclarator (declarator w p length first) (name_token w p ∷ (xs ++ ys))
 
 -- declarators with commas between them, and a semicolon
-abbrev pub DerivesDeclarators : List Declarator → List Lexeme → Type 0
+abbrev pub DerivesDeclarators : List Declarator → List Terminal → Type 0
 DerivesDeclarators ds ts = DerivesSeparated DerivesDeclarator false marks.Semicolon ds ts

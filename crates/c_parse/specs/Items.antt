@@ -4,7 +4,7 @@ use Rattle.fq_core.specs.declared.span.Span.{Span}
 use Rattle.c_values.specs.declared.kinds.Kind.{Kind}
 use Rattle.c_parse.specs.declared.sign.Mark.{Mark}
 use Rattle.c_parse.specs.declared.sign.Mark.TheVariants as marks
-use Rattle.c_parse.specs.declared.sign.Lexeme.{Lexeme}
+use Rattle.c_parse.specs.declared.sign.Terminal.{Terminal}
 use Rattle.c_parse.specs.declared.expr.Ident.{Ident}
 use Rattle.c_parse.specs.declared.expr.ExprTree.{ExprTree}
 use Rattle.c_parse.specs.declared.statement.Declarator.{Declarator}
@@ -30,56 +30,56 @@ pub data ForVariable : Mark → Type 0 where
   static_variable : ForVariable marks.Static
   const_variable : ForVariable marks.Const
 
-pub data AreAll (Fits : Mark → Type 0) : List Lexeme → Type 0 where
+pub data AreAll (Fits : Mark → Type 0) : List Terminal → Type 0 where
   none_left : AreAll Fits []
-  one_more_word : {ts : List Lexeme} (m : Mark) (p : Span) → Fits m → AreAll Fits ts → AreAll Fits (mark m p ∷ ts)
+  one_more_word : {ts : List Terminal} (m : Mark) (p : Span) → Fits m → AreAll Fits ts → AreAll Fits (mark m p ∷ ts)
 
 -- the result of a function
-pub data DerivesResult : Option Kind → List Lexeme → Type 0 where
+pub data DerivesResult : Option Kind → List Terminal → Type 0 where
   nothing_given : (p : Span) → DerivesResult None (mark marks.Void p ∷ [])
-  a_kind : {kind : Kind} {ts : List Lexeme} → DerivesType kind ts → DerivesResult (Some kind) ts
+  a_kind : {kind : Kind} {ts : List Terminal} → DerivesType kind ts → DerivesResult (Some kind) ts
 
 -- the name and the length of a parameter, which may be left out (6.7.6, 6.7.7)
-pub data DerivesNamed : Option Ident → Option ExprTree → List Lexeme → Type 0 where
+pub data DerivesNamed : Option Ident → Option ExprTree → List Terminal → Type 0 where
   without_name : DerivesNamed None None []
-  with_name : {w : Text} {p : Span} {length : Option ExprTree} {ts : List Lexeme} → DerivesBracketed length ts → DerivesNamed (Some (ident w p)) length (name_token w p ∷ ts)
+  with_name : {w : Text} {p : Span} {length : Option ExprTree} {ts : List Terminal} → DerivesBracketed length ts → DerivesNamed (Some (ident w p)) length (name_token w p ∷ ts)
 
-pub data DerivesParameter : Parameter → List Lexeme → Type 0 where
-  a_parameter : {kind : Kind} {name : Option Ident} {length : Option ExprTree} {consts type ts : List Lexeme} → AreConsts consts → DerivesType kind type → DerivesNamed name length ts
+pub data DerivesParameter : Parameter → List Terminal → Type 0 where
+  a_parameter : {kind : Kind} {name : Option Ident} {length : Option ExprTree} {consts type ts : List Terminal} → AreConsts consts → DerivesType kind type → DerivesNamed name length ts
       → DerivesParameter (record { span = place_of (consts ++ type); kind = kind; name = name; length = length }) (consts ++ (type ++ ts))
 
 -- the parameters, with the closing parenthesis; `void` stands for none (6.7.6.3p10)
-pub data DerivesParameters : List Parameter → List Lexeme → Type 0 where
+pub data DerivesParameters : List Parameter → List Terminal → Type 0 where
   no_parameter : (q : Span) → DerivesParameters [] (mark marks.Close q ∷ [])
   void_parameter : (p q : Span) → DerivesParameters [] (mark marks.Void p ∷ mark marks.Close q ∷ [])
-  some_parameters : {ps : List Parameter} {ts : List Lexeme} → DerivesSeparated DerivesParameter false marks.Close ps ts → DerivesParameters ps ts
+  some_parameters : {ps : List Parameter} {ts : List Terminal} → DerivesSeparated DerivesParameter false marks.Close ps ts → DerivesParameters ps ts
 
 -- the block of a function, or a semicolon where it is declared
-pub data DerivesEnd : Option Body → List Lexeme → Type 0 where
+pub data DerivesEnd : Option Body → List Terminal → Type 0 where
   declared : (p : Span) → DerivesEnd None (mark marks.Semicolon p ∷ [])
-  defined : {ss : List Statement} {ts : List Lexeme} (p q : Span) → DerivesBody ss ts
+  defined : {ss : List Statement} {ts : List Terminal} (p q : Span) → DerivesBody ss ts
       → DerivesEnd (Some (record { statements = ss; close = q })) (mark marks.OpenBrace p ∷ (ts ++ mark marks.CloseBrace q ∷ []))
 
 -- the name of an `enum`, which leaves no trace (6.7.2.2)
-pub data AreTag : List Lexeme → Type 0 where
+pub data AreTag : List Terminal → Type 0 where
   no_tag : AreTag []
   a_tag : {w : Text} {p : Span} → AreTag (name_token w p ∷ [])
 
 -- an enum constant, with its value or without
-pub data DerivesConstant : Ident × Option ExprTree → List Lexeme → Type 0 where
+pub data DerivesConstant : Ident × Option ExprTree → List Terminal → Type 0 where
   plain_constant : {w : Text} {p : Span} → DerivesConstant (ident w p, None) (name_token w p ∷ [])
-  with_value : {w : Text} {p : Span} {t : ExprTree} {ts : List Lexeme} (q : Span) → DerivesChoice t ts → DerivesConstant (ident w p, Some t) (name_token w p ∷ mark marks.Assign q ∷ ts)
+  with_value : {w : Text} {p : Span} {t : ExprTree} {ts : List Terminal} (q : Span) → DerivesChoice t ts → DerivesConstant (ident w p, Some t) (name_token w p ∷ mark marks.Assign q ∷ ts)
 
-pub data DerivesItem : Item → List Lexeme → Type 0 where
-  a_function : {result : Option Kind} {w : Text} {ps : List Parameter} {body : Option Body} {before type ts us : List Lexeme} (p q : Span)
+pub data DerivesItem : Item → List Terminal → Type 0 where
+  a_function : {result : Option Kind} {w : Text} {ps : List Parameter} {body : Option Body} {before type ts us : List Terminal} (p q : Span)
       → AreAll ForFunction before → DerivesResult result type → DerivesParameters ps ts → DerivesEnd body us
       → DerivesItem (item.Function (place_of (before ++ type)) result (ident w p) ps body) (before ++ (type ++ name_token w p ∷ mark marks.Open q ∷ (ts ++ us)))
-  some_variables : {kind : Kind} {ds : List Declarator} {before type ts : List Lexeme} → AreAll ForVariable before → DerivesType kind type → DerivesDeclarators ds ts
+  some_variables : {kind : Kind} {ds : List Declarator} {before type ts : List Terminal} → AreAll ForVariable before → DerivesType kind type → DerivesDeclarators ds ts
       → DerivesItem (item.Variables (place_of (before ++ type)) kind ds) (before ++ (type ++ ts))
-  some_constants : {cs : List (Ident × Option ExprTree)} {tag ts : List Lexeme} (p q r : Span) → AreTag tag → DerivesSeparated DerivesConstant true marks.CloseBrace cs ts
+  some_constants : {cs : List (Ident × Option ExprTree)} {tag ts : List Terminal} (p q r : Span) → AreTag tag → DerivesSeparated DerivesConstant true marks.CloseBrace cs ts
       → DerivesItem (item.Constants p cs) (mark marks.Enum p ∷ (tag ++ mark marks.OpenBrace q ∷ (ts ++ mark marks.Semicolon r ∷ [])))
 
 -- items, one after the other
-pub data DerivesItems : List Item → List Lexeme → Type 0 where
+pub data DerivesItems : List Item → List Terminal → Type 0 where
   no_items : DerivesItems [] []
-  an_item_and : {i : Item} {is : List Item} {ts us : List Lexeme} → DerivesItem i ts → DerivesItems is us → DerivesItems (i ∷ is) (ts ++ us)
+  an_item_and : {i : Item} {is : List Item} {ts us : List Terminal} → DerivesItem i ts → DerivesItems is us → DerivesItems (i ∷ is) (ts ++ us)

@@ -11,6 +11,7 @@ pub mod ReadingItems
 pub mod ReadingStatements
 pub mod Scan
 pub mod Separated
+pub mod SequencePoints
 pub mod Signs
 pub mod StatementTrees
 pub mod Statements

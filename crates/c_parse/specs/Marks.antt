@@ -4,7 +4,7 @@ use Rattle.c_parse.specs.declared.sign.Mark.{Mark}
 use Rattle.c_parse.specs.declared.sign.Mark.TheVariants as marks
 use Rattle.c_parse.specs.declared.sign.Sign.{Sign}
 use Rattle.c_parse.specs.declared.sign.Sign.TheVariants as sign
-use Rattle.c_parse.specs.declared.sign.Lexeme.{Lexeme}
+use Rattle.c_parse.specs.declared.sign.Terminal.{Terminal}
 
 -- marks are told apart by numbers
 abbrev pub code_of : Mark → ℕ
@@ -76,6 +76,6 @@ is_mark m (sign.Mark x) = code_of x == code_of m
 is_mark m _ = false
 
 -- the first token is this mark
-abbrev pub starts : Mark → List Lexeme → Bool
+abbrev pub starts : Mark → List Terminal → Bool
 starts m [] = false
 starts m (t ∷ ts) = is_mark m t.sign

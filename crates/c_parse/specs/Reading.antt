@@ -10,7 +10,7 @@ use Rattle.c_parse.specs.declared.sign.Mark.TheVariants as marks
 use Rattle.c_parse.specs.declared.sign.TypeWord.{TypeWord}
 use Rattle.c_parse.specs.declared.sign.Sign.{Sign}
 use Rattle.c_parse.specs.declared.sign.Sign.TheVariants as sign
-use Rattle.c_parse.specs.declared.sign.Lexeme.{Lexeme}
+use Rattle.c_parse.specs.declared.sign.Terminal.{Terminal}
 use Rattle.c_parse.specs.declared.expr.ExprTree.{ExprTree}
 use Rattle.c_parse.specs.declared.expr.ExprForm.TheVariants as form
 use Rattle.c_parse.specs.declared.operator.Prefix.{Prefix}
@@ -29,14 +29,14 @@ None >>= f = None
 
 -- a value, and the tokens after it
 abbrev pub Read : Type 0 → Type 0
-Read A = Option (A × List Lexeme)
+Read A = Option (A × List Terminal)
 
-abbrev pub tail : List Lexeme → List Lexeme
+abbrev pub tail : List Terminal → List Terminal
 tail [] = []
 tail (t ∷ ts) = ts
 
 -- what follows this mark
-abbrev pub expect : Mark → List Lexeme → Option (List Lexeme)
+abbrev pub expect : Mark → List Terminal → Option (List Terminal)
 expect m ts = if starts m ts then Some (tail ts) else None
 
 -- the first token is a word of a type
@@ -44,7 +44,7 @@ abbrev pub is_type : Sign → Bool
 is_type (sign.Type w) = true
 is_type _ = false
 
-abbrev pub starts_type : List Lexeme → Bool
+abbrev pub starts_type : List Terminal → Bool
 starts_type [] = false
 starts_type (t ∷ ts) = is_type t.sign
 
@@ -57,19 +57,19 @@ abbrev pub word_of : Sign → Option TypeWord
 word_of (sign.Type w) = Some w
 word_of _ = None
 
-abbrev pub word_at : List Lexeme → Option TypeWord
+abbrev pub word_at : List Terminal → Option TypeWord
 word_at [] = None
 word_at (t ∷ ts) = word_of t.sign
 
-abbrev pub words_of : List Lexeme → List TypeWord
+abbrev pub words_of : List Terminal → List TypeWord
 words_of [] = []
 words_of (t ∷ ts) = with_word t.sign (words_of ts)
 
-abbrev pub past_words : List Lexeme → List Lexeme
+abbrev pub past_words : List Terminal → List Terminal
 past_words [] = []
 past_words (t ∷ ts) = if is_type t.sign then past_words ts else t ∷ ts
 
-unfoldable pub type_at : List Lexeme → Read Kind
+unfoldable pub type_at : List Terminal → Read Kind
 type_at ts = kind_of (words_of ts) >>= λ kind. Some (kind, past_words ts)
 
 -- the operator that a mark is
@@ -98,7 +98,7 @@ abbrev pub infix_of_sign : Sign → Option Infix
 infix_of_sign (sign.Mark m) = infix_of m
 infix_of_sign _ = None
 
-abbrev pub infix_at : List Lexeme → Option Infix
+abbrev pub infix_at : List Terminal → Option Infix
 infix_at [] = None
 infix_at (t ∷ ts) = infix_of_sign t.sign
 
@@ -117,10 +117,10 @@ by_operator k (Some op) f d = if nat_le k (level op) then f op else d
 
 -- How an expression, at level 0, or an operand at a higher level is read.
 abbrev pub Reader : Type 0
-Reader = ℕ → List Lexeme → Read ExprTree
+Reader = ℕ → List Terminal → Read ExprTree
 
 -- arguments up to the closing parenthesis, of which there is at least one
-unfoldable pub arguments_at : Reader → ℕ → List Lexeme → Read (List ExprTree)
+unfoldable pub arguments_at : Reader → ℕ → List Terminal → Read (List ExprTree)
 arguments_at r zero ts = None
 arguments_at r (suc n) ts =
     r 0 ts >>= λ first.
@@ -129,7 +129,7 @@ arguments_at r (suc n) ts =
     else (expect marks.Close first.1 >>= λ rest. Some (first.0 ∷ [], rest))
 
 -- what follows a name
-unfoldable pub after_name : Reader → Span → Text → List Lexeme → Read ExprTree
+unfoldable pub after_name : Reader → Span → Text → List Terminal → Read ExprTree
 after_name r p w ts =
     if starts marks.OpenIndex ts
     then (r 0 (tail ts) >>= λ x. expect marks.CloseIndex x.1 >>= λ rest. Some (tree p (form.Element w x.0), rest))
@@ -140,30 +140,30 @@ after_name r p w ts =
     else Some (tree p (form.Name w), ts))
 
 -- what follows an opening parenthesis
-unfoldable pub after_open : Reader → Span → List Lexeme → Read ExprTree
+unfoldable pub after_open : Reader → Span → List Terminal → Read ExprTree
 after_open r p ts =
     if starts_type ts
     then (type_at ts >>= λ kind. expect marks.Close kind.1 >>= λ rest. r 11 rest >>= λ x. Some (tree p (form.Cast kind.0 x.0), x.1))
     else (r 0 ts >>= λ x. expect marks.Close x.1 >>= λ rest. Some (x.0, rest))
 
 -- what follows an operator before its operand
-abbrev pub after_prefix : Reader → Option Prefix → Span → List Lexeme → Read ExprTree
+abbrev pub after_prefix : Reader → Option Prefix → Span → List Terminal → Read ExprTree
 after_prefix r None p ts = None
 after_prefix r (Some op) p ts = r 11 ts >>= λ x. Some (tree p (prefixed op x.0), x.1)
 
 -- an operand
-abbrev pub operand_of : Reader → Sign → Span → List Lexeme → Read ExprTree
+abbrev pub operand_of : Reader → Sign → Span → List Terminal → Read ExprTree
 operand_of r (sign.Number n kind) p ts = Some (tree p (form.Number n kind), ts)
 operand_of r (sign.Name w) p ts = after_name r p w ts
 operand_of r (sign.Mark m) p ts = if is_mark marks.Open (sign.Mark m) then after_open r p ts else after_prefix r (prefix_of m) p ts
 operand_of r _ p ts = None
 
-unfoldable pub operand_at : Reader → List Lexeme → Read ExprTree
+unfoldable pub operand_at : Reader → List Terminal → Read ExprTree
 operand_at r [] = None
 operand_at r (t ∷ ts) = operand_of r t.sign t.span ts
 
 -- operators of level k or above and their right operands, left to right, after the tree so far, whose first token stands at p
-unfoldable pub operators_at : Reader → ℕ → ℕ → Span → ExprTree → List Lexeme → Read ExprTree
+unfoldable pub operators_at : Reader → ℕ → ℕ → Span → ExprTree → List Terminal → Read ExprTree
 operators_at r zero k p t ts = Some (t, ts)
 operators_at r (suc n) k p t ts =
     by_operator k (infix_at ts)
@@ -171,11 +171,11 @@ operators_at r (suc n) k p t ts =
     (Some (t, ts))
 
 -- an operand at level k
-unfoldable pub level_by : Reader → ℕ → List Lexeme → Read ExprTree
+unfoldable pub level_by : Reader → ℕ → List Terminal → Read ExprTree
 level_by r k ts = operand_at r ts >>= λ t. operators_at r (length t.1) k (place_of ts) t.0 t.1
 
 -- an expression
-unfoldable pub choice_by : Reader → List Lexeme → Read ExprTree
+unfoldable pub choice_by : Reader → List Terminal → Read ExprTree
 choice_by r ts =
     level_by r 1 ts >>= λ c.
     if starts marks.Question c.1
@@ -189,9 +189,9 @@ expr_at (suc n) zero ts = choice_by (expr_at n) ts
 expr_at (suc n) (suc k) ts = level_by (expr_at n) (suc k) ts
 
 -- nothing may follow
-abbrev pub at_end : {A : Type 0} → A × List Lexeme → Option A
+abbrev pub at_end : {A : Type 0} → A × List Terminal → Option A
 at_end x = elim x.1 [ [] ↦ Some x.0 | t ∷ ts ↦ None ]
 
 -- the expression that all the tokens are
-unfoldable pub whole_at : List Lexeme → Option ExprTree
+unfoldable pub whole_at : List Terminal → Option ExprTree
 whole_at ts = expr_at (suc (length ts)) 0 ts >>= at_end

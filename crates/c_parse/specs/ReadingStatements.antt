@@ -6,7 +6,7 @@ use Rattle.c_parse.specs.declared.sign.Mark.{Mark}
 use Rattle.c_parse.specs.declared.sign.Mark.TheVariants as marks
 use Rattle.c_parse.specs.declared.sign.Sign.{Sign}
 use Rattle.c_parse.specs.declared.sign.Sign.TheVariants as sign
-use Rattle.c_parse.specs.declared.sign.Lexeme.{Lexeme}
+use Rattle.c_parse.specs.declared.sign.Terminal.{Terminal}
 use Rattle.c_parse.specs.declared.expr.ExprTree.{ExprTree}
 use Rattle.c_parse.specs.declared.statement.PlaceTree.{PlaceTree}
 use Rattle.c_parse.specs.declared.statement.Declarator.{Declarator}
@@ -21,11 +21,11 @@ use Rattle.c_parse.specs.StatementTrees.{statement, ident, place_tree, declarato
 use Rattle.c_parse.specs.Reading.{Read, ◌>>=◌, is_mark, starts, starts_type, tail, expect, type_at, arguments_at, expr_at}
 
 -- an expression, nested as deep as its tokens allow
-unfoldable pub choice_in : List Lexeme → Read ExprTree
+unfoldable pub choice_in : List Terminal → Read ExprTree
 choice_in ts = expr_at (suc (length ts)) 0 ts
 
 -- forms with commas between them, and the mark behind the last
-unfoldable pub separated_at : {Y : Type 0} → (List Lexeme → Read Y) → Bool → Mark → ℕ → List Lexeme → Read (List Y)
+unfoldable pub separated_at : {Y : Type 0} → (List Terminal → Read Y) → Bool → Mark → ℕ → List Terminal → Read (List Y)
 separated_at one comma last zero ts = None
 separated_at one comma last (suc n) ts =
     one ts >>= λ y.
@@ -40,19 +40,19 @@ abbrev pub name_of : Sign → Option Text
 name_of (sign.Name w) = Some w
 name_of _ = None
 
-abbrev pub name_at : List Lexeme → Option Text
+abbrev pub name_at : List Terminal → Option Text
 name_at [] = None
 name_at (t ∷ ts) = name_of t.sign
 
 -- the length of an array, or the index of an element, if there is one
-unfoldable pub bracketed_at : List Lexeme → Read (Option ExprTree)
+unfoldable pub bracketed_at : List Terminal → Read (Option ExprTree)
 bracketed_at ts =
     if starts marks.OpenIndex ts
     then (choice_in (tail ts) >>= λ x. expect marks.CloseIndex x.1 >>= λ rest. Some (Some x.0, rest))
     else Some (None, ts)
 
 -- what a name begins as
-unfoldable pub first_at : List Lexeme → Read (Option Initial)
+unfoldable pub first_at : List Terminal → Read (Option Initial)
 first_at ts =
     if starts marks.Assign ts
     then (if starts marks.OpenBrace (tail ts)
@@ -60,23 +60,23 @@ first_at ts =
     else (choice_in (tail ts) >>= λ t. Some (Some (initial.One t.0), t.1)))
     else Some (None, ts)
 
-unfoldable pub declarator_at : List Lexeme → Read Declarator
+unfoldable pub declarator_at : List Terminal → Read Declarator
 declarator_at ts =
     name_at ts >>= λ w. bracketed_at (tail ts) >>= λ l. first_at l.1 >>= λ f. Some (declarator w (place_of ts) l.0 f.0, f.1)
 
-abbrev pub declarators_at : List Lexeme → Read (List Declarator)
+abbrev pub declarators_at : List Terminal → Read (List Declarator)
 declarators_at ts = separated_at declarator_at false marks.Semicolon (length ts) ts
 
 -- what follows the words `const` in front
-abbrev pub past_consts : List Lexeme → List Lexeme
+abbrev pub past_consts : List Terminal → List Terminal
 past_consts [] = []
 past_consts (t ∷ ts) = if is_mark marks.Const t.sign then past_consts ts else t ∷ ts
 
 -- a declaration in a block
-abbrev pub starts_local : List Lexeme → Bool
+abbrev pub starts_local : List Terminal → Bool
 starts_local ts = starts marks.Const ts || starts_type ts
 
-unfoldable pub local_at : List Lexeme → Read Statement
+unfoldable pub local_at : List Terminal → Read Statement
 local_at ts =
     type_at (past_consts ts) >>= λ kind. declarators_at kind.1 >>= λ ds. Some (statement (place_of ts) (form.Local kind.0 ds.0), ds.1)
 
@@ -85,21 +85,21 @@ abbrev pub mark_of : Sign → Option Mark
 mark_of (sign.Mark m) = Some m
 mark_of _ = None
 
-abbrev pub mark_at : List Lexeme → Option Mark
+abbrev pub mark_at : List Terminal → Option Mark
 mark_at [] = None
 mark_at (t ∷ ts) = mark_of t.sign
 
 -- what is done with a place, by the mark behind it
-abbrev pub changed_by : Option Bool → Option (Option BinaryOp) → Span → PlaceTree → List Lexeme → Read Statement
+abbrev pub changed_by : Option Bool → Option (Option BinaryOp) → Span → PlaceTree → List Terminal → Read Statement
 changed_by (Some up) how p to ts = Some (statement p (form.Step to up), ts)
 changed_by None (Some op) p to ts = choice_in ts >>= λ t. Some (statement p (form.Assign to op t.0), t.1)
 changed_by None None p to ts = None
 
-unfoldable pub changed_at : Span → PlaceTree → List Lexeme → Read Statement
+unfoldable pub changed_at : Span → PlaceTree → List Terminal → Read Statement
 changed_at p to ts = mark_at ts >>= λ m. changed_by (step_by m) (assigned_by m) p to (tail ts)
 
 -- a call, an assignment or a step that begins with a name
-unfoldable pub named_at : Span → Text → List Lexeme → Read Statement
+unfoldable pub named_at : Span → Text → List Terminal → Read Statement
 named_at p w ts =
     if starts marks.Open ts
     then (if starts marks.Close (tail ts)
@@ -108,48 +108,48 @@ named_at p w ts =
     else (bracketed_at ts >>= λ i. changed_at p (place_tree w p i.0) i.1)
 
 -- a step that begins with its mark
-unfoldable pub stepped_at : Span → Mark → List Lexeme → Read Statement
+unfoldable pub stepped_at : Span → Mark → List Terminal → Read Statement
 stepped_at p m ts =
     step_by m >>= λ up. name_at ts >>= λ w. bracketed_at (tail ts) >>= λ i. Some (statement p (form.Step (place_tree w (place_of ts) i.0) up), i.1)
 
-abbrev pub simple_of : Sign → Span → List Lexeme → Read Statement
+abbrev pub simple_of : Sign → Span → List Terminal → Read Statement
 simple_of (sign.Name w) p ts = named_at p w ts
 simple_of (sign.Mark m) p ts = stepped_at p m ts
 simple_of _ p ts = None
 
-unfoldable pub simple_at : List Lexeme → Read Statement
+unfoldable pub simple_at : List Terminal → Read Statement
 simple_at [] = None
 simple_at (t ∷ ts) = simple_of t.sign t.span ts
 
 -- a test in parentheses
-unfoldable pub test_at : List Lexeme → Read ExprTree
+unfoldable pub test_at : List Terminal → Read ExprTree
 test_at ts = expect marks.Open ts >>= λ a. choice_in a >>= λ c. expect marks.Close c.1 >>= λ b. Some (c.0, b)
 
 -- an expression, or nothing before a semicolon
-unfoldable pub optional_at : List Lexeme → Read (Option ExprTree)
+unfoldable pub optional_at : List Terminal → Read (Option ExprTree)
 optional_at ts = if starts marks.Semicolon ts then Some (None, ts) else (choice_in ts >>= λ t. Some (Some t.0, t.1))
 
 -- what a `for` begins with, and what it does behind each turn
-unfoldable pub begin_at : List Lexeme → Read (Option Statement)
+unfoldable pub begin_at : List Terminal → Read (Option Statement)
 begin_at ts =
     if starts marks.Semicolon ts then Some (None, tail ts)
     else (if starts_local ts then (local_at ts >>= λ s. Some (Some s.0, s.1))
     else (simple_at ts >>= λ s. expect marks.Semicolon s.1 >>= λ rest. Some (Some s.0, rest)))
 
-unfoldable pub next_at : List Lexeme → Read (Option Statement)
+unfoldable pub next_at : List Terminal → Read (Option Statement)
 next_at ts = if starts marks.Close ts then Some (None, ts) else (simple_at ts >>= λ s. Some (Some s.0, s.1))
 
 -- the labels in a row
-abbrev pub starts_label : List Lexeme → Bool
+abbrev pub starts_label : List Terminal → Bool
 starts_label ts = starts marks.Case ts || starts marks.Default ts
 
-unfoldable pub label_at : List Lexeme → Read CaseLabel
+unfoldable pub label_at : List Terminal → Read CaseLabel
 label_at ts =
     if starts marks.Case ts
     then (choice_in (tail ts) >>= λ t. expect marks.Colon t.1 >>= λ rest. Some (case_label (place_of ts) (Some t.0), rest))
     else (expect marks.Default ts >>= λ a. expect marks.Colon a >>= λ rest. Some (case_label (place_of ts) None, rest))
 
-unfoldable pub labels_at : ℕ → List Lexeme → Read (List CaseLabel)
+unfoldable pub labels_at : ℕ → List Terminal → Read (List CaseLabel)
 labels_at zero ts = None
 labels_at (suc n) ts =
     label_at ts >>= λ l.
@@ -157,30 +157,30 @@ labels_at (suc n) ts =
 
 -- how a statement is read
 abbrev pub Reads : Type 0
-Reads = List Lexeme → Read Statement
+Reads = List Terminal → Read Statement
 
-abbrev pub one_at : Reads → List Lexeme → Read Statement
+abbrev pub one_at : Reads → List Terminal → Read Statement
 one_at r ts = if starts_local ts then local_at ts else r ts
 
 -- declarations and statements up to a closing brace, or a label of a `switch`
-abbrev pub ends_body : List Lexeme → Bool
+abbrev pub ends_body : List Terminal → Bool
 ends_body ts = starts marks.CloseBrace ts || starts_label ts
 
-unfoldable pub body_at : Reads → ℕ → List Lexeme → Read (List Statement)
+unfoldable pub body_at : Reads → ℕ → List Terminal → Read (List Statement)
 body_at r zero ts = None
 body_at r (suc n) ts =
     if ends_body ts then Some ([], ts)
     else (one_at r ts >>= λ s. body_at r n s.1 >>= λ ss. Some (s.0 ∷ ss.0, ss.1))
 
 -- groups up to the closing brace
-unfoldable pub groups_at : Reads → ℕ → List Lexeme → Read (List Group)
+unfoldable pub groups_at : Reads → ℕ → List Terminal → Read (List Group)
 groups_at r zero ts = None
 groups_at r (suc n) ts =
     if starts marks.CloseBrace ts then Some ([], tail ts)
     else (labels_at (length ts) ts >>= λ ls. body_at r (length ls.1) ls.1 >>= λ ss. groups_at r n ss.1 >>= λ gs. Some (group ls.0 ss.0 ∷ gs.0, gs.1))
 
 -- the arms behind an `if`, and what else
-unfoldable pub arms_at : Reads → ℕ → List Lexeme → Read (List (ExprTree × Statement) × Option Statement)
+unfoldable pub arms_at : Reads → ℕ → List Terminal → Read (List (ExprTree × Statement) × Option Statement)
 arms_at r zero ts = None
 arms_at r (suc n) ts =
     test_at ts >>= λ c. r c.1 >>= λ s.
@@ -191,29 +191,29 @@ arms_at r (suc n) ts =
     else Some (((c.0, s.0) ∷ [], None), s.1)
 
 -- what follows `do`, `for`, `switch`, `return`, `assert` and `assume`
-unfoldable pub do_at : Reads → Span → List Lexeme → Read Statement
+unfoldable pub do_at : Reads → Span → List Terminal → Read Statement
 do_at r p ts = r ts >>= λ s. expect marks.While s.1 >>= λ a. test_at a >>= λ c. expect marks.Semicolon c.1 >>= λ rest. Some (statement p (form.Do s.0 c.0), rest)
 
-unfoldable pub for_at : Reads → Span → List Lexeme → Read Statement
+unfoldable pub for_at : Reads → Span → List Terminal → Read Statement
 for_at r p ts =
     expect marks.Open ts >>= λ a. begin_at a >>= λ i. optional_at i.1 >>= λ c. expect marks.Semicolon c.1 >>= λ b. next_at b >>= λ j. expect marks.Close j.1 >>= λ d. r d >>= λ s.
     Some (statement p (form.For i.0 c.0 j.0 s.0), s.1)
 
-unfoldable pub switch_at : Reads → Span → List Lexeme → Read Statement
+unfoldable pub switch_at : Reads → Span → List Terminal → Read Statement
 switch_at r p ts =
     test_at ts >>= λ c. expect marks.OpenBrace c.1 >>= λ a. groups_at r (length a) a >>= λ gs. Some (statement p (form.Switch c.0 gs.0), gs.1)
 
-unfoldable pub return_at : Span → List Lexeme → Read Statement
+unfoldable pub return_at : Span → List Terminal → Read Statement
 return_at p ts = optional_at ts >>= λ t. expect marks.Semicolon t.1 >>= λ rest. Some (statement p (form.Return t.0), rest)
 
-unfoldable pub assert_at : Span → List Lexeme → Read Statement
+unfoldable pub assert_at : Span → List Terminal → Read Statement
 assert_at p ts = test_at ts >>= λ t. expect marks.Semicolon t.1 >>= λ rest. Some (statement p (form.Assert t.0), rest)
 
-unfoldable pub assume_at : Span → List Lexeme → Read Statement
+unfoldable pub assume_at : Span → List Terminal → Read Statement
 assume_at p ts = test_at ts >>= λ t. expect marks.Semicolon t.1 >>= λ rest. Some (statement p (form.Assume t.0), rest)
 
 -- what follows the first token
-abbrev pub statement_of_mark : Reads → Mark → Span → List Lexeme → Read Statement
+abbrev pub statement_of_mark : Reads → Mark → Span → List Terminal → Read Statement
 statement_of_mark r marks.OpenBrace p ts = body_at r (length ts) ts >>= λ ss. expect marks.CloseBrace ss.1 >>= λ rest. Some (statement p (form.Block ss.0), rest)
 statement_of_mark r marks.Semicolon p ts = Some (statement p form.Empty, ts)
 statement_of_mark r marks.If p ts = arms_at r (length ts) ts >>= λ x. Some (statement p (form.If x.0.0 x.0.1), x.1)
@@ -229,18 +229,18 @@ statement_of_mark r marks.Assume p ts = assume_at p ts
 statement_of_mark r m p ts = stepped_at p m ts >>= λ s. expect marks.Semicolon s.1 >>= λ rest. Some (s.0, rest)
 
 -- a statement that begins with a name: a label has a colon behind it
-unfoldable pub labelled_at : Reads → Span → Text → List Lexeme → Read Statement
+unfoldable pub labelled_at : Reads → Span → Text → List Terminal → Read Statement
 labelled_at r p w ts =
     if starts marks.Colon ts
     then (r (tail ts) >>= λ s. Some (statement p (form.Label (ident w p) s.0), s.1))
     else (named_at p w ts >>= λ s. expect marks.Semicolon s.1 >>= λ rest. Some (s.0, rest))
 
-abbrev pub statement_of : Reads → Sign → Span → List Lexeme → Read Statement
+abbrev pub statement_of : Reads → Sign → Span → List Terminal → Read Statement
 statement_of r (sign.Mark m) p ts = statement_of_mark r m p ts
 statement_of r (sign.Name w) p ts = labelled_at r p w ts
 statement_of r _ p ts = None
 
-unfoldable pub statement_by : Reads → List Lexeme → Read Statement
+unfoldable pub statement_by : Reads → List Terminal → Read Statement
 statement_by r [] = None
 statement_by r (t ∷ ts) = statement_of r t.sign t.span ts
 

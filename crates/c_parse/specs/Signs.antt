@@ -11,7 +11,7 @@ use Rattle.c_parse.specs.declared.sign.TypeWord.{TypeWord}
 use Rattle.c_parse.specs.declared.sign.TypeWord.TheVariants as words
 use Rattle.c_parse.specs.declared.sign.Sign.{Sign}
 use Rattle.c_parse.specs.declared.sign.Sign.TheVariants as sign
-use Rattle.c_parse.specs.declared.sign.Lexeme.{Lexeme}
+use Rattle.c_parse.specs.declared.sign.Terminal.{Terminal}
 
 -- how a punctuator (6.4.6) or a keyword (6.4.1) is spelled
 abbrev pub spelling : Mark → List ℕ
@@ -150,5 +150,5 @@ sign_of kind.Mark text = mark_sign text
 sign_of kind.Foreign text = sign.Foreign
 
 -- a token as the grammar sees it
-abbrev pub lexeme_of : Token → Lexeme
-lexeme_of t = record { sign = sign_of t.kind t.text; span = t.span }
+abbrev pub terminal_of : Token → Terminal
+terminal_of t = record { sign = sign_of t.kind t.text; span = t.span }

@@ -5,7 +5,7 @@ use Rattle.c_values.specs.declared.kinds.Kind.{Kind}
 use Rattle.c_values.specs.declared.operators.BinaryOp.{BinaryOp}
 use Rattle.c_parse.specs.declared.sign.Mark.{Mark}
 use Rattle.c_parse.specs.declared.sign.Mark.TheVariants as marks
-use Rattle.c_parse.specs.declared.sign.Lexeme.{Lexeme}
+use Rattle.c_parse.specs.declared.sign.Terminal.{Terminal}
 use Rattle.c_parse.specs.declared.expr.ExprTree.{ExprTree}
 use Rattle.c_parse.specs.declared.statement.PlaceTree.{PlaceTree}
 use Rattle.c_parse.specs.declared.statement.Declarator.{Declarator}
@@ -19,109 +19,109 @@ use Rattle.c_parse.specs.StatementTrees.{statement, ident, place_tree, case_labe
 use Rattle.c_parse.specs.Declarations.{DerivesType, DerivesBracketed, DerivesDeclarators}
 
 -- any number of words `const`, which leave no trace (6.7.3)
-pub data AreConsts : List Lexeme → Type 0 where
+pub data AreConsts : List Terminal → Type 0 where
   no_const : AreConsts []
-  a_const : {ts : List Lexeme} (p : Span) → AreConsts ts → AreConsts (mark marks.Const p ∷ ts)
+  a_const : {ts : List Terminal} (p : Span) → AreConsts ts → AreConsts (mark marks.Const p ∷ ts)
 
 -- what may be assigned to: a variable, or an element
-pub data DerivesPlace : PlaceTree → List Lexeme → Type 0 where
-  a_place : {w : Text} {p : Span} {index : Option ExprTree} {ts : List Lexeme} → DerivesBracketed index ts → DerivesPlace (place_tree w p index) (name_token w p ∷ ts)
+pub data DerivesPlace : PlaceTree → List Terminal → Type 0 where
+  a_place : {w : Text} {p : Span} {index : Option ExprTree} {ts : List Terminal} → DerivesBracketed index ts → DerivesPlace (place_tree w p index) (name_token w p ∷ ts)
 
 -- an assignment, a step or a call (6.5.16, 6.5.2.4, 6.5.3.1, 6.5.2.2)
-pub data DerivesSimple : Statement → List Lexeme → Type 0 where
-  an_assignment : {to : PlaceTree} {op : Option BinaryOp} {t : ExprTree} {xs ys : List Lexeme} (m : Mark) (q : Span) → DerivesPlace to xs → assigned_by m ≡ Some op → DerivesChoice t ys
+pub data DerivesSimple : Statement → List Terminal → Type 0 where
+  an_assignment : {to : PlaceTree} {op : Option BinaryOp} {t : ExprTree} {xs ys : List Terminal} (m : Mark) (q : Span) → DerivesPlace to xs → assigned_by m ≡ Some op → DerivesChoice t ys
       → DerivesSimple (statement (place_of xs) (form.Assign to op t)) (xs ++ mark m q ∷ ys)
-  a_step_after : {to : PlaceTree} {up : Bool} {xs : List Lexeme} (m : Mark) (q : Span) → DerivesPlace to xs → step_by m ≡ Some up
+  a_step_after : {to : PlaceTree} {up : Bool} {xs : List Terminal} (m : Mark) (q : Span) → DerivesPlace to xs → step_by m ≡ Some up
       → DerivesSimple (statement (place_of xs) (form.Step to up)) (xs ++ mark m q ∷ [])
-  a_step_before : {to : PlaceTree} {up : Bool} {xs : List Lexeme} (m : Mark) (q : Span) → step_by m ≡ Some up → DerivesPlace to xs
+  a_step_before : {to : PlaceTree} {up : Bool} {xs : List Terminal} (m : Mark) (q : Span) → step_by m ≡ Some up → DerivesPlace to xs
       → DerivesSimple (statement q (form.Step to up)) (mark m q ∷ xs)
   a_bare_run : {w : Text} {p : Span} (q r : Span)
       → DerivesSimple (statement p (form.Call (ident w p) [])) (name_token w p ∷ mark marks.Open q ∷ mark marks.Close r ∷ [])
-  a_run : {w : Text} {p : Span} {args : List ExprTree} {ts : List Lexeme} (q r : Span) → DerivesArguments args ts
+  a_run : {w : Text} {p : Span} {args : List ExprTree} {ts : List Terminal} (q r : Span) → DerivesArguments args ts
       → DerivesSimple (statement p (form.Call (ident w p) args)) (name_token w p ∷ mark marks.Open q ∷ (ts ++ mark marks.Close r ∷ []))
 
 -- a declaration in a block, with its semicolon (6.7)
-pub data DerivesLocal : Statement → List Lexeme → Type 0 where
-  a_local : {kind : Kind} {ds : List Declarator} {consts type ts : List Lexeme} → AreConsts consts → DerivesType kind type → DerivesDeclarators ds ts
+pub data DerivesLocal : Statement → List Terminal → Type 0 where
+  a_local : {kind : Kind} {ds : List Declarator} {consts type ts : List Terminal} → AreConsts consts → DerivesType kind type → DerivesDeclarators ds ts
       → DerivesLocal (statement (place_of (consts ++ type)) (form.Local kind ds)) (consts ++ (type ++ ts))
 
 -- an expression, or nothing
-pub data DerivesOptional : Option ExprTree → List Lexeme → Type 0 where
+pub data DerivesOptional : Option ExprTree → List Terminal → Type 0 where
   no_choice : DerivesOptional None []
-  some_choice : {t : ExprTree} {ts : List Lexeme} → DerivesChoice t ts → DerivesOptional (Some t) ts
+  some_choice : {t : ExprTree} {ts : List Terminal} → DerivesChoice t ts → DerivesOptional (Some t) ts
 
 -- what a `for` begins with, and what it does behind each turn (6.8.5.3)
-pub data DerivesBegin : Option Statement → List Lexeme → Type 0 where
+pub data DerivesBegin : Option Statement → List Terminal → Type 0 where
   begins_not : (p : Span) → DerivesBegin None (mark marks.Semicolon p ∷ [])
-  begins_simple : {s : Statement} {ts : List Lexeme} (p : Span) → DerivesSimple s ts → DerivesBegin (Some s) (ts ++ mark marks.Semicolon p ∷ [])
-  begins_local : {s : Statement} {ts : List Lexeme} → DerivesLocal s ts → DerivesBegin (Some s) ts
+  begins_simple : {s : Statement} {ts : List Terminal} (p : Span) → DerivesSimple s ts → DerivesBegin (Some s) (ts ++ mark marks.Semicolon p ∷ [])
+  begins_local : {s : Statement} {ts : List Terminal} → DerivesLocal s ts → DerivesBegin (Some s) ts
 
-pub data DerivesNext : Option Statement → List Lexeme → Type 0 where
+pub data DerivesNext : Option Statement → List Terminal → Type 0 where
   no_next : DerivesNext None []
-  a_next : {s : Statement} {ts : List Lexeme} → DerivesSimple s ts → DerivesNext (Some s) ts
+  a_next : {s : Statement} {ts : List Terminal} → DerivesSimple s ts → DerivesNext (Some s) ts
 
 -- the labels of a group: all that stand in a row, one at least (6.8.1)
-pub data DerivesLabel : CaseLabel → List Lexeme → Type 0 where
-  a_case : {t : ExprTree} {ts : List Lexeme} (p q : Span) → DerivesChoice t ts → DerivesLabel (case_label p (Some t)) (mark marks.Case p ∷ (ts ++ mark marks.Colon q ∷ []))
+pub data DerivesLabel : CaseLabel → List Terminal → Type 0 where
+  a_case : {t : ExprTree} {ts : List Terminal} (p q : Span) → DerivesChoice t ts → DerivesLabel (case_label p (Some t)) (mark marks.Case p ∷ (ts ++ mark marks.Colon q ∷ []))
   a_default : (p q : Span) → DerivesLabel (case_label p None) (mark marks.Default p ∷ mark marks.Colon q ∷ [])
 
-pub data DerivesLabels : List CaseLabel → List Lexeme → Type 0 where
-  last_label : {l : CaseLabel} {ts : List Lexeme} → DerivesLabel l ts → DerivesLabels (l ∷ []) ts
-  more_labels : {l : CaseLabel} {ls : List CaseLabel} {ts us : List Lexeme} → DerivesLabel l ts → DerivesLabels ls us → DerivesLabels (l ∷ ls) (ts ++ us)
+pub data DerivesLabels : List CaseLabel → List Terminal → Type 0 where
+  last_label : {l : CaseLabel} {ts : List Terminal} → DerivesLabel l ts → DerivesLabels (l ∷ []) ts
+  more_labels : {l : CaseLabel} {ls : List CaseLabel} {ts us : List Terminal} → DerivesLabel l ts → DerivesLabels ls us → DerivesLabels (l ∷ ls) (ts ++ us)
 
 -- A statement. The first value says whether it ends in an `if` that has no `else`, so that an `else` that followed would
 -- belong to that `if` (6.8.4.1p3).
 mutual
-  pub data DerivesStatement : Bool → Statement → List Lexeme → Type 0 where
-    a_block : {p : Span} {ss : List Statement} {ts : List Lexeme} (q : Span) → DerivesBody ss ts
+  pub data DerivesStatement : Bool → Statement → List Terminal → Type 0 where
+    a_block : {p : Span} {ss : List Statement} {ts : List Terminal} (q : Span) → DerivesBody ss ts
         → DerivesStatement false (statement p (form.Block ss)) (mark marks.OpenBrace p ∷ (ts ++ mark marks.CloseBrace q ∷ []))
     an_empty : {p : Span} → DerivesStatement false (statement p form.Empty) (mark marks.Semicolon p ∷ [])
-    a_simple : {s : Statement} {ts : List Lexeme} (q : Span) → DerivesSimple s ts → DerivesStatement false s (ts ++ mark marks.Semicolon q ∷ [])
-    a_label : {o : Bool} {w : Text} {p : Span} {s : Statement} {ts : List Lexeme} (q : Span) → DerivesStatement o s ts
+    a_simple : {s : Statement} {ts : List Terminal} (q : Span) → DerivesSimple s ts → DerivesStatement false s (ts ++ mark marks.Semicolon q ∷ [])
+    a_label : {o : Bool} {w : Text} {p : Span} {s : Statement} {ts : List Terminal} (q : Span) → DerivesStatement o s ts
         → DerivesStatement o (statement p (form.Label (ident w p) s)) (name_token w p ∷ mark marks.Colon q ∷ ts)
-    an_if : {o : Bool} {p : Span} {arms : List (ExprTree × Statement)} {otherwise : Option Statement} {ts : List Lexeme} → DerivesArms o arms otherwise ts
+    an_if : {o : Bool} {p : Span} {arms : List (ExprTree × Statement)} {otherwise : Option Statement} {ts : List Terminal} → DerivesArms o arms otherwise ts
         → DerivesStatement o (statement p (form.If arms otherwise)) (mark marks.If p ∷ ts)
-    a_while : {o : Bool} {p : Span} {c : ExprTree} {s : Statement} {xs ys : List Lexeme} (q r : Span) → DerivesChoice c xs → DerivesStatement o s ys
+    a_while : {o : Bool} {p : Span} {c : ExprTree} {s : Statement} {xs ys : List Terminal} (q r : Span) → DerivesChoice c xs → DerivesStatement o s ys
         → DerivesStatement o (statement p (form.While c s)) (mark marks.While p ∷ mark marks.Open q ∷ (xs ++ mark marks.Close r ∷ ys))
-    a_do : {o : Bool} {p : Span} {s : Statement} {c : ExprTree} {xs ys : List Lexeme} (q r u v : Span) → DerivesStatement o s xs → DerivesChoice c ys
+    a_do : {o : Bool} {p : Span} {s : Statement} {c : ExprTree} {xs ys : List Terminal} (q r u v : Span) → DerivesStatement o s xs → DerivesChoice c ys
         → DerivesStatement false (statement p (form.Do s c)) (mark marks.Do p ∷ (xs ++ mark marks.While q ∷ mark marks.Open r ∷ (ys ++ mark marks.Close u ∷ mark marks.Semicolon v ∷ [])))
-    a_for : {o : Bool} {p : Span} {first next : Option Statement} {test : Option ExprTree} {s : Statement} {xs ys zs us : List Lexeme} (q r u : Span)
+    a_for : {o : Bool} {p : Span} {first next : Option Statement} {test : Option ExprTree} {s : Statement} {xs ys zs us : List Terminal} (q r u : Span)
         → DerivesBegin first xs → DerivesOptional test ys → DerivesNext next zs → DerivesStatement o s us
         → DerivesStatement o (statement p (form.For first test next s)) (mark marks.For p ∷ mark marks.Open q ∷ (xs ++ (ys ++ mark marks.Semicolon r ∷ (zs ++ mark marks.Close u ∷ us))))
-    a_switch : {p : Span} {c : ExprTree} {gs : List Group} {xs ys : List Lexeme} (q r u v : Span) → DerivesChoice c xs → DerivesGroups gs ys
+    a_switch : {p : Span} {c : ExprTree} {gs : List Group} {xs ys : List Terminal} (q r u v : Span) → DerivesChoice c xs → DerivesGroups gs ys
         → DerivesStatement false (statement p (form.Switch c gs)) (mark marks.Switch p ∷ mark marks.Open q ∷ (xs ++ mark marks.Close r ∷ mark marks.OpenBrace u ∷ (ys ++ mark marks.CloseBrace v ∷ [])))
     a_break : {p : Span} (q : Span) → DerivesStatement false (statement p form.Break) (mark marks.Break p ∷ mark marks.Semicolon q ∷ [])
     a_continue : {p : Span} (q : Span) → DerivesStatement false (statement p form.Continue) (mark marks.Continue p ∷ mark marks.Semicolon q ∷ [])
-    a_return : {p : Span} {value : Option ExprTree} {ts : List Lexeme} (q : Span) → DerivesOptional value ts
+    a_return : {p : Span} {value : Option ExprTree} {ts : List Terminal} (q : Span) → DerivesOptional value ts
         → DerivesStatement false (statement p (form.Return value)) (mark marks.Return p ∷ (ts ++ mark marks.Semicolon q ∷ []))
-    an_assert : {p : Span} {t : ExprTree} {ts : List Lexeme} (q r u : Span) → DerivesChoice t ts
+    an_assert : {p : Span} {t : ExprTree} {ts : List Terminal} (q r u : Span) → DerivesChoice t ts
         → DerivesStatement false (statement p (form.Assert t)) (mark marks.Assert p ∷ mark marks.Open q ∷ (ts ++ mark marks.Close r ∷ mark marks.Semicolon u ∷ []))
-    an_assume : {p : Span} {t : ExprTree} {ts : List Lexeme} (q r u : Span) → DerivesChoice t ts
+    an_assume : {p : Span} {t : ExprTree} {ts : List Terminal} (q r u : Span) → DerivesChoice t ts
         → DerivesStatement false (statement p (form.Assume t)) (mark marks.Assume p ∷ mark marks.Open q ∷ (ts ++ mark marks.Close r ∷ mark marks.Semicolon u ∷ []))
 
   -- declarations and statements, one after the other (6.8.2)
-  pub data DerivesBody : List Statement → List Lexeme → Type 0 where
+  pub data DerivesBody : List Statement → List Terminal → Type 0 where
     no_more : DerivesBody [] []
-    local_then : {s : Statement} {ss : List Statement} {xs ys : List Lexeme} → DerivesLocal s xs → DerivesBody ss ys → DerivesBody (s ∷ ss) (xs ++ ys)
-    statement_then : {o : Bool} {s : Statement} {ss : List Statement} {xs ys : List Lexeme} → DerivesStatement o s xs → DerivesBody ss ys → DerivesBody (s ∷ ss) (xs ++ ys)
+    local_then : {s : Statement} {ss : List Statement} {xs ys : List Terminal} → DerivesLocal s xs → DerivesBody ss ys → DerivesBody (s ∷ ss) (xs ++ ys)
+    statement_then : {o : Bool} {s : Statement} {ss : List Statement} {xs ys : List Terminal} → DerivesStatement o s xs → DerivesBody ss ys → DerivesBody (s ∷ ss) (xs ++ ys)
 
   -- what follows an `if`: an `else` belongs to the nearest `if` that has none
-  pub data DerivesArms : Bool → List (ExprTree × Statement) → Option Statement → List Lexeme → Type 0 where
-    an_arm : {o b : Bool} {c : ExprTree} {s : Statement} {arms : List (ExprTree × Statement)} {otherwise : Option Statement} {xs ys zs : List Lexeme} (p q : Span)
+  pub data DerivesArms : Bool → List (ExprTree × Statement) → Option Statement → List Terminal → Type 0 where
+    an_arm : {o b : Bool} {c : ExprTree} {s : Statement} {arms : List (ExprTree × Statement)} {otherwise : Option Statement} {xs ys zs : List Terminal} (p q : Span)
         → DerivesChoice c xs → DerivesStatement b s ys → (b ≡ true → zs ≡ []) → DerivesElse o arms otherwise zs
         → DerivesArms o ((c, s) ∷ arms) otherwise (mark marks.Open p ∷ (xs ++ mark marks.Close q ∷ (ys ++ zs)))
 
   -- what follows an arm: an `else` that is followed by `if` begins another
-  pub data DerivesElse : Bool → List (ExprTree × Statement) → Option Statement → List Lexeme → Type 0 where
+  pub data DerivesElse : Bool → List (ExprTree × Statement) → Option Statement → List Terminal → Type 0 where
     no_else : DerivesElse true [] None []
-    an_else : {o : Bool} {s : Statement} {ts : List Lexeme} (p : Span) → starts marks.If ts ≡ false → DerivesStatement o s ts
+    an_else : {o : Bool} {s : Statement} {ts : List Terminal} (p : Span) → starts marks.If ts ≡ false → DerivesStatement o s ts
         → DerivesElse o [] (Some s) (mark marks.Else p ∷ ts)
-    else_if : {o : Bool} {arms : List (ExprTree × Statement)} {otherwise : Option Statement} {ts : List Lexeme} (p q : Span) → DerivesArms o arms otherwise ts
+    else_if : {o : Bool} {arms : List (ExprTree × Statement)} {otherwise : Option Statement} {ts : List Terminal} (p q : Span) → DerivesArms o arms otherwise ts
         → DerivesElse o arms otherwise (mark marks.Else p ∷ mark marks.If q ∷ ts)
 
   -- the groups of a `switch`: another follows only behind a group that has statements, since a group takes all the labels
   -- that stand in a row
-  pub data DerivesGroups : List Group → List Lexeme → Type 0 where
+  pub data DerivesGroups : List Group → List Terminal → Type 0 where
     no_group : DerivesGroups [] []
-    a_group : {ls : List CaseLabel} {ss : List Statement} {gs : List Group} {xs ys zs : List Lexeme} → DerivesLabels ls xs → DerivesBody ss ys → (ys ≡ [] → zs ≡ []) → DerivesGroups gs zs
+    a_group : {ls : List CaseLabel} {ss : List Statement} {gs : List Group} {xs ys zs : List Terminal} → DerivesLabels ls xs → DerivesBody ss ys → (ys ≡ [] → zs ≡ []) → DerivesGroups gs zs
         → DerivesGroups (group ls ss ∷ gs) (xs ++ (ys ++ zs))

@@ -2,7 +2,7 @@
 ghost use Rattle.std.specs.Prelude.{◌≡◌, ℕ, List, map, option_map, Ok, Err, IfOk, IsErrOf};
 ghost use Rattle.fq_core.specs.declared.refusal.Place.{Place};
 ghost use Rattle.c_parse.specs.declared.expr.ExprTree.{ExprTree};
-ghost use Rattle.c_parse.specs.Signs.{lexeme_of};
+ghost use Rattle.c_parse.specs.Signs.{terminal_of};
 ghost use Rattle.c_parse.specs.Expression.{refusal, IsExpression, IsRefusedExpression, IsUnlessMemory};
 ghost use Rattle.c_parse.specs.declared.unit.Item.{Item};
 ghost use Rattle.c_parse.specs.UnitForm.{IsUnit, IsRefusedUnit};
@@ -12,7 +12,7 @@ use crate::expr::ExprTree;
 use crate::expressions::whole;
 use crate::items::items;
 use crate::limits::{first_foreign, first_passed};
-use crate::sign::{Lexeme, lexemes};
+use crate::sign::{Terminal, terminals};
 use crate::stop::Stop;
 use crate::unit::{Item as ItemTree, Unit};
 use c_lex::Token;
@@ -27,7 +27,7 @@ fn refusal(code: u16, place: Place) -> Fault
 }
 
 // The first token that the profile leaves out, and otherwise the first that passes a limit.
-fn early_fault(tokens: &[Lexeme]) -> Option<Fault>
+fn early_fault(tokens: &[Terminal]) -> Option<Fault>
     ensures { result ≡ option_map (λ c. refusal c.0 c.1) (early_cause tokens.now) }
 {
     if let Some(span) = first_foreign(tokens) {
@@ -44,40 +44,41 @@ fn early_fault(tokens: &[Lexeme]) -> Option<Fault>
 }
 
 #[tactic(auto, unfolding(crate::specs::Outcome::expression_outcome))]
-fn read_expression(alloc: Global, tokens: &[Lexeme]) -> Result<ExprTree, Fault>
+fn read_expression(alloc: Global, tokens: &[Terminal]) -> Result<ExprTree, Fault>
     ensures { IsUnlessMemory result (expression_outcome tokens.now) }
 {
     if let Some(fault) = early_fault(tokens) {
         return Err(fault);
     }
     match whole(alloc, tokens) {
-        Ok(tree) => Ok(tree.into_inner()),
+        Ok(tree) if !tree.has_sequence_point() => Ok(tree.into_inner()),
+        Ok(_) | Err(Stop::Syntax) => Err(refusal(20, Place::Nowhere)),
         Err(Stop::Memory) => Err(Fault::Memory),
-        Err(Stop::Syntax) => Err(refusal(20, Place::Nowhere)),
     }
 }
 
-/// The expression that all the tokens are (ISO/IEC 9899:2011, 6.5.15), also with calls, `&&`, `||` and `?:` in it.
+/// The expression without sequence points (ISO/IEC 9899:2011, 6.5.15 and Annex C) that all the tokens are: it has no call,
+/// `&&`, `||` or `?:`.
 ///
 /// Refused are, in this order, the first token that the profile leaves out (code 21, at its line), the first token at
 /// which more than 60 brackets are open or which is the 257th in a row with none of `;` `,` `{` `}` (code 22, with the
-/// limit), and tokens that are no expression (code 20, with no place).
+/// limit), and tokens that are no such expression (code 20, with no place).
 pub fn expression(alloc: Global, tokens: &[Token]) -> Result<ExprTree, Fault>
     // What is answered is an expression of the tokens.
-    ensures accepted { IfOk result (λ tree. IsExpression (map lexeme_of tokens.now) tree) }
+    ensures accepted { IfOk result (λ tree. IsExpression (map terminal_of tokens.now) tree) }
     // The expression of the tokens is answered, where there is one.
-    ensures accepts { (tree : ExprTree) → IsExpression (map lexeme_of tokens.now) tree → IsUnlessMemory result (Ok tree) }
+    ensures accepts { (tree : ExprTree) → IsExpression (map terminal_of tokens.now) tree → IsUnlessMemory result (Ok tree) }
     // A refusal has its cause.
-    ensures refused { (code : ℕ) (p : Place) → IsErrOf result (refusal code p) → IsRefusedExpression (map lexeme_of tokens.now) code p }
+    ensures refused { (code : ℕ) (p : Place) → IsErrOf result (refusal code p) → IsRefusedExpression (map terminal_of tokens.now) code p }
     // Where there is a cause, it is refused.
-    ensures refuses { (code : ℕ) (p : Place) → IsRefusedExpression (map lexeme_of tokens.now) code p → IsUnlessMemory result (Err (refusal code p)) }
+    ensures refuses { (code : ℕ) (p : Place) → IsRefusedExpression (map terminal_of tokens.now) code p → IsUnlessMemory result (Err (refusal code p)) }
 {
-    let lexemes = lexemes(alloc, tokens)?;
-    read_expression(alloc, &lexemes)
+    let terminals = terminals(alloc, tokens)?;
+    read_expression(alloc, &terminals)
 }
 
 // The items that were read, where nothing is left.
-fn by_rest(list: Vector<ItemTree>, rest: &[Lexeme]) -> Result<Unit, Fault>
+fn by_rest(list: Vector<ItemTree>, rest: &[Terminal]) -> Result<Unit, Fault>
     ensures { result ≡ by_rest list rest.now }
 {
     match rest {
@@ -93,7 +94,7 @@ fn by_rest(list: Vector<ItemTree>, rest: &[Lexeme]) -> Result<Unit, Fault>
 }
 
 #[tactic(auto, unfolding(crate::specs::Outcome::unit_outcome))]
-fn read_unit(alloc: Global, tokens: &[Lexeme]) -> Result<Unit, Fault>
+fn read_unit(alloc: Global, tokens: &[Terminal]) -> Result<Unit, Fault>
     ensures { IsUnlessMemory result (unit_outcome tokens.now) }
 {
     if let Some(fault) = early_fault(tokens) {
@@ -111,14 +112,14 @@ fn read_unit(alloc: Global, tokens: &[Lexeme]) -> Result<Unit, Fault>
 /// which on none begins).
 pub fn parse(alloc: Global, tokens: &[Token]) -> Result<Unit, Fault>
     // What is answered are the items of the tokens.
-    ensures accepted { IfOk result (λ unit. IsUnit (map lexeme_of tokens.now) unit.items) }
+    ensures accepted { IfOk result (λ unit. IsUnit (map terminal_of tokens.now) unit.items) }
     // The items of the tokens are answered, where there are such.
-    ensures accepts { (items : List Item) → IsUnit (map lexeme_of tokens.now) items → IsUnlessMemory result (Ok (record { items = items })) }
+    ensures accepts { (items : List Item) → IsUnit (map terminal_of tokens.now) items → IsUnlessMemory result (Ok (record { items = items })) }
     // A refusal has its cause.
-    ensures refused { (code : ℕ) (p : Place) → IsErrOf result (refusal code p) → IsRefusedUnit (map lexeme_of tokens.now) code p }
+    ensures refused { (code : ℕ) (p : Place) → IsErrOf result (refusal code p) → IsRefusedUnit (map terminal_of tokens.now) code p }
     // Where there is a cause, it is refused.
-    ensures refuses { (code : ℕ) (p : Place) → IsRefusedUnit (map lexeme_of tokens.now) code p → IsUnlessMemory result (Err (refusal code p)) }
+    ensures refuses { (code : ℕ) (p : Place) → IsRefusedUnit (map terminal_of tokens.now) code p → IsUnlessMemory result (Err (refusal code p)) }
 {
-    let lexemes = lexemes(alloc, tokens)?;
-    read_unit(alloc, &lexemes)
+    let terminals = terminals(alloc, tokens)?;
+    read_unit(alloc, &terminals)
 }

@@ -6,7 +6,7 @@ ghost use Rattle.c_parse.specs.Trees.{level};
 ghost use Rattle.c_parse.specs.Reading.{code_of, starts, starts_type, word_at, expect, tail, type_at, infix_of, infix_at, prefix_of};
 
 use crate::operator::{Infix, Prefix};
-use crate::sign::{Lexeme, Mark, Sign, TypeWord};
+use crate::sign::{Mark, Sign, Terminal, TypeWord};
 use crate::stop::Stop;
 use crate::types::kind_of;
 use c_values::{BinaryOp, Kind, UnaryOp};
@@ -25,7 +25,7 @@ pub fn is_same(a: Mark, b: Mark) -> bool
     code(a) == code(b)
 }
 
-pub fn starts_with(tokens: &[Lexeme], mark: Mark) -> bool
+pub fn starts_with(tokens: &[Terminal], mark: Mark) -> bool
     ensures { result ≡ starts mark tokens.now }
 {
     match tokens {
@@ -38,7 +38,7 @@ pub fn starts_with(tokens: &[Lexeme], mark: Mark) -> bool
 }
 
 // The tokens behind the first.
-pub fn others(tokens: &[Lexeme]) -> &[Lexeme]
+pub fn others(tokens: &[Terminal]) -> &[Terminal]
     ensures { result.now ≡ tail tokens.now }
 {
     match tokens {
@@ -47,7 +47,7 @@ pub fn others(tokens: &[Lexeme]) -> &[Lexeme]
     }
 }
 
-pub fn expect_mark(tokens: &[Lexeme], mark: Mark) -> Result<&[Lexeme], Stop>
+pub fn expect_mark(tokens: &[Terminal], mark: Mark) -> Result<&[Terminal], Stop>
     ensures { Gives (λ x. x.now) result (expect mark tokens.now) }
 {
     if starts_with(tokens, mark) {
@@ -58,7 +58,7 @@ pub fn expect_mark(tokens: &[Lexeme], mark: Mark) -> Result<&[Lexeme], Stop>
 }
 
 // The place of the first token.
-pub fn first_place(tokens: &[Lexeme]) -> Span
+pub fn first_place(tokens: &[Terminal]) -> Span
     ensures { result ≡ place_of tokens.now }
 {
     match tokens {
@@ -73,7 +73,7 @@ pub fn first_place(tokens: &[Lexeme]) -> Span
     }
 }
 
-pub fn starts_with_type(tokens: &[Lexeme]) -> bool
+pub fn starts_with_type(tokens: &[Terminal]) -> bool
     ensures { result ≡ starts_type tokens.now }
 {
     match tokens {
@@ -85,7 +85,7 @@ pub fn starts_with_type(tokens: &[Lexeme]) -> bool
     }
 }
 
-fn first_word(tokens: &[Lexeme]) -> Option<TypeWord>
+fn first_word(tokens: &[Terminal]) -> Option<TypeWord>
     ensures { result ≡ word_at tokens.now }
 {
     match tokens {
@@ -98,7 +98,7 @@ fn first_word(tokens: &[Lexeme]) -> Option<TypeWord>
 }
 
 #[tactic(auto, unfolding(crate::specs::Reading::type_at))]
-pub fn take_type(alloc: Global, tokens: &[Lexeme]) -> Result<(Kind, &[Lexeme]), Stop>
+pub fn take_type(alloc: Global, tokens: &[Terminal]) -> Result<(Kind, &[Terminal]), Stop>
     ensures { Gives (λ x. (x.0, x.1.now)) result (type_at tokens.now) }
 {
     let mut words = Vec::new(alloc);
@@ -139,7 +139,7 @@ fn infix_of_mark(mark: Mark) -> Option<Infix>
     }
 }
 
-pub fn first_infix(tokens: &[Lexeme]) -> Option<Infix>
+pub fn first_infix(tokens: &[Terminal]) -> Option<Infix>
     ensures { result ≡ infix_at tokens.now }
 {
     match tokens {

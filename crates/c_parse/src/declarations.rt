@@ -8,7 +8,7 @@ use crate::cursor::{expect_mark, first_place, others, starts_with, starts_with_t
 use crate::expr::{ExprTree, Ident};
 use crate::expressions::conditional;
 use crate::separated::{Part, separated};
-use crate::sign::{Lexeme, Mark, Sign};
+use crate::sign::{Mark, Sign, Terminal};
 use crate::statement::{Declarator, Form, Initial, Statement};
 use crate::stop::Stop;
 use containers::{Boxed, Vector};
@@ -17,7 +17,7 @@ use std::alloc::{AllocError, Global};
 
 // An expression, nested as deep as its tokens allow.
 #[tactic(auto, unfolding(crate::specs::ReadingStatements::choice_in))]
-pub fn choice(alloc: Global, tokens: &[Lexeme]) -> Result<(Boxed<ExprTree>, &[Lexeme]), Stop>
+pub fn choice(alloc: Global, tokens: &[Terminal]) -> Result<(Boxed<ExprTree>, &[Terminal]), Stop>
     ensures { Gives (λ x. (x.0, x.1.now)) result (choice_in tokens.now) }
 {
     conditional(alloc, tokens.len() + 1, 0, tokens)
@@ -26,7 +26,7 @@ pub fn choice(alloc: Global, tokens: &[Lexeme]) -> Result<(Boxed<ExprTree>, &[Le
 impl Part for ExprTree {
     ghost reads = { choice_in };
 
-    fn read(alloc: Global, tokens: &[Lexeme]) -> Result<(ExprTree, &[Lexeme]), Stop> {
+    fn read(alloc: Global, tokens: &[Terminal]) -> Result<(ExprTree, &[Terminal]), Stop> {
         let (tree, rest) = choice(alloc, tokens)?;
         Ok((tree.into_inner(), rest))
     }
@@ -40,7 +40,7 @@ pub fn node(alloc: Global, span: Span, form: Form) -> Result<Boxed<Statement>, A
 }
 
 // The name in front.
-pub fn first_name(alloc: Global, tokens: &[Lexeme]) -> Result<Name, Stop>
+pub fn first_name(alloc: Global, tokens: &[Terminal]) -> Result<Name, Stop>
     ensures { Gives (λ x. x) result (name_at tokens.now) }
 {
     match tokens {
@@ -54,7 +54,10 @@ pub fn first_name(alloc: Global, tokens: &[Lexeme]) -> Result<Name, Stop>
 
 // An expression in brackets, if there is one.
 #[tactic(auto, unfolding(crate::specs::ReadingStatements::bracketed_at))]
-pub fn bracketed(alloc: Global, tokens: &[Lexeme]) -> Result<(Option<ExprTree>, &[Lexeme]), Stop>
+pub fn bracketed(
+    alloc: Global,
+    tokens: &[Terminal],
+) -> Result<(Option<ExprTree>, &[Terminal]), Stop>
     ensures { Gives (λ x. (x.0, x.1.now)) result (bracketed_at tokens.now) }
 {
     if !starts_with(tokens, Mark::OpenIndex) {
@@ -67,7 +70,7 @@ pub fn bracketed(alloc: Global, tokens: &[Lexeme]) -> Result<(Option<ExprTree>, 
 
 // What a name begins as, if it is given.
 #[tactic(auto, unfolding(crate::specs::ReadingStatements::first_at))]
-fn first_value(alloc: Global, tokens: &[Lexeme]) -> Result<(Option<Initial>, &[Lexeme]), Stop>
+fn first_value(alloc: Global, tokens: &[Terminal]) -> Result<(Option<Initial>, &[Terminal]), Stop>
     ensures { Gives (λ x. (x.0, x.1.now)) result (first_at tokens.now) }
 {
     if !starts_with(tokens, Mark::Assign) {
@@ -86,7 +89,7 @@ impl Part for Declarator {
     ghost reads = { declarator_at };
 
     #[tactic(auto, unfolding(crate::specs::ReadingStatements::declarator_at))]
-    fn read(alloc: Global, tokens: &[Lexeme]) -> Result<(Declarator, &[Lexeme]), Stop> {
+    fn read(alloc: Global, tokens: &[Terminal]) -> Result<(Declarator, &[Terminal]), Stop> {
         let span = first_place(tokens);
         let name = first_name(alloc, tokens)?;
         let (length, rest) = bracketed(alloc, others(tokens))?;
@@ -104,7 +107,7 @@ impl Part for Declarator {
 }
 
 // What follows the words `const` in front.
-pub fn after_consts(tokens: &[Lexeme]) -> &[Lexeme]
+pub fn after_consts(tokens: &[Terminal]) -> &[Terminal]
     ensures { result.now ≡ past_consts tokens.now }
 {
     let mut rest = tokens;
@@ -114,7 +117,7 @@ pub fn after_consts(tokens: &[Lexeme]) -> &[Lexeme]
     rest
 }
 
-pub fn starts_with_local(tokens: &[Lexeme]) -> bool
+pub fn starts_with_local(tokens: &[Terminal]) -> bool
     ensures { result ≡ starts_local tokens.now }
 {
     starts_with(tokens, Mark::Const) || starts_with_type(tokens)
@@ -122,7 +125,7 @@ pub fn starts_with_local(tokens: &[Lexeme]) -> bool
 
 // A declaration in a block.
 #[tactic(auto, unfolding(crate::specs::ReadingStatements::local_at))]
-pub fn local(alloc: Global, tokens: &[Lexeme]) -> Result<(Boxed<Statement>, &[Lexeme]), Stop>
+pub fn local(alloc: Global, tokens: &[Terminal]) -> Result<(Boxed<Statement>, &[Terminal]), Stop>
     ensures { Gives (λ x. (x.0, x.1.now)) result (local_at tokens.now) }
 {
     let span = first_place(tokens);

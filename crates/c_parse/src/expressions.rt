@@ -10,7 +10,7 @@ use crate::cursor::{
 };
 use crate::expr::{ExprForm, ExprTree};
 use crate::operator::{Infix, Prefix};
-use crate::sign::{Lexeme, Mark, Sign};
+use crate::sign::{Mark, Sign, Terminal};
 use crate::stop::Stop;
 use containers::{Boxed, Vector};
 use fq_core::{Name, Span};
@@ -47,8 +47,8 @@ fn joined(op: Infix, left: Boxed<ExprTree>, right: Boxed<ExprTree>) -> ExprForm
 pub fn arguments(
     alloc: Global,
     depth: usize,
-    tokens: &[Lexeme],
-) -> Result<(Vector<ExprTree>, &[Lexeme]), Stop>
+    tokens: &[Terminal],
+) -> Result<(Vector<ExprTree>, &[Terminal]), Stop>
     ensures { Gives (λ x. (x.0, x.1.now)) result (arguments_at (expr_at depth) (length tokens.now) tokens.now) }
 {
     let mut list = Vector::new(alloc);
@@ -73,8 +73,8 @@ fn named(
     depth: usize,
     span: Span,
     name: Name,
-    tokens: &[Lexeme],
-) -> Result<(Boxed<ExprTree>, &[Lexeme]), Stop>
+    tokens: &[Terminal],
+) -> Result<(Boxed<ExprTree>, &[Terminal]), Stop>
     ensures { Gives (λ x. (x.0, x.1.now)) result (after_name (expr_at depth) span name tokens.now) }
 {
     if starts_with(tokens, Mark::OpenIndex) {
@@ -101,8 +101,8 @@ fn opened(
     alloc: Global,
     depth: usize,
     span: Span,
-    tokens: &[Lexeme],
-) -> Result<(Boxed<ExprTree>, &[Lexeme]), Stop>
+    tokens: &[Terminal],
+) -> Result<(Boxed<ExprTree>, &[Terminal]), Stop>
     ensures { Gives (λ x. (x.0, x.1.now)) result (after_open (expr_at depth) span tokens.now) }
 {
     if starts_with_type(tokens) {
@@ -124,8 +124,8 @@ fn prefix(
     depth: usize,
     span: Span,
     op: Option<Prefix>,
-    tokens: &[Lexeme],
-) -> Result<(Boxed<ExprTree>, &[Lexeme]), Stop>
+    tokens: &[Terminal],
+) -> Result<(Boxed<ExprTree>, &[Terminal]), Stop>
     ensures { Gives (λ x. (x.0, x.1.now)) result (after_prefix (expr_at depth) op span tokens.now) }
 {
     let Some(op) = op else {
@@ -141,8 +141,8 @@ fn prefix(
 fn operand(
     alloc: Global,
     depth: usize,
-    tokens: &[Lexeme],
-) -> Result<(Boxed<ExprTree>, &[Lexeme]), Stop>
+    tokens: &[Terminal],
+) -> Result<(Boxed<ExprTree>, &[Terminal]), Stop>
     ensures { Gives (λ x. (x.0, x.1.now)) result (operand_at (expr_at depth) tokens.now) }
 {
     let [first, rest @ ..] = tokens else {
@@ -175,8 +175,8 @@ fn operation(
     alloc: Global,
     depth: usize,
     level: u8,
-    tokens: &[Lexeme],
-) -> Result<(Boxed<ExprTree>, &[Lexeme]), Stop>
+    tokens: &[Terminal],
+) -> Result<(Boxed<ExprTree>, &[Terminal]), Stop>
     requires { level < 100 }
     ensures { Gives (λ x. (x.0, x.1.now)) result (level_by (expr_at depth) level tokens.now) }
 {
@@ -201,8 +201,8 @@ fn operation(
 fn choice(
     alloc: Global,
     depth: usize,
-    tokens: &[Lexeme],
-) -> Result<(Boxed<ExprTree>, &[Lexeme]), Stop>
+    tokens: &[Terminal],
+) -> Result<(Boxed<ExprTree>, &[Terminal]), Stop>
     ensures { Gives (λ x. (x.0, x.1.now)) result (choice_by (expr_at depth) tokens.now) }
 {
     let span = first_place(tokens);
@@ -223,8 +223,8 @@ pub fn conditional(
     alloc: Global,
     depth: usize,
     level: u8,
-    tokens: &[Lexeme],
-) -> Result<(Boxed<ExprTree>, &[Lexeme]), Stop>
+    tokens: &[Terminal],
+) -> Result<(Boxed<ExprTree>, &[Terminal]), Stop>
     requires { level < 100 }
     ensures { Gives (λ x. (x.0, x.1.now)) result (expr_at depth level tokens.now) }
 {
@@ -239,7 +239,7 @@ pub fn conditional(
 
 // The expression that all the tokens are.
 #[tactic(auto, unfolding(crate::specs::Reading::whole_at))]
-pub fn whole(alloc: Global, tokens: &[Lexeme]) -> Result<Boxed<ExprTree>, Stop>
+pub fn whole(alloc: Global, tokens: &[Terminal]) -> Result<Boxed<ExprTree>, Stop>
     ensures { Gives (λ x. x) result (whole_at tokens.now) }
 {
     let (tree, rest) = conditional(alloc, tokens.len() + 1, 0, tokens)?;

@@ -9,7 +9,7 @@ use crate::cursor::{expect_mark, first_place, is_same, others, starts_with, take
 use crate::declarations::{after_consts, bracketed, choice, first_name};
 use crate::expr::{ExprTree, Ident};
 use crate::separated::{Part, separated};
-use crate::sign::{Lexeme, Mark, Sign};
+use crate::sign::{Mark, Sign, Terminal};
 use crate::statements::body;
 use crate::stop::Stop;
 use crate::unit::{Body, Item, Parameter};
@@ -40,7 +40,7 @@ fn is_of_functions(sign: &Sign) -> bool
     is_mark(sign, Mark::Extern) || is_mark(sign, Mark::Inline)
 }
 
-fn starts_with_word(tokens: &[Lexeme]) -> bool
+fn starts_with_word(tokens: &[Terminal]) -> bool
     ensures { result ≡ starts_before tokens.now }
 {
     match tokens {
@@ -50,7 +50,7 @@ fn starts_with_word(tokens: &[Lexeme]) -> bool
 }
 
 // What follows the words in front.
-fn after_words(tokens: &[Lexeme]) -> &[Lexeme]
+fn after_words(tokens: &[Terminal]) -> &[Terminal]
     ensures { result.now ≡ past_before tokens.now }
 {
     let mut rest = tokens;
@@ -61,7 +61,7 @@ fn after_words(tokens: &[Lexeme]) -> &[Lexeme]
 }
 
 // Whether variables may be declared behind the words in front.
-fn are_for_variables(tokens: &[Lexeme]) -> bool
+fn are_for_variables(tokens: &[Terminal]) -> bool
     ensures { result ≡ for_variables tokens.now }
 {
     for token in tokens {
@@ -73,7 +73,7 @@ fn are_for_variables(tokens: &[Lexeme]) -> bool
 }
 
 // The name in front, if there is one.
-fn name_of(tokens: &[Lexeme]) -> Option<&Name>
+fn name_of(tokens: &[Terminal]) -> Option<&Name>
     ensures { option_map (λ n. n.now) result ≡ name_at tokens.now }
 {
     match tokens {
@@ -90,10 +90,10 @@ fn name_of(tokens: &[Lexeme]) -> Option<&Name>
 struct Named<'a> {
     name: Option<Ident>,
     length: Option<ExprTree>,
-    rest: &'a [Lexeme],
+    rest: &'a [Terminal],
 }
 
-fn parameter_name(alloc: Global, tokens: &[Lexeme]) -> Result<Named<'_>, Stop>
+fn parameter_name(alloc: Global, tokens: &[Terminal]) -> Result<Named<'_>, Stop>
     ensures { Gives (λ x. ((x.name, x.length), x.rest.now)) result (by_name (name_at tokens.now) tokens.now) }
 {
     let Some(name) = name_of(tokens) else {
@@ -114,7 +114,7 @@ impl Part for Parameter {
     ghost reads = { parameter_at };
 
     #[tactic(auto, unfolding(crate::specs::ReadingItems::parameter_at))]
-    fn read(alloc: Global, tokens: &[Lexeme]) -> Result<(Parameter, &[Lexeme]), Stop> {
+    fn read(alloc: Global, tokens: &[Terminal]) -> Result<(Parameter, &[Terminal]), Stop> {
         let span = first_place(tokens);
         let (kind, rest) = take_type(alloc, after_consts(tokens))?;
         let Named { name, length, rest } = parameter_name(alloc, rest)?;
@@ -132,7 +132,7 @@ impl Part for Parameter {
 
 // The parameters of a function, and the closing parenthesis.
 #[tactic(auto, unfolding(crate::specs::ReadingItems::parameters_at))]
-fn parameters(alloc: Global, tokens: &[Lexeme]) -> Result<(Vector<Parameter>, &[Lexeme]), Stop>
+fn parameters(alloc: Global, tokens: &[Terminal]) -> Result<(Vector<Parameter>, &[Terminal]), Stop>
     ensures { Gives (λ x. (x.0, x.1.now)) result (parameters_at tokens.now) }
 {
     if starts_with(tokens, Mark::Close) {
@@ -147,7 +147,7 @@ fn parameters(alloc: Global, tokens: &[Lexeme]) -> Result<(Vector<Parameter>, &[
 
 // A semicolon, or the block of a function.
 #[tactic(auto, unfolding(crate::specs::ReadingItems::end_at))]
-fn end(alloc: Global, tokens: &[Lexeme]) -> Result<(Option<Body>, &[Lexeme]), Stop>
+fn end(alloc: Global, tokens: &[Terminal]) -> Result<(Option<Body>, &[Terminal]), Stop>
     ensures { Gives (λ x. (x.0, x.1.now)) result (end_at tokens.now) }
 {
     if starts_with(tokens, Mark::Semicolon) {
@@ -167,8 +167,8 @@ fn function(
     span: Span,
     result_kind: Option<Kind>,
     name: Ident,
-    tokens: &[Lexeme],
-) -> Result<(Item, &[Lexeme]), Stop>
+    tokens: &[Terminal],
+) -> Result<(Item, &[Terminal]), Stop>
     ensures { Gives (λ x. (x.0, x.1.now)) result (function_at span result_kind name tokens.now) }
 {
     let rest = expect_mark(tokens, Mark::Open)?;
@@ -192,8 +192,8 @@ impl Part for (Ident, Option<ExprTree>) {
     #[tactic(auto, unfolding(crate::specs::ReadingItems::constant_at))]
     fn read(
         alloc: Global,
-        tokens: &[Lexeme],
-    ) -> Result<((Ident, Option<ExprTree>), &[Lexeme]), Stop> {
+        tokens: &[Terminal],
+    ) -> Result<((Ident, Option<ExprTree>), &[Terminal]), Stop> {
         let span = first_place(tokens);
         let name = first_name(alloc, tokens)?;
         let name = Ident { name, span };
@@ -207,7 +207,7 @@ impl Part for (Ident, Option<ExprTree>) {
 }
 
 // What follows a name that may be there.
-fn after_tag(tokens: &[Lexeme]) -> &[Lexeme]
+fn after_tag(tokens: &[Terminal]) -> &[Terminal]
     ensures { result.now ≡ past_named (name_at tokens.now) tokens.now }
 {
     if name_of(tokens).is_some() {
@@ -219,7 +219,7 @@ fn after_tag(tokens: &[Lexeme]) -> &[Lexeme]
 
 // What follows `enum`.
 #[tactic(auto, unfolding(crate::specs::ReadingItems::enum_at))]
-fn constants(alloc: Global, span: Span, tokens: &[Lexeme]) -> Result<(Item, &[Lexeme]), Stop>
+fn constants(alloc: Global, span: Span, tokens: &[Terminal]) -> Result<(Item, &[Terminal]), Stop>
     ensures { Gives (λ x. (x.0, x.1.now)) result (enum_at span tokens.now) }
 {
     let rest = expect_mark(after_tag(tokens), Mark::OpenBrace)?;
@@ -232,9 +232,9 @@ fn constants(alloc: Global, span: Span, tokens: &[Lexeme]) -> Result<(Item, &[Le
 #[tactic(auto, unfolding(crate::specs::ReadingItems::typed_at))]
 fn typed<'a>(
     alloc: Global,
-    all: &'a [Lexeme],
-    tokens: &'a [Lexeme],
-) -> Result<(Item, &'a [Lexeme]), Stop>
+    all: &'a [Terminal],
+    tokens: &'a [Terminal],
+) -> Result<(Item, &'a [Terminal]), Stop>
     ensures { Gives (λ x. (x.0, x.1.now)) result (typed_at all.now tokens.now) }
 {
     let span = first_place(all);
@@ -257,9 +257,9 @@ fn typed<'a>(
 #[tactic(auto, unfolding(crate::specs::ReadingItems::void_at))]
 fn procedure<'a>(
     alloc: Global,
-    all: &'a [Lexeme],
-    tokens: &'a [Lexeme],
-) -> Result<(Item, &'a [Lexeme]), Stop>
+    all: &'a [Terminal],
+    tokens: &'a [Terminal],
+) -> Result<(Item, &'a [Terminal]), Stop>
     ensures { Gives (λ x. (x.0, x.1.now)) result (void_at all.now tokens.now) }
 {
     let span = first_place(tokens);
@@ -270,7 +270,7 @@ fn procedure<'a>(
 
 // An item, and the tokens behind it.
 #[tactic(auto, unfolding(crate::specs::ReadingItems::item_at))]
-fn item(alloc: Global, tokens: &[Lexeme]) -> Result<(Item, &[Lexeme]), Stop>
+fn item(alloc: Global, tokens: &[Terminal]) -> Result<(Item, &[Terminal]), Stop>
     ensures { Gives (λ x. (x.0, x.1.now)) result (item_at tokens.now) }
 {
     if starts_with(tokens, Mark::Enum) {
@@ -285,7 +285,7 @@ fn item(alloc: Global, tokens: &[Lexeme]) -> Result<(Item, &[Lexeme]), Stop>
 }
 
 /// As many items as there are, and the tokens behind them.
-pub fn items(alloc: Global, tokens: &[Lexeme]) -> Result<(Vector<Item>, &[Lexeme]), AllocError>
+pub fn items(alloc: Global, tokens: &[Terminal]) -> Result<(Vector<Item>, &[Terminal]), AllocError>
     ensures { IfOk result (λ x. (x.0, x.1.now) ≡ items_at (length tokens.now) tokens.now) }
 {
     let mut list = Vector::new(alloc);

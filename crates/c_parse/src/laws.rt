@@ -1,6 +1,6 @@
 //! What follows from the definitions alone.
 ghost use Rattle.std.specs.Prelude.{◌≡◌, List};
-ghost use Rattle.c_parse.specs.declared.sign.Lexeme.{Lexeme};
+ghost use Rattle.c_parse.specs.declared.sign.Terminal.{Terminal};
 ghost use Rattle.c_parse.specs.declared.expr.ExprTree.{ExprTree};
 ghost use Rattle.c_parse.specs.declared.unit.Item.{Item};
 ghost use Rattle.c_parse.specs.Grammar.{DerivesChoice};
@@ -8,10 +8,10 @@ ghost use Rattle.c_parse.specs.Items.{DerivesItems};
 
 /// Tokens spell at most one expression.
 pub fn one_expression()
-    ensures { (ts : List Lexeme) (t u : ExprTree) → DerivesChoice t ts → DerivesChoice u ts → t ≡ u }
+    ensures { (ts : List Terminal) (t u : ExprTree) → DerivesChoice t ts → DerivesChoice u ts → t ≡ u }
 {}
 
 /// Tokens spell at most one list of items.
 pub fn one_unit()
-    ensures { (ts : List Lexeme) (is js : List Item) → DerivesItems is ts → DerivesItems js ts → is ≡ js }
+    ensures { (ts : List Terminal) (is js : List Item) → DerivesItems is ts → DerivesItems js ts → is ≡ js }
 {}

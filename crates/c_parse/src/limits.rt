@@ -2,7 +2,7 @@
 ghost use Rattle.std.specs.Prelude.{◌≡◌, ◌<◌, ◌^◌, option_map};
 ghost use Rattle.c_parse.specs.Limits.{is_foreign, first_foreign, is_opening, is_closing, is_ending, has_mark, with_bracket, in_row, passed_by, first_passed};
 
-use crate::sign::{Lexeme, Mark, Sign};
+use crate::sign::{Mark, Sign, Terminal};
 use fq_core::Span;
 
 fn is_foreign(sign: &Sign) -> bool
@@ -15,7 +15,7 @@ fn is_foreign(sign: &Sign) -> bool
 }
 
 /// The place of the first token that the profile leaves out.
-pub fn first_foreign(tokens: &[Lexeme]) -> Option<Span>
+pub fn first_foreign(tokens: &[Terminal]) -> Option<Span>
     ensures { result ≡ option_map (λ t. t.span) (first_foreign tokens.now) }
 {
     for token in tokens {
@@ -62,7 +62,7 @@ fn is_ending(sign: &Sign) -> bool
     }
 }
 
-fn with_bracket(brackets: usize, token: &Lexeme) -> usize
+fn with_bracket(brackets: usize, token: &Terminal) -> usize
     requires { brackets < 2 ^ 60 }
     ensures { result ≡ with_bracket brackets token.now }
 {
@@ -75,7 +75,7 @@ fn with_bracket(brackets: usize, token: &Lexeme) -> usize
     }
 }
 
-fn in_row(row: usize, token: &Lexeme) -> usize
+fn in_row(row: usize, token: &Terminal) -> usize
     requires { row < 2 ^ 60 }
     ensures { result ≡ in_row row token.now }
 {
@@ -95,7 +95,7 @@ fn passed_by(brackets: usize, row: usize) -> Option<u64>
 }
 
 /// The limit of open brackets, or of tokens in a row, that is passed first.
-pub fn first_passed(tokens: &[Lexeme]) -> Option<u64>
+pub fn first_passed(tokens: &[Terminal]) -> Option<u64>
     ensures { result ≡ first_passed tokens.now }
 {
     let mut brackets = 0;

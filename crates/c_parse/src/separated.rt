@@ -1,26 +1,26 @@
 // Forms with commas between them, and a mark behind the last.
 ghost use Rattle.std.specs.Prelude.{◌≡◌, ◌&&◌, List, length};
-ghost use Rattle.c_parse.specs.declared.sign.Lexeme.{Lexeme};
+ghost use Rattle.c_parse.specs.declared.sign.Terminal.{Terminal};
 ghost use Rattle.c_parse.specs.Gives.{Gives};
 ghost use Rattle.c_parse.specs.Reading.{Read, starts};
 ghost use Rattle.c_parse.specs.ReadingStatements.{separated_at};
 
 use crate::cursor::{expect_mark, others, starts_with};
-use crate::sign::{Lexeme, Mark};
+use crate::sign::{Mark, Terminal};
 use crate::stop::Stop;
 use containers::Vector;
 use std::alloc::Global;
 
 /// A form of which several stand with commas between them.
 pub trait Part: Drop {
-    ghost reads: { List Lexeme → Read Self };
+    ghost reads: { List Terminal → Read Self };
 
-    fn read(alloc: Global, tokens: &[Lexeme]) -> Result<(Self, &[Lexeme]), Stop>
+    fn read(alloc: Global, tokens: &[Terminal]) -> Result<(Self, &[Terminal]), Stop>
         ensures { Gives (λ x. (x.0, x.1.now)) result (reads tokens.now) };
 }
 
 // Whether the comma before these tokens is the last one.
-fn ends_by_comma(comma: bool, last: Mark, tokens: &[Lexeme]) -> bool
+fn ends_by_comma(comma: bool, last: Mark, tokens: &[Terminal]) -> bool
     ensures { result ≡ (comma && starts last tokens.now) }
 {
     comma && starts_with(tokens, last)
@@ -31,8 +31,8 @@ pub fn separated<T: Part>(
     alloc: Global,
     comma: bool,
     last: Mark,
-    tokens: &[Lexeme],
-) -> Result<(Vector<T>, &[Lexeme]), Stop>
+    tokens: &[Terminal],
+) -> Result<(Vector<T>, &[Terminal]), Stop>
     ensures { Gives (λ x. (x.0, x.1.now)) result (separated_at T.reads comma last (length tokens.now) tokens.now) }
 {
     let mut list = Vector::new(alloc);

@@ -2,7 +2,7 @@
 ghost use Rattle.std.specs.Prelude.{◌≡◌, find, map, IfOk};
 ghost use Rattle.std.specs.Str.{bytes_eq};
 ghost use Rattle.c_lex.specs.Constants.{is_among, foreign_words, foreign_words_of_1999, foreign_words_of_2011, foreign_marks, is_foreign_word};
-ghost use Rattle.c_parse.specs.Signs.{spelling, type_spelling, word_sign, mark_sign, sign_of, lexeme_of};
+ghost use Rattle.c_parse.specs.Signs.{spelling, type_spelling, word_sign, mark_sign, sign_of, terminal_of};
 
 use c_lex::{Token, TokenKind};
 use c_values::Kind;
@@ -109,9 +109,9 @@ pub enum Sign {
     Unknown,
 }
 
-/// A token as the grammar sees it.
+/// A terminal of the grammar: what a token is to it, and where it stands.
 #[derive(Debug, Drop)]
-pub struct Lexeme {
+pub struct Terminal {
     pub sign: Sign,
     pub span: Span,
 }
@@ -407,13 +407,13 @@ fn sign_of(alloc: Global, kind: TokenKind, text: &Name) -> Result<Sign, Memory>
 }
 
 /// The tokens as the grammar sees them.
-pub fn lexemes(alloc: Global, tokens: &[Token]) -> Result<Vec<Lexeme>, Memory>
-    ensures { IfOk result (λ list. list.items ≡ map lexeme_of tokens.now) }
+pub fn terminals(alloc: Global, tokens: &[Token]) -> Result<Vec<Terminal>, Memory>
+    ensures { IfOk result (λ list. list.items ≡ map terminal_of tokens.now) }
 {
     let mut list = Vec::new(alloc);
     for token in tokens {
         let sign = sign_of(alloc, token.kind, &token.text)?;
-        list.push(Lexeme {
+        list.push(Terminal {
             sign,
             span: token.span,
         })?;

@@ -8,7 +8,7 @@ use crate::cursor::{expect_mark, first_place, others, starts_with};
 use crate::declarations::{bracketed, choice, first_name, local, node, starts_with_local};
 use crate::expr::{ExprTree, Ident};
 use crate::expressions::arguments;
-use crate::sign::{Lexeme, Mark, Sign};
+use crate::sign::{Mark, Sign, Terminal};
 use crate::statement::{CaseLabel, Form, PlaceTree, Statement};
 use crate::stop::Stop;
 use c_values::BinaryOp;
@@ -47,7 +47,7 @@ fn step_by(mark: Mark) -> Option<bool>
     }
 }
 
-fn first_mark(tokens: &[Lexeme]) -> Option<Mark>
+fn first_mark(tokens: &[Terminal]) -> Option<Mark>
     ensures { result ≡ mark_at tokens.now }
 {
     match tokens {
@@ -66,8 +66,8 @@ fn changed_by(
     how: Option<Option<BinaryOp>>,
     span: Span,
     place: PlaceTree,
-    tokens: &[Lexeme],
-) -> Result<(Boxed<Statement>, &[Lexeme]), Stop>
+    tokens: &[Terminal],
+) -> Result<(Boxed<Statement>, &[Terminal]), Stop>
     ensures { Gives (λ x. (x.0, x.1.now)) result (changed_by step how span place tokens.now) }
 {
     if let Some(up) = step {
@@ -90,8 +90,8 @@ fn changed(
     alloc: Global,
     span: Span,
     place: PlaceTree,
-    tokens: &[Lexeme],
-) -> Result<(Boxed<Statement>, &[Lexeme]), Stop>
+    tokens: &[Terminal],
+) -> Result<(Boxed<Statement>, &[Terminal]), Stop>
     ensures { Gives (λ x. (x.0, x.1.now)) result (changed_at span place tokens.now) }
 {
     let Some(mark) = first_mark(tokens) else {
@@ -113,8 +113,8 @@ pub fn named(
     alloc: Global,
     span: Span,
     name: Name,
-    tokens: &[Lexeme],
-) -> Result<(Boxed<Statement>, &[Lexeme]), Stop>
+    tokens: &[Terminal],
+) -> Result<(Boxed<Statement>, &[Terminal]), Stop>
     ensures { Gives (λ x. (x.0, x.1.now)) result (named_at span name tokens.now) }
 {
     let name = Ident { name, span };
@@ -139,8 +139,8 @@ pub fn stepped(
     alloc: Global,
     span: Span,
     mark: Mark,
-    tokens: &[Lexeme],
-) -> Result<(Boxed<Statement>, &[Lexeme]), Stop>
+    tokens: &[Terminal],
+) -> Result<(Boxed<Statement>, &[Terminal]), Stop>
     ensures { Gives (λ x. (x.0, x.1.now)) result (stepped_at span mark tokens.now) }
 {
     let Some(up) = step_by(mark) else {
@@ -155,7 +155,7 @@ pub fn stepped(
 }
 
 #[tactic(auto, unfolding(crate::specs::ReadingStatements::simple_at))]
-fn simple(alloc: Global, tokens: &[Lexeme]) -> Result<(Boxed<Statement>, &[Lexeme]), Stop>
+fn simple(alloc: Global, tokens: &[Terminal]) -> Result<(Boxed<Statement>, &[Terminal]), Stop>
     ensures { Gives (λ x. (x.0, x.1.now)) result (simple_at tokens.now) }
 {
     let [first, rest @ ..] = tokens else {
@@ -174,7 +174,7 @@ fn simple(alloc: Global, tokens: &[Lexeme]) -> Result<(Boxed<Statement>, &[Lexem
 
 // A test in parentheses.
 #[tactic(auto, unfolding(crate::specs::ReadingStatements::test_at))]
-pub fn test(alloc: Global, tokens: &[Lexeme]) -> Result<(Boxed<ExprTree>, &[Lexeme]), Stop>
+pub fn test(alloc: Global, tokens: &[Terminal]) -> Result<(Boxed<ExprTree>, &[Terminal]), Stop>
     ensures { Gives (λ x. (x.0, x.1.now)) result (test_at tokens.now) }
 {
     let rest = expect_mark(tokens, Mark::Open)?;
@@ -185,7 +185,7 @@ pub fn test(alloc: Global, tokens: &[Lexeme]) -> Result<(Boxed<ExprTree>, &[Lexe
 
 // An expression, or nothing before a semicolon.
 #[tactic(auto, unfolding(crate::specs::ReadingStatements::optional_at))]
-pub fn optional(alloc: Global, tokens: &[Lexeme]) -> Result<(Option<ExprTree>, &[Lexeme]), Stop>
+pub fn optional(alloc: Global, tokens: &[Terminal]) -> Result<(Option<ExprTree>, &[Terminal]), Stop>
     ensures { Gives (λ x. (x.0, x.1.now)) result (optional_at tokens.now) }
 {
     if starts_with(tokens, Mark::Semicolon) {
@@ -199,8 +199,8 @@ pub fn optional(alloc: Global, tokens: &[Lexeme]) -> Result<(Option<ExprTree>, &
 #[tactic(auto, unfolding(crate::specs::ReadingStatements::begin_at))]
 pub fn begin(
     alloc: Global,
-    tokens: &[Lexeme],
-) -> Result<(Option<Boxed<Statement>>, &[Lexeme]), Stop>
+    tokens: &[Terminal],
+) -> Result<(Option<Boxed<Statement>>, &[Terminal]), Stop>
     ensures { Gives (λ x. (x.0, x.1.now)) result (begin_at tokens.now) }
 {
     if starts_with(tokens, Mark::Semicolon) {
@@ -217,7 +217,10 @@ pub fn begin(
 
 // What a `for` does behind each turn.
 #[tactic(auto, unfolding(crate::specs::ReadingStatements::next_at))]
-pub fn next(alloc: Global, tokens: &[Lexeme]) -> Result<(Option<Boxed<Statement>>, &[Lexeme]), Stop>
+pub fn next(
+    alloc: Global,
+    tokens: &[Terminal],
+) -> Result<(Option<Boxed<Statement>>, &[Terminal]), Stop>
     ensures { Gives (λ x. (x.0, x.1.now)) result (next_at tokens.now) }
 {
     if starts_with(tokens, Mark::Close) {
@@ -227,14 +230,14 @@ pub fn next(alloc: Global, tokens: &[Lexeme]) -> Result<(Option<Boxed<Statement>
     Ok((Some(next), rest))
 }
 
-pub fn starts_with_label(tokens: &[Lexeme]) -> bool
+pub fn starts_with_label(tokens: &[Terminal]) -> bool
     ensures { result ≡ starts_label tokens.now }
 {
     starts_with(tokens, Mark::Case) || starts_with(tokens, Mark::Default)
 }
 
 #[tactic(auto, unfolding(crate::specs::ReadingStatements::label_at))]
-fn label(alloc: Global, tokens: &[Lexeme]) -> Result<(CaseLabel, &[Lexeme]), Stop>
+fn label(alloc: Global, tokens: &[Terminal]) -> Result<(CaseLabel, &[Terminal]), Stop>
     ensures { Gives (λ x. (x.0, x.1.now)) result (label_at tokens.now) }
 {
     let span = first_place(tokens);
@@ -250,7 +253,7 @@ fn label(alloc: Global, tokens: &[Lexeme]) -> Result<(CaseLabel, &[Lexeme]), Sto
 }
 
 // The labels in a row.
-pub fn labels(alloc: Global, tokens: &[Lexeme]) -> Result<(Vector<CaseLabel>, &[Lexeme]), Stop>
+pub fn labels(alloc: Global, tokens: &[Terminal]) -> Result<(Vector<CaseLabel>, &[Terminal]), Stop>
     ensures { Gives (λ x. (x.0, x.1.now)) result (labels_at (length tokens.now) tokens.now) }
 {
     let mut list = Vector::new(alloc);

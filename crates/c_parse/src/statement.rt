@@ -44,7 +44,7 @@ pub struct Group {
 
 /// A statement or a declaration in a block (6.8, 6.7).
 #[cycle(statement)]
-#[derive(Debug, Drop)]
+#[derive(Debug)]
 pub struct Statement {
     /// The place of its first token.
     pub span: Span,
@@ -108,4 +108,36 @@ pub enum Form {
     Return(Option<ExprTree>),
     Assert(ExprTree),
     Assume(ExprTree),
+}
+
+// A loop down the bodies, so that statements within statements are dropped in little stack.
+impl Drop for Statement {
+    #[cycle(drop)]
+    fn drop(mut self) {
+        'parts: loop {
+            let Statement { span: _, form } = self;
+            match form {
+                Form::Label { name: _name, body } => self = body.into_inner(),
+                Form::While { test: _test, body } => self = body.into_inner(),
+                Form::Do { body, test: _test } => self = body.into_inner(),
+                Form::For {
+                    first: _first,
+                    test: _test,
+                    next: _next,
+                    body,
+                } => self = body.into_inner(),
+                Form::If { arms, otherwise } => {
+                    let mut arms = arms;
+                    match otherwise {
+                        Some(last) => self = last.into_inner(),
+                        None => match arms.pop() {
+                            Some((_test, body)) => self = body,
+                            None => return,
+                        },
+                    }
+                }
+                _other => return,
+            }
+        }
+    }
 }

@@ -6,7 +6,7 @@ ghost use Rattle.c_parse.specs.ReadingStatements.{one_at, ends_body, body_at, gr
 use crate::cursor::{expect_mark, others, starts_with};
 use crate::declarations::{local, node, starts_with_local};
 use crate::expr::{ExprTree, Ident};
-use crate::sign::{Lexeme, Mark, Sign};
+use crate::sign::{Mark, Sign, Terminal};
 use crate::simple::{begin, labels, named, next, optional, starts_with_label, stepped, test};
 use crate::statement::{Form, Group, Statement};
 use crate::stop::Stop;
@@ -19,8 +19,8 @@ use std::alloc::Global;
 fn returned(
     alloc: Global,
     span: Span,
-    tokens: &[Lexeme],
-) -> Result<(Boxed<Statement>, &[Lexeme]), Stop>
+    tokens: &[Terminal],
+) -> Result<(Boxed<Statement>, &[Terminal]), Stop>
     ensures { Gives (λ x. (x.0, x.1.now)) result (return_at span tokens.now) }
 {
     let (value, rest) = optional(alloc, tokens)?;
@@ -33,8 +33,8 @@ fn returned(
 fn asserted(
     alloc: Global,
     span: Span,
-    tokens: &[Lexeme],
-) -> Result<(Boxed<Statement>, &[Lexeme]), Stop>
+    tokens: &[Terminal],
+) -> Result<(Boxed<Statement>, &[Terminal]), Stop>
     ensures { Gives (λ x. (x.0, x.1.now)) result (assert_at span tokens.now) }
 {
     let (tree, rest) = test(alloc, tokens)?;
@@ -47,8 +47,8 @@ fn asserted(
 fn assumed(
     alloc: Global,
     span: Span,
-    tokens: &[Lexeme],
-) -> Result<(Boxed<Statement>, &[Lexeme]), Stop>
+    tokens: &[Terminal],
+) -> Result<(Boxed<Statement>, &[Terminal]), Stop>
     ensures { Gives (λ x. (x.0, x.1.now)) result (assume_at span tokens.now) }
 {
     let (tree, rest) = test(alloc, tokens)?;
@@ -57,7 +57,7 @@ fn assumed(
 }
 
 // Whether a body ends before these tokens.
-fn ends_body(tokens: &[Lexeme]) -> bool
+fn ends_body(tokens: &[Terminal]) -> bool
     ensures { result ≡ ends_body tokens.now }
 {
     starts_with(tokens, Mark::CloseBrace) || starts_with_label(tokens)
@@ -68,8 +68,8 @@ fn ends_body(tokens: &[Lexeme]) -> bool
 fn one(
     alloc: Global,
     depth: usize,
-    tokens: &[Lexeme],
-) -> Result<(Boxed<Statement>, &[Lexeme]), Stop>
+    tokens: &[Terminal],
+) -> Result<(Boxed<Statement>, &[Terminal]), Stop>
     ensures { Gives (λ x. (x.0, x.1.now)) result (one_at (statement_at depth) tokens.now) }
 {
     if starts_with_local(tokens) {
@@ -84,8 +84,8 @@ fn one(
 pub fn body(
     alloc: Global,
     depth: usize,
-    tokens: &[Lexeme],
-) -> Result<(Vector<Statement>, &[Lexeme]), Stop>
+    tokens: &[Terminal],
+) -> Result<(Vector<Statement>, &[Terminal]), Stop>
     ensures { Gives (λ x. (x.0, x.1.now)) result (body_at (statement_at depth) (length tokens.now) tokens.now) }
 {
     let mut list = Vector::new(alloc);
@@ -106,8 +106,8 @@ pub fn body(
 fn groups(
     alloc: Global,
     depth: usize,
-    tokens: &[Lexeme],
-) -> Result<(Vector<Group>, &[Lexeme]), Stop>
+    tokens: &[Terminal],
+) -> Result<(Vector<Group>, &[Terminal]), Stop>
     ensures { Gives (λ x. (x.0, x.1.now)) result (groups_at (statement_at depth) (length tokens.now) tokens.now) }
 {
     let mut list = Vector::new(alloc);
@@ -129,12 +129,12 @@ fn groups(
 struct Branches<'a> {
     arms: Vector<(ExprTree, Statement)>,
     otherwise: Option<Boxed<Statement>>,
-    rest: &'a [Lexeme],
+    rest: &'a [Terminal],
 }
 
 // What follows an `if`.
 #[cycle(statement)]
-fn arms_of(alloc: Global, depth: usize, tokens: &[Lexeme]) -> Result<Branches<'_>, Stop>
+fn arms_of(alloc: Global, depth: usize, tokens: &[Terminal]) -> Result<Branches<'_>, Stop>
     ensures { Gives (λ x. ((x.arms, x.otherwise), x.rest.now)) result (arms_at (statement_at depth) (length tokens.now) tokens.now) }
 {
     let mut arms = Vector::new(alloc);
@@ -172,8 +172,8 @@ fn labelled(
     depth: usize,
     span: Span,
     name: Name,
-    tokens: &[Lexeme],
-) -> Result<(Boxed<Statement>, &[Lexeme]), Stop>
+    tokens: &[Terminal],
+) -> Result<(Boxed<Statement>, &[Terminal]), Stop>
     ensures { Gives (λ x. (x.0, x.1.now)) result (labelled_at (statement_at depth) span name tokens.now) }
 {
     if starts_with(tokens, Mark::Colon) {
@@ -193,8 +193,8 @@ fn repeated(
     alloc: Global,
     depth: usize,
     span: Span,
-    tokens: &[Lexeme],
-) -> Result<(Boxed<Statement>, &[Lexeme]), Stop>
+    tokens: &[Terminal],
+) -> Result<(Boxed<Statement>, &[Terminal]), Stop>
     ensures { Gives (λ x. (x.0, x.1.now)) result (do_at (statement_at depth) span tokens.now) }
 {
     let (body, rest) = statement(alloc, depth, tokens)?;
@@ -212,8 +212,8 @@ fn counted(
     alloc: Global,
     depth: usize,
     span: Span,
-    tokens: &[Lexeme],
-) -> Result<(Boxed<Statement>, &[Lexeme]), Stop>
+    tokens: &[Terminal],
+) -> Result<(Boxed<Statement>, &[Terminal]), Stop>
     ensures { Gives (λ x. (x.0, x.1.now)) result (for_at (statement_at depth) span tokens.now) }
 {
     let rest = expect_mark(tokens, Mark::Open)?;
@@ -239,8 +239,8 @@ fn switched(
     alloc: Global,
     depth: usize,
     span: Span,
-    tokens: &[Lexeme],
-) -> Result<(Boxed<Statement>, &[Lexeme]), Stop>
+    tokens: &[Terminal],
+) -> Result<(Boxed<Statement>, &[Terminal]), Stop>
     ensures { Gives (λ x. (x.0, x.1.now)) result (switch_at (statement_at depth) span tokens.now) }
 {
     let (value, rest) = test(alloc, tokens)?;
@@ -257,8 +257,8 @@ fn by_mark(
     depth: usize,
     span: Span,
     mark: Mark,
-    tokens: &[Lexeme],
-) -> Result<(Boxed<Statement>, &[Lexeme]), Stop>
+    tokens: &[Terminal],
+) -> Result<(Boxed<Statement>, &[Terminal]), Stop>
     ensures { Gives (λ x. (x.0, x.1.now)) result (statement_of_mark (statement_at depth) mark span tokens.now) }
 {
     match mark {
@@ -310,8 +310,8 @@ fn by_mark(
 fn statement(
     alloc: Global,
     depth: usize,
-    tokens: &[Lexeme],
-) -> Result<(Boxed<Statement>, &[Lexeme]), Stop>
+    tokens: &[Terminal],
+) -> Result<(Boxed<Statement>, &[Terminal]), Stop>
     ensures { Gives (λ x. (x.0, x.1.now)) result (statement_at depth tokens.now) }
 {
     if depth == 0 {

@@ -1,117 +1,15 @@
 //! Texts with the trees or the refusals that they have, worked by hand from C11's grammar (6.5).
+mod printed;
+mod sources;
 mod tokens;
 mod units;
 
-use crate::{ExprForm, ExprTree, expression};
-use c_values::{BinaryOp, Kind, UnaryOp};
-use fq_core::{Fault, Name, Place};
+use crate::expression;
+use fq_core::{Fault, Place};
+use printed::show;
 use std::alloc::Global;
-use std::fmt::Write;
 use std::test::Fail;
 use tokens::{repeated, tokens_of};
-
-fn mark_of(op: BinaryOp) -> &'static str {
-    match op {
-        BinaryOp::Add => "+",
-        BinaryOp::Sub => "-",
-        BinaryOp::Mul => "*",
-        BinaryOp::Div => "/",
-        BinaryOp::Rem => "%",
-        BinaryOp::Shl => "<<",
-        BinaryOp::Shr => ">>",
-        BinaryOp::And => "&",
-        BinaryOp::Or => "|",
-        BinaryOp::Xor => "^",
-        BinaryOp::Less => "<",
-        BinaryOp::LessEqual => "<=",
-        BinaryOp::Greater => ">",
-        BinaryOp::GreaterEqual => ">=",
-        BinaryOp::Equal => "==",
-        BinaryOp::NotEqual => "!=",
-    }
-}
-
-fn show_name(text: &mut String, name: &Name) -> Result<(), Fail> {
-    for byte in name.bytes() {
-        if *byte < 128 {
-            text.push(*byte as char)?;
-        }
-    }
-    Ok(())
-}
-
-fn show_kind(text: &mut String, kind: Kind) -> Result<(), Fail> {
-    text.push_str(if kind.signed { "i" } else { "u" })?;
-    write!(text, "{}", kind.width)?;
-    Ok(())
-}
-
-// What stands before the operands of a tree, its operator first.
-fn show_head(text: &mut String, form: &ExprForm) -> Result<(), Fail> {
-    match form {
-        ExprForm::Number(value, kind) => {
-            write!(text, "{value}")?;
-            show_kind(text, *kind)?;
-        }
-        ExprForm::Name(name) => show_name(text, name)?,
-        ExprForm::Element(name, _) => {
-            text.push_str("[] ")?;
-            show_name(text, name)?;
-        }
-        ExprForm::Call(name, _) => {
-            text.push_str("call ")?;
-            show_name(text, name)?;
-        }
-        ExprForm::Cast(kind, _) => show_kind(text, *kind)?,
-        ExprForm::Plus(_) => text.push_str("+")?,
-        ExprForm::Unary(UnaryOp::Neg, _) => text.push_str("-")?,
-        ExprForm::Unary(UnaryOp::Complement, _) => text.push_str("~")?,
-        ExprForm::Unary(UnaryOp::Not, _) => text.push_str("!")?,
-        ExprForm::Binary(op, _, _) => text.push_str(mark_of(*op))?,
-        ExprForm::Both(_, _) => text.push_str("&&")?,
-        ExprForm::Either(_, _) => text.push_str("||")?,
-        ExprForm::Choice(_, _, _) => text.push_str("?")?,
-    }
-    Ok(())
-}
-
-// The tree with its operators first, each form in braces with the column of its first token.
-#[cycle(show)]
-fn show(text: &mut String, tree: &ExprTree) -> Result<(), Fail> {
-    write!(text, "{}{{", tree.span.column)?;
-    show_head(text, &tree.form)?;
-    match &tree.form {
-        ExprForm::Number(_, _) | ExprForm::Name(_) => {}
-        ExprForm::Element(_, inner)
-        | ExprForm::Cast(_, inner)
-        | ExprForm::Plus(inner)
-        | ExprForm::Unary(_, inner) => show_next(text, inner)?,
-        ExprForm::Call(_, arguments) => {
-            for argument in arguments.iter() {
-                show_next(text, argument)?;
-            }
-        }
-        ExprForm::Binary(_, left, right)
-        | ExprForm::Both(left, right)
-        | ExprForm::Either(left, right) => {
-            show_next(text, left)?;
-            show_next(text, right)?;
-        }
-        ExprForm::Choice(test, yes, no) => {
-            show_next(text, test)?;
-            show_next(text, yes)?;
-            show_next(text, no)?;
-        }
-    }
-    text.push_str("}")?;
-    Ok(())
-}
-
-#[cycle(show)]
-fn show_next(text: &mut String, tree: &ExprTree) -> Result<(), Fail> {
-    text.push_str(" ")?;
-    show(text, tree)
-}
 
 // The line or the limit of a place, or 0.
 fn number_of(place: &Place) -> u64 {
@@ -170,24 +68,23 @@ fn trees_of_expressions(rt: HostRuntime) -> Result<(), Fail> {
         ("a & b == c", "1{& 1{a} 3{== 3{b} 5{c}}}"),
         ("a ^ b & c", "1{^ 1{a} 3{& 3{b} 5{c}}}"),
         ("a | b ^ c", "1{| 1{a} 3{^ 3{b} 5{c}}}"),
-        ("a && b | c", "1{&& 1{a} 3{| 3{b} 5{c}}}"),
-        ("a || b && c", "1{|| 1{a} 3{&& 3{b} 5{c}}}"),
-        ("a && b || c", "1{|| 1{&& 1{a} 3{b}} 5{c}}"),
-        ("a ? b : c ? d : e", "1{? 1{a} 3{b} 5{? 5{c} 7{d} 9{e}}}"),
-        ("a ? b ? c : d : e", "1{? 1{a} 3{? 3{b} 5{c} 7{d}} 9{e}}"),
-        ("a || b ? c : d", "1{? 1{|| 1{a} 3{b}} 5{c} 7{d}}"),
         ("- a * b", "1{* 1{- 2{a}} 4{b}}"),
         ("! ~ + - a", "1{! 2{~ 3{+ 4{- 5{a}}}}}"),
         ("a - - b", "1{- 1{a} 3{- 4{b}}}"),
         ("( int ) a + b", "1{+ 1{i32 4{a}} 6{b}}"),
         ("( long unsigned int long ) - a", "1{u64 7{- 8{a}}}"),
         ("( uint8_t ) ( a + b )", "1{u8 5{+ 5{a} 7{b}}}"),
-        ("( a ) ( b )", "none"),
-        ("f ( )", "1{call f}"),
         (
-            "f ( a , b ? c : d ) + t [ i ]",
-            "1{+ 1{call f 3{a} 5{? 5{b} 7{c} 9{d}}} 12{[] t 14{i}}}",
+            "t [ i + 1 ] * - 2",
+            "1{* 1{[] t 3{+ 3{i} 5{1i32}}} 8{- 9{2i32}}}",
         ),
+        ("a && b", "none"),
+        ("a || b", "none"),
+        ("a ? b : c", "none"),
+        ("f ( )", "none"),
+        ("- ( a + f ( b ) )", "none"),
+        ("t [ a && b ] + 1", "none"),
+        ("( a ) ( b )", "none"),
         ("( short char ) a", "none"),
         ("( unsigned size_t ) a", "none"),
         ("( signed unsigned ) a", "none"),

@@ -11,9 +11,15 @@ use std::ops::DerefSlice;
 use std::slice;
 
 /// A `Vec` that contracts see as the list of its elements.
-#[derive(Debug, Drop)]
+#[derive(Debug)]
 pub struct Vector<T> {
     items: Vec<T>,
+}
+
+impl<T: Drop> Drop for Vector<T> {
+    fn drop(self) {
+        let Vector { items: _items } = self;
+    }
 }
 
 impl<T> Model for Vector<T> {
