@@ -2,6 +2,7 @@ pub mod Again
 pub mod AgainItems
 pub mod AgainParts
 pub mod AgainStatements
+pub mod Choices
 pub mod Firsts
 pub mod LimitsLaws
 pub mod Loops

@@ -1,3 +1,4 @@
+pub mod Choices
 pub mod Declarations
 pub mod Expression
 pub mod Gives

@@ -2,6 +2,7 @@
 ghost use Rattle.std.specs.Prelude.{◌≡◌, ◌<◌, length, IfOk};
 ghost use Rattle.c_parse.specs.Trees.{tree, prefixed, joined};
 ghost use Rattle.c_parse.specs.Gives.{Gives};
+ghost use Rattle.c_parse.specs.Choices.{closed};
 ghost use Rattle.c_parse.specs.Reading.{arguments_at, after_name, after_open, after_prefix, operand_at, operators_at, level_by, choice_by, expr_at, whole_at};
 
 use crate::cursor::{
@@ -195,9 +196,31 @@ fn operation(
     Ok((tree, rest))
 }
 
-// A choice, or an operand at level 1.
+/// A choice of which the third operand is still to be read.
+#[derive(Debug, Drop)]
+pub struct OpenChoice {
+    pub span: Span,
+    pub test: Boxed<ExprTree>,
+    pub yes: Boxed<ExprTree>,
+}
+
+// The choices that lie in one another's third operand, the outermost first, with the last third operand.
+fn closed(
+    alloc: Global,
+    mut outer: Vec<OpenChoice>,
+    last: Boxed<ExprTree>,
+) -> Result<Boxed<ExprTree>, AllocError>
+    ensures { IfOk result (λ t. t ≡ closed outer.items last) }
+{
+    let mut tree = last;
+    'choices: while let Some(OpenChoice { span, test, yes }) = outer.pop() {
+        tree = node(alloc, span, ExprForm::Choice(test, yes, tree))?;
+    }
+    Ok(tree)
+}
+
+// A choice, or an operand at level 1. Choices in a row, which group to the right, are read by a loop.
 #[cycle(expr)]
-#[tactic(auto, unfolding(crate::specs::Reading::choice_by))]
 fn choice(
     alloc: Global,
     depth: usize,
@@ -205,15 +228,23 @@ fn choice(
 ) -> Result<(Boxed<ExprTree>, &[Terminal]), Stop>
     ensures { Gives (λ x. (x.0, x.1.now)) result (choice_by (expr_at depth) tokens.now) }
 {
-    let span = first_place(tokens);
-    let (test, rest) = operation(alloc, depth, 1, tokens)?;
-    if !starts_with(rest, Mark::Question) {
-        return Ok((test, rest));
+    let mut outer = Vec::new(alloc);
+    let mut rest = tokens;
+    let mut left = depth;
+    'choices: loop {
+        let span = first_place(rest);
+        let (test, after) = operation(alloc, left, 1, rest)?;
+        if !starts_with(after, Mark::Question) {
+            return Ok((closed(alloc, outer, test)?, after));
+        }
+        let (yes, after) = conditional(alloc, left, 0, others(after))?;
+        rest = expect_mark(after, Mark::Colon)?;
+        if left == 0 {
+            return Err(Stop::Syntax);
+        }
+        outer.push(OpenChoice { span, test, yes })?;
+        left -= 1;
     }
-    let (yes, rest) = conditional(alloc, depth, 0, others(rest))?;
-    let rest = expect_mark(rest, Mark::Colon)?;
-    let (no, rest) = conditional(alloc, depth, 0, rest)?;
-    Ok((node(alloc, span, ExprForm::Choice(test, yes, no))?, rest))
 }
 
 // An expression at level 0, an operand at a higher level. At most `depth` of them lie in one another.

@@ -1,5 +1,6 @@
-use Rattle.std.proofs.Common.{◌≡◌, ◌+◌, ◌-◌, ◌*◌, length}
-use Rattle.c_parse.specs.Reading.{arguments_at, operators_at, level_by, expr_at}
+use Rattle.std.proofs.Common.{◌≡◌, ◌≤◌, ◌+◌, ◌-◌, ◌*◌, length}
+use Rattle.c_parse.specs.Reading.{arguments_at, operators_at, level_by, choice_by, expr_at}
+use Rattle.c_parse.proofs.Choices.{within}
 use Rattle.c_parse.proofs.Loops.{with_front}
 use Rattle.c_parse.proofs.expressions.+expr.Given as goal
 
@@ -32,3 +33,12 @@ invariant-arguments-loop l = with_front l.list (arguments_at (expr_at l.depth) (
 
 abbrev pub invariant-operation-loop : goal.invariant-operation-loop
 invariant-operation-loop l = operators_at (expr_at l.depth) (l.end - l.counter) l.level l.span l.tree l.rest ≡ level_by (expr_at l.depth) l.level l.tokens
+
+abbrev pub decreases-choice-choices : goal.decreases-choice-choices
+decreases-choice-choices l = l.left
+
+abbrev pub invariant-choice-choices : goal.invariant-choice-choices
+invariant-choice-choices l = record {
+  bound : l.left ≤ l.depth;
+  so_far : within l.outer.items (choice_by (expr_at l.left) l.rest) ≡ choice_by (expr_at l.depth) l.tokens;
+}

@@ -1,0 +1,74 @@
+-- Choices that are read by a loop.
+use Rattle.std.proofs.Common.{◌≡◌, ℕ, zero, suc, true, false, List, [], ◌∷◌, ◌++◌, length, Some, None, refl, sym, ap, ◌∙◌, arith}
+use Rattle.c_parse.specs.declared.sign.Terminal.{Terminal}
+use Rattle.c_parse.specs.declared.sign.Mark.TheVariants as marks
+use Rattle.c_parse.specs.declared.stop.Stop.{Stop}
+use Rattle.c_parse.specs.declared.stop.Stop.TheVariants.{Memory, Syntax}
+use Rattle.c_parse.specs.declared.expr.ExprTree.{ExprTree}
+use Rattle.c_parse.specs.declared.expr.ExprForm.TheVariants as form
+use Rattle.c_parse.specs.declared.expressions.OpenChoice.{OpenChoice}
+use Rattle.fq_core.specs.declared.span.Span.{Span}
+use Rattle.c_parse.specs.Gives.{Fails}
+use Rattle.c_parse.specs.Trees.{tree}
+use Rattle.c_parse.specs.Grammar.{place_of}
+use Rattle.c_parse.specs.Choices.{closed}
+use Rattle.c_parse.specs.Reading.{Read, Reader, ◌>>=◌, starts, tail, expect, level_by, choice_by, expr_at}
+
+pub closed_last : (cs : List OpenChoice) (c : OpenChoice) (last : ExprTree) → closed (cs ++ c ∷ []) last ≡ closed cs (tree c.span (form.Choice c.test c.yes last))
+unfolding closed
+closed_last [] c last = refl
+closed_last (d ∷ ds) c last = ap (λ (t : ExprTree). tree d.span (form.Choice d.test d.yes t)) (closed_last ds c last)
+
+pub closed_none : (cs : List OpenChoice) (last : ExprTree) → length cs ≡ 0 → closed cs last ≡ last
+unfolding closed
+closed_none [] last e = refl
+closed_none (c ∷ cs) last e = absurd (omega arith)
+
+-- what was read before, round what is still read
+abbrev pub within : List OpenChoice → Read ExprTree → Read ExprTree
+within outer read = read >>= λ x. Some (closed outer x.0, x.1)
+
+pub within_none : (read : Read ExprTree) → read ≡ within [] read
+unfolding closed
+within_none None = refl
+within_none (Some x) = refl
+
+module _ (left : ℕ) (outer : List OpenChoice) (rest : List Terminal) (total : Read ExprTree) (so_far : within outer (choice_by (expr_at left) rest) ≡ total) where
+  pub test_fails : (e : Stop) → Fails e (level_by (expr_at left) 1 rest) → Fails e total
+  unfolding choice_by
+  test_fails Memory h = tt
+  test_fails Syntax h = sym so_far ∙ rw h refl
+
+  module _ (test : ExprTree) (after : List Terminal) (first : level_by (expr_at left) 1 rest ≡ Some (test, after)) where
+    pub no_choice : starts marks.Question after ≡ false → total ≡ Some (closed outer test, after)
+    unfolding choice_by
+    no_choice q = sym so_far ∙ rw (first, q) refl
+
+    module _ (question : starts marks.Question after ≡ true) where
+      pub second_fails : (e : Stop) → Fails e (expr_at left 0 (tail after)) → Fails e total
+      unfolding choice_by
+      second_fails Memory h = tt
+      second_fails Syntax h = sym so_far ∙ rw (first, question, h) refl
+
+      module _ (yes : ExprTree) (behind : List Terminal) (second : expr_at left 0 (tail after) ≡ Some (yes, behind)) where
+        pub colon_fails : (e : Stop) → Fails e (expect marks.Colon behind) → Fails e total
+        unfolding choice_by
+        colon_fails Memory h = tt
+        colon_fails Syntax h = sym so_far ∙ rw (first, question, second, h) refl
+
+        module _ (next : List Terminal) (colon : expect marks.Colon behind ≡ Some next) where
+          third : total ≡ within outer (expr_at left 0 next >>= λ b. Some (tree (place_of rest) (form.Choice test yes b.0), b.1))
+          unfolding choice_by
+          third = sym so_far ∙ rw (first, question, second, colon) refl
+
+          pub runs_out : left ≡ 0 → total ≡ None
+          unfolding expr_at
+          runs_out e = third ∙ rw e refl
+
+          pub goes_on : (n : ℕ) → left ≡ suc n → within (outer ++ record { span = place_of rest; test = test; yes = yes } ∷ []) (choice_by (expr_at n) next) ≡ total
+          unfolding expr_at
+          goes_on n e = regroup (choice_by (expr_at n) next) ∙ sym (third ∙ rw e refl)
+            where
+              regroup : (read : Read ExprTree) → within (outer ++ record { span = place_of rest; test = test; yes = yes } ∷ []) read ≡ within outer (read >>= λ b. Some (tree (place_of rest) (form.Choice test yes b.0), b.1))
+              regroup None = refl
+              regroup (Some x) = ap (λ (t : ExprTree). Some (t, x.1)) (closed_last outer (record { span = place_of rest; test = test; yes = yes }) x.0)

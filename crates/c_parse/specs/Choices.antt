@@ -1,0 +1,11 @@
+-- Choices that lie in one another's third operand. Nothing that is promised speaks of this.
+use Rattle.std.specs.Prelude.{List, [], ◌∷◌}
+use Rattle.c_parse.specs.declared.expr.ExprTree.{ExprTree}
+use Rattle.c_parse.specs.declared.expr.ExprForm.TheVariants as form
+use Rattle.c_parse.specs.declared.expressions.OpenChoice.{OpenChoice}
+use Rattle.c_parse.specs.Trees.{tree}
+
+-- the outermost first, with the last third operand
+unfoldable pub closed : List OpenChoice → ExprTree → ExprTree
+closed [] last = last
+closed (c ∷ cs) last = tree c.span (form.Choice c.test c.yes (closed cs last))
