@@ -1,9 +1,7 @@
 -- The turns of a word's replacement.
 use Rattle.std.proofs.Common.{◌≡◌, ℕ, zero, suc, ◌+◌, ◌<◌, ◌≤◌, List, [], ◌∷◌, ◌++◌, length, length-append, get_or, drop, refl, arith, ap, sym, ◌∙◌, append_assoc, append-nil}
 use Rattle.std.proofs.Math.Numerals.{add-one}
-use Rattle.std.specs.Prelude.{Option, Some, None, slice_get, Result, Ok, Err}
-use Rattle.std.specs.Option.{option_copied}
-use Rattle.std.specs.Borrow.{Bor}
+use Rattle.std.specs.Prelude.{Some, None, slice_get, Result, Ok}
 use Rattle.std.specs.Result.{IsErrAnd}
 use Rattle.std.specs.declared.alloc.AllocError.{AllocError}
 use Rattle.std.proofs.lemmas.Result.{err_from_is_err_and}
@@ -14,7 +12,7 @@ use Rattle.c_lex.specs.declared.expand.Turn.TheVariants as turn
 use Rattle.c_lex.specs.declared.macros.Replacement.{Replacement}
 use Rattle.c_lex.specs.declared.macros.Macro.{Macro}
 use Rattle.c_lex.specs.declared.token.Token.{Token}
-use Rattle.c_lex.specs.Macros.{macro_of, place_of, list_at}
+use Rattle.c_lex.specs.Macros.{place_of, list_at}
 use Rattle.c_lex.specs.Lexed.{most, token_at}
 use Rattle.c_lex.specs.Expanding.{pending, rest_of, Turned, frame_done, makes_token, replaces, passes_tokens, passes_replacements, no_memory}
 use Rattle.c_lex.proofs.TakingLaws.{found, unknown}
@@ -41,7 +39,7 @@ get_within A [] i d h = absurd (omega arith)
 get_within A (x ∷ xs) zero d h = refl
 get_within A (x ∷ xs) (suc i) d h = get_within A xs i d (omega arith)
 
-drop_get : (A : Type 0) (xs : List A) (i : ℕ) (r : A) → Some r ≡ slice_get xs i → drop i xs ≡ r ∷ drop (suc i) xs
+pub drop_get : (A : Type 0) (xs : List A) (i : ℕ) (r : A) → Some r ≡ slice_get xs i → drop i xs ≡ r ∷ drop (suc i) xs
 drop_get A [] i r h = cc
 drop_get A (x ∷ xs) zero r h = let e : r ≡ x = cc in rw e refl
 drop_get A (x ∷ xs) (suc i) r h = drop_get A xs i r h

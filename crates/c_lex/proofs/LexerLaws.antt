@@ -1,6 +1,6 @@
 -- What the tokens and the directive lines of a text come to, and the text.
-use Rattle.std.proofs.Common.{◌≡◌, ℕ, suc, ◌+◌, ◌≤◌, ◌<◌, get_or, drop, List, [], ◌∷◌, ◌++◌, length, length-append, map, refl, arith, ap, sym, ◌∙◌, append-nil, add-zero, append_assoc, subst}
-use Rattle.std.specs.Prelude.{Option, Some, None, Result, Ok, Err}
+use Rattle.std.proofs.Common.{◌≡◌, ℕ, ◌+◌, ◌≤◌, ◌<◌, get_or, drop, List, [], ◌∷◌, ◌++◌, length, length-append, map, refl, arith, ap, sym, ◌∙◌, append-nil, append_assoc, subst}
+use Rattle.std.specs.Prelude.{Result, Ok, Err}
 use Rattle.std.proofs.lemmas.List.{length-map, drop_more, drop_all}
 use Rattle.fq_core.specs.declared.span.Span.{Span}
 use Rattle.fq_core.specs.declared.refusal.Place.{Place}
@@ -35,7 +35,7 @@ module _ (file : ℕ) (text : List ℕ) (at n : ℕ) (table : Table) (indexed : 
   unfolding span_of
   token_at_place (Err fault.Memory) taking.no_memory = tt
   token_at_place (Err (fault.Refused f)) (taking.too_wide w) = λ ls. lexed.too_wide at n w
-  token_at_place (Err (fault.Refused f)) (taking.endless k e) = λ ls. lexed.endless at n k e
+  token_at_place (Err (fault.Refused f)) (taking.loops k e) = λ ls. lexed.loops at n k e
   token_at_place (Err (fault.Refused f)) (taking.too_many us m k e w) = λ ls. lexed.too_many us m at n k e w
   token_at_place (Ok r) (taking.taken us m k e w t c) =
       let l : length new ≡ length old + length us = ap length t ∙ length-append old (map (token_at (span_of file text at n)) us) ∙ ap (λ k. length old + k) (length-map us (token_at (span_of file text at n))) in

@@ -1,14 +1,15 @@
 pub mod Digits
-pub mod EndingLaws
 pub mod ExpandingLaws
 pub mod LexerLaws
 pub mod Longest
+pub mod LoopingLaws
 pub mod Loops
 pub mod Numbers
 pub mod NumbersLaws
 pub mod OneReadingLaws
 pub mod Runs
 pub mod Scans
+pub mod SearchingLaws
 pub mod StepsLaws
 pub mod TableLaws
 pub mod TakenLaws

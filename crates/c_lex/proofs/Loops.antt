@@ -3,9 +3,9 @@ use Rattle.std.proofs.Common.{◌≡◌, ℕ, suc, ◌+◌, ◌<◌, ◌≤◌, 
 use Rattle.std.proofs.lemmas.Bool.{ne_eqb}
 use Rattle.std.proofs.lemmas.List.{at_drop_more, at_drop_all}
 use Rattle.c_lex.specs.Cuts.{closing, closes}
-use Rattle.c_lex.specs.Bytes.{is_escaped_byte, is_string_byte, is_in_line}
+use Rattle.c_lex.specs.Bytes.{is_escaped_byte, is_string_byte}
 use Rattle.c_lex.specs.Scans.{string_length, header_length}
-use Rattle.std.specs.Prelude.{Option, Some, None, option_map, IfSome, if◌then◌else◌, ◌==◌}
+use Rattle.std.specs.Prelude.{Option, Some, None, option_map, IfSome, if◌then◌else◌}
 
 -- a place, counted from i bytes before
 abbrev pub shifted : ℕ → Option ℕ → Option ℕ

@@ -1,10 +1,10 @@
 -- Numbers that no kind holds.
-use Rattle.std.proofs.Common.{◌≡◌, ℕ, ◌<◌, ◌≤◌, ◌^◌, Bool, true, false, List, length, refl, arith}
-use Rattle.std.specs.Prelude.{Option, None, pos, nat_le}
+use Rattle.std.proofs.Common.{◌≡◌, ℕ, ◌≤◌, ◌^◌, Bool, true, false, List, length, arith}
+use Rattle.std.specs.Prelude.{None, nat_le}
 use Rattle.std.proofs.lemmas.Bool.{lt-leb, le-leb}
 use Rattle.std.proofs.lemmas.List.Sums.{prefix_len-le-length}
 use Rattle.std.specs.List.{prefix_len}
-use Rattle.c_values.specs.Kind.{least, greatest, is_in_range}
+use Rattle.c_values.specs.Kind.{least, greatest}
 use Rattle.c_lex.specs.declared.constant.Suffix.{Suffix}
 use Rattle.c_lex.specs.declared.constant.Base.{Base}
 use Rattle.c_lex.specs.declared.constant.Base.TheVariants.{Decimal, Octal, Hexadecimal}

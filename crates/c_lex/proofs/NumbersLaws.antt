@@ -1,10 +1,9 @@
 -- The numbers among the tokens of texts are values of their kinds.
-use Rattle.std.proofs.Common.{◌≡◌, ℕ, suc, ◌+◌, Bool, true, false, List, [], ◌∷◌, ◌++◌, length, drop, map, refl, ap, sym, ◌∙◌}
+use Rattle.std.proofs.Common.{◌≡◌, ℕ, Bool, true, false, List, [], ◌∷◌, ◌++◌, drop, map, refl}
 use Rattle.std.specs.Prelude.{Option, Some, None, option_map, ⊤, if◌then◌else◌}
 use Rattle.std.specs.Str.{bytes_eq}
 use Rattle.containers.specs.Lists.{all_there, before}
 use Rattle.fq_core.specs.declared.span.Span.{Span}
-use Rattle.fq_core.specs.declared.refusal.Place.{Place}
 use Rattle.c_lex.specs.declared.cut.Lexeme.{Lexeme}
 use Rattle.c_lex.specs.declared.cut.Lexeme.TheVariants as lexeme
 use Rattle.c_lex.specs.declared.macros.Replacement.{Replacement}
@@ -14,7 +13,7 @@ use Rattle.c_lex.specs.declared.token.TokenKind.{TokenKind}
 use Rattle.c_lex.specs.declared.token.SourceText.{SourceText}
 use Rattle.c_lex.specs.Constants.{token_kind}
 use Rattle.c_lex.specs.Cuts.{part}
-use Rattle.c_lex.specs.Directives.{replacement_of, replacement_at, list_of}
+use Rattle.c_lex.specs.Directives.{replacement_at, list_of}
 use Rattle.c_lex.specs.Macros.{macro_of, Expands, nothing, stays, is_replaced}
 use Rattle.c_lex.specs.Lexed as lexed
 use Rattle.c_lex.specs.Lexed.{Outcome, accepted, refused, after, token_at, Reads, ReadsText, ReadsTexts}
@@ -94,7 +93,7 @@ list_has line (l ∷ ls) list h = before_has (replacement_at line l) (all_there 
 reads_has : {file : ℕ} {text : List ℕ} {table : List Macro} {made replaced : ℕ} {ls : List Lexeme} {o : Outcome} → TableHas table → Reads file text table made replaced ls o → Gives o
 reads_has all lexed.all_read = tt
 reads_has all (lexed.too_wide at n w) = tt
-reads_has all (lexed.endless at n k e) = tt
+reads_has all (lexed.loops at n k e) = tt
 reads_has all (lexed.too_many us m at n k e w) = tt
 reads_has {text = text} all (lexed.a_token {o = o} {kind = kind} us m at n k e w d) =
     after_gives _ o (tokens_have _ us (expands_has all e (token_has (part text at n) kind k, tt))) (reads_has all d)

@@ -1,19 +1,17 @@
 -- What comes of texts is determined.
-use Rattle.std.proofs.Common.{◌≡◌, ℕ, suc, ◌+◌, List, [], ◌∷◌, ◌++◌, length, map, drop, refl, ap, sym, ◌∙◌}
-use Rattle.std.specs.Prelude.{Option, Some, None}
-use Rattle.fq_core.specs.declared.refusal.Place.{Place}
+use Rattle.std.proofs.Common.{◌≡◌, ℕ, suc, ◌+◌, List, [], ◌∷◌, refl, ap}
+use Rattle.std.specs.Prelude.{Option, Some}
 use Rattle.c_lex.specs.declared.cut.Mode.{Mode}
 use Rattle.c_lex.specs.declared.cut.Lexeme.{Lexeme}
 use Rattle.c_lex.specs.declared.macros.Replacement.{Replacement}
 use Rattle.c_lex.specs.declared.macros.Macro.{Macro}
-use Rattle.c_lex.specs.declared.token.Token.{Token}
 use Rattle.c_lex.specs.declared.token.TokenKind.{TokenKind}
 use Rattle.c_lex.specs.declared.token.SourceText.{SourceText}
 use Rattle.c_lex.specs.Constants.{token_kind}
-use Rattle.c_lex.specs.Cuts.{Cuts, ends, gap, token, directive, unknown, open_comment, part}
-use Rattle.c_lex.specs.Places.{span_of}
-use Rattle.c_lex.specs.Macros.{Expands, nothing, stays, is_replaced, Endless}
+use Rattle.c_lex.specs.Cuts.{Cuts, ends, gap, token, directive, unknown, open_comment}
+use Rattle.c_lex.specs.Macros.{Expands, nothing, stays, is_replaced, Loops, Ends}
 use Rattle.c_lex.specs.Lexed as lexed
+use Rattle.c_lex.proofs.LoopingLaws.{no_end}
 use Rattle.c_lex.specs.Lexed.{Outcome, accepted, refused, after, token_at, Reads, ReadsText, ReadsTexts, IsWithin}
 
 -- ---- one cut
@@ -72,25 +70,29 @@ same_expands : {table : List Macro} (bytes : List ℕ) {k j : TokenKind} {us : L
     → Expands table (record { kind = j; text = bytes } ∷ []) us n
 same_expands bytes {k = k} {j = j} a b d = let s = same_kind (token_kind bytes) k j a b in rw s at d
 
+same_end : {table : List Macro} (bytes : List ℕ) {k j : TokenKind} → token_kind bytes ≡ Some k → token_kind bytes ≡ Some j → Loops table (record { kind = k; text = bytes } ∷ [])
+    → Ends table (record { kind = j; text = bytes } ∷ []) → ⊥
+same_end bytes a b l d = no_end _ _ l (d.0, d.1, same_expands bytes b a d.2)
+
 -- ---- one reading of a text
 
 module _ {file : ℕ} {text : List ℕ} where
   one_reads : {table : List Macro} {made replaced : ℕ} {ls : List Lexeme} {o p : Outcome} → Reads file text table made replaced ls o → Reads file text table made replaced ls p → o ≡ p
   one_reads lexed.all_read lexed.all_read = refl
   one_reads (lexed.too_wide a1 n1 w1) (lexed.too_wide a2 n2 w2) = refl
-  one_reads (lexed.too_wide a1 n1 w1) (lexed.endless a2 n2 k2 e2) = cc
+  one_reads (lexed.too_wide a1 n1 w1) (lexed.loops a2 n2 k2 e2) = cc
   one_reads (lexed.too_wide a1 n1 w1) (lexed.too_many us2 m2 a2 n2 k2 x2 b2) = cc
   one_reads (lexed.too_wide a1 n1 w1) (lexed.a_token us2 m2 a2 n2 k2 x2 b2 d2) = cc
-  one_reads (lexed.endless a1 n1 k1 e1) (lexed.too_wide a2 n2 w2) = cc
-  one_reads (lexed.endless a1 n1 k1 e1) (lexed.endless a2 n2 k2 e2) = refl
-  one_reads (lexed.endless a1 n1 k1 e1) (lexed.too_many us2 m2 a2 n2 k2 x2 b2) = absurd (e1 us2 m2 (same_expands _ k2 k1 x2))
-  one_reads (lexed.endless a1 n1 k1 e1) (lexed.a_token us2 m2 a2 n2 k2 x2 b2 d2) = absurd (e1 us2 m2 (same_expands _ k2 k1 x2))
+  one_reads (lexed.loops a1 n1 k1 e1) (lexed.too_wide a2 n2 w2) = cc
+  one_reads (lexed.loops a1 n1 k1 e1) (lexed.loops a2 n2 k2 e2) = refl
+  one_reads (lexed.loops a1 n1 k1 e1) (lexed.too_many us2 m2 a2 n2 k2 x2 b2) = absurd (same_end _ k1 k2 e1 (us2, m2, x2))
+  one_reads (lexed.loops a1 n1 k1 e1) (lexed.a_token us2 m2 a2 n2 k2 x2 b2 d2) = absurd (same_end _ k1 k2 e1 (us2, m2, x2))
   one_reads (lexed.too_many us1 m1 a1 n1 k1 x1 b1) (lexed.too_wide a2 n2 w2) = cc
-  one_reads (lexed.too_many us1 m1 a1 n1 k1 x1 b1) (lexed.endless a2 n2 k2 e2) = absurd (e2 us1 m1 (same_expands _ k1 k2 x1))
+  one_reads (lexed.too_many us1 m1 a1 n1 k1 x1 b1) (lexed.loops a2 n2 k2 e2) = absurd (same_end _ k2 k1 e2 (us1, m1, x1))
   one_reads (lexed.too_many us1 m1 a1 n1 k1 x1 b1) (lexed.too_many us2 m2 a2 n2 k2 x2 b2) = refl
   one_reads (lexed.too_many us1 m1 a1 n1 k1 x1 b1) (lexed.a_token us2 m2 a2 n2 k2 x2 b2 d2) = let p = one_expansion x1 (same_expands _ k2 k1 x2) in absurd (b1 (rw (p.0, p.1) b2))
   one_reads (lexed.a_token us1 m1 a1 n1 k1 x1 b1 d1) (lexed.too_wide a2 n2 w2) = cc
-  one_reads (lexed.a_token us1 m1 a1 n1 k1 x1 b1 d1) (lexed.endless a2 n2 k2 e2) = absurd (e2 us1 m1 (same_expands _ k1 k2 x1))
+  one_reads (lexed.a_token us1 m1 a1 n1 k1 x1 b1 d1) (lexed.loops a2 n2 k2 e2) = absurd (same_end _ k2 k1 e2 (us1, m1, x1))
   one_reads (lexed.a_token us1 m1 a1 n1 k1 x1 b1 d1) (lexed.too_many us2 m2 a2 n2 k2 x2 b2) = let p = one_expansion x1 (same_expands _ k2 k1 x2) in absurd (b2 (rw (← p.0, ← p.1) b1))
   one_reads (lexed.a_token us1 m1 a1 n1 k1 x1 b1 d1) (lexed.a_token us2 m2 a2 n2 k2 x2 b2 d2) = let p = one_expansion x1 (same_expands _ k2 k1 x2) in let q = one_reads d1 (rw (← p.0, ← p.1) at d2) in rw (p.0, q) refl
   one_reads (lexed.included l1 a1 n1 c1 e1 d1) (lexed.included l2 a2 n2 c2 e2 d2) = one_reads d1 d2

@@ -3,7 +3,7 @@ use Rattle.std.proofs.Common.{◌≡◌, ℕ, suc, ◌+◌, ◌-◌, ◌*◌, �
 use Rattle.std.proofs.lemmas.List.{length-map, map-append, length_push}
 use Rattle.std.proofs.Math.Numerals.{one-add}
 use Rattle.std.proofs.Common.{add-zero}
-use Rattle.std.specs.Prelude.{Option, Some, None, Ok}
+use Rattle.std.specs.Prelude.{Some, None, Ok}
 use Rattle.fq_core.specs.declared.span.Span.{Span}
 use Rattle.c_lex.specs.declared.macros.Replacement.{Replacement}
 use Rattle.c_lex.specs.declared.macros.Macro.{Macro}

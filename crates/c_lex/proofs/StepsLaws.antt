@@ -1,9 +1,8 @@
 -- What one step along a text finds.
-use Rattle.std.proofs.Common.{◌≡◌, ℕ, ◌+◌, ◌<◌, ◌≤◌, ◌-◌, List, [], ◌∷◌, length, length-drop, take, drop, refl, arith, ap, sym, ◌∙◌}
-use Rattle.c_lex.specs.Cuts.{beginning, Cuts, ends, gap, token, directive, unknown, open_comment, Finds, part, after_gap, after_token}
+use Rattle.std.proofs.Common.{◌≡◌, ℕ, ◌+◌, ◌<◌, ◌≤◌, ◌-◌, List, [], ◌∷◌, length, length-drop, drop, refl, arith, ap, sym, ◌∙◌}
+use Rattle.c_lex.specs.Cuts.{beginning, ends, gap, token, directive, unknown, open_comment, Finds, part, after_gap, after_token}
 use Rattle.c_lex.specs.declared.cut.Mode.{Mode}
 use Rattle.c_lex.specs.declared.cut.Mode.TheVariants.{Within}
-use Rattle.c_lex.specs.declared.cut.Lexeme.{Lexeme}
 use Rattle.c_lex.specs.declared.cut.Lexeme.TheVariants as lexeme
 use Rattle.c_lex.specs.declared.cut.Step.TheVariants as step
 use Rattle.c_lex.specs.declared.cut.Beginning.{Beginning}

@@ -1,5 +1,5 @@
 -- The table of macros.
-use Rattle.std.proofs.Common.{◌≡◌, ℕ, suc, ◌+◌, ◌<◌, Bool, true, false, List, [], ◌∷◌, ◌++◌, length, refl, arith, ap, sym, ◌∙◌, nat_cmp, subst}
+use Rattle.std.proofs.Common.{◌≡◌, ℕ, suc, Bool, true, false, List, [], ◌∷◌, ◌++◌, length, refl, ap, sym, ◌∙◌, nat_cmp}
 use Rattle.std.specs.Prelude.{Option, Some, None, option_map, if◌then◌else◌}
 use Rattle.std.specs.Str.{bytes_eq}
 use Rattle.std.specs.Cmp.Lexicographic.{slice_cmp}

@@ -1,6 +1,6 @@
 -- What a token comes to.
-use Rattle.std.proofs.Common.{◌≡◌, ℕ, suc, ◌+◌, ◌≤◌, List, [], ◌∷◌, ◌++◌, length, map, refl, arith, ap, sym, ◌∙◌, append-nil, add-zero, Bool, true, false}
-use Rattle.std.specs.Prelude.{Option, Some, None, Result, Ok, Err}
+use Rattle.std.proofs.Common.{◌≡◌, ℕ, suc, List, [], ◌∷◌, arith, sym, ◌∙◌, append-nil, add-zero, Bool, true, false}
+use Rattle.std.specs.Prelude.{Some, None, Result, Ok, Err}
 use Rattle.std.specs.Result.{IsErrAnd}
 use Rattle.std.proofs.lemmas.Result.{err_from_is_err_and}
 use Rattle.fq_core.specs.declared.span.Span.{Span}
@@ -11,13 +11,12 @@ use Rattle.c_lex.specs.declared.macros.Replacement.{Replacement}
 use Rattle.c_lex.specs.declared.macros.Macro.{Macro}
 use Rattle.c_lex.specs.declared.token.Token.{Token}
 use Rattle.c_lex.specs.Constants.{token_kind}
-use Rattle.c_lex.specs.Macros.{macro_of, place_of, list_at, Expands, nothing, stays, is_replaced, Endless, EndlessOrNot}
-use Rattle.c_lex.specs.Lexed.{most, IsWithin, token_at, the_limit}
+use Rattle.c_lex.specs.Macros.{place_of, list_at, Expands, nothing, stays, is_replaced, within, LoopsOrEnds}
+use Rattle.c_lex.specs.Lexed.{the_limit}
 use Rattle.c_lex.specs.Expanding.{ExpandsTo}
 use Rattle.c_lex.specs.Taking as taking
 use Rattle.c_lex.specs.Taking.{TokenTaken, PlainTaken, refusal, place_of_span}
 use Rattle.c_lex.proofs.TakingLaws.{found, unknown}
-use Rattle.c_lex.proofs.Runs.{when_replaced}
 
 pub token_memory : (table : List Macro) (bytes : List ℕ) (span : Span) (old new : List Token) (replaced : ℕ) (r : Result ℕ Fault) → IsErrAnd r (λ e. e ≡ fault.Memory) → TokenTaken table bytes span old replaced new r
 token_memory table bytes span old new replaced r h = let p = err_from_is_err_and r h in rw (p.1, p.2) taking.no_memory
@@ -27,12 +26,11 @@ module _ (table : List Macro) (word : Replacement) (span : Span) (old new : List
   use_done n e = taking.taken e.0 e.1 kind e.2 e.3 e.4 e.5
 
   module _ (place : ℕ) (known : place_of table word.text ≡ Some place) where
-    pub use_endless : (b : Bool) → EndlessOrNot table (list_at table place) b → b ≡ true → TokenTaken table word.text span old replaced new (Err (refusal 14 (place_of_span span)))
-    use_endless true h e =
-        taking.endless kind (λ us n d. let i = when_replaced (list_at table place) d (found table word.text place known).list in h us i.count (rw append-nil at i.goes))
-    use_endless false h e = cc
+    pub use_loops : (b : Bool) → LoopsOrEnds table (list_at table place) b → b ≡ true → TokenTaken table word.text span old replaced new (Err (refusal 14 (place_of_span span)))
+    use_loops true h e = taking.loops kind (h.0, within place known h.1, h.2)
+    use_loops false h e = cc
 
-    pub use_passed : (b : Bool) → EndlessOrNot table (list_at table place) b → b ≡ false → ExpandsTo table (word ∷ []) span old new replaced expansion.Passed
+    pub use_passed : (b : Bool) → LoopsOrEnds table (list_at table place) b → b ≡ false → ExpandsTo table (word ∷ []) span old new replaced expansion.Passed
         → TokenTaken table word.text span old replaced new (Err (refusal 15 the_limit))
     use_passed true h e p = cc
     use_passed false h e p =

@@ -1,7 +1,6 @@
 -- Each text is cut in some way.
 use Rattle.std.proofs.Common.{◌≡◌, ℕ, zero, suc, ◌+◌, ◌<◌, ◌≤◌, ◌-◌, List, [], ◌∷◌, ◌++◌, length, length-drop, take, drop, refl, arith, ap, sym, ◌∙◌}
 use Rattle.std.proofs.Math.Nat.{sub-zero}
-use Rattle.std.specs.Prelude.{fold}
 use Rattle.c_lex.specs.declared.cut.Mode.{Mode}
 use Rattle.c_lex.specs.declared.cut.Mode.TheVariants as mode
 use Rattle.c_lex.specs.declared.cut.Lexeme.{Lexeme}

@@ -1,28 +1,22 @@
 -- Numbers are values of their kinds.
-use Rattle.std.proofs.Common.{◌≡◌, ℕ, suc, ◌+◌, ◌-◌, ◌<◌, ◌≤◌, ◌^◌, Bool, true, false, List, [], ◌∷◌, ◌++◌, take, drop, map, refl, arith, ap, sym, ◌∙◌}
-use Rattle.std.specs.Prelude.{Option, Some, None, option_map, find, pos, nat_lt, nat_le, ◌&&◌, ◌==◌, if◌then◌else◌, ⊤}
+use Rattle.std.proofs.Common.{◌≡◌, ℕ, ◌≤◌, Bool, true, false, List, [], ◌∷◌, take, drop, refl, arith}
+use Rattle.std.specs.Prelude.{Option, Some, None, find, pos, nat_lt, nat_le, ◌&&◌, ◌==◌, if◌then◌else◌, ⊤}
 use Rattle.std.specs.List.{prefix_len}
 use Rattle.std.specs.Char as char
 use Rattle.std.specs.Str.Parse.{digits_value}
 use Rattle.std.proofs.lemmas.Bool.{leb-true, lt-ltb, le-leb, and_parts}
-use Rattle.containers.specs.Lists.{all_there, before}
 use Rattle.c_values.specs.declared.kinds.Kind.{Kind}
 use Rattle.c_values.specs.Kind.{int, is_in_range, is_value, IsValue, number_of, least, greatest}
-use Rattle.c_lex.specs.declared.cut.Lexeme.{Lexeme}
-use Rattle.c_lex.specs.declared.cut.Lexeme.TheVariants as lexeme
 use Rattle.c_lex.specs.declared.constant.Suffix.{Suffix}
 use Rattle.c_lex.specs.declared.constant.Base.{Base}
 use Rattle.c_lex.specs.declared.constant.Base.TheVariants.{Decimal, Octal, Hexadecimal}
-use Rattle.c_lex.specs.declared.macros.Replacement.{Replacement}
-use Rattle.c_lex.specs.declared.macros.Macro.{Macro}
-use Rattle.c_lex.specs.declared.token.Token.{Token}
 use Rattle.c_lex.specs.declared.token.TokenKind.{TokenKind}
 use Rattle.c_lex.specs.declared.token.TokenKind.TheVariants.{Word, Number, Mark, Foreign}
 use Rattle.c_lex.specs.Forms.{constant_value, escapes, value_at}
 use Rattle.c_lex.specs.Bytes.{is_constant_byte}
 use Rattle.c_lex.specs.Constants as constants
 use Rattle.c_lex.specs.Constants.{unsigned_int, long, unsigned_long, kinds_of, kind_of_number, suffix_of, with_suffix, number_in, base_of, after_prefix, radix, token_kind, constant_kind, word_kind, mark_kind, is_foreign_word, is_among, foreign_marks}
-use Rattle.c_lex.specs.NumbersOfKinds.{HasValue, HaveValues}
+use Rattle.c_lex.specs.NumbersOfKinds.{HasValue}
 
 -- ---- the kinds of numbers
 

@@ -1,5 +1,5 @@
 -- The tokens of texts, or the first place at which one is refused.
-use Rattle.std.specs.Prelude.{◌≡◌, ◌≢◌, ℕ, ◌+◌, ◌≤◌, ◌<◌, ◌^◌, slice_index_or, Vec, List, [], ◌∷◌, ◌++◌, length, map, drop, Option, Some, None, Result, Ok, Err, ⊤}
+use Rattle.std.specs.Prelude.{◌≡◌, ℕ, ◌+◌, ◌≤◌, ◌<◌, ◌^◌, slice_index_or, Vec, List, [], ◌∷◌, ◌++◌, length, map, drop, Some, None, Result, Ok, Err, ⊤}
 use Rattle.std.specs.declared.alloc.Global.{Global}
 use Rattle.fq_core.specs.declared.span.Span.{Span}
 use Rattle.fq_core.specs.declared.refusal.Place.{Place}
@@ -18,7 +18,7 @@ use Rattle.c_lex.specs.declared.token.TokenKind.{TokenKind}
 use Rattle.c_lex.specs.Constants.{token_kind}
 use Rattle.c_lex.specs.Cuts.{Cuts, part}
 use Rattle.c_lex.specs.Directives.{directive_of, list_of}
-use Rattle.c_lex.specs.Macros.{macro_of, Expands, Endless}
+use Rattle.c_lex.specs.Macros.{macro_of, Expands, Loops}
 use Rattle.c_lex.specs.Places.{position_at, span_of}
 
 -- the greatest number of tokens, and that of replacements, over all texts
@@ -54,12 +54,12 @@ the_limit = place.Limit most
 -- of several causes at one token the one of the lowest code.
 pub data Reads (file : ℕ) (text : List ℕ) : List Macro → (made replaced : ℕ) → List Lexeme → Outcome → Type 0 where
   all_read : {table : List Macro} {made replaced : ℕ} → Reads file text table made replaced [] (accepted [] made replaced)
-  -- a token: a number that is too wide for its kinds, one whose replacement has no end or gives more than the limits
-  -- allow, or one that gives itself or what its macro gives
+  -- a token: a number that is too wide for its kinds, a word in whose replacement a word is met within its own
+  -- replacement (6.10.3.4p2), one that gives more than the limits allow, or one that gives itself or what its macro gives
   too_wide : {table : List Macro} {made replaced : ℕ} {ls : List Lexeme} (at n : ℕ) → token_kind (part text at n) ≡ None
       → Reads file text table made replaced (lexeme.Token at n ∷ ls) (refused 13 (line_of file text at))
-  endless : {table : List Macro} {made replaced : ℕ} {ls : List Lexeme} {kind : TokenKind} (at n : ℕ) → token_kind (part text at n) ≡ Some kind
-      → Endless table (record { kind = kind; text = part text at n } ∷ [])
+  loops : {table : List Macro} {made replaced : ℕ} {ls : List Lexeme} {kind : TokenKind} (at n : ℕ) → token_kind (part text at n) ≡ Some kind
+      → Loops table (record { kind = kind; text = part text at n } ∷ [])
       → Reads file text table made replaced (lexeme.Token at n ∷ ls) (refused 14 (line_of file text at))
   too_many : {table : List Macro} {made replaced : ℕ} {ls : List Lexeme} {kind : TokenKind} (us : List Replacement) (m : ℕ) (at n : ℕ) → token_kind (part text at n) ≡ Some kind
       → Expands table (record { kind = kind; text = part text at n } ∷ []) us m → (IsWithin (made + length us) (replaced + m) → ⊥)

@@ -2,7 +2,6 @@ pub mod Bytes
 pub mod Constants
 pub mod Cuts
 pub mod Directives
-pub mod Ending
 pub mod Expanding
 pub mod Forms
 pub mod Lexed
@@ -11,5 +10,6 @@ pub mod NumbersOfKinds
 pub mod OneReading
 pub mod Places
 pub mod Scans
+pub mod Searching
 pub mod Table
 pub mod Taking

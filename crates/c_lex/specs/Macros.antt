@@ -1,5 +1,5 @@
 -- The replacement of macros (ISO/IEC 9899:2011, 6.10.3 and 6.10.3.4).
-use Rattle.std.specs.Prelude.{◌≡◌, ℕ, zero, suc, Bool, true, false, List, [], ◌∷◌, ◌++◌, Option, Some, None, option_map, if◌then◌else◌}
+use Rattle.std.specs.Prelude.{◌≡◌, ◌⊎◌, ℕ, zero, suc, Bool, true, false, List, [], ◌∷◌, ◌++◌, Option, Some, None, option_map, if◌then◌else◌}
 use Rattle.std.specs.Str.{bytes_eq}
 use Rattle.c_lex.specs.declared.macros.Replacement.{Replacement}
 use Rattle.c_lex.specs.declared.macros.Macro.{Macro}
@@ -29,11 +29,31 @@ pub data Expands (table : List Macro) : List Replacement → List Replacement �
   is_replaced : {r : Replacement} {rs us : List Replacement} {n : ℕ} (list : List Replacement) → macro_of table r.text ≡ Some list
       → Expands table (list ++ rs) us n → Expands table (r ∷ rs) us (suc n)
 
--- the replacement of these tokens has no end: a word is met within its own replacement (6.10.3.4p2)
-abbrev pub Endless : List Macro → List Replacement → Type 0
-Endless table rs = (us : List Replacement) (n : ℕ) → Expands table rs us n → ⊥
+-- the replacement of these tokens meets the word of the macro at a place of the table: it is one of them, or the
+-- replacement of one of them meets it (6.10.3.4p1)
+pub data Meets (table : List Macro) : List Replacement → ℕ → Type 0 where
+  here : {r : Replacement} {rs : List Replacement} {p : ℕ} → place_of table r.text ≡ Some p → Meets table (r ∷ rs) p
+  within : {r : Replacement} {rs : List Replacement} {p : ℕ} (q : ℕ) → place_of table r.text ≡ Some q → Meets table (list_at table q) p
+      → Meets table (r ∷ rs) p
+  later : {r : Replacement} {rs : List Replacement} {p : ℕ} → Meets table rs p → Meets table (r ∷ rs) p
 
--- the answer to whether the replacement of these tokens has no end
-abbrev pub EndlessOrNot : List Macro → List Replacement → Bool → Type 0
-EndlessOrNot table rs true = Endless table rs
-EndlessOrNot table rs false = (us : List Replacement) × (n : ℕ) × Expands table rs us n
+-- the replacement of these tokens meets a word that is met within its own replacement (6.10.3.4p2)
+abbrev pub Loops : List Macro → List Replacement → Type 0
+Loops table rs = (p : ℕ) × Meets table rs p × Meets table (list_at table p) p
+
+-- the replacement of these tokens has an end
+abbrev pub Ends : List Macro → List Replacement → Type 0
+Ends table rs = (us : List Replacement) × (n : ℕ) × Expands table rs us n
+
+-- the answer to whether the replacement of these tokens loops
+abbrev pub LoopsOrEnds : List Macro → List Replacement → Bool → Type 0
+LoopsOrEnds table rs true = Loops table rs
+LoopsOrEnds table rs false = Ends table rs
+
+-- no replacement that loops has an end
+abbrev pub LoopsHaveNoEnd : Type 0
+LoopsHaveNoEnd = (table : List Macro) (rs : List Replacement) → Loops table rs → Ends table rs → ⊥
+
+-- each replacement loops or has an end
+abbrev pub AllLoopOrEnd : Type 0
+AllLoopOrEnd = (table : List Macro) (rs : List Replacement) → Loops table rs ⊎ Ends table rs

@@ -1,5 +1,5 @@
 -- The numbers among the tokens of texts are values of their kinds.
-use Rattle.std.specs.Prelude.{ℕ, ⊤, List, [], ◌∷◌}
+use Rattle.std.specs.Prelude.{⊤, List, [], ◌∷◌}
 use Rattle.c_values.specs.Kind.{IsValue}
 use Rattle.c_lex.specs.declared.token.SourceText.{SourceText}
 use Rattle.c_lex.specs.declared.token.Token.{Token}

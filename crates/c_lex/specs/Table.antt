@@ -1,8 +1,8 @@
 -- The table of a text's macros, with the places of their names.
-use Rattle.std.specs.Prelude.{◌≡◌, ℕ, List, Option}
+use Rattle.std.specs.Prelude.{◌≡◌, ℕ, List}
 use Rattle.std.specs.Ordering.{nat_cmp}
 use Rattle.std.specs.Cmp.Lexicographic.{slice_cmp}
-use Rattle.std.specs.BTreeMap.{BTreeMap, get}
+use Rattle.std.specs.BTreeMap.{get}
 use Rattle.c_lex.specs.declared.table.Table.{Table}
 use Rattle.c_lex.specs.Macros.{place_of}
 

@@ -1,5 +1,5 @@
 -- What one token and one directive line come to.
-use Rattle.std.specs.Prelude.{◌≡◌, ℕ, ◌+◌, ◌≤◌, ⊤, List, [], ◌∷◌, ◌++◌, length, map, drop, Option, Some, None, Result, Ok, Err}
+use Rattle.std.specs.Prelude.{◌≡◌, ℕ, ◌+◌, ◌≤◌, ⊤, List, [], ◌∷◌, ◌++◌, length, map, drop, Some, None, Result, Ok, Err}
 use Rattle.fq_core.specs.declared.span.Span.{Span}
 use Rattle.fq_core.specs.declared.refusal.Place.{Place}
 use Rattle.fq_core.specs.declared.refusal.Place.TheVariants as place
@@ -15,7 +15,7 @@ use Rattle.c_lex.specs.declared.token.TokenKind.{TokenKind}
 use Rattle.c_lex.specs.Constants.{token_kind}
 use Rattle.c_lex.specs.Cuts.{Cuts, part}
 use Rattle.c_lex.specs.Directives.{directive_of, list_of}
-use Rattle.c_lex.specs.Macros.{macro_of, Expands, Endless}
+use Rattle.c_lex.specs.Macros.{macro_of, Expands, Loops}
 use Rattle.c_lex.specs.Lexed.{most, IsWithin, token_at, the_limit, Outcome, accepted, refused, after, Reads, ReadsText}
 use Rattle.c_lex.specs.declared.table.Table.{Table}
 use Rattle.c_lex.specs.Table.{IsIndexed}
@@ -30,7 +30,7 @@ place_of_span span = place.Source span.file span.line
 pub data TokenTaken (table : List Macro) (bytes : List ℕ) (span : Span) (old : List Token) (replaced : ℕ) : List Token → Result ℕ Fault → Type 0 where
   no_memory : {new : List Token} → TokenTaken table bytes span old replaced new (Err fault.Memory)
   too_wide : {new : List Token} → token_kind bytes ≡ None → TokenTaken table bytes span old replaced new (Err (refusal 13 (place_of_span span)))
-  endless : {new : List Token} {kind : TokenKind} → token_kind bytes ≡ Some kind → Endless table (record { kind = kind; text = bytes } ∷ [])
+  loops : {new : List Token} {kind : TokenKind} → token_kind bytes ≡ Some kind → Loops table (record { kind = kind; text = bytes } ∷ [])
       → TokenTaken table bytes span old replaced new (Err (refusal 14 (place_of_span span)))
   too_many : {new : List Token} {kind : TokenKind} (us : List Replacement) (m : ℕ) → token_kind bytes ≡ Some kind
       → Expands table (record { kind = kind; text = bytes } ∷ []) us m → (IsWithin (length old + length us) (replaced + m) → ⊥)

@@ -36,7 +36,7 @@ pub enum Turn {
 pub enum Expansion {
     /// The tokens were made, and so many words are replaced by now.
     Done(usize),
-    /// A limit forbids them, or they have no end.
+    /// A limit forbids them, or they loop.
     Passed,
 }
 

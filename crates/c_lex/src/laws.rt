@@ -1,4 +1,5 @@
 // What the definitions imply.
+ghost use Rattle.c_lex.specs.Macros.{AllLoopOrEnd, LoopsHaveNoEnd};
 ghost use Rattle.c_lex.specs.NumbersOfKinds.{NumbersAreValues};
 ghost use Rattle.c_lex.specs.OneReading.{OneReading};
 
@@ -6,6 +7,13 @@ ghost use Rattle.c_lex.specs.OneReading.{OneReading};
 /// memory.
 pub fn one_reading()
     ensures { OneReading }
+{}
+
+/// A replacement in which a word is met within its own replacement has no end, and each other replacement has one
+/// (ISO/IEC 9899:2011, 6.10.3.4): so `tokens` refuses with code 14 just the macros whose replacement has no end.
+pub fn a_loop_has_no_end()
+    ensures excluded { LoopsHaveNoEnd }
+    ensures total { AllLoopOrEnd }
 {}
 
 /// Each number among the tokens of texts is a value of its kind.

@@ -1,5 +1,5 @@
 // The pass along a text.
-ghost use Rattle.std.specs.Prelude.{◌≡◌, ◌≤◌, ◌<◌, ◌+◌, ◌^◌, length, IfOk, IsTrue, ◌↔◌};
+ghost use Rattle.std.specs.Prelude.{◌≡◌, ◌≤◌, ◌<◌, ◌+◌, ◌^◌, [], length, IfOk, IsTrue, ◌↔◌};
 ghost use Rattle.c_lex.specs.Cuts.{IsInside, place_of_lexeme};
 ghost use Rattle.c_lex.specs.Lexed.{Answers, AreSmall, most};
 ghost use Rattle.c_lex.specs.Places.{position_at, span_of};
@@ -93,20 +93,23 @@ fn moved(text: &[u8], from: Position, at: usize, next: usize) -> Position
     after_bytes(from, &text[at..next])
 }
 
-/// The tokens of a text, which are appended to those of the texts before, and how many words are replaced by then.
+/// The tokens of a text, which are appended to those of the texts before, and how many words are replaced by then. The
+/// table takes in the macros of the text, and has none at its begin.
 pub fn read_text(
     alloc: Global,
     file: u32,
     text: &[u8],
+    table: &mut Table,
     tokens: &mut Vec<Token>,
     replaced: usize,
 ) -> Result<usize, Fault>
     requires size { length text.now < 2 ^ 32 }
+    requires empty { table.old.macros.items ≡ [] }
+    requires indexed { IsIndexed table.old }
     requires tokens { length tokens.old.items ≤ most }
     requires replaced { replaced ≤ most }
     ensures { TextTaken file text.now tokens.old.items replaced tokens.new.items result }
 {
-    let mut table = Table::new(alloc);
     let mut count = replaced;
     let mut at = 0;
     let mut mode = Mode::Fresh;
@@ -121,7 +124,7 @@ pub fn read_text(
             }
             Step::Found(lexeme, next, after) => {
                 let spot = Spot { file, position };
-                match take_lexeme(alloc, text, lexeme, spot, &mut table, tokens, count) {
+                match take_lexeme(alloc, text, lexeme, spot, table, tokens, count) {
                     Ok(now) => count = now,
                     Err(fault) => return Err(fault),
                 }
@@ -131,7 +134,7 @@ pub fn read_text(
             }
             Step::Last(lexeme) => {
                 let spot = Spot { file, position };
-                return take_lexeme(alloc, text, lexeme, spot, &mut table, tokens, count);
+                return take_lexeme(alloc, text, lexeme, spot, table, tokens, count);
             }
         }
     }
@@ -149,8 +152,9 @@ pub fn are_small(texts: &[SourceText]) -> bool
 /// A text may have `#include` of names in angle brackets, which are skipped, and `#define` of names without parameters,
 /// which are unknown in the next text. A place in the texts is refused with code 10 where no token begins, 11 where a
 /// `/*` has no `*/`, 12 for a directive outside the profile or a second definition, 13 for a number that is too wide
-/// for its kinds, 14 for a macro that is met within its own replacement, and 15 past 200,000 tokens or 200,000
-/// replaced words over all texts. The first such place is named, and of several causes at one token the lowest code.
+/// for its kinds, 14 for a macro in whose replacement a word is met within its own replacement, and 15 past 200,000
+/// tokens or 200,000 replaced words over all texts. The first such place is named, and of several causes at one token
+/// the lowest code.
 pub fn tokens(alloc: Global, texts: &[SourceText]) -> Result<Vec<Token>, Fault>
     requires files { length texts.now < 2 ^ 32 }
     requires sizes { AreSmall texts.now }
@@ -159,10 +163,12 @@ pub fn tokens(alloc: Global, texts: &[SourceText]) -> Result<Vec<Token>, Fault>
     let mut made = Vec::new(alloc);
     let mut replaced = 0;
     for (file, text) in texts.iter().enumerate() {
+        let mut table = Table::new(alloc);
         match read_text(
             alloc,
             file as u32,
             text.bytes.as_slice(),
+            &mut table,
             &mut made,
             replaced,
         ) {

@@ -2,19 +2,19 @@
 //! tokens, each token the longest that begins there, and macros are replaced.
 //!
 //! It stands on `containers`, `fq_core` and `c_values`. The layers above use the contract of `tokens`, which gives the
-//! one list of tokens of its texts or refuses the first place at which there is a cause, and the laws `one_reading` and
-//! `numbers_are_values`.
+//! one list of tokens of its texts or refuses the first place at which there is a cause, and the laws `one_reading`,
+//! `a_loop_has_no_end` and `numbers_are_values`.
 #![tactic(auto)]
 
 mod bytes;
 mod constant;
 mod cut;
 mod directive;
-mod endless;
 mod expand;
 mod form;
 mod laws;
 mod lexer;
+mod looping;
 mod macros;
 mod position;
 mod refuse;
@@ -22,7 +22,7 @@ mod table;
 mod take;
 mod token;
 
-pub use laws::{numbers_are_values, one_reading};
+pub use laws::{a_loop_has_no_end, numbers_are_values, one_reading};
 pub use lexer::{are_small, tokens};
 pub use token::{SourceText, Token, TokenKind};
 

@@ -7,8 +7,8 @@ ghost use Rattle.c_lex.specs.Table.{IsIndexed};
 ghost use Rattle.c_lex.specs.Taking.{PlainTaken, TokenTaken, place_of_span};
 
 use crate::constant::token_kind;
-use crate::endless::is_endless;
 use crate::expand::{Expansion, MOST, expand};
+use crate::looping::loops;
 use crate::macros::Replacement;
 use crate::refuse::refusal;
 use crate::table::Table;
@@ -71,7 +71,7 @@ fn take_use(
     match expand(alloc, table, word, place, span, tokens, replaced)? {
         Expansion::Done(count) => Ok(count),
         Expansion::Passed => {
-            if is_endless(alloc, table, place)? {
+            if loops(alloc, table, place)? {
                 Err(refusal(14, place_of_span(span)))
             } else {
                 Err(refusal(

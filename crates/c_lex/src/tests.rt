@@ -124,6 +124,8 @@ fn texts_and_tokens(rt: HostRuntime) -> Result<(), Fail> {
             "14 0:3",
         ),
         (b"#define A A\nA", "14 0:2"),
+        (b"#define A B C\n#define C A\nA", "14 0:3"),
+        (b"#define A B 1 +\n#define B B\nint x;\nA", "14 0:4"),
     ] {
         let got = shown(alloc, &[text])?;
         assert_eq!(rt; got.as_str(), want);
@@ -157,6 +159,20 @@ fn macros_in_a_row(alloc: Global, count: usize, twice: bool) -> Result<String, F
     Ok(text)
 }
 
+// A row of macros, each of which gives the next one and the last one the first, in order or from the last one on, and
+// the use of the first.
+fn macros_in_a_ring(alloc: Global, count: usize, backward: bool) -> Result<String, Fail> {
+    let mut text = String::new(alloc);
+    for i in 0..count {
+        let at = if backward { count - 1 - i } else { i };
+        let next = if at + 1 == count { 0 } else { at + 1 };
+        let line = format!(in alloc; "#define a{at} a{next}\n")?;
+        text.push_str(line.as_str())?;
+    }
+    text.push_str("a0")?;
+    Ok(text)
+}
+
 #[test]
 fn hostile_texts(rt: HostRuntime) -> Result<(), Fail> {
     let alloc = rt.alloc();
@@ -166,14 +182,55 @@ fn hostile_texts(rt: HostRuntime) -> Result<(), Fail> {
     let doubling = macros_in_a_row(alloc, 20, true)?;
     let got = shown(alloc, &[doubling.as_bytes()])?;
     assert_eq!(rt; got.as_str(), "15 limit 200000");
+    for backward in [false, true] {
+        let ring = macros_in_a_ring(alloc, 10_000, backward)?;
+        let got = shown(alloc, &[ring.as_bytes()])?;
+        assert_eq!(rt; got.as_str(), "14 0:10001");
+    }
     let blanks = vec![in alloc; b' '; 1 << 22]?;
     let got = shown(alloc, &[blanks.as_slice()])?;
     assert_eq!(rt; got.as_str(), "");
     let slashes = vec![in alloc; b'/'; 4_000_000]?;
     let got = shown(alloc, &[slashes.as_slice()])?;
     assert_eq!(rt; got.as_str(), "");
+    Ok(())
+}
+
+fn number_of_tokens(alloc: Global, text: &[u8]) -> Result<usize, Fail> {
+    let mut sources = Vec::new(alloc);
+    sources.push(source(alloc, b"a.c", text)?)?;
+    let list = sources.as_slice();
+    if list.len() >= 1 << 32 || !are_small(list) {
+        return Err(Fail::from("the text is too large"));
+    }
+    match tokens(alloc, list) {
+        Ok(list) => Ok(list.len()),
+        Err(_) => Err(Fail::from("the text is refused")),
+    }
+}
+
+// So many uses of a macro that gives nothing.
+fn uses(alloc: Global, count: usize) -> Result<String, Fail> {
+    let mut text = String::new(alloc);
+    text.push_str("#define A\n")?;
+    for _ in 0..count {
+        text.push_str("A ")?;
+    }
+    Ok(text)
+}
+
+#[test]
+fn limits(rt: HostRuntime) -> Result<(), Fail> {
+    let alloc = rt.alloc();
+    let marks = vec![in alloc; b';'; 200_000]?;
+    assert_eq!(rt; number_of_tokens(alloc, marks.as_slice())?, 200_000);
     let marks = vec![in alloc; b';'; 200_001]?;
     let got = shown(alloc, &[marks.as_slice()])?;
+    assert_eq!(rt; got.as_str(), "15 limit 200000");
+    let words = uses(alloc, 200_000)?;
+    assert_eq!(rt; number_of_tokens(alloc, words.as_bytes())?, 0);
+    let words = uses(alloc, 200_001)?;
+    let got = shown(alloc, &[words.as_bytes()])?;
     assert_eq!(rt; got.as_str(), "15 limit 200000");
     Ok(())
 }

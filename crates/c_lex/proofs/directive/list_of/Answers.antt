@@ -1,6 +1,5 @@
 use Rattle.std.proofs.Common.{sym, ◌∙◌}
 use Rattle.containers.specs.Lists.{all_there_more, all_there_fails}
-use Rattle.c_lex.specs.declared.cut.Lexeme.TheVariants as lexeme
 use Rattle.c_lex.specs.Directives.{list_of, replacement_at}
 use Rattle.c_lex.proofs.directive.list_of.Goals as goal
 

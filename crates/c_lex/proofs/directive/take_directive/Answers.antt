@@ -1,6 +1,5 @@
 use Rattle.std.proofs.Common.{ap, sym, ◌∙◌, refl, drop, rules}
 use Rattle.c_lex.specs.declared.cut.Lexeme.{Lexeme}
-use Rattle.c_lex.specs.declared.directive.Directive.TheVariants as says
 use Rattle.c_lex.specs.Directives.{directive_of, list_of}
 use Rattle.c_lex.specs.Taking.{included, unknown_byte, wrong, defined_twice, wide_list, defined}
 use Rattle.c_lex.proofs.TakingLaws.{is_known, is_unknown, directive_memory}

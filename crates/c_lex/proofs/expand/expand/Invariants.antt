@@ -1,4 +1,4 @@
-use Rattle.std.proofs.Common.{◌≤◌, ◌+◌, ◌-◌, ◌*◌, [], ◌∷◌, length}
+use Rattle.std.proofs.Common.{◌+◌, ◌-◌, ◌*◌, [], ◌∷◌, length}
 use Rattle.c_lex.specs.Lexed.{most}
 use Rattle.c_lex.specs.Expanding.{pending}
 use Rattle.c_lex.proofs.Runs.{Progress}

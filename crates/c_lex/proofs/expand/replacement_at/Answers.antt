@@ -1,7 +1,7 @@
 use Rattle.std.proofs.Common.{ap, sym, ◌∙◌}
 use Rattle.std.specs.Prelude.{slice_get}
 use Rattle.c_lex.specs.declared.macros.Replacement.{Replacement}
-use Rattle.c_lex.proofs.ExpandingLaws.{list_at_within, list_at_past, get_past, get_within, shown_at}
+use Rattle.c_lex.proofs.ExpandingLaws.{list_at_within, list_at_past, get_past, shown_at}
 use Rattle.c_lex.proofs.expand.replacement_at.Goals as goal
 
 pub returns-then-frame-macros-clause-value : goal.returns-then-frame-macros-clause-value

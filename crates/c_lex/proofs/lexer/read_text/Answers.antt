@@ -1,18 +1,18 @@
 use Rattle.std.proofs.Common.{arith}
-use Rattle.c_lex.proofs.LexerLaws.{begins, text_ends, text_refused, text_stops, past_gap, past_lexeme}
+use Rattle.c_lex.proofs.LexerLaws.{begins, text_ends, text_refused, text_stops}
 use Rattle.c_lex.proofs.Total.{some_cut, first_place}
 use Rattle.c_lex.proofs.lexer.read_text.Goals as goal
 
 pub steps-init : goal.steps-init
 steps-init c = record {
   within = omega arith;
-  indexed = c.new-table.ensures.indexed;
+  indexed = c.requires.indexed;
   made = c.requires.tokens;
   replaced = c.requires.replaced;
   place = first_place c.args.text.now;
   line = omega arith;
   column = omega arith;
-  so_far = begins c.args.file c.args.text.now c.new-table.result.macros.items c.args.tokens.now.items c.args.replaced c.new-table.ensures.empty;
+  so_far = begins c.args.file c.args.text.now c.args.table.now.macros.items c.args.tokens.now.items c.args.replaced c.requires.empty;
 }
 
 pub returns-in-End : goal.returns-in-End

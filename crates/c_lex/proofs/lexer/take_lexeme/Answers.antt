@@ -1,4 +1,4 @@
-use Rattle.std.proofs.Common.{ap, sym, ◌∙◌}
+use Rattle.std.proofs.Common.{ap, ◌∙◌}
 use Rattle.std.specs.Prelude.{Err}
 use Rattle.c_lex.specs.Cuts.{place_of_lexeme}
 use Rattle.c_lex.specs.Taking.{refusal}

@@ -1,5 +1,4 @@
 use Rattle.std.proofs.Common.{ap, sym, ◌∙◌, subst, ℕ, List}
-use Rattle.std.specs.Prelude.{Some}
 use Rattle.c_lex.specs.Constants.{token_kind}
 use Rattle.c_lex.specs.Taking.{TokenTaken, refusal, too_wide}
 use Rattle.c_lex.proofs.TakenLaws.{token_memory, plain_taken}
