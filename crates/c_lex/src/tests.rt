@@ -1,3 +1,5 @@
+mod triangles;
+
 use super::*;
 use containers::Vector;
 use fq_core::{Fault, Name, Place};
@@ -11,7 +13,7 @@ fn source(alloc: Global, name: &[u8], bytes: &[u8]) -> Result<SourceText, AllocE
 }
 
 // The tokens as one line, `line:column` and a letter and the text for each, or the code and the place of a refusal.
-fn shown(alloc: Global, texts: &[&[u8]]) -> Result<String, Fail> {
+pub fn shown(alloc: Global, texts: &[&[u8]]) -> Result<String, Fail> {
     let mut sources = Vec::new(alloc);
     for text in texts {
         sources.push(source(alloc, b"a.c", text)?)?;
