@@ -195,6 +195,11 @@ fn hostile_texts(rt: HostRuntime) -> Result<(), Fail> {
     let slashes = vec![in alloc; b'/'; 4_000_000]?;
     let got = shown(alloc, &[slashes.as_slice()])?;
     assert_eq!(rt; got.as_str(), "");
+    let digits = vec![in alloc; b'9'; 1 << 22]?;
+    let got = shown(alloc, &[digits.as_slice()])?;
+    assert_eq!(rt; got.as_str(), "13 0:1");
+    let word = vec![in alloc; b'a'; 1 << 22]?;
+    assert_eq!(rt; number_of_tokens(alloc, word.as_slice())?, 1);
     Ok(())
 }
 
