@@ -1,23 +1,19 @@
 -- Loops of the parser of declarations and statements.
-use Rattle.std.proofs.Common.{◌≡◌, ℕ, zero, suc, get_or, take, drop, ◌+◌, ◌-◌, ◌≤◌, ◌<◌, Bool, true, false, List, [], ◌∷◌, ◌++◌, length, Option, Some, None, refl, sym, ap, ◌∙◌, append_assoc, arith}
+use Rattle.std.proofs.Common.{◌≡◌, ℕ, suc, ◌+◌, ◌-◌, ◌≤◌, ◌<◌, Bool, true, false, List, [], ◌∷◌, ◌++◌, length, Some, None, refl, sym, ap, ◌∙◌, append_assoc, arith}
 use Rattle.std.specs.Prelude.{◌&&◌}
-use Rattle.std.proofs.lemmas.List.{append-nil, take_all}
+use Rattle.std.proofs.lemmas.List.{append-nil}
 use Rattle.c_parse.specs.declared.sign.Terminal.{Terminal}
-use Rattle.fq_core.specs.declared.span.Span.{Span}
-use Rattle.c_parse.specs.declared.sign.Sign.{Sign}
-use Rattle.c_parse.specs.declared.sign.Sign.TheVariants as sign
 use Rattle.c_parse.specs.declared.sign.Mark.{Mark}
 use Rattle.c_parse.specs.declared.sign.Mark.TheVariants as marks
 use Rattle.c_parse.specs.declared.stop.Stop.{Stop}
 use Rattle.c_parse.specs.declared.stop.Stop.TheVariants.{Memory, Syntax}
-use Rattle.c_parse.specs.declared.expr.ExprTree.{ExprTree}
 use Rattle.c_parse.specs.declared.statement.CaseLabel.{CaseLabel}
 use Rattle.c_parse.specs.declared.statement.Group.{Group}
 use Rattle.c_parse.specs.declared.statement.Statement.{Statement}
 use Rattle.c_parse.specs.StatementTrees.{group}
 use Rattle.c_parse.specs.Gives.{Fails}
 use Rattle.c_parse.specs.Reading.{Read, ◌>>=◌, starts, tail, expect}
-use Rattle.c_parse.specs.ReadingStatements.{separated_at, label_at, labels_at, starts_label, Reads, one_at, ends_body, body_at, groups_at, test_at, arms_at, statement_of, statement_of_mark, statement_by, statement_at}
+use Rattle.c_parse.specs.ReadingStatements.{separated_at, label_at, labels_at, starts_label, Reads, one_at, ends_body, body_at, groups_at}
 use Rattle.c_parse.proofs.Loops.{with_front}
 
 -- one more that was read stands before what is still read
@@ -124,62 +120,3 @@ module _ (r : Reads) (list : List Group) (len i : ℕ) (rest : List Terminal) (t
   pub groups_run_out : len ≤ i → total ≡ None
   unfolding groups_at
   groups_run_out le = let k : len - i ≡ 0 = omega arith in sym so_far ∙ rw k refl
-
-abbrev pub Arm : Type 0
-Arm = ExprTree × Statement
-
-abbrev pub with_arms : List Arm → Read (List Arm × Option Statement) → Read (List Arm × Option Statement)
-with_arms front read = read >>= λ x. Some ((front ++ x.0.0, x.0.1), x.1)
-
-regroup_arms : (front : List Arm) (a : Arm) (read : Read (List Arm × Option Statement)) → with_arms front (read >>= λ x. Some ((a ∷ x.0.0, x.0.1), x.1)) ≡ with_arms (front ++ a ∷ []) read
-regroup_arms front a None = refl
-regroup_arms front a (Some x) = ap (λ arms. Some ((arms, x.0.1), x.1)) (sym (append_assoc front (a ∷ []) x.0.0))
-
-module _ (r : Reads) (list : List Arm) (len i : ℕ) (rest : List Terminal) (total : Read (List Arm × Option Statement)) (so_far : with_arms list (arms_at r (len - i) rest) ≡ total) where
-  pub test_fails : (e : Stop) → i < len → Fails e (test_at rest) → Fails e total
-  unfolding arms_at
-  test_fails Memory lt h = tt
-  test_fails Syntax lt h = let k : len - i ≡ suc (len - (i + 1)) = omega arith in sym so_far ∙ rw (k, h) refl
-
-  pub body_fails : (e : Stop) (c : ExprTree) (ts : List Terminal) → i < len → test_at rest ≡ Some (c, ts) → Fails e (r ts) → Fails e total
-  unfolding arms_at
-  body_fails Memory c ts lt t h = tt
-  body_fails Syntax c ts lt t h = let k : len - i ≡ suc (len - (i + 1)) = omega arith in sym so_far ∙ rw (k, t, h) refl
-
-  module _ (c : ExprTree) (s : Statement) (ts after : List Terminal) (lt : i < len) (t : test_at rest ≡ Some (c, ts)) (b : r ts ≡ Some (s, after)) where
-    pub arms_end : starts marks.Else after ≡ false → total ≡ Some ((list ++ (c, s) ∷ [], None), after)
-    unfolding arms_at
-    arms_end e = let k : len - i ≡ suc (len - (i + 1)) = omega arith in sym so_far ∙ rw (k, t, b, e) refl
-
-    pub else_fails : (e : Stop) → starts marks.Else after ≡ true → starts marks.If (tail after) ≡ false → Fails e (r (tail after)) → Fails e total
-    unfolding arms_at
-    else_fails Memory e f h = tt
-    else_fails Syntax e f h = let k : len - i ≡ suc (len - (i + 1)) = omega arith in sym so_far ∙ rw (k, t, b, e, f, h) refl
-
-    pub else_ends : (o : Statement) (behind : List Terminal) → starts marks.Else after ≡ true → starts marks.If (tail after) ≡ false → r (tail after) ≡ Some (o, behind) → total ≡ Some ((list ++ (c, s) ∷ [], Some o), behind)
-    unfolding arms_at
-    else_ends o behind e f h = let k : len - i ≡ suc (len - (i + 1)) = omega arith in sym so_far ∙ rw (k, t, b, e, f, h) refl
-
-    pub arms_go_on : starts marks.Else after ≡ true → starts marks.If (tail after) ≡ true → with_arms (list ++ (c, s) ∷ []) (arms_at r (len - (i + 1)) (tail (tail after))) ≡ total
-    unfolding arms_at
-    arms_go_on e f =
-        let k : len - i ≡ suc (len - (i + 1)) = omega arith in
-        let step : with_arms list (arms_at r (len - i) rest) ≡ with_arms (list ++ (c, s) ∷ []) (arms_at r (len - (i + 1)) (tail (tail after))) = rw (k, t, b, e, f) (regroup_arms list (c, s) (arms_at r (len - (i + 1)) (tail (tail after)))) in
-        sym step ∙ so_far
-
-  pub arms_run_out : len ≤ i → total ≡ None
-  unfolding arms_at
-  arms_run_out le = let k : len - i ≡ 0 = omega arith in sym so_far ∙ rw k refl
-
--- a statement that begins with a mark
-pub begun_by_mark : (d : ℕ) (ts : List Terminal) (t : Terminal) (m : Mark) → 0 < d → 1 ≤ length ts → t ≡ get_or ts 0 t → t.sign ≡ sign.Mark m
-    → statement_at d ts ≡ statement_of_mark (statement_at (d - 1)) m t.span (take (length ts - 1) (drop 1 ts))
-unfolding statement_at statement_by
-begun_by_mark zero ts t m some there is e = absurd (omega arith)
-begun_by_mark (suc k) [] t m some there is e = absurd (omega arith)
-begun_by_mark (suc k) (x ∷ xs) t m some there is e =
-    let one_less : suc k - 1 ≡ k = omega arith in
-    let first : x.sign ≡ sign.Mark m = ap (λ (y : Terminal). y.sign) (sym is) ∙ e in
-    let place : x.span ≡ t.span = ap (λ (y : Terminal). y.span) (sym is) in
-    let all : take (suc (length xs) - 1) xs ≡ xs = take_all (suc (length xs) - 1) xs (omega arith) in
-    rw (all, one_less, first, place) refl

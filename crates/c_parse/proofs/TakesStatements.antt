@@ -1,5 +1,5 @@
 -- What is read as a declaration or a statement derives from the tokens that were taken.
-use Rattle.std.proofs.Common.{◌≡◌, ℕ, zero, suc, Bool, true, false, List, [], ◌∷◌, ◌++◌, length, Option, Some, None, refl, sym, ap, subst, ◌∙◌, append_assoc}
+use Rattle.std.proofs.Common.{◌≡◌, ℕ, zero, suc, Bool, true, false, List, [], ◌∷◌, ◌++◌, length, Option, Some, None, refl, ap, subst, ◌∙◌, append_assoc}
 use Rattle.std.specs.Prelude.{IfSome, ◌&&◌, ◌||◌}
 use Rattle.std.proofs.lemmas.List.{append-nil}
 use Rattle.std.proofs.lemmas.Option.{IfSome_then}
@@ -7,7 +7,6 @@ use Rattle.fq_core.specs.declared.span.Span.{Span}
 use Rattle.c_values.specs.declared.kinds.Kind.{Kind}
 use Rattle.c_values.specs.declared.operators.BinaryOp.{BinaryOp}
 use Rattle.c_parse.specs.declared.sign.Terminal.{Terminal}
-use Rattle.c_parse.specs.declared.sign.TypeWord.{TypeWord}
 use Rattle.c_parse.specs.declared.sign.Sign.{Sign}
 use Rattle.c_parse.specs.declared.sign.Sign.TheVariants as sign
 use Rattle.c_parse.specs.declared.sign.Mark.{Mark}
@@ -19,13 +18,13 @@ use Rattle.c_parse.specs.declared.statement.Statement.{Statement}
 use Rattle.c_parse.specs.Types.{kind_of}
 use Rattle.c_parse.specs.declared.statement.Form.TheVariants as form
 use Rattle.c_parse.specs.StatementTrees.{statement, place_tree, assigned_by, step_by}
-use Rattle.c_parse.specs.Grammar.{Text, mark, name_token, place_of, AreWords, end, word, DerivesChoice}
+use Rattle.c_parse.specs.Grammar.{Text, mark, name_token, place_of, end, word, DerivesChoice}
 use Rattle.c_parse.specs.Separated.{DerivesSeparated, the_only, the_only_with_comma, and_others}
 use Rattle.c_parse.specs.Declarations.{DerivesType, a_type, DerivesBracketed, no_bracket, in_brackets, DerivesFirst, no_first, one_first, some_first, DerivesDeclarator, a_declarator, DerivesDeclarators}
 use Rattle.c_parse.specs.Statements.{AreConsts, no_const, a_const, DerivesPlace, a_place, DerivesSimple, an_assignment, a_step_after, a_step_before, a_bare_run, a_run, DerivesLocal, a_local, DerivesOptional, no_choice, some_choice, DerivesBegin, begins_not, begins_simple, begins_local, DerivesNext, no_next, a_next, DerivesLabel, a_case, a_default, DerivesLabels, last_label, more_labels, DerivesStatement, a_block, an_empty, a_simple, a_label, an_if, a_while, a_do, a_for, a_switch, a_break, a_continue, a_return, an_assert, an_assume, DerivesBody, no_more, local_then, statement_then, DerivesArms, an_arm, no_else, an_else, else_if, DerivesGroups, no_group, a_group}
-use Rattle.c_parse.specs.Reading.{Read, ◌>>=◌, is_mark, starts, starts_type, tail, expect, type_at, arguments_at, expr_at}
+use Rattle.c_parse.specs.Reading.{Read, ◌>>=◌, is_mark, starts, tail, expect, type_at, arguments_at, expr_at}
 use Rattle.c_parse.specs.ReadingStatements.{choice_in, separated_at, name_of, name_at, bracketed_at, first_at, declarator_at, declarators_at, past_consts, starts_local, local_at, mark_of, mark_at, changed_by, changed_at, named_at, stepped_at, simple_of, simple_at, test_at, optional_at, begin_at, next_at, starts_label, label_at, labels_at, Reads, one_at, ends_body, body_at, groups_at, arms_at, do_at, for_at, switch_at, return_at, assert_at, assume_at, statement_of_mark, labelled_at, statement_of, statement_by, statement_at}
-use Rattle.c_parse.proofs.Steps.{then_some, either_some, starts-true, expect_takes, is_mark-true}
+use Rattle.c_parse.proofs.Steps.{then_some, either_some, starts-true, expect_takes}
 use Rattle.c_parse.proofs.Takes.{Takes, expr_takes, arguments_take, type_takes}
 
 pub choice_in_takes : (ts : List Terminal) → IfSome (choice_in ts) (λ x. Takes (λ us. DerivesChoice x.0 us) ts x.1)
@@ -198,14 +197,14 @@ simple_takes (t ∷ ts) = at t.sign t.span
 -- ---- the parts of statements
 
 -- a test in parentheses
-record Tests (c : ExprTree) (tokens rest : List Terminal) : Type 0 where
-  p : Span
-  q : Span
-  front : List Terminal
-  parts : tokens ≡ mark marks.Open p ∷ (front ++ mark marks.Close q ∷ rest)
-  fact : DerivesChoice c front
+pub record Tests (c : ExprTree) (tokens rest : List Terminal) : Type 0 where
+  pub p : Span
+  pub q : Span
+  pub front : List Terminal
+  pub parts : tokens ≡ mark marks.Open p ∷ (front ++ mark marks.Close q ∷ rest)
+  pub fact : DerivesChoice c front
 
-test_takes : (ts : List Terminal) → IfSome (test_at ts) (λ x. Tests x.0 ts x.1)
+pub test_takes : (ts : List Terminal) → IfSome (test_at ts) (λ x. Tests x.0 ts x.1)
 unfolding test_at
 test_takes ts =
     then_some (expect marks.Open ts) _ _ (expect_takes marks.Open ts) (λ a e.
@@ -213,14 +212,14 @@ test_takes ts =
     then_some (expect marks.Close c.1) _ _ (expect_takes marks.Close c.1) (λ b f.
     record { p = e.0; q = f.0; front = d.front; parts = cc; fact = d.fact })))
 
-optional_takes : (ts : List Terminal) → IfSome (optional_at ts) (λ x. Takes (λ us. DerivesOptional x.0 us) ts x.1)
+pub optional_takes : (ts : List Terminal) → IfSome (optional_at ts) (λ x. Takes (λ us. DerivesOptional x.0 us) ts x.1)
 unfolding optional_at
 optional_takes ts =
     either_some (starts marks.Semicolon ts) _ _ _
     (λ _. record { front = []; parts = refl; fact = no_choice })
     (λ _. then_some (choice_in ts) _ _ (choice_in_takes ts) (λ t d. record { front = d.front; parts = d.parts; fact = some_choice d.fact }))
 
-begin_takes : (ts : List Terminal) → IfSome (begin_at ts) (λ x. Takes (λ us. DerivesBegin x.0 us) ts x.1)
+pub begin_takes : (ts : List Terminal) → IfSome (begin_at ts) (λ x. Takes (λ us. DerivesBegin x.0 us) ts x.1)
 unfolding begin_at
 begin_takes ts =
     either_some (starts marks.Semicolon ts) _ _ _
@@ -231,7 +230,7 @@ begin_takes ts =
     then_some (expect marks.Semicolon s.1) _ _ (expect_takes marks.Semicolon s.1) (λ rest e.
     record { front = d.front ++ mark marks.Semicolon e.0 ∷ []; parts = simp append_assoc cc; fact = begins_simple e.0 d.fact }))))
 
-next_takes : (ts : List Terminal) → IfSome (next_at ts) (λ x. Takes (λ us. DerivesNext x.0 us) ts x.1)
+pub next_takes : (ts : List Terminal) → IfSome (next_at ts) (λ x. Takes (λ us. DerivesNext x.0 us) ts x.1)
 unfolding next_at
 next_takes ts =
     either_some (starts marks.Close ts) _ _ _
@@ -451,7 +450,7 @@ module _ (r : Reads) (sound : IsSoundHere r) where
       then_some (groups_at r (length a) a) _ _ (groups_take (length a) a) (λ gs g.
       (false, record { front = _; parts = (let b = d.parts in let h = g.parts in simp append_assoc cc); fact = a_switch {p = p} d.p d.q e.0 g.q d.fact g.fact }, never_open gs.1))))
 
-  of_mark_takes : (m : Mark) (p : Span) (ts : List Terminal) → IfSome (statement_of_mark r m p ts) (λ x. TakesStatement x.0 (mark m p ∷ ts) x.1)
+  pub of_mark_takes : (m : Mark) (p : Span) (ts : List Terminal) → IfSome (statement_of_mark r m p ts) (λ x. TakesStatement x.0 (mark m p ∷ ts) x.1)
   of_mark_takes marks.OpenBrace p ts =
       then_some (body_at r (length ts) ts) _ _ (body_take (length ts) ts) (λ ss d.
       then_some (expect marks.CloseBrace ss.1) _ _ (expect_takes marks.CloseBrace ss.1) (λ rest e.

@@ -6,6 +6,7 @@ pub mod Grammar
 pub mod Items
 pub mod Limits
 pub mod Marks
+pub mod OpenStatements
 pub mod Outcome
 pub mod Reading
 pub mod ReadingItems

@@ -1,4 +1,9 @@
-//! The syntax trees of C: tokens are read as the items of a translation unit, or as one expression.
+//! The syntax trees of C (ISO/IEC 9899:2011, 6.5 to 6.9): tokens are read as the items of a translation unit, or as one
+//! expression without sequence points.
+//!
+//! It stands on `containers`, `fq_core`, `c_values` and `c_lex`. The layers above use the contracts of `parse` and
+//! `expression`, which answer the tree that the tokens spell or refuse exactly what the grammar and its limits don't
+//! allow, and the laws `one_unit` and `one_expression`.
 #![tactic(auto)]
 
 mod calls;
@@ -9,6 +14,7 @@ mod expressions;
 mod items;
 pub mod laws;
 mod limits;
+mod open_statement;
 mod operator;
 mod separated;
 mod sign;

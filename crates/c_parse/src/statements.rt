@@ -1,13 +1,14 @@
 // Reading statements from tokens (ISO/IEC 9899:2011, 6.8).
-ghost use Rattle.std.specs.Prelude.{◌≡◌, length};
+ghost use Rattle.std.specs.Prelude.{◌≡◌, ◌≤◌, ◌<◌, false, length, IfOk};
 ghost use Rattle.c_parse.specs.Gives.{Gives};
-ghost use Rattle.c_parse.specs.ReadingStatements.{one_at, ends_body, body_at, groups_at, arms_at, do_at, for_at, switch_at, return_at, assert_at, assume_at, statement_of_mark, labelled_at, statement_by, statement_at};
+ghost use Rattle.c_parse.specs.OpenStatements.{Leads, opens, progress_at};
+ghost use Rattle.c_parse.specs.ReadingStatements.{one_at, ends_body, body_at, groups_at, switch_at, return_at, assert_at, assume_at, statement_of_mark, statement_by, statement_at};
 
 use crate::cursor::{expect_mark, others, starts_with};
 use crate::declarations::{local, node, starts_with_local};
-use crate::expr::{ExprTree, Ident};
+use crate::open_statement::{OpenStatement, Progress, labelled, opened, opens, resumed};
 use crate::sign::{Mark, Sign, Terminal};
-use crate::simple::{begin, labels, named, next, optional, starts_with_label, stepped, test};
+use crate::simple::{labels, optional, starts_with_label, stepped, test};
 use crate::statement::{Form, Group, Statement};
 use crate::stop::Stop;
 use containers::{Boxed, Vector};
@@ -124,114 +125,6 @@ fn groups(
     Err(Stop::Syntax)
 }
 
-/// The arms of an `if`, what else, and the tokens behind them.
-#[derive(Drop)]
-struct Branches<'a> {
-    arms: Vector<(ExprTree, Statement)>,
-    otherwise: Option<Boxed<Statement>>,
-    rest: &'a [Terminal],
-}
-
-// What follows an `if`.
-#[cycle(statement)]
-fn arms_of(alloc: Global, depth: usize, tokens: &[Terminal]) -> Result<Branches<'_>, Stop>
-    ensures { Gives (λ x. ((x.arms, x.otherwise), x.rest.now)) result (arms_at (statement_at depth) (length tokens.now) tokens.now) }
-{
-    let mut arms = Vector::new(alloc);
-    let mut rest = tokens;
-    for _ in 0..tokens.len() {
-        let (test, after) = test(alloc, rest)?;
-        let (body, after) = statement(alloc, depth, after)?;
-        arms.push((test.into_inner(), body.into_inner()))?;
-        if !starts_with(after, Mark::Else) {
-            return Ok(Branches {
-                arms,
-                otherwise: None,
-                rest: after,
-            });
-        }
-        let behind = others(after);
-        if !starts_with(behind, Mark::If) {
-            let (last, after) = statement(alloc, depth, behind)?;
-            return Ok(Branches {
-                arms,
-                otherwise: Some(last),
-                rest: after,
-            });
-        }
-        rest = others(behind);
-    }
-    Err(Stop::Syntax)
-}
-
-// What follows a name: the colon of a label, or a simple statement.
-#[cycle(statement)]
-#[tactic(auto, unfolding(crate::specs::ReadingStatements::labelled_at))]
-fn labelled(
-    alloc: Global,
-    depth: usize,
-    span: Span,
-    name: Name,
-    tokens: &[Terminal],
-) -> Result<(Boxed<Statement>, &[Terminal]), Stop>
-    ensures { Gives (λ x. (x.0, x.1.now)) result (labelled_at (statement_at depth) span name tokens.now) }
-{
-    if starts_with(tokens, Mark::Colon) {
-        let (body, rest) = statement(alloc, depth, others(tokens))?;
-        let name = Ident { name, span };
-        return Ok((node(alloc, span, Form::Label { name, body })?, rest));
-    }
-    let (simple, rest) = named(alloc, span, name, tokens)?;
-    let rest = expect_mark(rest, Mark::Semicolon)?;
-    Ok((simple, rest))
-}
-
-// What follows `do`.
-#[cycle(statement)]
-#[tactic(auto, unfolding(crate::specs::ReadingStatements::do_at))]
-fn repeated(
-    alloc: Global,
-    depth: usize,
-    span: Span,
-    tokens: &[Terminal],
-) -> Result<(Boxed<Statement>, &[Terminal]), Stop>
-    ensures { Gives (λ x. (x.0, x.1.now)) result (do_at (statement_at depth) span tokens.now) }
-{
-    let (body, rest) = statement(alloc, depth, tokens)?;
-    let rest = expect_mark(rest, Mark::While)?;
-    let (test, rest) = test(alloc, rest)?;
-    let rest = expect_mark(rest, Mark::Semicolon)?;
-    let test = test.into_inner();
-    Ok((node(alloc, span, Form::Do { body, test })?, rest))
-}
-
-// What follows `for`.
-#[cycle(statement)]
-#[tactic(auto, unfolding(crate::specs::ReadingStatements::for_at))]
-fn counted(
-    alloc: Global,
-    depth: usize,
-    span: Span,
-    tokens: &[Terminal],
-) -> Result<(Boxed<Statement>, &[Terminal]), Stop>
-    ensures { Gives (λ x. (x.0, x.1.now)) result (for_at (statement_at depth) span tokens.now) }
-{
-    let rest = expect_mark(tokens, Mark::Open)?;
-    let (first, rest) = begin(alloc, rest)?;
-    let (test, rest) = optional(alloc, rest)?;
-    let rest = expect_mark(rest, Mark::Semicolon)?;
-    let (next, rest) = next(alloc, rest)?;
-    let rest = expect_mark(rest, Mark::Close)?;
-    let (body, rest) = statement(alloc, depth, rest)?;
-    let form = Form::For {
-        first,
-        test,
-        next,
-        body,
-    };
-    Ok((node(alloc, span, form)?, rest))
-}
-
 // What follows `switch`.
 #[cycle(statement)]
 #[tactic(auto, unfolding(crate::specs::ReadingStatements::switch_at))]
@@ -250,15 +143,16 @@ fn switched(
     Ok((node(alloc, span, Form::Switch { value, groups })?, rest))
 }
 
-// What follows a mark.
+// What follows a mark that opens no statement.
 #[cycle(statement)]
-fn by_mark(
+fn whole(
     alloc: Global,
     depth: usize,
     span: Span,
     mark: Mark,
     tokens: &[Terminal],
 ) -> Result<(Boxed<Statement>, &[Terminal]), Stop>
+    requires { opens mark ≡ false }
     ensures { Gives (λ x. (x.0, x.1.now)) result (statement_of_mark (statement_at depth) mark span tokens.now) }
 {
     match mark {
@@ -268,22 +162,6 @@ fn by_mark(
             Ok((node(alloc, span, Form::Block(list))?, rest))
         }
         Mark::Semicolon => Ok((node(alloc, span, Form::Empty)?, tokens)),
-        Mark::If => {
-            let Branches {
-                arms,
-                otherwise,
-                rest,
-            } = arms_of(alloc, depth, tokens)?;
-            Ok((node(alloc, span, Form::If { arms, otherwise })?, rest))
-        }
-        Mark::While => {
-            let (test, rest) = test(alloc, tokens)?;
-            let (body, rest) = statement(alloc, depth, rest)?;
-            let test = test.into_inner();
-            Ok((node(alloc, span, Form::While { test, body })?, rest))
-        }
-        Mark::Do => repeated(alloc, depth, span, tokens),
-        Mark::For => counted(alloc, depth, span, tokens),
         Mark::Switch => switched(alloc, depth, span, tokens),
         Mark::Break => {
             let rest = expect_mark(tokens, Mark::Semicolon)?;
@@ -304,9 +182,49 @@ fn by_mark(
     }
 }
 
-// A statement. At most `depth` of them lie in one another.
+// What follows a mark, up to a part of the statement or to its end.
 #[cycle(statement)]
-#[tactic(auto, unfolding(crate::specs::ReadingStatements::statement_at, crate::specs::ReadingStatements::statement_by))]
+fn by_mark(
+    alloc: Global,
+    depth: usize,
+    span: Span,
+    mark: Mark,
+    tokens: &[Terminal],
+) -> Result<(Progress, &[Terminal]), Stop>
+    ensures same { Leads (λ x. progress_at (statement_at depth) x.0 x.1.now) result (statement_of_mark (statement_at depth) mark span tokens.now) }
+    ensures shorter { IfOk result (λ x. length x.1.now ≤ length tokens.now) }
+{
+    if opens(mark) {
+        let (form, rest) = opened(alloc, mark, tokens)?;
+        let part = OpenStatement { span, form };
+        return Ok((Progress::Part(part), rest));
+    }
+    let (whole, rest) = whole(alloc, depth, span, mark, tokens)?;
+    Ok((Progress::Whole(whole), rest))
+}
+
+// A statement, up to a part of it or to its end. At most `depth` statements lie in one another in it.
+#[cycle(statement)]
+#[tactic(auto, unfolding(crate::specs::ReadingStatements::statement_by))]
+fn begun(alloc: Global, depth: usize, tokens: &[Terminal]) -> Result<(Progress, &[Terminal]), Stop>
+    ensures same { Leads (λ x. progress_at (statement_at depth) x.0 x.1.now) result (statement_by (statement_at depth) tokens.now) }
+    ensures shorter { IfOk result (λ x. length x.1.now < length tokens.now) }
+{
+    let [first, rest @ ..] = tokens else {
+        return Err(Stop::Syntax);
+    };
+    match &first.sign {
+        Sign::Name(name) => {
+            let name = Name::new(alloc, name.bytes())?;
+            labelled(alloc, first.span, name, rest)
+        }
+        Sign::Mark(mark) => by_mark(alloc, depth, first.span, *mark, rest),
+        _ => Err(Stop::Syntax),
+    }
+}
+
+// A statement. At most `depth` of them lie in one another, and are read by a loop where no brace stands between them.
+#[cycle(statement)]
 fn statement(
     alloc: Global,
     depth: usize,
@@ -317,15 +235,26 @@ fn statement(
     if depth == 0 {
         return Err(Stop::Syntax);
     }
-    let [first, rest @ ..] = tokens else {
-        return Err(Stop::Syntax);
-    };
-    match &first.sign {
-        Sign::Name(name) => {
-            let name = Name::new(alloc, name.bytes())?;
-            labelled(alloc, depth - 1, first.span, name, rest)
+    let mut outer = Vec::new(alloc);
+    let mut left = depth - 1;
+    let (mut progress, mut rest) = begun(alloc, left, tokens)?;
+    'statements: loop {
+        match progress {
+            Progress::Part(part) => {
+                if left == 0 {
+                    return Err(Stop::Syntax);
+                }
+                outer.push(part)?;
+                left -= 1;
+                (progress, rest) = begun(alloc, left, rest)?;
+            }
+            Progress::Whole(whole) => match outer.pop() {
+                None => return Ok((whole, rest)),
+                Some(last) => {
+                    left += 1;
+                    (progress, rest) = resumed(alloc, last, whole, rest)?;
+                }
+            },
         }
-        Sign::Mark(mark) => by_mark(alloc, depth - 1, first.span, *mark, rest),
-        _ => Err(Stop::Syntax),
     }
 }

@@ -247,3 +247,26 @@ fn limits_of_units(rt: HostRuntime) -> Result<(), Fail> {
     assert_eq!(rt; cause.0, 0);
     Ok(())
 }
+
+#[test]
+fn statements_in_one_another(rt: HostRuntime) -> Result<(), Fail> {
+    // what stands before `;` so many times, and what stands behind it as often; semicolons end the rows of tokens
+    let rows = [
+        ("for ( ; ; ) ", ""),
+        ("for ( ; ; ) x : while ( a ) ", ""),
+        ("if ( a ) ; else while ( a ) ", ""),
+        ("if ( a ) ; else if ( a ) x : ", ""),
+        ("do for ( ; ; ) ", "while ( a ) ; "),
+    ];
+    for (front, back) in rows {
+        let mut source = String::new(rt.alloc());
+        source.push_str("void f ( ) { ")?;
+        repeated(&mut source, front, 20000)?;
+        source.push_str("; ")?;
+        repeated(&mut source, back, 20000)?;
+        source.push_str("}")?;
+        let cause = refused(rt.alloc(), source.as_str())?;
+        assert_eq!(rt; cause.0, 0, "{front}");
+    }
+    Ok(())
+}

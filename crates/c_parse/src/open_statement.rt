@@ -1,0 +1,221 @@
+// Statements that are read in two steps: up to a statement in them, and from there on.
+ghost use Rattle.std.specs.Prelude.{◌≡◌, ◌+◌, ◌≤◌, length, IfOk};
+ghost use Rattle.c_parse.specs.Gives.{Gives};
+ghost use Rattle.c_parse.specs.OpenStatements.{Leads, opens, part_of_mark, for_part, do_end, behind_arms, resume, progress_at, parts_of};
+ghost use Rattle.c_parse.specs.ReadingStatements.{Reads, labelled_at};
+
+use crate::cursor::{expect_mark, others, starts_with};
+use crate::declarations::node;
+use crate::expr::{ExprTree, Ident};
+use crate::sign::{Mark, Terminal};
+use crate::simple::{begin, named, next, optional, test};
+use crate::statement::{Form, Statement};
+use crate::stop::Stop;
+use containers::{Boxed, Vector};
+use fq_core::{Name, Span};
+use std::alloc::Global;
+
+/// A statement of which a part, a statement in it, is still to be read.
+#[derive(Drop)]
+pub struct OpenStatement {
+    /// The place of its first token.
+    pub span: Span,
+    pub form: OpenForm,
+}
+
+/// What is read of a statement before its part.
+#[derive(Drop)]
+pub enum OpenForm {
+    Label(Ident),
+    While(ExprTree),
+    Do,
+    For {
+        first: Option<Boxed<Statement>>,
+        test: Option<ExprTree>,
+        next: Option<Boxed<Statement>>,
+    },
+    /// The arms of an `if`, up to the test of one. At most `left` more arms may follow it.
+    Arm {
+        arms: Vector<(ExprTree, Statement)>,
+        test: ExprTree,
+        left: usize,
+    },
+    /// The arms of an `if`, and the last `else`.
+    Otherwise(Vector<(ExprTree, Statement)>),
+}
+
+/// How far a statement is read: up to a part of it, whose tokens follow, or to its end.
+#[derive(Drop)]
+pub enum Progress {
+    Part(OpenStatement),
+    Whole(Boxed<Statement>),
+}
+
+// Whether a statement that begins with this mark is read in two steps.
+pub fn opens(mark: Mark) -> bool
+    ensures { result ≡ opens mark }
+{
+    match mark {
+        Mark::If | Mark::While | Mark::Do | Mark::For => true,
+        _ => false,
+    }
+}
+
+// What follows `for`, up to the body.
+#[tactic(auto, unfolding(crate::specs::OpenStatements::for_part))]
+fn counted(alloc: Global, tokens: &[Terminal]) -> Result<(OpenForm, &[Terminal]), Stop>
+    ensures { Gives (λ x. (x.0, x.1.now)) result (for_part tokens.now) }
+{
+    let rest = expect_mark(tokens, Mark::Open)?;
+    let (first, rest) = begin(alloc, rest)?;
+    let (test, rest) = optional(alloc, rest)?;
+    let rest = expect_mark(rest, Mark::Semicolon)?;
+    let (next, rest) = next(alloc, rest)?;
+    let rest = expect_mark(rest, Mark::Close)?;
+    Ok((OpenForm::For { first, test, next }, rest))
+}
+
+// What follows `if`, up to the statement of its first arm.
+fn first_arm(alloc: Global, tokens: &[Terminal]) -> Result<(OpenForm, &[Terminal]), Stop>
+    ensures { Gives (λ x. (x.0, x.1.now)) result (part_of_mark Mark.If tokens.now) }
+{
+    let (test, rest) = test(alloc, tokens)?;
+    let form = OpenForm::Arm {
+        arms: Vector::new(alloc),
+        test: test.into_inner(),
+        left: tokens.len() - 1,
+    };
+    Ok((form, rest))
+}
+
+// What follows a mark that opens a statement, up to a part of the statement.
+pub fn opened(
+    alloc: Global,
+    mark: Mark,
+    tokens: &[Terminal],
+) -> Result<(OpenForm, &[Terminal]), Stop>
+    ensures { Gives (λ x. (x.0, x.1.now)) result (part_of_mark mark tokens.now) }
+{
+    match mark {
+        Mark::If => first_arm(alloc, tokens),
+        Mark::While => {
+            let (test, rest) = test(alloc, tokens)?;
+            Ok((OpenForm::While(test.into_inner()), rest))
+        }
+        Mark::Do => Ok((OpenForm::Do, tokens)),
+        Mark::For => counted(alloc, tokens),
+        _ => Err(Stop::Syntax),
+    }
+}
+
+// What follows a name: the colon of a label, or a simple statement.
+#[tactic(auto, unfolding(crate::specs::ReadingStatements::labelled_at))]
+pub fn labelled(
+    alloc: Global,
+    span: Span,
+    name: Name,
+    tokens: &[Terminal],
+) -> Result<(Progress, &[Terminal]), Stop>
+    ensures same { (r : Reads) → Leads (λ x. progress_at r x.0 x.1.now) result (labelled_at r span name tokens.now) }
+    ensures shorter { IfOk result (λ x. length x.1.now ≤ length tokens.now) }
+{
+    if starts_with(tokens, Mark::Colon) {
+        let form = OpenForm::Label(Ident { name, span });
+        let part = OpenStatement { span, form };
+        return Ok((Progress::Part(part), others(tokens)));
+    }
+    let (simple, rest) = named(alloc, span, name, tokens)?;
+    let rest = expect_mark(rest, Mark::Semicolon)?;
+    Ok((Progress::Whole(simple), rest))
+}
+
+// What follows the body of a `do`.
+#[tactic(auto, unfolding(crate::specs::OpenStatements::do_end))]
+fn repeated(
+    alloc: Global,
+    span: Span,
+    body: Boxed<Statement>,
+    tokens: &[Terminal],
+) -> Result<(Boxed<Statement>, &[Terminal]), Stop>
+    ensures { Gives (λ x. (x.0, x.1.now)) result (do_end span body tokens.now) }
+{
+    let rest = expect_mark(tokens, Mark::While)?;
+    let (test, rest) = test(alloc, rest)?;
+    let rest = expect_mark(rest, Mark::Semicolon)?;
+    let test = test.into_inner();
+    Ok((node(alloc, span, Form::Do { body, test })?, rest))
+}
+
+// What follows the arms of an `if`: another arm, `else`, or nothing of it.
+#[tactic(auto, unfolding(crate::specs::OpenStatements::behind_arms, crate::specs::ReadingStatements::arms_at))]
+fn behind_arms(
+    alloc: Global,
+    span: Span,
+    arms: Vector<(ExprTree, Statement)>,
+    left: usize,
+    tokens: &[Terminal],
+) -> Result<(Progress, &[Terminal]), Stop>
+    ensures same { (r : Reads) → Leads (λ x. progress_at r x.0 x.1.now) result (behind_arms r span arms left tokens.now) }
+    ensures shorter { IfOk result (λ x. length x.1.now + parts_of x.0 ≤ length tokens.now) }
+{
+    if !starts_with(tokens, Mark::Else) {
+        let otherwise = None;
+        let whole = node(alloc, span, Form::If { arms, otherwise })?;
+        return Ok((Progress::Whole(whole), tokens));
+    }
+    let behind = others(tokens);
+    if !starts_with(behind, Mark::If) {
+        let form = OpenForm::Otherwise(arms);
+        let part = OpenStatement { span, form };
+        return Ok((Progress::Part(part), behind));
+    }
+    if left == 0 {
+        return Err(Stop::Syntax);
+    }
+    let (test, rest) = test(alloc, others(behind))?;
+    let form = OpenForm::Arm {
+        arms,
+        test: test.into_inner(),
+        left: left - 1,
+    };
+    let part = OpenStatement { span, form };
+    Ok((Progress::Part(part), rest))
+}
+
+// What an open statement is once its part was read, and what follows that part.
+pub fn resumed(
+    alloc: Global,
+    outer: OpenStatement,
+    body: Boxed<Statement>,
+    tokens: &[Terminal],
+) -> Result<(Progress, &[Terminal]), Stop>
+    ensures same { (r : Reads) → Leads (λ x. progress_at r x.0 x.1.now) result (resume r outer body tokens.now) }
+    ensures shorter { IfOk result (λ x. length x.1.now + parts_of x.0 ≤ length tokens.now) }
+{
+    let OpenStatement { span, form } = outer;
+    let form = match form {
+        OpenForm::Label(name) => Form::Label { name, body },
+        OpenForm::While(test) => Form::While { test, body },
+        OpenForm::For { first, test, next } => Form::For {
+            first,
+            test,
+            next,
+            body,
+        },
+        OpenForm::Otherwise(arms) => Form::If {
+            arms,
+            otherwise: Some(body),
+        },
+        OpenForm::Do => {
+            let (whole, rest) = repeated(alloc, span, body, tokens)?;
+            return Ok((Progress::Whole(whole), rest));
+        }
+        OpenForm::Arm { arms, test, left } => {
+            let mut arms = arms;
+            arms.push((test, body.into_inner()))?;
+            return behind_arms(alloc, span, arms, left, tokens);
+        }
+    };
+    let whole = node(alloc, span, form)?;
+    Ok((Progress::Whole(whole), tokens))
+}
