@@ -261,9 +261,9 @@ fn statements_in_one_another(rt: HostRuntime) -> Result<(), Fail> {
     for (front, back) in rows {
         let mut source = String::new(rt.alloc());
         source.push_str("void f ( ) { ")?;
-        repeated(&mut source, front, 20000)?;
+        repeated(&mut source, front, 5000)?;
         source.push_str("; ")?;
-        repeated(&mut source, back, 20000)?;
+        repeated(&mut source, back, 5000)?;
         source.push_str("}")?;
         let cause = refused(rt.alloc(), source.as_str())?;
         assert_eq!(rt; cause.0, 0, "{front}");
