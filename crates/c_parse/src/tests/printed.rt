@@ -238,18 +238,6 @@ fn show_simple(text: &mut String, form: &Form) -> Result<(), Fail> {
     Ok(())
 }
 
-// A statement that may be missing, with a blank before it.
-#[cycle(statement)]
-fn show_part(text: &mut String, part: Option<&Statement>) -> Result<(), Fail> {
-    match part {
-        Some(statement) => show_statement(text, statement),
-        None => {
-            text.push_str(" -")?;
-            Ok(())
-        }
-    }
-}
-
 #[cycle(statement)]
 fn show_statement(text: &mut String, statement: &Statement) -> Result<(), Fail> {
     write!(text, " {}{{", statement.span.column)?;
@@ -271,7 +259,10 @@ fn show_statement(text: &mut String, statement: &Statement) -> Result<(), Fail> 
                 show_next(text, test)?;
                 show_statement(text, body)?;
             }
-            show_part(text, otherwise.as_ref().map(|last| last.get()))?;
+            match otherwise {
+                Some(last) => show_statement(text, last)?,
+                None => text.push_str(" -")?,
+            }
         }
         Form::While { test, body } => {
             text.push_str("while")?;
@@ -290,9 +281,15 @@ fn show_statement(text: &mut String, statement: &Statement) -> Result<(), Fail> 
             body,
         } => {
             text.push_str("for")?;
-            show_part(text, first.as_ref().map(|part| part.get()))?;
+            match first {
+                Some(part) => show_statement(text, part)?,
+                None => text.push_str(" -")?,
+            }
             show_option(text, test.as_ref())?;
-            show_part(text, next.as_ref().map(|part| part.get()))?;
+            match next {
+                Some(part) => show_statement(text, part)?,
+                None => text.push_str(" -")?,
+            }
             show_statement(text, body)?;
         }
         Form::Switch { value, groups } => {
