@@ -25,6 +25,3 @@ mod token;
 pub use laws::{a_loop_has_no_end, numbers_are_values, one_reading};
 pub use lexer::{are_small, tokens};
 pub use token::{SourceText, Token, TokenKind};
-
-#[cfg(test)]
-mod tests;

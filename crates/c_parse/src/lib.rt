@@ -22,8 +22,6 @@ mod simple;
 mod statement;
 mod statements;
 mod stop;
-#[cfg(test)]
-mod tests;
 mod types;
 mod unit;
 
