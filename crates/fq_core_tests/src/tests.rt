@@ -1,5 +1,5 @@
-use fq_core::*;
 use containers::{Same, TryClone};
+use fq_core::*;
 use std::test::Fail;
 
 #[test]

@@ -1,5 +1,5 @@
-use fq_io::*;
 use fq_core::Name;
+use fq_io::*;
 use std::alloc::Global;
 use std::test::Fail;
 
