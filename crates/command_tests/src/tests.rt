@@ -241,18 +241,30 @@ suite 1 3\ncovered 4 of 4\n";
     )
 }
 
+// What a run of a measurement with this query answers, where the files and the words could be made.
+fn answer_of(
+    rt: &HostRuntime,
+    query: &str,
+    out: &mut VecSink,
+    err: &mut VecSink,
+) -> Result<Status, Fail> {
+    let alloc = rt.alloc();
+    let entries = [("a.c", A_C), ("in.txt", "5\n11\n")];
+    let mut files = files(alloc, &entries, &[])?;
+    let words = words(alloc, &["measure", "f", query, "in.txt", "a.c"])?;
+    let status = run(alloc, &words, &mut files, out, err);
+    eprintln!(rt; "answer {status:?}")?;
+    Ok(status)
+}
+
 // Whatever allocation is refused: the answer is the one without the refusal, or Memory with nothing on `err` and a first
 // part of the text on `out`. It is run with each allocation refused in turn, where the files and words of the test itself
 // may want memory too.
 #[test]
 fn memory_refused(rt: HostRuntime) -> Result<(), Fail> {
-    let alloc = rt.alloc();
-    let entries = [("a.c", A_C), ("in.txt", "5\n11\n")];
-    let mut files = files(alloc, &entries, &[])?;
-    let words = words(alloc, &["measure", "f", QUERY, "in.txt", "a.c"])?;
-    let mut out = VecSink::new(alloc);
-    let mut err = VecSink::new(alloc);
-    let status = run(alloc, &words, &mut files, &mut out, &mut err);
+    let mut out = VecSink::new(rt.alloc());
+    let mut err = VecSink::new(rt.alloc());
+    let status = answer_of(&rt, QUERY, &mut out, &mut err)?;
     if status == Status::Memory {
         assert!(rt; TWO_INPUTS.as_bytes().starts_with(out.taken()));
     } else {
@@ -260,5 +272,22 @@ fn memory_refused(rt: HostRuntime) -> Result<(), Fail> {
         assert_eq!(rt; out.taken(), TWO_INPUTS.as_bytes());
     }
     assert_eq!(rt; err.taken(), "".as_bytes());
+    Ok(())
+}
+
+// The same of a refusal, whose line goes to `err`.
+#[test]
+fn memory_refused_to_a_refusal(rt: HostRuntime) -> Result<(), Fail> {
+    let mut out = VecSink::new(rt.alloc());
+    let mut err = VecSink::new(rt.alloc());
+    let line = "error 1 NotBuilt\n";
+    let status = answer_of(&rt, "cover", &mut out, &mut err)?;
+    if status == Status::Memory {
+        assert!(rt; line.as_bytes().starts_with(err.taken()));
+    } else {
+        assert_eq!(rt; status, Status::NotBuilt);
+        assert_eq!(rt; err.taken(), line.as_bytes());
+    }
+    assert_eq!(rt; out.taken(), "".as_bytes());
     Ok(())
 }

@@ -62,3 +62,16 @@ fn same_and_copies(rt: HostRuntime) -> Result<(), Fail> {
     assert_eq!(rt; boxed.into_inner(), 9);
     Ok(())
 }
+
+#[test]
+fn a_long_vector(rt: HostRuntime) -> Result<(), Fail> {
+    let alloc = rt.alloc();
+    let mut vector = Vector::new(alloc);
+    for item in 0..200_000u32 {
+        vector.push(item)?;
+    }
+    let copy = vector.try_clone(alloc)?;
+    assert!(rt; copy.same(&vector));
+    assert_eq!(rt; copy.len(), 200_000);
+    Ok(())
+}

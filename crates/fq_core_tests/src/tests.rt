@@ -61,3 +61,16 @@ fn names_and_codes(rt: HostRuntime) -> Result<(), Fail> {
     }
     Ok(())
 }
+
+#[test]
+fn long_texts(rt: HostRuntime) -> Result<(), Fail> {
+    let alloc = rt.alloc();
+    let mut bytes = vec![in alloc; b'0'; 1_000_000]?;
+    bytes.push(b'7')?;
+    assert_eq!(rt; word_of(&bytes), WordText::Number(7));
+    let Ok(name) = Name::new(alloc, &bytes) else {
+        return Err(Fail::from("no memory"));
+    };
+    assert_eq!(rt; name.bytes().len(), 1_000_001);
+    Ok(())
+}

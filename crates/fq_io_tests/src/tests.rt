@@ -77,3 +77,32 @@ fn a_sink_in_memory_takes_all(rt: HostRuntime) -> Result<(), Fail> {
     assert_eq!(rt; sink.taken(), b"xyzxyz".as_slice());
     Ok(())
 }
+
+// A file and a text at the limits of sources and inputs.
+#[test]
+fn large_texts(rt: HostRuntime) -> Result<(), Fail> {
+    let alloc = rt.alloc();
+    let limit = 16 * 1024 * 1024;
+    let bytes = vec![in alloc; b'5'; limit]?;
+    std::fs::write(&rt, "large", &bytes)?;
+    let read = RealFiles::new(&rt).read_whole(alloc, "large", limit as u64);
+    assert_eq!(rt; read.map(|read| read.len()), Ok(limit));
+    let mut sink = VecSink::new(alloc);
+    assert_eq!(rt; write_all(&mut sink, &bytes), Ok(()));
+    assert_eq!(rt; sink.taken().len(), limit);
+    Ok(())
+}
+
+// A text of so many bytes is written in at most as many writes: a sink that takes one byte a write and then fails takes
+// all of it, and is asked for nothing where the text is empty.
+#[test]
+fn writes_are_no_more_than_bytes(rt: HostRuntime) -> Result<(), Fail> {
+    let alloc = rt.alloc();
+    let script = [Take::AtMost(1), Take::AtMost(1), Take::AtMost(1), Take::Fail];
+    let mut sink = MemorySink::new(alloc, script.to_vec(alloc)?);
+    assert_eq!(rt; write_all(&mut sink, b""), Ok(()));
+    assert_eq!(rt; write_all(&mut sink, b"abc"), Ok(()));
+    assert_eq!(rt; sink.taken(), b"abc".as_slice());
+    assert_eq!(rt; write_all(&mut sink, b"d"), Err(SinkFault::Failed));
+    Ok(())
+}
