@@ -1,73 +1,11 @@
 // A whole source, and its tokens as clang 14 lists them (`clang -cc1 -dump-tokens`).
 use crate::tests::shown;
 use std::test::Fail;
-
-// A classifier of triangles, with headers, macros, a ring buffer and an input function.
-const TRIANGLES: &str = "#include <stdint.h>
-#include <assert.h>
-
-#define SIZE 4
-#define BAD 0
-
-enum { SCALENE = 1, ISOSCELES, EQUILATERAL };
-
-int next_side(void);
-
-static uint8_t ring[SIZE];
-static unsigned head;
-static unsigned count;
-
-/* Store one side, dropping it when the ring is full. */
-static int put(uint8_t v) {
-  if (count == SIZE) {
-    return 0;
-  }
-  ring[(head + count) % SIZE] = v;
-  count++;
-  return 1;
-}
-
-static uint8_t take(void) {
-  assert(count > 0);
-  uint8_t v = ring[head];
-  head = (head + 1) % SIZE;
-  count--;
-  return v;
-}
-
-int classify(int a, int b, int c) {
-  if (a <= 0 || b <= 0 || c <= 0) {
-    return BAD;
-  }
-  if (a + b <= c || b + c <= a || a + c <= b) {
-    return BAD;
-  }
-  if (a == b && b == c) {
-    return EQUILATERAL;
-  }
-  if (a == b || b == c || a == c) {
-    return ISOSCELES;
-  }
-  return SCALENE;
-}
-
-int main_loop(int n) {
-  for (int i = 0; i < n; i++) {
-    put((uint8_t) next_side());
-  }
-  if (count < 3) {
-    return BAD;
-  }
-  int a = take();
-  int b = take();
-  int c = take();
-  return classify(a, b, c);
-}
-";
+use test_sources::triangles;
 
 #[test]
 fn tokens_of_a_whole_source(rt: HostRuntime) -> Result<(), Fail> {
-    let got = shown(rt.alloc(), &[TRIANGLES.as_bytes()])?;
+    let got = shown(rt.alloc(), &[triangles().as_bytes()])?;
     let want = "\
         7:1w=enum 7:6m={ 7:8w=SCALENE 7:16m== 7:18n1s32=1 7:19m=, 7:21w=ISOSCELES 7:30m=, 7:32w=EQUILATERAL 7:44m=} 7:45m=; \
         9:1w=int 9:5w=next_side 9:14m=( 9:15w=void 9:19m=) 9:20m=; \

@@ -1,12 +1,13 @@
 // Sources that are cut into tokens by c_lex and then read.
 use crate::tests::cause_of;
 use crate::tests::printed::show_item;
-use c_parse::{Unit, parse};
 use c_lex::{SourceText, are_small, tokens};
+use c_parse::{Unit, parse};
 use containers::Vector;
 use fq_core::{Fault, Name};
 use std::alloc::{AllocError, Global};
 use std::test::Fail;
+use test_sources::triangles;
 
 fn unit_of(alloc: Global, source: &str) -> Result<Unit, Fault> {
     let name = Name::new(alloc, b"k.c")?;
@@ -46,72 +47,9 @@ fn refusals_of_sources(rt: HostRuntime) -> Result<(), Fail> {
     Ok(())
 }
 
-// A classifier of triangles, with headers, macros, a ring buffer and an input function.
-const TRIANGLES: &str = "#include <stdint.h>
-#include <assert.h>
-
-#define SIZE 4
-#define BAD 0
-
-enum { SCALENE = 1, ISOSCELES, EQUILATERAL };
-
-int next_side(void);
-
-static uint8_t ring[SIZE];
-static unsigned head;
-static unsigned count;
-
-/* Store one side, dropping it when the ring is full. */
-static int put(uint8_t v) {
-  if (count == SIZE) {
-    return 0;
-  }
-  ring[(head + count) % SIZE] = v;
-  count++;
-  return 1;
-}
-
-static uint8_t take(void) {
-  assert(count > 0);
-  uint8_t v = ring[head];
-  head = (head + 1) % SIZE;
-  count--;
-  return v;
-}
-
-int classify(int a, int b, int c) {
-  if (a <= 0 || b <= 0 || c <= 0) {
-    return BAD;
-  }
-  if (a + b <= c || b + c <= a || a + c <= b) {
-    return BAD;
-  }
-  if (a == b && b == c) {
-    return EQUILATERAL;
-  }
-  if (a == b || b == c || a == c) {
-    return ISOSCELES;
-  }
-  return SCALENE;
-}
-
-int main_loop(int n) {
-  for (int i = 0; i < n; i++) {
-    put((uint8_t) next_side());
-  }
-  if (count < 3) {
-    return BAD;
-  }
-  int a = take();
-  int b = take();
-  int c = take();
-  return classify(a, b, c);
-}
-";
-
 #[test]
 fn a_whole_source(rt: HostRuntime) -> Result<(), Fail> {
-    let Ok(unit) = unit_of(rt.alloc(), TRIANGLES) else {
+    let Ok(unit) = unit_of(rt.alloc(), triangles()) else {
         return Err(Fail::from("refused"));
     };
     assert_eq!(rt; unit.items.len(), 9);

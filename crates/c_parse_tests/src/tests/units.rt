@@ -1,8 +1,8 @@
 // Texts of units, worked by hand from C11's grammar (6.5 and 6.7 to 6.9).
-use c_parse::parse;
 use crate::tests::cause_of;
 use crate::tests::printed::show_item;
 use crate::tests::tokens::{repeated, tokens_of};
+use c_parse::parse;
 use std::alloc::Global;
 use std::test::Fail;
 
