@@ -6,8 +6,8 @@ use Rattle.expression_types.specs.declared.faults.Found.{Found}
 use Rattle.expression_types.specs.declared.scopes.Bound.{Bound}
 use Rattle.expression_types.specs.declared.typer.Typer.{Typer}
 use Rattle.expression_types.specs.Faults.{noted, first_with}
-use Rattle.expression_types.specs.Scopes.{newest, has_name}
-use Rattle.expression_types.specs.Rule.{Rule, Done, At, at, behind, pure, ◌then◌, fault, expect, with_fault, look, is_label, here, temporary, local, bind, bind_label, in_scope, uncounted, each, alone_in, entered, left, numbered_from, made_by, after}
+use Rattle.expression_types.specs.Scopes.{newest, has_name, has_case}
+use Rattle.expression_types.specs.Rule.{Rule, Done, At, at, behind, pure, ◌then◌, fault, expect, with_fault, look, is_label, here, temporary, local, bind, bind_label, is_case, bind_case, in_scope, in_switch, uncounted, each, alone_in, entered, left, with_cases, numbered_from, made_by, after}
 
 pub first_with-append : (first : Option Found) (fs gs : List Found) → first_with first (fs ++ gs) ≡ first_with (first_with first fs) gs
 unfolding first_with
@@ -20,15 +20,15 @@ plus_assoc a b c = omega arith
 plus_zero : (a : ℕ) → a + 0 ≡ a
 plus_zero a = omega arith
 
-abbrev state : List Bound → List (List ℕ) → ℕ → ℕ → ℕ → Option Found → Typer
-state b n l c t f = record { bound = b; labels = n; level = l; local = c; temporary = t; fault = f }
+abbrev state : List Bound → List (List ℕ) → List (Option ℕ) → ℕ → ℕ → ℕ → Option Found → Typer
+state b n v l c t f = record { bound = b; labels = n; cases = v; level = l; local = c; temporary = t; fault = f }
 
-same_state : {b b' : List Bound} {n n' : List (List ℕ)} {l c c' t t' : ℕ} {f f' : Option Found} → b ≡ b' → n ≡ n' → c ≡ c' → t ≡ t' → f ≡ f' → state b n l c t f ≡ state b' n' l c' t' f'
-same_state {l = l} p o q r z = λ i. state (p i) (o i) l (q i) (r i) (z i)
+same_state : {b b' : List Bound} {n n' : List (List ℕ)} {v v' : List (Option ℕ)} {l c c' t t' : ℕ} {f f' : Option Found} → b ≡ b' → n ≡ n' → v ≡ v' → c ≡ c' → t ≡ t' → f ≡ f' → state b n v l c t f ≡ state b' n' v' l c' t' f'
+same_state {l = l} p o u q r z = λ i. state (p i) (o i) (u i) l (q i) (r i) (z i)
 
 -- nothing is added
-nothing_added : (s : Typer) → state (s.bound ++ []) (s.labels ++ []) s.level (s.local + 0) (s.temporary + 0) s.fault ≡ s
-nothing_added s = same_state (append-nil s.bound) (append-nil s.labels) (plus_zero s.local) (plus_zero s.temporary) refl
+nothing_added : (s : Typer) → state (s.bound ++ []) (s.labels ++ []) (s.cases ++ []) s.level (s.local + 0) (s.temporary + 0) s.fault ≡ s
+nothing_added s = same_state (append-nil s.bound) (append-nil s.labels) (append-nil s.cases) (plus_zero s.local) (plus_zero s.temporary) refl
 
 module _ {A : Type 0} (a : A) (s : Typer) where
   pub pure_made : made_by (pure a) s ≡ a
@@ -49,7 +49,7 @@ module _ {A B : Type 0} (m : Rule A) (k : A → Rule B) (s : Typer) where
   then_after =
       let d = m (at s) in
       let e = k d.made (behind (at s) d) in
-      same_state (sym (append_assoc s.bound d.bound e.bound)) (sym (append_assoc s.labels d.labels e.labels)) (plus_assoc s.local d.locals e.locals) (plus_assoc s.temporary d.temporaries e.temporaries) (first_with-append s.fault d.faults e.faults)
+      same_state (sym (append_assoc s.bound d.bound e.bound)) (sym (append_assoc s.labels d.labels e.labels)) (sym (append_assoc s.cases d.cases e.cases)) (plus_assoc s.local d.locals e.locals) (plus_assoc s.temporary d.temporaries e.temporaries) (first_with-append s.fault d.faults e.faults)
 
 module _ {A : Type 0} (code : ℕ) (span : Span) (a : A) (s : Typer) where
   pub fault_made : made_by (fault code span a) s ≡ a
@@ -58,7 +58,7 @@ module _ {A : Type 0} (code : ℕ) (span : Span) (a : A) (s : Typer) where
 
   pub fault_after : after (fault code span a) s ≡ with_fault code span s
   unfolding after fault with_fault first_with
-  fault_after = same_state (append-nil s.bound) (append-nil s.labels) (plus_zero s.local) (plus_zero s.temporary) refl
+  fault_after = same_state (append-nil s.bound) (append-nil s.labels) (append-nil s.cases) (plus_zero s.local) (plus_zero s.temporary) refl
 
 module _ (w : List ℕ) (s : Typer) where
   pub look_made : made_by (look w) s ≡ newest w s.bound
@@ -77,9 +77,22 @@ module _ (w : List ℕ) (s : Typer) where
   unfolding after is_label first_with
   is_label_after = nothing_added s
 
-  pub bind_label_after : after (bind_label w) s ≡ record { bound = s.bound; labels = s.labels ++ w ∷ []; level = s.level; local = s.local; temporary = s.temporary; fault = s.fault }
+  pub bind_label_after : after (bind_label w) s ≡ record { bound = s.bound; labels = s.labels ++ w ∷ []; cases = s.cases; level = s.level; local = s.local; temporary = s.temporary; fault = s.fault }
   unfolding after bind_label first_with
-  bind_label_after = same_state (append-nil s.bound) refl (plus_zero s.local) (plus_zero s.temporary) refl
+  bind_label_after = same_state (append-nil s.bound) refl (append-nil s.cases) (plus_zero s.local) (plus_zero s.temporary) refl
+
+module _ (v : Option ℕ) (s : Typer) where
+  pub is_case_made : made_by (is_case v) s ≡ has_case s.cases v
+  unfolding made_by is_case
+  is_case_made = refl
+
+  pub is_case_after : after (is_case v) s ≡ s
+  unfolding after is_case first_with
+  is_case_after = nothing_added s
+
+  pub bind_case_after : after (bind_case v) s ≡ record { bound = s.bound; labels = s.labels; cases = s.cases ++ v ∷ []; level = s.level; local = s.local; temporary = s.temporary; fault = s.fault }
+  unfolding after bind_case first_with
+  bind_case_after = same_state (append-nil s.bound) (append-nil s.labels) refl (plus_zero s.local) (plus_zero s.temporary) refl
 
 module _ (s : Typer) where
   pub here_made : made_by here s ≡ s.level
@@ -94,21 +107,21 @@ module _ (s : Typer) where
   unfolding made_by temporary
   temporary_made = refl
 
-  pub temporary_after : after temporary s ≡ record { bound = s.bound; labels = s.labels; level = s.level; local = s.local; temporary = s.temporary + 1; fault = s.fault }
+  pub temporary_after : after temporary s ≡ record { bound = s.bound; labels = s.labels; cases = s.cases; level = s.level; local = s.local; temporary = s.temporary + 1; fault = s.fault }
   unfolding after temporary first_with
-  temporary_after = same_state (append-nil s.bound) (append-nil s.labels) (plus_zero s.local) refl refl
+  temporary_after = same_state (append-nil s.bound) (append-nil s.labels) (append-nil s.cases) (plus_zero s.local) refl refl
 
   pub local_made : (cells : ℕ) → made_by (local cells) s ≡ s.local
   unfolding made_by local
   local_made cells = refl
 
-  pub local_after : (cells : ℕ) → after (local cells) s ≡ record { bound = s.bound; labels = s.labels; level = s.level; local = s.local + cells; temporary = s.temporary; fault = s.fault }
+  pub local_after : (cells : ℕ) → after (local cells) s ≡ record { bound = s.bound; labels = s.labels; cases = s.cases; level = s.level; local = s.local + cells; temporary = s.temporary; fault = s.fault }
   unfolding after local first_with
-  local_after cells = same_state (append-nil s.bound) (append-nil s.labels) refl (plus_zero s.temporary) refl
+  local_after cells = same_state (append-nil s.bound) (append-nil s.labels) (append-nil s.cases) refl (plus_zero s.temporary) refl
 
-  pub bind_after : (b : Bound) → after (bind b) s ≡ record { bound = s.bound ++ b ∷ []; labels = s.labels; level = s.level; local = s.local; temporary = s.temporary; fault = s.fault }
+  pub bind_after : (b : Bound) → after (bind b) s ≡ record { bound = s.bound ++ b ∷ []; labels = s.labels; cases = s.cases; level = s.level; local = s.local; temporary = s.temporary; fault = s.fault }
   unfolding after bind first_with
-  bind_after b = same_state refl (append-nil s.labels) (plus_zero s.local) (plus_zero s.temporary) refl
+  bind_after b = same_state refl (append-nil s.labels) (append-nil s.cases) (plus_zero s.local) (plus_zero s.temporary) refl
 
 module _ {A : Type 0} (m : Rule A) (s : Typer) where
   pub scope_made : made_by (in_scope m) s ≡ made_by m (entered s)
@@ -119,10 +132,20 @@ module _ {A : Type 0} (m : Rule A) (s : Typer) where
   unfolding after in_scope entered left
   scope_after =
       let d = m (at (entered s)) in
-      λ i. state ((append-nil s.bound ∙ sym (take_at s.bound d.bound (length s.bound) refl)) i) (s.labels ++ d.labels) (one_less s.level i) (s.local + d.locals) (s.temporary + d.temporaries) (first_with s.fault d.faults)
+      λ i. state ((append-nil s.bound ∙ sym (take_at s.bound d.bound (length s.bound) refl)) i) (s.labels ++ d.labels) (s.cases ++ d.cases) (one_less s.level i) (s.local + d.locals) (s.temporary + d.temporaries) (first_with s.fault d.faults)
     where
       one_less : (n : ℕ) → n ≡ n + 1 - 1
       one_less n = omega arith
+
+  pub switch_made : made_by (in_switch m) s ≡ made_by m (with_cases [] s)
+  unfolding made_by in_switch with_cases
+  switch_made = refl
+
+  pub switch_after : after (in_switch m) s ≡ with_cases s.cases (after m (with_cases [] s))
+  unfolding after in_switch with_cases
+  switch_after =
+      let d = m (at (with_cases [] s)) in
+      λ i. state (s.bound ++ d.bound) (s.labels ++ d.labels) (append-nil s.cases i) s.level (s.local + d.locals) (s.temporary + d.temporaries) (first_with s.fault d.faults)
 
   pub uncounted_made : made_by (uncounted m) s ≡ made_by m (numbered_from 0 s)
   unfolding made_by uncounted numbered_from
@@ -132,7 +155,7 @@ module _ {A : Type 0} (m : Rule A) (s : Typer) where
   unfolding after uncounted numbered_from
   uncounted_after =
       let d = m (at (numbered_from 0 s)) in
-      λ i. state (s.bound ++ d.bound) (s.labels ++ d.labels) s.level (s.local + d.locals) (plus_zero s.temporary i) (first_with s.fault d.faults)
+      λ i. state (s.bound ++ d.bound) (s.labels ++ d.labels) (s.cases ++ d.cases) s.level (s.local + d.locals) (plus_zero s.temporary i) (first_with s.fault d.faults)
 
 module _ (code : ℕ) (span : Span) (s : Typer) where
   pub expect_true : after (expect code span true) s ≡ s

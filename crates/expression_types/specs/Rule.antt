@@ -6,16 +6,18 @@ use Rattle.expression_types.specs.declared.faults.Found.{Found}
 use Rattle.expression_types.specs.declared.scopes.Bound.{Bound}
 use Rattle.expression_types.specs.declared.typer.Typer.{Typer}
 use Rattle.expression_types.specs.Faults.{noted, first_with}
-use Rattle.expression_types.specs.Scopes.{newest, has_name}
+use Rattle.expression_types.specs.Scopes.{newest, has_name, has_case}
 
 infixr 20 ◌then◌
 
--- where a rule is used: the names that are bound, the oldest first, the labels that the function has so far, the level
--- of the innermost scope, that of the file being 0, and the numbers of the next local's cell and of the next
--- temporary's; outside of all functions the former is the next global's
+-- where a rule is used: the names that are bound, the oldest first, the labels that the function has so far, the values
+-- of `case` that the innermost `switch` has so far, none standing for `default`, the level of the innermost scope, that
+-- of the file being 0, and the numbers of the next local's cell and of the next temporary's; outside of all functions
+-- the former is the next global's
 pub record At : Type 0 where
   pub bound : List Bound
   pub labels : List (List ℕ)
+  pub cases : List (Option ℕ)
   pub level : ℕ
   pub local : ℕ
   pub temporary : ℕ
@@ -27,6 +29,7 @@ pub record Done (A : Type 0) : Type 0 where
   pub faults : List Found
   pub bound : List Bound
   pub labels : List (List ℕ)
+  pub cases : List (Option ℕ)
   pub locals : ℕ
   pub temporaries : ℕ
 
@@ -37,6 +40,7 @@ abbrev pub behind : {A : Type 0} → At → Done A → At
 behind at d = record {
   bound = at.bound ++ d.bound;
   labels = at.labels ++ d.labels;
+  cases = at.cases ++ d.cases;
   level = at.level;
   local = at.local + d.locals;
   temporary = at.temporary + d.temporaries;
@@ -44,7 +48,7 @@ behind at d = record {
 
 -- this is made, and nothing else
 abbrev pub only_made : {A : Type 0} → A → Done A
-only_made a = record { made = a; faults = []; bound = []; labels = []; locals = 0; temporaries = 0 }
+only_made a = record { made = a; faults = []; bound = []; labels = []; cases = []; locals = 0; temporaries = 0 }
 
 -- nothing is wrong, and this is made
 unfoldable pub pure : {A : Type 0} → A → Rule A
@@ -60,13 +64,14 @@ unfoldable pub ◌then◌ : {A B : Type 0} → Rule A → (A → Rule B) → Rul
       faults = d.faults ++ e.faults;
       bound = d.bound ++ e.bound;
       labels = d.labels ++ e.labels;
+      cases = d.cases ++ e.cases;
       locals = d.locals + e.locals;
       temporaries = d.temporaries + e.temporaries;
     }
 
 -- a fault: what is made then stands for what is missing, so that typing goes on; no accepted unit has it
 unfoldable pub fault : {A : Type 0} → ℕ → Span → A → Rule A
-fault code span a at = record { made = a; faults = record { span = span; code = code } ∷ []; bound = []; labels = []; locals = 0; temporaries = 0 }
+fault code span a at = record { made = a; faults = record { span = span; code = code } ∷ []; bound = []; labels = []; cases = []; locals = 0; temporaries = 0 }
 
 -- a fault where something isn't so
 unfoldable pub expect : ℕ → Span → Bool → Rule (Unit {0})
@@ -81,37 +86,51 @@ look w at = only_made (newest w at.bound)
 unfoldable pub is_label : List ℕ → Rule Bool
 is_label w at = only_made (has_name at.labels w)
 
+-- whether the innermost `switch` has a value already
+unfoldable pub is_case : Option ℕ → Rule Bool
+is_case v at = only_made (has_case at.cases v)
+
 -- the level of the innermost scope
 unfoldable pub here : Rule ℕ
 here at = only_made at.level
 
 -- the number of a new temporary
 unfoldable pub temporary : Rule ℕ
-temporary at = record { made = at.temporary; faults = []; bound = []; labels = []; locals = 0; temporaries = 1 }
+temporary at = record { made = at.temporary; faults = []; bound = []; labels = []; cases = []; locals = 0; temporaries = 1 }
 
 -- the first cell of a new local
 unfoldable pub local : ℕ → Rule ℕ
-local cells at = record { made = at.local; faults = []; bound = []; labels = []; locals = cells; temporaries = 0 }
+local cells at = record { made = at.local; faults = []; bound = []; labels = []; cases = []; locals = cells; temporaries = 0 }
 
 -- a name is bound
 unfoldable pub bind : Bound → Rule (Unit {0})
-bind b at = record { made = tt; faults = []; bound = b ∷ []; labels = []; locals = 0; temporaries = 0 }
+bind b at = record { made = tt; faults = []; bound = b ∷ []; labels = []; cases = []; locals = 0; temporaries = 0 }
 
 -- a label stands
 unfoldable pub bind_label : List ℕ → Rule (Unit {0})
-bind_label w at = record { made = tt; faults = []; bound = []; labels = w ∷ []; locals = 0; temporaries = 0 }
+bind_label w at = record { made = tt; faults = []; bound = []; labels = w ∷ []; cases = []; locals = 0; temporaries = 0 }
+
+-- a value of `case` stands
+unfoldable pub bind_case : Option ℕ → Rule (Unit {0})
+bind_case v at = record { made = tt; faults = []; bound = []; labels = []; cases = v ∷ []; locals = 0; temporaries = 0 }
 
 -- a scope of its own, whose names end with it; labels don't (6.2.1p3)
 unfoldable pub in_scope : {A : Type 0} → Rule A → Rule A
 in_scope m at =
-    let d = m (record { bound = at.bound; labels = at.labels; level = at.level + 1; local = at.local; temporary = at.temporary }) in
-    record { made = d.made; faults = d.faults; bound = []; labels = d.labels; locals = d.locals; temporaries = d.temporaries }
+    let d = m (record { bound = at.bound; labels = at.labels; cases = at.cases; level = at.level + 1; local = at.local; temporary = at.temporary }) in
+    record { made = d.made; faults = d.faults; bound = []; labels = d.labels; cases = d.cases; locals = d.locals; temporaries = d.temporaries }
+
+-- a `switch` of its own
+unfoldable pub in_switch : {A : Type 0} → Rule A → Rule A
+in_switch m at =
+    let d = m (record { bound = at.bound; labels = at.labels; cases = []; level = at.level; local = at.local; temporary = at.temporary }) in
+    record { made = d.made; faults = d.faults; bound = d.bound; labels = d.labels; cases = []; locals = d.locals; temporaries = d.temporaries }
 
 -- what is never evaluated when the program runs has no temporaries
 unfoldable pub uncounted : {A : Type 0} → Rule A → Rule A
 uncounted m at =
-    let d = m (record { bound = at.bound; labels = at.labels; level = at.level; local = at.local; temporary = 0 }) in
-    record { made = d.made; faults = d.faults; bound = d.bound; labels = d.labels; locals = d.locals; temporaries = 0 }
+    let d = m (record { bound = at.bound; labels = at.labels; cases = at.cases; level = at.level; local = at.local; temporary = 0 }) in
+    record { made = d.made; faults = d.faults; bound = d.bound; labels = d.labels; cases = d.cases; locals = d.locals; temporaries = 0 }
 
 -- the lists of several, one after another
 unfoldable pub each : {X A : Type 0} → (X → Rule (List A)) → List X → Rule (List A)
@@ -125,7 +144,7 @@ alone_in m = m then λ x. pure (x ∷ [])
 -- ---- what a rule does to the state of typing
 
 abbrev pub at : Typer → At
-at s = record { bound = s.bound; labels = s.labels; level = s.level; local = s.local; temporary = s.temporary }
+at s = record { bound = s.bound; labels = s.labels; cases = s.cases; level = s.level; local = s.local; temporary = s.temporary }
 
 unfoldable pub made_by : {A : Type 0} → Rule A → Typer → A
 made_by m s = (m (at s)).made
@@ -136,6 +155,7 @@ after m s =
     record {
       bound = s.bound ++ d.bound;
       labels = s.labels ++ d.labels;
+      cases = s.cases ++ d.cases;
       level = s.level;
       local = s.local + d.locals;
       temporary = s.temporary + d.temporaries;
@@ -147,6 +167,7 @@ unfoldable pub with_fault : ℕ → Span → Typer → Typer
 with_fault code span s = record {
   bound = s.bound;
   labels = s.labels;
+  cases = s.cases;
   level = s.level;
   local = s.local;
   temporary = s.temporary;
@@ -155,11 +176,15 @@ with_fault code span s = record {
 
 -- the state within a scope, and the state behind it, where so many names were bound before
 unfoldable pub entered : Typer → Typer
-entered s = record { bound = s.bound; labels = s.labels; level = s.level + 1; local = s.local; temporary = s.temporary; fault = s.fault }
+entered s = record { bound = s.bound; labels = s.labels; cases = s.cases; level = s.level + 1; local = s.local; temporary = s.temporary; fault = s.fault }
 
 unfoldable pub left : ℕ → Typer → Typer
-left mark s = record { bound = take mark s.bound; labels = s.labels; level = s.level - 1; local = s.local; temporary = s.temporary; fault = s.fault }
+left mark s = record { bound = take mark s.bound; labels = s.labels; cases = s.cases; level = s.level - 1; local = s.local; temporary = s.temporary; fault = s.fault }
+
+-- the state with these values of `case`
+unfoldable pub with_cases : List (Option ℕ) → Typer → Typer
+with_cases vs s = record { bound = s.bound; labels = s.labels; cases = vs; level = s.level; local = s.local; temporary = s.temporary; fault = s.fault }
 
 -- the state with this number for the next temporary
 unfoldable pub numbered_from : ℕ → Typer → Typer
-numbered_from n s = record { bound = s.bound; labels = s.labels; level = s.level; local = s.local; temporary = n; fault = s.fault }
+numbered_from n s = record { bound = s.bound; labels = s.labels; cases = s.cases; level = s.level; local = s.local; temporary = n; fault = s.fault }

@@ -1,13 +1,13 @@
 // Faults, names and cells in the state of typing.
 ghost use Rattle.std.specs.Prelude.{◌≡◌, length, IfOk, OnOk};
-ghost use Rattle.expression_types.specs.Rule.{after, made_by, with_fault, expect, temporary, local, bind, is_label, bind_label, entered, left, numbered_from};
-ghost use Rattle.expression_types.specs.Scopes.{newest};
+ghost use Rattle.expression_types.specs.Rule.{after, made_by, with_fault, expect, temporary, local, bind, bind_label, bind_case, entered, left, numbered_from, with_cases};
 
 use crate::faults::{Found, noted};
-use crate::scopes::Bound;
+use crate::scopes::{Bound, Cases};
 use crate::typer::Typer;
 use fq_core::{Name, Span};
 use std::alloc::AllocError;
+use std::mem::replace;
 
 impl Typer {
     /// Notes a fault.
@@ -70,6 +70,23 @@ impl Typer {
         ensures { OnOk result (self.new ≡ after (bind_label name) self.old) }
     {
         self.labels.push(name)
+    }
+
+    /// Adds a value of `case`, or `default`.
+    #[tactic(auto, using(crate::proofs::RuleLaws::bind_case_after))]
+    pub fn bind_case(&mut self, value: Option<u64>) -> Result<(), AllocError>
+        ensures { OnOk result (self.new ≡ after (bind_case value) self.old) }
+    {
+        self.cases.push(value)
+    }
+
+    /// Puts other values of `case` in the place of those that are there, and answers these.
+    #[tactic(auto, unfolding(crate::specs::Rule::with_cases))]
+    pub fn replace_cases(&mut self, cases: Cases) -> Cases
+        ensures before { result ≡ self.old.cases }
+        ensures state { self.new ≡ with_cases cases self.old }
+    {
+        replace(&mut self.cases, cases)
     }
 
     /// Numbers the next temporary, and answers what its number was.

@@ -1,7 +1,7 @@
-// The names that are in scope, and the labels of a function.
+// The names that are in scope, lists of names, and the values of `case` of a `switch`.
 ghost use Rattle.std.specs.Prelude.{◌≡◌, ◌≤◌, [], ◌∷◌, ◌++◌, length, take, Some, if◌then◌else◌, IfOk, OnOk};
 ghost use Rattle.std.specs.Option.{option_copied};
-ghost use Rattle.expression_types.specs.Scopes.{last_place, newest, has_name};
+ghost use Rattle.expression_types.specs.Scopes.{last_place, newest, has_name, name_place, has_case, same_case};
 
 use c_values::Kind;
 use cfa::Variable;
@@ -127,13 +127,13 @@ fn later(here: bool, at: usize, last: Option<usize>) -> Option<usize>
     if here { Some(at) } else { last }
 }
 
-/// The labels of a function, in order.
+/// Names, in order.
 #[derive(Debug, Drop)]
-pub struct Labels {
+pub struct Names {
     list: Vector<Name>,
 }
 
-impl Model for Labels {
+impl Model for Names {
     ghost use Rattle.std.specs.Prelude.{List, ℕ};
     ghost use Rattle.std.specs.Coded.{codes};
 
@@ -144,11 +144,11 @@ impl Model for Labels {
     ghost view = { λ s. s.list };
 }
 
-impl Labels {
-    pub fn new(alloc: Global) -> Labels
+impl Names {
+    pub fn new(alloc: Global) -> Names
         ensures { result ≡ [] }
     {
-        Labels {
+        Names {
             list: Vector::new(alloc),
         }
     }
@@ -158,12 +158,33 @@ impl Labels {
     pub fn has(&self, name: &Name) -> bool
         ensures { result ≡ has_name self.now name.now }
     {
-        for label in self.list.as_slice() {
-            if label.bytes() == name.bytes() {
+        for own in self.list.as_slice() {
+            if own.bytes() == name.bytes() {
                 return true;
             }
         }
         false
+    }
+
+    /// The first place of a name.
+    #[tactic(auto, using(crate::proofs::ScopeLaws::place_laws))]
+    pub fn place(&self, name: &Name) -> Option<usize>
+        ensures { result ≡ name_place self.now name.now }
+    {
+        for (i, own) in self.list.iter().enumerate() {
+            if own.bytes() == name.bytes() {
+                return Some(i);
+            }
+        }
+        None
+    }
+
+    /// All of them.
+    pub fn into_vector(self) -> Vector<Name>
+        ensures { result ≡ self }
+    {
+        let Names { list } = self;
+        list
     }
 
     pub fn push(&mut self, name: Name) -> Result<(), AllocError>
@@ -171,5 +192,62 @@ impl Labels {
     {
         self.list.push(name)?;
         Ok(())
+    }
+}
+
+/// The values of `case` of a `switch`, none standing for `default`, in order.
+#[derive(Debug, Drop)]
+pub struct Cases {
+    list: Vector<Option<u64>>,
+}
+
+impl Model for Cases {
+    ghost use Rattle.std.specs.Prelude.{List, Option, ℕ};
+    ghost use Rattle.std.specs.Coded.{codes};
+
+    ghost Value = { List (Option ℕ) };
+
+    ghost coded = { Prim.hlevel codes };
+
+    ghost view = { λ s. s.list };
+}
+
+impl Cases {
+    pub fn new(alloc: Global) -> Cases
+        ensures { result ≡ [] }
+    {
+        Cases {
+            list: Vector::new(alloc),
+        }
+    }
+
+    /// Whether a value is among them.
+    #[tactic(auto, using(crate::proofs::ScopeLaws::case_laws))]
+    pub fn has(&self, value: Option<u64>) -> bool
+        ensures { result ≡ has_case self.now value }
+    {
+        for case_ in self.list.as_slice() {
+            if same_case(*case_, value) {
+                return true;
+            }
+        }
+        false
+    }
+
+    pub fn push(&mut self, value: Option<u64>) -> Result<(), AllocError>
+        ensures { OnOk result (self.new ≡ self.old ++ value ∷ []) }
+    {
+        self.list.push(value)?;
+        Ok(())
+    }
+}
+
+fn same_case(a: Option<u64>, b: Option<u64>) -> bool
+    ensures { result ≡ same_case a b }
+{
+    match (a, b) {
+        (None, None) => true,
+        (Some(a), Some(b)) => a == b,
+        (None, Some(_)) | (Some(_), None) => false,
     }
 }

@@ -1,6 +1,6 @@
 // The state of typing, and what an expression is.
 use crate::faults::Found;
-use crate::scopes::{Labels, Scopes};
+use crate::scopes::{Cases, Names, Scopes};
 use cfa::Variable;
 use containers::Vector;
 use typed_trees::TypedExpr;
@@ -26,7 +26,9 @@ pub struct Given {
 #[derive(Debug, Drop)]
 pub struct Typer {
     pub bound: Scopes,
-    pub labels: Labels,
+    pub labels: Names,
+    /// Those of the innermost `switch`.
+    pub cases: Cases,
     /// That of the file is 0.
     pub level: u32,
     /// Outside of all functions, that of the next global.
