@@ -1,0 +1,5 @@
+pub mod ConstantLaws
+pub mod ExpressionLaws
+pub mod FirstLaws
+pub mod RuleLaws
+pub mod ScopeLaws

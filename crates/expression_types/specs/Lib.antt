@@ -1,0 +1,6 @@
+pub mod Constants
+pub mod Expressions
+pub mod Faults
+pub mod Kinds
+pub mod Rule
+pub mod Scopes
