@@ -113,7 +113,7 @@ resolvent_holds value left right pivot l r = by_left (int_eq l.0 pivot) refl
 AllTrue : (ℕ → Bool) → List (List ℤ) → Type 0
 AllTrue value clauses = list_all (is_true_clause value) clauses ≡ true
 
-all_at : {X : Type 0} (p : X → Bool) (xs : List X) (i : ℕ) (x : X) → list_all p xs ≡ true → slice_get xs i ≡ Some x → p x ≡ true
+pub all_at : {X : Type 0} (p : X → Bool) (xs : List X) (i : ℕ) (x : X) → list_all p xs ≡ true → slice_get xs i ≡ Some x → p x ≡ true
 all_at p [] i x all e = absurd cc
 all_at p (y ∷ ys) zero x all e = let same : y ≡ x = cc in by_test (p y) (ap p same) all
   where

@@ -43,6 +43,15 @@ impl Clause {
         clause_of_keys(alloc, &keys)
     }
 
+    /// The clause of literals that rise already.
+    pub fn from_rising(alloc: Global, literals: &[i32]) -> Result<Clause, Memory>
+        requires { IsClause literals.now }
+        ensures { IfOk result (λ c. c ≡ literals.now) }
+    {
+        let literals = SmallVec::from_slice(alloc, literals)?;
+        Ok(Clause { literals })
+    }
+
     /// Its literals, in order. It takes no memory.
     pub fn literals(&self) -> &[i32]
         ensures value { result.now ≡ self.now }

@@ -15,12 +15,20 @@ pub fn dimacs(alloc: Global, formula: &Formula) -> Result<Vec<u8>, Memory>
     ensures { IfOk result (λ text. text.items ≡ dimacs.dimacs_text formula.now) }
 {
     let mut text = Vec::new(alloc);
-    push_head(&mut text, formula.variables, formula.clauses.len() as u64)?;
+    push_dimacs(&mut text, formula)?;
+    Ok(text)
+}
+
+/// Appends the text of a formula in DIMACS form.
+pub fn push_dimacs(text: &mut Vec<u8>, formula: &Formula) -> Result<(), Memory>
+    ensures { OnOk result (text.new.items ≡ text.old.items ++ dimacs.dimacs_text formula.now) }
+{
+    push_head(text, formula.variables, formula.clauses.len() as u64)?;
     for clause in formula.clauses.as_slice() {
-        push_clause(&mut text, clause)?;
+        push_clause(text, clause)?;
         text.push(b'\n')?;
     }
-    Ok(text)
+    Ok(())
 }
 
 /// Appends a number in decimal.

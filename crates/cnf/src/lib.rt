@@ -15,8 +15,8 @@ mod resolution;
 
 pub use clause::Clause;
 pub use derivation::{Derivation, DerivationLine};
-pub use dimacs_text::{dimacs, push_clause, push_number};
+pub use dimacs_text::{dimacs, push_clause, push_dimacs, push_number};
 pub use formula::Formula;
 pub use laws::{checked_formulas_have_no_model, one_clause_per_set};
-pub use literal::{is_literal, literal_key, negation};
+pub use literal::{are_literals, is_literal, literal_key, negation};
 pub use resolution::{can_resolve, resolve};

@@ -1,5 +1,5 @@
 // Literals, which are numbers as in DIMACS.
-ghost use Rattle.std.specs.Prelude.{◌≡◌, ◌↔◌, ◌+◌, ◌<◌, ◌≤◌, ◌^◌, neg_ℤ, IsTrue};
+ghost use Rattle.std.specs.Prelude.{◌≡◌, ◌↔◌, ◌+◌, ◌<◌, ◌≤◌, ◌^◌, neg_ℤ, All, IsTrue};
 ghost use Rattle.cnf.specs.Clauses as clauses;
 
 /// Where a literal stands in the order of literals: by its variable, the positive one first. It is twice the
@@ -21,6 +21,13 @@ pub fn is_literal(number: i32) -> bool
 {
     let key = literal_key(number);
     0 < key && key < 0x1_0000_0000
+}
+
+/// Whether all of these numbers are literals.
+pub fn are_literals(numbers: &[i32]) -> bool
+    ensures { IsTrue result ↔ All clauses.IsLiteral numbers.now }
+{
+    numbers.iter().all(|number| is_literal(*number))
 }
 
 /// The literal with a key.

@@ -1,7 +1,7 @@
 // Clauses worked by hand, the DIMACS form of a formula, and a clause of many literals.
 use cnf::{
-    Clause, Derivation, DerivationLine, Formula, can_resolve, dimacs, is_literal, literal_key,
-    negation, resolve,
+    Clause, Derivation, DerivationLine, Formula, are_literals, can_resolve, dimacs, is_literal,
+    literal_key, negation, resolve,
 };
 use containers::{Same, TryClone, Vector};
 use std::alloc::Global;
@@ -9,9 +9,7 @@ use std::process::Abort;
 use std::test::Fail;
 
 fn clause(rt: &impl Abort, alloc: Global, literals: &[i32]) -> Clause {
-    for literal in literals {
-        assert!(rt; is_literal(*literal));
-    }
+    assert!(rt; are_literals(literals));
     Clause::new(alloc, literals).expect(rt, "no memory")
 }
 
@@ -84,9 +82,9 @@ fn resolvents(rt: HostRuntime) {
 #[test]
 fn many_literals(rt: HostRuntime) -> Result<(), Fail> {
     let mut literals = Vec::new(rt.alloc());
-    for i in 0..100_000i32 {
-        literals.push(100_000 - i)?;
-        literals.push(i / 2 + 1)?;
+    for i in 0..100_000u32 {
+        literals.push((100_000 - i) as i32)?;
+        literals.push((i / 2 + 1) as i32)?;
     }
     let clause = clause(&rt, rt.alloc(), &literals);
     assert_eq!(rt; clause.literals().len(), 100_000);
