@@ -161,6 +161,8 @@ def sources():
         grammar = Grammar(seed)
         items = grammar.some(grammar.item)
         yield "\n".join(items) + "\n", len(items)
+    # as many tokens as are allowed, but for a few
+    yield "int f(void) { return 1; }\n" * 18_000 + "int x;\n" * 6_000, 24_000
 
 
 def failures():

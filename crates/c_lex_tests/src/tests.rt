@@ -79,6 +79,11 @@ fn texts_and_tokens(rt: HostRuntime) -> Result<(), Fail> {
             "1:1n2147483647s32=2147483647 1:12n2147483648s64=2147483648 1:23n2147483648u32=0x80000000 1:34n18446744073709551615u64=0xffffffffffffffff ",
         ),
         (
+            b"037777777777 0777777777777 01777777777777777777777 00",
+            "1:1n4294967295u32=037777777777 1:14n68719476735s64=0777777777777 1:28n18446744073709551615u64=01777777777777777777777 1:52n0s32=00 ",
+        ),
+        (b"02000000000000000000000", "13 0:1"),
+        (
             b"'a' '\\n' '\\0' ' '",
             "1:1n97s32='a' 1:5n10s32='\\n' 1:10n0s32='\\0' 1:15n32s32=' ' ",
         ),
@@ -142,6 +147,9 @@ fn several_texts(rt: HostRuntime) -> Result<(), Fail> {
     assert_eq!(rt; got.as_str(), "2:1n1s32=1 1:1w=A 1:2m=; ");
     let got = shown(alloc, &[b"A".as_slice(), b"\n@".as_slice()])?;
     assert_eq!(rt; got.as_str(), "10 1:2");
+    let looping = b"#define B C\n#define C B\n\nB".as_slice();
+    let got = shown(alloc, &[b"#define A 1\nA".as_slice(), looping])?;
+    assert_eq!(rt; got.as_str(), "14 1:4");
     Ok(())
 }
 

@@ -98,7 +98,12 @@ fn large_texts(rt: HostRuntime) -> Result<(), Fail> {
 #[test]
 fn writes_are_no_more_than_bytes(rt: HostRuntime) -> Result<(), Fail> {
     let alloc = rt.alloc();
-    let script = [Take::AtMost(1), Take::AtMost(1), Take::AtMost(1), Take::Fail];
+    let script = [
+        Take::AtMost(1),
+        Take::AtMost(1),
+        Take::AtMost(1),
+        Take::Fail,
+    ];
     let mut sink = MemorySink::new(alloc, script.to_vec(alloc)?);
     assert_eq!(rt; write_all(&mut sink, b""), Ok(()));
     assert_eq!(rt; write_all(&mut sink, b"abc"), Ok(()));

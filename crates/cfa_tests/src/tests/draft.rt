@@ -1,6 +1,6 @@
 // Graphs as plain tables, and the parts that they stand for.
-use cfa::*;
 use c_values::Kind;
+use cfa::*;
 use containers::{Boxed, Vector};
 use fq_core::{Memory, Name, Span};
 use std::alloc::Global;

@@ -1,7 +1,7 @@
 // Graphs of small programs, written out by hand.
 use super::draft::{Draft, Part, Row, Seen, Shape, Step, Word};
-use cfa::*;
 use c_values::Kind;
+use cfa::*;
 
 /// `int f(int x) { if (x > 10) { return 1; } return 0; }`, on six lines.
 pub static BRANCH: Draft = Draft {
