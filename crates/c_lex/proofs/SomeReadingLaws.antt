@@ -1,5 +1,5 @@
 -- Something comes of all texts.
-use Rattle.std.proofs.Common.{◌≡◌, ℕ, ◌+◌, ◌<◌, ◌≤◌, ◌-◌, inl, inr, Bool, true, false, List, [], ◌∷◌, length, length-drop, drop, refl, arith, ap, ◌∙◌}
+use Rattle.std.proofs.Common.{◌≡◌, ℕ, ◌+◌, ◌-◌, inl, inr, Bool, true, false, List, [], ◌∷◌, length, length-drop, drop, refl, arith, ap}
 use Rattle.std.specs.Prelude.{◌⊎◌, Option, Some, None, nat_le}
 use Rattle.std.proofs.lemmas.Bool.{leb-true, leb-false}
 use Rattle.fq_core.specs.declared.refusal.Place.{Place}
@@ -18,7 +18,7 @@ use Rattle.c_lex.specs.declared.token.TokenKind.{TokenKind}
 use Rattle.c_lex.specs.Constants.{token_kind}
 use Rattle.c_lex.specs.Cuts.{Cuts, ends, beginning, part}
 use Rattle.c_lex.specs.Directives.{directive_of, list_of}
-use Rattle.c_lex.specs.Macros.{macro_of, Loops, Ends}
+use Rattle.c_lex.specs.Macros.{macro_of, Ends}
 use Rattle.c_lex.specs.Lexed as lexed
 use Rattle.c_lex.specs.Lexed.{Outcome, accepted, refused, Reads, ReadsText, ReadsTexts, IsWithin, Lexed, Refused, most}
 use Rattle.c_lex.proofs.LoopingLaws.{loops_or_ends}
