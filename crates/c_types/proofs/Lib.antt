@@ -1,0 +1,7 @@
+pub mod DeclarationLaws
+pub mod FunctionLaws
+pub mod GlobalLaws
+pub mod ParameterLaws
+pub mod PartLaws
+pub mod StatementLaws
+pub mod UnitLaws

@@ -1,0 +1,5 @@
+pub mod Declarations
+pub mod Functions
+pub mod Refusal
+pub mod Statements
+pub mod Units
