@@ -3,3 +3,4 @@ pub mod ExpressionLaws
 pub mod FirstLaws
 pub mod RuleLaws
 pub mod ScopeLaws
+pub mod ValueLaws

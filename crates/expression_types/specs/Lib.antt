@@ -4,3 +4,4 @@ pub mod Faults
 pub mod Kinds
 pub mod Rule
 pub mod Scopes
+pub mod Values

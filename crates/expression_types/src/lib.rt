@@ -15,10 +15,12 @@ pub mod laws;
 mod parts;
 mod scopes;
 mod typer;
+mod values;
 
 pub use constants::Folded;
 pub use parts::{converted_to, copied, no_variable};
 pub use faults::Found;
-pub use kinds::{left_kind, promotion, right_kind};
+pub use kinds::{left_kind, promotion, right_kind, same_kind};
 pub use scopes::{Bound, Cases, Meaning, Names, ParameterKind, Scopes, Signature};
 pub use typer::{Given, Sort, Typer};
+pub use values::{expr_of, place_of_typed};
