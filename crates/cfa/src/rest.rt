@@ -118,14 +118,10 @@ fn global_fits(globals: usize, length: Option<u32>, place: VariablePlace) -> boo
 fn scope_fits(parts: &GraphParts, scope: &Scope) -> bool
     ensures { result ≡ scope_fits (length parts.now.globals) scope.now }
 {
-    for variable in scope.variables.iter() {
-        if !(is_kind(variable.kind)
-            && global_fits(parts.globals.len(), variable.length, variable.place))
-        {
-            return false;
-        }
-    }
-    true
+    let globals = parts.globals.len();
+    scope.variables.iter().all(|variable| {
+        is_kind(variable.kind) && global_fits(globals, variable.length, variable.place)
+    })
 }
 
 pub(crate) fn scopes_fit(parts: &GraphParts) -> bool
@@ -155,12 +151,10 @@ fn variable_fits(room: &FunctionRoom<'_>, variable: &Variable) -> bool
 fn scope_fits_in(room: &FunctionRoom<'_>, scope: &Scope) -> bool
     ensures { result ≡ scope_fits_in room.now scope.now }
 {
-    for variable in scope.variables.iter() {
-        if !variable_fits(room, variable) {
-            return false;
-        }
-    }
-    true
+    scope
+        .variables
+        .iter()
+        .all(|variable| variable_fits(room, variable))
 }
 
 fn sees_fit(parts: &GraphParts, function: u32, scope: u32) -> bool
