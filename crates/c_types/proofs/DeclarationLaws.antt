@@ -114,15 +114,15 @@ pub ruleset begun_laws = (begun_one_made, begun_one_after, list_for_integer_made
 module _ (span : Span) (kind : Kind) (d : Declarator) (s : Typer) where
   pub local_rule_made : made_by (local_rule span kind d) s
       ≡ (let s1 = after (unused d.name) s in let length = made_by (length_at d.name.span d.length) s1 in let s2 = after (length_at d.name.span d.length) s1 in
-        let cell = made_by (local (cells_of length)) s2 in let v = variable_of d.name.name kind length (places.Local cell) in
-        made_by (begun span d.name v length d.first) (after (bind_variable v) (after (local (cells_of length)) s2)))
+      let cell = made_by (local (cells_of length)) s2 in let v = variable_of d.name.name kind length (places.Local cell) in
+      made_by (begun span d.name v length d.first) (after (bind_variable v) (after (local (cells_of length)) s2)))
   unfolding local_rule
   local_rule_made = simp then_made
 
   pub local_rule_after : after (local_rule span kind d) s
       ≡ (let s1 = after (unused d.name) s in let length = made_by (length_at d.name.span d.length) s1 in let s2 = after (length_at d.name.span d.length) s1 in
-        let cell = made_by (local (cells_of length)) s2 in let v = variable_of d.name.name kind length (places.Local cell) in
-        after (begun span d.name v length d.first) (after (bind_variable v) (after (local (cells_of length)) s2)))
+      let cell = made_by (local (cells_of length)) s2 in let v = variable_of d.name.name kind length (places.Local cell) in
+      after (begun span d.name v length d.first) (after (bind_variable v) (after (local (cells_of length)) s2)))
   unfolding local_rule
   local_rule_after = simp then_after
 

@@ -152,13 +152,13 @@ pub ruleset defined_laws = (prototype_made, prototype_after, defined_made, defin
 module _ (callee : Option Callee) (span : Span) (kind : Option Kind) (d : Ident) (trees : List Parameter) (body : Option Body) (s : Typer) where
   pub function_made : made_by (function_rule callee span kind d trees body) s
       ≡ (let ps = made_by (parameters_rule (is_some body) trees) (entered s) in let s1 = left (length s.bound) (after (parameters_rule (is_some body) trees) (entered s)) in
-        made_by (defined_rule span kind d ps body) (after (declare d (signature_of callee (is_some body) kind ps)) s1))
+      made_by (defined_rule span kind d ps body) (after (declare d (signature_of callee (is_some body) kind ps)) s1))
   unfolding function_rule
   function_made = simp (then_made, scope_made, scope_after)
 
   pub function_after : after (function_rule callee span kind d trees body) s
       ≡ (let ps = made_by (parameters_rule (is_some body) trees) (entered s) in let s1 = left (length s.bound) (after (parameters_rule (is_some body) trees) (entered s)) in
-        after (defined_rule span kind d ps body) (after (declare d (signature_of callee (is_some body) kind ps)) s1))
+      after (defined_rule span kind d ps body) (after (declare d (signature_of callee (is_some body) kind ps)) s1))
   unfolding function_rule
   function_after = simp (then_after, scope_made, scope_after)
 

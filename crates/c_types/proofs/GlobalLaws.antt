@@ -83,17 +83,17 @@ pub ruleset begun_laws = (one_made, one_after, list_for_integer_made, list_for_i
 module _ (kind : Kind) (d : Declarator) (s : Typer) where
   pub global_rule_made : made_by (global_rule kind d) s
       ≡ (let s1 = after (unused d.name) s in let len = made_by (length_at d.name.span d.length) s1 in let s2 = after (length_at d.name.span d.length) s1 in
-        let cell = made_by (local (cells_of len)) s2 in let s3 = after (local (cells_of len)) s2 in
-        let s4 = after (expect 37 d.name.span (nat_le (cell + cells_of len) 16384)) s3 in let v = variable_of d.name.name kind len (places.Global cell) in
-        record { variable = v; first = made_by (begun_global d.name kind len d.first) (after (bind_variable v) s4) })
+      let cell = made_by (local (cells_of len)) s2 in let s3 = after (local (cells_of len)) s2 in
+      let s4 = after (expect 37 d.name.span (nat_le (cell + cells_of len) 16384)) s3 in let v = variable_of d.name.name kind len (places.Global cell) in
+      record { variable = v; first = made_by (begun_global d.name kind len d.first) (after (bind_variable v) s4) })
   unfolding global_rule
   global_rule_made = simp (then_made, pure_made)
 
   pub global_rule_after : after (global_rule kind d) s
       ≡ (let s1 = after (unused d.name) s in let len = made_by (length_at d.name.span d.length) s1 in let s2 = after (length_at d.name.span d.length) s1 in
-        let cell = made_by (local (cells_of len)) s2 in let s3 = after (local (cells_of len)) s2 in
-        let s4 = after (expect 37 d.name.span (nat_le (cell + cells_of len) 16384)) s3 in let v = variable_of d.name.name kind len (places.Global cell) in
-        after (begun_global d.name kind len d.first) (after (bind_variable v) s4))
+      let cell = made_by (local (cells_of len)) s2 in let s3 = after (local (cells_of len)) s2 in
+      let s4 = after (expect 37 d.name.span (nat_le (cell + cells_of len) 16384)) s3 in let v = variable_of d.name.name kind len (places.Global cell) in
+      after (begun_global d.name kind len d.first) (after (bind_variable v) s4))
   unfolding global_rule
   global_rule_after = simp (then_after, pure_after)
 

@@ -30,13 +30,13 @@ pub ruleset named_laws = (unnamed_made, unnamed_after, named_made, named_after)
 module _ (defined : Bool) (cell lent : ℕ) (p : Parameter) (s : Typer) where
   pub parameter_made : made_by (parameter_rule defined cell lent p) s
       ≡ (let len = made_by (length_at (name_span p.span p.name) p.length) s in
-        made_by (named_parameter defined p.span p.name (variable_of (name_of p.name) p.kind len (parameter_place cell lent len))) (after (length_at (name_span p.span p.name) p.length) s))
+      made_by (named_parameter defined p.span p.name (variable_of (name_of p.name) p.kind len (parameter_place cell lent len))) (after (length_at (name_span p.span p.name) p.length) s))
   unfolding parameter_rule
   parameter_made = simp then_made
 
   pub parameter_after : after (parameter_rule defined cell lent p) s
       ≡ (let len = made_by (length_at (name_span p.span p.name) p.length) s in
-        after (named_parameter defined p.span p.name (variable_of (name_of p.name) p.kind len (parameter_place cell lent len))) (after (length_at (name_span p.span p.name) p.length) s))
+      after (named_parameter defined p.span p.name (variable_of (name_of p.name) p.kind len (parameter_place cell lent len))) (after (length_at (name_span p.span p.name) p.length) s))
   unfolding parameter_rule
   parameter_after = simp then_after
 
@@ -65,13 +65,13 @@ module _ (defined : Bool) (cell lent : ℕ) (s : Typer) where
   module _ (p : Parameter) (ps : List Parameter) where
     more_made : made_by (parameters_from defined cell lent (p ∷ ps)) s
         ≡ (let v = made_by (parameter_rule defined cell lent p) s in
-          with_parameter v (made_by (parameters_from defined (cell_behind cell v.length) (lent_behind lent v.length) ps) (after (parameter_rule defined cell lent p) s)))
+        with_parameter v (made_by (parameters_from defined (cell_behind cell v.length) (lent_behind lent v.length) ps) (after (parameter_rule defined cell lent p) s)))
     unfolding parameters_from
     more_made = simp (then_made, pure_made)
 
     more_after : after (parameters_from defined cell lent (p ∷ ps)) s
         ≡ (let v = made_by (parameter_rule defined cell lent p) s in
-          after (parameters_from defined (cell_behind cell v.length) (lent_behind lent v.length) ps) (after (parameter_rule defined cell lent p) s))
+        after (parameters_from defined (cell_behind cell v.length) (lent_behind lent v.length) ps) (after (parameter_rule defined cell lent p) s))
     unfolding parameters_from
     more_after = simp (then_after, pure_after)
 

@@ -97,7 +97,7 @@ module _ (u : Around) (t : Statement) (s : Typer) where
 
   pub assign_made : (p : PlaceTree) (op : Option BinaryOp) (v : ExprTree) → t.form ≡ form.Assign p op v
       → made_by (statement_rule u t) s ≡ (let to = made_by (place_rule p.name p.index) s in
-        statement_of t.span (assigned to op (made_by (integer (piece v)) (after (place_rule p.name p.index) s))) ∷ [])
+      statement_of t.span (assigned to op (made_by (integer (piece v)) (after (place_rule p.name p.index) s))) ∷ [])
   assign_made p op v e = ap (λ r. made_by r s) (assign_is p op v e) ∙ simp (then_made, pure_made)
 
   pub assign_after : (p : PlaceTree) (op : Option BinaryOp) (v : ExprTree) → t.form ≡ form.Assign p op v
@@ -157,7 +157,7 @@ module _ (u : Around) (t : Statement) (s : Typer) where
 
   pub do_made : (body : Statement) (test : ExprTree) → t.form ≡ form.Do body test
       → made_by (statement_rule u t) s ≡ (let s1 = after (alone (in_loop u) (part body)) s in
-        statement_of t.span (forms.Do (made_by (alone (in_loop u) (part body)) s) (made_by (integer (piece test)) s1)) ∷ [])
+      statement_of t.span (forms.Do (made_by (alone (in_loop u) (part body)) s) (made_by (integer (piece test)) s1)) ∷ [])
   do_made body test e = ap (λ r. made_by r s) (do_is body test e) ∙ simp (then_made, pure_made)
 
   pub do_after : (body : Statement) (test : ExprTree) → t.form ≡ form.Do body test
@@ -255,7 +255,7 @@ module _ (u : Around) (t : Statement) (s : Typer) where
 
   pub for_made : (first : Option Statement) (test : Option ExprTree) (next : Option Statement) (body : Statement) → t.form ≡ form.For first test next body
       → made_by (statement_rule u t) s ≡ (let s0 = entered s in let s1 = after (first_rule u (option_map part first)) s0 in let s2 = after (test_rule test) s1 in let s3 = after (next_rule u (option_map part next)) s2 in
-        statement_of t.span (forms.For (made_by (first_rule u (option_map part first)) s0) (made_by (test_rule test) s1) (made_by (next_rule u (option_map part next)) s2) (made_by (alone (in_loop u) (part body)) s3)) ∷ [])
+      statement_of t.span (forms.For (made_by (first_rule u (option_map part first)) s0) (made_by (test_rule test) s1) (made_by (next_rule u (option_map part next)) s2) (made_by (alone (in_loop u) (part body)) s3)) ∷ [])
   for_made first test next body e = ap (λ r. made_by r s) (for_is first test next body e) ∙ simp (scope_made, then_made, pure_made)
 
   pub for_after : (first : Option Statement) (test : Option ExprTree) (next : Option Statement) (body : Statement) → t.form ≡ form.For first test next body
@@ -276,7 +276,7 @@ module _ (u : Around) (t : Statement) (s : Typer) where
   switch_typing value gs e =
       switch_is value gs e
       ∙ ap (λ (f : Kind → Rule (List TypedGroup)). temporary then λ cell. integer (piece value) then λ a. in_scope (in_switch (f (promotion a.kind))) then λ list. only t.span (forms.Switch (converted_to (promotion a.kind) a) cell list))
-          (λ i kind. groups_are (in_cases u) kind gs i)
+      (λ i kind. groups_are (in_cases u) kind gs i)
 
   switch_with : (value : ExprTree) (gs : List Group) → t.form ≡ form.Switch value gs
       → statement_rule u t ≡ (temporary then λ cell. integer (piece value) then λ a. switch_rule (in_cases u) (promotion a.kind) gs then λ list. only t.span (forms.Switch (converted_to (promotion a.kind) a) cell list))
@@ -285,12 +285,12 @@ module _ (u : Around) (t : Statement) (s : Typer) where
 
   pub switch_stmt_made : (value : ExprTree) (gs : List Group) → t.form ≡ form.Switch value gs
       → made_by (statement_rule u t) s ≡ (let s1 = after temporary s in let a = made_by (integer (piece value)) s1 in let s2 = after (integer (piece value)) s1 in
-        statement_of t.span (forms.Switch (converted_to (promotion a.kind) a) (made_by temporary s) (made_by (switch_rule (in_cases u) (promotion a.kind) gs) s2)) ∷ [])
+      statement_of t.span (forms.Switch (converted_to (promotion a.kind) a) (made_by temporary s) (made_by (switch_rule (in_cases u) (promotion a.kind) gs) s2)) ∷ [])
   switch_stmt_made value gs e = ap (λ r. made_by r s) (switch_with value gs e) ∙ simp (then_made, pure_made)
 
   pub switch_stmt_after : (value : ExprTree) (gs : List Group) → t.form ≡ form.Switch value gs
       → after (statement_rule u t) s ≡ (let s1 = after temporary s in let a = made_by (integer (piece value)) s1 in let s2 = after (integer (piece value)) s1 in
-        after (switch_rule (in_cases u) (promotion a.kind) gs) s2)
+      after (switch_rule (in_cases u) (promotion a.kind) gs) s2)
   switch_stmt_after value gs e = ap (λ r. after r s) (switch_with value gs e) ∙ simp (then_after, pure_after)
 
 module _ (u : Around) (kind : Kind) (gs : List Group) (s : Typer) where

@@ -82,7 +82,8 @@ fn globals_of(alloc: Global, source: &str) -> Result<String, Fail> {
     Ok(text)
 }
 
-const NAMES: &str = "char c; unsigned char b; short s; int i; unsigned u; long l; unsigned long m; int t[4];
+const NAMES: &str =
+    "char c; unsigned char b; short s; int i; unsigned u; long l; unsigned long m; int t[4];
     int g(void); long f(int a, long b) { return a; } void h(int a[4], int n) {} ";
 
 #[test]
@@ -133,7 +134,11 @@ fn expressions(rt: HostRuntime) -> Result<(), Fail> {
     for (source, cells, printed) in rows {
         let whole = format!(in rt.alloc(); "{NAMES}void r(void) {{ assert({source}); }}")?;
         let expected = format!(in rt.alloc(); "r() {cells} {{assert {printed};}}")?;
-        assert_eq!(rt; last_function(rt.alloc(), whole.as_str())?.as_str(), expected.as_str(), "{source}");
+        assert_eq!(rt;
+            last_function(rt.alloc(), whole.as_str())?.as_str(),
+            expected.as_str(),
+            "{source}"
+        );
     }
     Ok(())
 }
@@ -182,7 +187,11 @@ fn statements(rt: HostRuntime) -> Result<(), Fail> {
     ];
     for (source, printed) in rows {
         let whole = format!(in rt.alloc(); "{NAMES}void r(int x) {{ {source} }}")?;
-        assert_eq!(rt; last_function(rt.alloc(), whole.as_str())?.as_str(), printed, "{source}");
+        assert_eq!(rt;
+            last_function(rt.alloc(), whole.as_str())?.as_str(),
+            printed,
+            "{source}"
+        );
     }
     Ok(())
 }
@@ -201,16 +210,26 @@ fn first_values(rt: HostRuntime) -> Result<(), Fail> {
             "enum { A = 2147483647, B }; int a = B;",
             "a.g0 18446744071562067968;",
         ),
-        ("enum { A, B = 5, C }; int a[C] = {A, B};", "a.g0x6 0 5 0 0 0 0;"),
+        (
+            "enum { A, B = 5, C }; int a[C] = {A, B};",
+            "a.g0x6 0 5 0 0 0 0;",
+        ),
         ("int a = 1 || 1 / 0;", "a.g0 1;"),
         ("int a = 0 && 1 / 0;", "a.g0 0;"),
         ("int a = 1 ? 7 : 1 / 0;", "a.g0 7;"),
         ("int a = 0 ? 7 : 2u;", "a.g0 2;"),
         ("int a = (char) 200;", "a.g0 18446744073709551560;"),
-        ("int a = -7 / 2, b = 1 << 4;", "a.g0 18446744073709551613;b.g1 16;"),
+        (
+            "int a = -7 / 2, b = 1 << 4;",
+            "a.g0 18446744073709551613;b.g1 16;",
+        ),
     ];
     for (source, printed) in rows {
-        assert_eq!(rt; globals_of(rt.alloc(), source)?.as_str(), printed, "{source}");
+        assert_eq!(rt;
+            globals_of(rt.alloc(), source)?.as_str(),
+            printed,
+            "{source}"
+        );
     }
     Ok(())
 }
@@ -222,26 +241,46 @@ fn refusals(rt: HostRuntime) -> Result<(), Fail> {
         ("int f(void) {\n return; }", 29, 2),
         ("void f(void) {\n\n return 1; }", 29, 3),
         ("int f(int) { return 1; }", 29, 1),
-        ("void f(int x) { switch (x) { case 1:\n continue; } }", 29, 2),
+        (
+            "void f(int x) { switch (x) { case 1:\n continue; } }",
+            29,
+            2,
+        ),
         ("int f(void) { return y; }", 30, 1),
         ("void f(void) {\n y = 1; }", 30, 2),
         ("void f(void) { g(); }", 30, 1),
-        ("int g(void) { return f(1); }\nint f(int a) { return a; }", 30, 1),
+        (
+            "int g(void) { return f(1); }\nint f(int a) { return a; }",
+            30,
+            1,
+        ),
         ("int a[y];", 30, 1),
         ("int x;\nint x;", 31, 2),
         ("void f(void) { int a; { int a; }\n int a; }", 31, 2),
         ("void f(int a) {\n int a; }", 31, 2),
         ("void f(void) { L: ; {\n L: ; } }", 31, 2),
-        ("void f(int x) { switch (x) { case 1: ;\n case 1: ; } }", 31, 2),
+        (
+            "void f(int x) { switch (x) { case 1: ;\n case 1: ; } }",
+            31,
+            2,
+        ),
         (
             "void f(int x) { switch (x) { default: ; case 1:\n default: ; } }",
             31,
             2,
         ),
-        ("void f(int x) { switch (x) { case 0: int a; case 1:\n int a; } }", 31, 2),
+        (
+            "void f(int x) { switch (x) { case 0: int a; case 1:\n int a; } }",
+            31,
+            2,
+        ),
         ("int f(void);\nint f(int a);", 31, 2),
         ("int f(int a[3]);\nint f(int a[4]);", 31, 2),
-        ("int f(void) { return 1; }\nint f(void) { return 2; }", 31, 2),
+        (
+            "int f(void) { return 1; }\nint f(void) { return 2; }",
+            31,
+            2,
+        ),
         ("int f(int a,\n int a);", 31, 2),
         ("int A; enum {\n A };", 31, 2),
         ("int f(void) { return f(1); }", 32, 1),
@@ -257,8 +296,16 @@ fn refusals(rt: HostRuntime) -> Result<(), Fail> {
         ("int a[1025];", 34, 1024),
         ("int a[-1];", 34, 1024),
         ("void f(void) { int a[2] = {1, 2, 3}; }", 34, 1024),
-        ("void g(int a[3]) {} int t[4]; void f(void) { g(t); }", 35, 1),
-        ("void g(int a[3]) {} short t[3]; void f(void) {\n g(t); }", 35, 2),
+        (
+            "void g(int a[3]) {} int t[4]; void f(void) { g(t); }",
+            35,
+            1,
+        ),
+        (
+            "void g(int a[3]) {} short t[3]; void f(void) {\n g(t); }",
+            35,
+            2,
+        ),
         ("void g(int a[3]) {} void f(void) { g(1); }", 35, 1),
         ("int x = x;", 38, 1),
         ("int a[1 + y];", 38, 1),
@@ -318,7 +365,11 @@ fn limits(rt: HostRuntime) -> Result<(), Fail> {
     ];
     for (before, after, code, number) in rows {
         let globals = format!(in rt.alloc(); "{before}{sixteen}{after}")?;
-        assert_eq!(rt; refused(rt.alloc(), globals.as_str()), (code, number), "{before} {after}");
+        assert_eq!(rt;
+            refused(rt.alloc(), globals.as_str()),
+            (code, number),
+            "{before} {after}"
+        );
     }
     let few = arrays(rt.alloc(), 15)?;
     let fits = format!(in rt.alloc(); "void f(void) {{ {few} int b[1023]; }}")?;
@@ -417,12 +468,16 @@ fn a_module(rt: HostRuntime) -> Result<(), Fail> {
             write!(text, "{code} at {line}")?;
         }
     }
-    let printed = "put(v.l1,) 2 {if ==(count.g5:u32 to(4:i32):u32):i32 {return 0:i32;};;ring.g0x4[%(+(head.g4:u32 count.g5:u32):u32 to(4:i32):u32):u32] = v.l1:u8;count.g5 + in u32 = to(1:i32):u32;return 1:i32;}
+    let printed =
+        "put(v.l1,) 2 {if ==(count.g5:u32 to(4:i32):u32):i32 {return 0:i32;};;ring.g0x4[%(+(head.g4:u32 count.g5:u32):u32 to(4:i32):u32):u32] = v.l1:u8;count.g5 + in u32 = to(1:i32):u32;return 1:i32;}
 take() 2 {assert >(count.g5:u32 to(0:i32):u32):i32;local v.l1 ring.g0x4[head.g4:u32]:u8;head.g4 = %(+(head.g4:u32 to(1:i32):u32):u32 to(4:i32):u32):u32;count.g5 - in u32 = to(1:i32):u32;return v.l1:u8;}
 classify(a.l1,b.l2,c.l3,) 11 {if ||@4(||@5(<=(a.l1:i32 0:i32):i32 <=(b.l2:i32 0:i32):i32):i32 <=(c.l3:i32 0:i32):i32):i32 {return 0:i32;};;if ||@6(||@7(<=(+(a.l1:i32 b.l2:i32):i32 c.l3:i32):i32 <=(+(b.l2:i32 c.l3:i32):i32 a.l1:i32):i32):i32 <=(+(a.l1:i32 c.l3:i32):i32 b.l2:i32):i32):i32 {return 0:i32;};;if &&@8(==(a.l1:i32 b.l2:i32):i32 ==(b.l2:i32 c.l3:i32):i32):i32 {return 3:i32;};;if ||@9(||@10(==(a.l1:i32 b.l2:i32):i32 ==(b.l2:i32 c.l3:i32):i32):i32 ==(a.l1:i32 c.l3:i32):i32):i32 {return 2:i32;};;return 1:i32;}
 main_loop(n.l1,) 12 {for {local i.l2 0:i32;}<(i.l2:i32 n.l1:i32):i32 i.l2 + in i32 = 1:i32; {call@6 f0(to(call@7 in0():i32):u8,);};;if <(count.g5:u32 to(3:i32):u32):i32 {return 0:i32;};;local a.l3 to(call@8 f1():u8):i32;local b.l4 to(call@9 f1():u8):i32;local c.l5 to(call@10 f1():u8):i32;return call@11 f2(a.l3:i32,b.l4:i32,c.l5:i32,):i32;}
 ";
     assert_eq!(rt; text.as_str(), printed);
-    assert_eq!(rt; names.as_str(), "next_side is an input; next_side put take classify main_loop ");
+    assert_eq!(rt;
+        names.as_str(),
+        "next_side is an input; next_side put take classify main_loop "
+    );
     Ok(())
 }

@@ -244,7 +244,7 @@ module _ (t : ExprTree) (s : Typer) where
 
   pub choice_made : (x y z : ExprTree) → t.form ≡ form.Choice x y z
       → made_by (typing t) s ≡ (let s1 = after temporary s in let s2 = after (integer (piece x)) s1 in let s3 = after (integer (piece y)) s2 in
-          sorts.Value (choice_of t.span (made_by (integer (piece x)) s1) (made_by (integer (piece y)) s2) (made_by (integer (piece z)) s3) (made_by temporary s)))
+      sorts.Value (choice_of t.span (made_by (integer (piece x)) s1) (made_by (integer (piece y)) s2) (made_by (integer (piece z)) s3) (made_by temporary s)))
   choice_made x y z e = ap (λ r. made_by r s) (choice_is x y z e) ∙ simp (then_made, pure_made)
 
   pub choice_after : (x y z : ExprTree) → t.form ≡ form.Choice x y z → after (typing t) s ≡ after (integer (piece z)) (after (integer (piece y)) (after (integer (piece x)) (after temporary s)))
@@ -268,7 +268,7 @@ pub ruleset form_laws = (either_made, either_after, choice_made, choice_after, c
 module _ (span : Span) (w : List ℕ) (xs : List ExprTree) (s : Typer) where
   pub call_rule_made : made_by (call_rule span w (map piece xs)) s
       ≡ (let s1 = after temporary s in let f = made_by (function_at span w (length xs)) s1 in
-        (f.result, call_of f (made_by (arguments (map piece xs) f.parameters) (after (function_at span w (length xs)) s1)) (made_by temporary s)))
+      (f.result, call_of f (made_by (arguments (map piece xs) f.parameters) (after (function_at span w (length xs)) s1)) (made_by temporary s)))
   unfolding call_rule
   call_rule_made = simp (then_made, pure_made, length-map)
 
@@ -397,13 +397,13 @@ module _ (ps : List ParameterKind) (all : List Piece) (s0 : Typer) (list : List 
 module _ (kind : Option Kind) (t : ExprTree) (s : Typer) where
   pub constant_made : made_by (constant kind t) s
       ≡ (let e = made_by (integer (piece t)) (numbered_from 0 s) in
-        made_by (constant_of t.span (folded (fitted kind e))) (numbered_from s.temporary (after (integer (piece t)) (numbered_from 0 s))))
+      made_by (constant_of t.span (folded (fitted kind e))) (numbered_from s.temporary (after (integer (piece t)) (numbered_from 0 s))))
   unfolding constant
   constant_made = simp (then_made, uncounted_made, uncounted_after)
 
   pub constant_after : after (constant kind t) s
       ≡ (let e = made_by (integer (piece t)) (numbered_from 0 s) in
-        after (constant_of t.span (folded (fitted kind e))) (numbered_from s.temporary (after (integer (piece t)) (numbered_from 0 s))))
+      after (constant_of t.span (folded (fitted kind e))) (numbered_from s.temporary (after (integer (piece t)) (numbered_from 0 s))))
   unfolding constant
   constant_after = simp (then_after, uncounted_made, uncounted_after)
 

@@ -234,6 +234,6 @@ module _ {X A : Type 0} (g : X → Rule A) (base : List A) (all : List X) (s0 : 
       → Left (λ y. alone_in (g y)) base all s0 (drop i all) made s → Left (λ y. alone_in (g y)) base all s0 (drop (i + 1) all) made' s'
   left_one x v made made' s s' within is ev em es l =
       left_turn (λ y. alone_in (g y)) base all s0 i x made made' s s' within is
-          (em ∙ ap (λ w. made ++ w ∷ []) ev ∙ ap (λ w. made ++ w) (sym (one_made (g x) s))) (es ∙ sym (one_after (g x) s)) l
+      (em ∙ ap (λ w. made ++ w ∷ []) ev ∙ ap (λ w. made ++ w) (sym (one_made (g x) s))) (es ∙ sym (one_after (g x) s)) l
 
 pub ruleset cell_laws = (temporary_made, temporary_after, local_made, local_after)

@@ -6,7 +6,7 @@ use Rattle.expression_types.specs.declared.faults.Found.{Found}
 abbrev pub is_before : Found → Found → Bool
 is_before a b =
     if a.span.file == b.span.file then
-      (if a.span.start == b.span.start then nat_lt a.code b.code else nat_lt a.span.start b.span.start)
+    (if a.span.start == b.span.start then nat_lt a.code b.code else nat_lt a.span.start b.span.start)
     else nat_lt a.span.file b.span.file
 
 abbrev pub noted : Option Found → Found → Option Found
