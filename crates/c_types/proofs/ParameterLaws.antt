@@ -1,12 +1,12 @@
 -- What parameters do to the state of typing, a law for each rule.
-use Rattle.std.proofs.Common.{◌≡◌, ℕ, ◌+◌, ◌<◌, ◌≤◌, Bool, true, false, not, List, [], ◌∷◌, ◌++◌, length, get_or, drop, Option, Some, None, refl, sym, ap, subst, ◌∙◌, append_assoc, append-nil}
+use Rattle.std.proofs.Common.{◌≡◌, ℕ, ◌+◌, ◌<◌, ◌≤◌, Bool, not, List, [], ◌∷◌, ◌++◌, length, get_or, drop, Option, Some, None, refl, sym, ap, subst, ◌∙◌, append_assoc, append-nil}
 use Rattle.std.proofs.lemmas.List.{drop_more, drop_all}
 use Rattle.fq_core.specs.declared.span.Span.{Span}
 use Rattle.c_parse.specs.declared.expr.Ident.{Ident}
 use Rattle.c_parse.specs.declared.unit.Parameter.{Parameter}
 use Rattle.cfa.specs.declared.parts.Variable.{Variable}
 use Rattle.expression_types.specs.declared.typer.Typer.{Typer}
-use Rattle.expression_types.specs.Rule.{Rule, pure, ◌then◌, expect, made_by, after}
+use Rattle.expression_types.specs.Rule.{expect, made_by, after}
 use Rattle.expression_types.proofs.RuleLaws.{pure_made, pure_after, then_made, then_after}
 use Rattle.c_types.specs.declared.parameters.Parameters.{Parameters}
 use Rattle.c_types.specs.Declarations.{unused, variable_of, bind_variable, length_at}
@@ -30,13 +30,13 @@ pub ruleset named_laws = (unnamed_made, unnamed_after, named_made, named_after)
 module _ (defined : Bool) (cell lent : ℕ) (p : Parameter) (s : Typer) where
   pub parameter_made : made_by (parameter_rule defined cell lent p) s
       ≡ (let len = made_by (length_at (name_span p.span p.name) p.length) s in
-        made_by (named_parameter defined p.span p.name (variable_of (name_of p.name) p.kind len (parameter_place cell lent len))) (after (length_at (name_span p.span p.name) p.length) s))
+      made_by (named_parameter defined p.span p.name (variable_of (name_of p.name) p.kind len (parameter_place cell lent len))) (after (length_at (name_span p.span p.name) p.length) s))
   unfolding parameter_rule
   parameter_made = simp then_made
 
   pub parameter_after : after (parameter_rule defined cell lent p) s
       ≡ (let len = made_by (length_at (name_span p.span p.name) p.length) s in
-        after (named_parameter defined p.span p.name (variable_of (name_of p.name) p.kind len (parameter_place cell lent len))) (after (length_at (name_span p.span p.name) p.length) s))
+      after (named_parameter defined p.span p.name (variable_of (name_of p.name) p.kind len (parameter_place cell lent len))) (after (length_at (name_span p.span p.name) p.length) s))
   unfolding parameter_rule
   parameter_after = simp then_after
 
@@ -65,13 +65,13 @@ module _ (defined : Bool) (cell lent : ℕ) (s : Typer) where
   module _ (p : Parameter) (ps : List Parameter) where
     more_made : made_by (parameters_from defined cell lent (p ∷ ps)) s
         ≡ (let v = made_by (parameter_rule defined cell lent p) s in
-          with_parameter v (made_by (parameters_from defined (cell_behind cell v.length) (lent_behind lent v.length) ps) (after (parameter_rule defined cell lent p) s)))
+        with_parameter v (made_by (parameters_from defined (cell_behind cell v.length) (lent_behind lent v.length) ps) (after (parameter_rule defined cell lent p) s)))
     unfolding parameters_from
     more_made = simp (then_made, pure_made)
 
     more_after : after (parameters_from defined cell lent (p ∷ ps)) s
         ≡ (let v = made_by (parameter_rule defined cell lent p) s in
-          after (parameters_from defined (cell_behind cell v.length) (lent_behind lent v.length) ps) (after (parameter_rule defined cell lent p) s))
+        after (parameters_from defined (cell_behind cell v.length) (lent_behind lent v.length) ps) (after (parameter_rule defined cell lent p) s))
     unfolding parameters_from
     more_after = simp (then_after, pure_after)
 

@@ -1,13 +1,11 @@
 -- What statements do to the state of typing, a law for each rule.
-use Rattle.std.proofs.Common.{◌≡◌, ℕ, ◌+◌, ◌<◌, ◌≤◌, Bool, true, false, List, [], ◌∷◌, ◌++◌, map, length, get_or, drop, Option, Some, None, refl, sym, ap, subst, ◌∙◌, rules, append_assoc, append-nil}
+use Rattle.std.proofs.Common.{◌≡◌, Bool, List, [], ◌∷◌, map, length, Option, Some, None, refl, ap, ◌∙◌, rules}
 use Rattle.std.specs.Prelude.{option_map}
 use Rattle.fq_core.specs.declared.span.Span.{Span}
 use Rattle.c_values.specs.declared.kinds.Kind.{Kind}
 use Rattle.c_values.specs.declared.operators.BinaryOp.{BinaryOp}
-use Rattle.c_parse.specs.declared.expr.ExprForm.{the_lemmas as expr_lemmas}
 use Rattle.c_parse.specs.declared.expr.ExprTree.{ExprTree}
 use Rattle.c_parse.specs.declared.expr.Ident.{Ident}
-use Rattle.c_parse.specs.declared.statement.CaseLabel.{CaseLabel}
 use Rattle.c_parse.specs.declared.statement.Declarator.{Declarator}
 use Rattle.c_parse.specs.declared.statement.PlaceTree.{PlaceTree}
 use Rattle.c_parse.specs.declared.statement.Form.{Form, the_lemmas}
@@ -15,18 +13,17 @@ use Rattle.c_parse.specs.declared.statement.Form.TheVariants as form
 use Rattle.c_parse.specs.declared.statement.Form.TheOpen.{Form-F}
 use Rattle.c_parse.specs.declared.statement.Statement.{Statement}
 use Rattle.c_parse.specs.declared.statement.Group.{Group, out-Group}
-use Rattle.typed_trees.specs.declared.expression.TypedExpr.{TypedExpr}
 use Rattle.typed_trees.specs.declared.statement.TypedStatement.{TypedStatement}
 use Rattle.typed_trees.specs.declared.statement.TypedGroup.{TypedGroup}
 use Rattle.typed_trees.specs.declared.statement.TypedForm.TheVariants as forms
 use Rattle.expression_types.specs.declared.typer.Typer.{Typer}
 use Rattle.expression_types.specs.Kinds.{promotion}
-use Rattle.expression_types.specs.Rule.{Rule, pure, ◌then◌, fault, expect, with_fault, temporary, in_scope, in_switch, each, alone_in, entered, left, with_cases, made_by, after}
-use Rattle.expression_types.specs.Expressions.{integer, piece, converted_to, call_rule}
-use Rattle.expression_types.proofs.RuleLaws.{pure_made, pure_after, then_made, then_after, fault_made, fault_after, scope_made, scope_after, switch_made, switch_after, each_map}
+use Rattle.expression_types.specs.Rule.{Rule, pure, ◌then◌, expect, temporary, in_scope, in_switch, each, alone_in, entered, left, with_cases, made_by, after}
+use Rattle.expression_types.specs.Expressions.{integer, piece, converted_to}
+use Rattle.expression_types.proofs.RuleLaws.{pure_made, pure_after, then_made, then_after, scope_made, scope_after, switch_made, switch_after, each_map}
 use Rattle.c_types.specs.declared.around.Around.{Around}
 use Rattle.c_types.specs.Declarations.{statement_of, locals_rule}
-use Rattle.c_types.specs.Statements.{in_loop, in_cases, place_rule, assigned, step_operator, one_at, Part, GroupPart, one_of, in_turn, single, alone, arm_rule, arms_rule, last_rule, first_rule, test_rule, next_rule, unused_label, cases_rule, group_of, group_rule, groups_rule, only, return_rule, form_rule, one_group, one_rule, form_of, group, part, statement_rule, arm_of, arms_typing, groups_typing, statements_typing, call_statement, switch_rule}
+use Rattle.c_types.specs.Statements.{in_loop, in_cases, place_rule, assigned, step_operator, one_at, Part, GroupPart, one_of, in_turn, single, alone, arm_rule, last_rule, first_rule, test_rule, next_rule, unused_label, cases_rule, group_of, group_rule, groups_rule, only, return_rule, form_rule, form_of, group, part, statement_rule, arm_of, arms_typing, groups_typing, statements_typing, call_statement, switch_rule}
 
 part_is : (t : Statement) → part t ≡ record { span = t.span; rule = λ u. form_of t.form u t.span }
 unfolding form_of part
@@ -97,7 +94,7 @@ module _ (u : Around) (t : Statement) (s : Typer) where
 
   pub assign_made : (p : PlaceTree) (op : Option BinaryOp) (v : ExprTree) → t.form ≡ form.Assign p op v
       → made_by (statement_rule u t) s ≡ (let to = made_by (place_rule p.name p.index) s in
-        statement_of t.span (assigned to op (made_by (integer (piece v)) (after (place_rule p.name p.index) s))) ∷ [])
+      statement_of t.span (assigned to op (made_by (integer (piece v)) (after (place_rule p.name p.index) s))) ∷ [])
   assign_made p op v e = ap (λ r. made_by r s) (assign_is p op v e) ∙ simp (then_made, pure_made)
 
   pub assign_after : (p : PlaceTree) (op : Option BinaryOp) (v : ExprTree) → t.form ≡ form.Assign p op v
@@ -157,7 +154,7 @@ module _ (u : Around) (t : Statement) (s : Typer) where
 
   pub do_made : (body : Statement) (test : ExprTree) → t.form ≡ form.Do body test
       → made_by (statement_rule u t) s ≡ (let s1 = after (alone (in_loop u) (part body)) s in
-        statement_of t.span (forms.Do (made_by (alone (in_loop u) (part body)) s) (made_by (integer (piece test)) s1)) ∷ [])
+      statement_of t.span (forms.Do (made_by (alone (in_loop u) (part body)) s) (made_by (integer (piece test)) s1)) ∷ [])
   do_made body test e = ap (λ r. made_by r s) (do_is body test e) ∙ simp (then_made, pure_made)
 
   pub do_after : (body : Statement) (test : ExprTree) → t.form ≡ form.Do body test
@@ -255,7 +252,7 @@ module _ (u : Around) (t : Statement) (s : Typer) where
 
   pub for_made : (first : Option Statement) (test : Option ExprTree) (next : Option Statement) (body : Statement) → t.form ≡ form.For first test next body
       → made_by (statement_rule u t) s ≡ (let s0 = entered s in let s1 = after (first_rule u (option_map part first)) s0 in let s2 = after (test_rule test) s1 in let s3 = after (next_rule u (option_map part next)) s2 in
-        statement_of t.span (forms.For (made_by (first_rule u (option_map part first)) s0) (made_by (test_rule test) s1) (made_by (next_rule u (option_map part next)) s2) (made_by (alone (in_loop u) (part body)) s3)) ∷ [])
+      statement_of t.span (forms.For (made_by (first_rule u (option_map part first)) s0) (made_by (test_rule test) s1) (made_by (next_rule u (option_map part next)) s2) (made_by (alone (in_loop u) (part body)) s3)) ∷ [])
   for_made first test next body e = ap (λ r. made_by r s) (for_is first test next body e) ∙ simp (scope_made, then_made, pure_made)
 
   pub for_after : (first : Option Statement) (test : Option ExprTree) (next : Option Statement) (body : Statement) → t.form ≡ form.For first test next body
@@ -276,7 +273,7 @@ module _ (u : Around) (t : Statement) (s : Typer) where
   switch_typing value gs e =
       switch_is value gs e
       ∙ ap (λ (f : Kind → Rule (List TypedGroup)). temporary then λ cell. integer (piece value) then λ a. in_scope (in_switch (f (promotion a.kind))) then λ list. only t.span (forms.Switch (converted_to (promotion a.kind) a) cell list))
-          (λ i kind. groups_are (in_cases u) kind gs i)
+      (λ i kind. groups_are (in_cases u) kind gs i)
 
   switch_with : (value : ExprTree) (gs : List Group) → t.form ≡ form.Switch value gs
       → statement_rule u t ≡ (temporary then λ cell. integer (piece value) then λ a. switch_rule (in_cases u) (promotion a.kind) gs then λ list. only t.span (forms.Switch (converted_to (promotion a.kind) a) cell list))
@@ -285,12 +282,12 @@ module _ (u : Around) (t : Statement) (s : Typer) where
 
   pub switch_stmt_made : (value : ExprTree) (gs : List Group) → t.form ≡ form.Switch value gs
       → made_by (statement_rule u t) s ≡ (let s1 = after temporary s in let a = made_by (integer (piece value)) s1 in let s2 = after (integer (piece value)) s1 in
-        statement_of t.span (forms.Switch (converted_to (promotion a.kind) a) (made_by temporary s) (made_by (switch_rule (in_cases u) (promotion a.kind) gs) s2)) ∷ [])
+      statement_of t.span (forms.Switch (converted_to (promotion a.kind) a) (made_by temporary s) (made_by (switch_rule (in_cases u) (promotion a.kind) gs) s2)) ∷ [])
   switch_stmt_made value gs e = ap (λ r. made_by r s) (switch_with value gs e) ∙ simp (then_made, pure_made)
 
   pub switch_stmt_after : (value : ExprTree) (gs : List Group) → t.form ≡ form.Switch value gs
       → after (statement_rule u t) s ≡ (let s1 = after temporary s in let a = made_by (integer (piece value)) s1 in let s2 = after (integer (piece value)) s1 in
-        after (switch_rule (in_cases u) (promotion a.kind) gs) s2)
+      after (switch_rule (in_cases u) (promotion a.kind) gs) s2)
   switch_stmt_after value gs e = ap (λ r. after r s) (switch_with value gs e) ∙ simp (then_after, pure_after)
 
 module _ (u : Around) (kind : Kind) (gs : List Group) (s : Typer) where

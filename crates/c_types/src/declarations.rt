@@ -50,7 +50,11 @@ pub(crate) fn unused(typer: &mut Typer, name: &Ident)
 
 /// Brings a variable into scope.
 #[tactic(auto, using(crate::proofs::DeclarationLaws::variable_laws))]
-pub(crate) fn bind_variable(typer: &mut Typer, alloc: Global, variable: &Variable) -> Result<(), AllocError>
+pub(crate) fn bind_variable(
+    typer: &mut Typer,
+    alloc: Global,
+    variable: &Variable,
+) -> Result<(), AllocError>
     ensures { OnOk result (typer.new ≡ after (bind_variable variable.now) typer.old) }
 {
     let level = typer.level;
@@ -101,7 +105,12 @@ pub(crate) fn length_at(
 
 /// A value, converted to a kind.
 #[tactic(auto, using(crate::proofs::DeclarationLaws::value_laws))]
-fn value_for(typer: &mut Typer, alloc: Global, kind: Kind, tree: &ExprTree) -> Result<TypedExpr, AllocError>
+fn value_for(
+    typer: &mut Typer,
+    alloc: Global,
+    kind: Kind,
+    tree: &ExprTree,
+) -> Result<TypedExpr, AllocError>
     ensures made { IfOk result (λ e. e ≡ made_by (value_for kind tree.now) typer.old) }
     ensures state { OnOk result (typer.new ≡ after (value_for kind tree.now) typer.old) }
 {
@@ -110,7 +119,12 @@ fn value_for(typer: &mut Typer, alloc: Global, kind: Kind, tree: &ExprTree) -> R
 }
 
 // The values of a list, each converted to a kind.
-fn values_for(typer: &mut Typer, alloc: Global, kind: Kind, trees: &[ExprTree]) -> Result<Vector<TypedExpr>, AllocError>
+fn values_for(
+    typer: &mut Typer,
+    alloc: Global,
+    kind: Kind,
+    trees: &[ExprTree],
+) -> Result<Vector<TypedExpr>, AllocError>
     ensures made { IfOk result (λ list. list ≡ made_by (values_for kind trees.now) typer.old) }
     ensures state { OnOk result (typer.new ≡ after (values_for kind trees.now) typer.old) }
 {

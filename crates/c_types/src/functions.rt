@@ -124,7 +124,12 @@ fn was_defined(typer: &Typer, name: &Name) -> bool
 
 // Declares a function.
 #[tactic(auto, using(crate::proofs::FunctionLaws::declare_laws))]
-fn declare(typer: &mut Typer, alloc: Global, name: &Ident, function: Signature) -> Result<(), AllocError>
+fn declare(
+    typer: &mut Typer,
+    alloc: Global,
+    name: &Ident,
+    function: Signature,
+) -> Result<(), AllocError>
     ensures { OnOk result (typer.new ≡ after (declare name.now function) typer.old) }
 {
     let agrees = may_declare(typer, &name.name, &function);

@@ -14,7 +14,12 @@ use typed_trees::Global as GlobalVariable;
 
 // The first value of a cell.
 #[tactic(auto, using(crate::proofs::GlobalLaws::first_laws))]
-fn first_value(typer: &mut Typer, alloc: Global, kind: Kind, tree: &ExprTree) -> Result<u64, AllocError>
+fn first_value(
+    typer: &mut Typer,
+    alloc: Global,
+    kind: Kind,
+    tree: &ExprTree,
+) -> Result<u64, AllocError>
     ensures made { IfOk result (λ v. v ≡ made_by (first_value kind tree.now) typer.old) }
     ensures state { OnOk result (typer.new ≡ after (first_value kind tree.now) typer.old) }
 {
@@ -25,7 +30,12 @@ fn first_value(typer: &mut Typer, alloc: Global, kind: Kind, tree: &ExprTree) ->
 }
 
 // The first values of a list.
-fn first_values(typer: &mut Typer, alloc: Global, kind: Kind, trees: &[ExprTree]) -> Result<Vector<u64>, AllocError>
+fn first_values(
+    typer: &mut Typer,
+    alloc: Global,
+    kind: Kind,
+    trees: &[ExprTree],
+) -> Result<Vector<u64>, AllocError>
     ensures made { IfOk result (λ list. list ≡ made_by (first_values kind trees.now) typer.old) }
     ensures state { OnOk result (typer.new ≡ after (first_values kind trees.now) typer.old) }
 {
@@ -97,7 +107,12 @@ fn is_within(cell: u32, cells: u32) -> bool
 
 // The variable of a declarator.
 #[tactic(auto, using(crate::proofs::GlobalLaws::global_laws))]
-fn global(typer: &mut Typer, alloc: Global, kind: Kind, declarator: &Declarator) -> Result<GlobalVariable, AllocError>
+fn global(
+    typer: &mut Typer,
+    alloc: Global,
+    kind: Kind,
+    declarator: &Declarator,
+) -> Result<GlobalVariable, AllocError>
     ensures made { IfOk result (λ g. g ≡ made_by (global_rule kind declarator.now) typer.old) }
     ensures state { OnOk result (typer.new ≡ after (global_rule kind declarator.now) typer.old) }
 {
@@ -149,7 +164,12 @@ fn next_value(value: u64) -> u64
 
 // The value of an enumeration constant, from the one that comes next.
 #[tactic(auto, using(crate::proofs::GlobalLaws::enumerated_laws))]
-fn enumerated(typer: &mut Typer, alloc: Global, next: u64, value: &Option<ExprTree>) -> Result<u64, AllocError>
+fn enumerated(
+    typer: &mut Typer,
+    alloc: Global,
+    next: u64,
+    value: &Option<ExprTree>,
+) -> Result<u64, AllocError>
     ensures made { IfOk result (λ v. v ≡ made_by (enumerated next value.now) typer.old) }
     ensures state { OnOk result (typer.new ≡ after (enumerated next value.now) typer.old) }
 {

@@ -152,7 +152,11 @@ pub(crate) fn parameter_list(
 }
 
 /// Brings the parameters of a function into scope.
-pub(crate) fn bind_parameters(typer: &mut Typer, alloc: Global, variables: &[Variable]) -> Result<(), AllocError>
+pub(crate) fn bind_parameters(
+    typer: &mut Typer,
+    alloc: Global,
+    variables: &[Variable],
+) -> Result<(), AllocError>
     ensures { OnOk result (typer.new ≡ after (bind_parameters variables.now) typer.old) }
 {
     for variable in variables {

@@ -36,7 +36,12 @@ pub(crate) fn in_cases(around: Around) -> Around
 
 // An integer variable, by its name.
 #[tactic(auto, using(crate::proofs::PartLaws::variable_laws))]
-fn variable_at(typer: &mut Typer, alloc: Global, span: Span, name: &Name) -> Result<Variable, AllocError>
+fn variable_at(
+    typer: &mut Typer,
+    alloc: Global,
+    span: Span,
+    name: &Name,
+) -> Result<Variable, AllocError>
     ensures made { IfOk result (λ v. v ≡ made_by (variable_at span name.now) typer.old) }
     ensures state { OnOk result (typer.new ≡ after (variable_at span name.now) typer.old) }
 {

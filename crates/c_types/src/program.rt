@@ -59,7 +59,13 @@ fn with_declaration(alloc: Global, names: &mut Names, item: &Item) -> Result<(),
 }
 
 // Adds an input, unless it is there or is no input.
-fn input_unless(alloc: Global, no: bool, inputs: &mut Inputs, name: &Name, kind: Kind) -> Result<(), AllocError>
+fn input_unless(
+    alloc: Global,
+    no: bool,
+    inputs: &mut Inputs,
+    name: &Name,
+    kind: Kind,
+) -> Result<(), AllocError>
     ensures { OnOk result (inputs.new ≡ input_unless no inputs.old name.now kind) }
 {
     if no {
@@ -92,7 +98,12 @@ fn with_prototype(
     }
 }
 
-fn with_input(alloc: Global, defined: &Names, inputs: &mut Inputs, item: &Item) -> Result<(), AllocError>
+fn with_input(
+    alloc: Global,
+    defined: &Names,
+    inputs: &mut Inputs,
+    item: &Item,
+) -> Result<(), AllocError>
     ensures { OnOk result (inputs.new ≡ with_input defined.now inputs.old item.now) }
 {
     match item {

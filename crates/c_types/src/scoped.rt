@@ -40,7 +40,11 @@ fn sort_expr(alloc: Global, sort: &Sort) -> Result<Option<Expr>, AllocError>
 /// follows. There is none where a name in it is not in the scope or stands for an array, where something else is wrong
 /// in it, and where it has a sequence point: a call, `&&`, `||` or `?:` (ISO/IEC 9899:2011, Annex C).
 #[tactic(auto, using(crate::proofs::ScopedLaws::scoped_laws))]
-pub fn type_expression(alloc: Global, tree: &ExprTree, scope: &Scope) -> Result<Option<Expr>, Memory>
+pub fn type_expression(
+    alloc: Global,
+    tree: &ExprTree,
+    scope: &Scope,
+) -> Result<Option<Expr>, Memory>
     ensures { IfOk result (λ e. e ≡ expression_in scope.now tree.now) }
 {
     if tree.has_sequence_point() {

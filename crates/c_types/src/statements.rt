@@ -39,11 +39,7 @@ fn one_of(span: Span, mut list: Vector<TypedStatement>) -> Result<TypedStatement
     }
 }
 
-fn pushed(
-    span: Span,
-    form: TypedForm,
-    out: &mut Vector<TypedStatement>,
-) -> Result<(), AllocError>
+fn pushed(span: Span, form: TypedForm, out: &mut Vector<TypedStatement>) -> Result<(), AllocError>
     ensures { OnOk result (out.new ≡ out.old ++ statement_of span form ∷ []) }
 {
     out.push(TypedStatement { span, form })?;
@@ -101,7 +97,11 @@ fn called(
 
 // The condition of a `for`.
 #[tactic(auto, using(crate::proofs::PartLaws::test_laws))]
-fn condition(typer: &mut Typer, alloc: Global, tree: &Option<ExprTree>) -> Result<Option<TypedExpr>, AllocError>
+fn condition(
+    typer: &mut Typer,
+    alloc: Global,
+    tree: &Option<ExprTree>,
+) -> Result<Option<TypedExpr>, AllocError>
     ensures made { IfOk result (λ test. test ≡ made_by (test_rule tree.now) typer.old) }
     ensures state { OnOk result (typer.new ≡ after (test_rule tree.now) typer.old) }
 {
@@ -148,14 +148,24 @@ pub(crate) fn statement(
             let operator = Some(step_operator(*up));
             pushed(span, assigned(alloc, to, operator, one_at(span))?, out)
         }
-        Form::Call { name, arguments } => called(typer, alloc, span, name, arguments.as_slice(), out),
+        Form::Call { name, arguments } => called(
+            typer,
+            alloc,
+            span,
+            name,
+            arguments.as_slice(),
+            out,
+        ),
         Form::Label { name, body } => {
             unused_label(typer, alloc, name)?;
             let body = Boxed::new(alloc, single(typer, alloc, around, body)?)?;
             let name = name.name.try_clone(alloc)?;
             pushed(span, TypedForm::Label { name, body }, out)
         }
-        Form::If { arms: list, otherwise } => {
+        Form::If {
+            arms: list,
+            otherwise,
+        } => {
             let list = arms(typer, alloc, around, list.as_slice())?;
             match otherwise {
                 None => pushed(
@@ -212,7 +222,10 @@ pub(crate) fn statement(
                 out,
             )
         }
-        Form::Switch { value, groups: list } => {
+        Form::Switch {
+            value,
+            groups: list,
+        } => {
             let cell = typer.new_temporary()?;
             let value = typer.integer(alloc, value)?;
             let kind = promotion(value.kind);
@@ -269,7 +282,12 @@ pub(crate) fn in_turn(
 // One statement, in the scope that is there.
 #[cycle(statements)]
 #[tactic(auto, using(crate::proofs::StatementLaws::single_laws))]
-fn single(typer: &mut Typer, alloc: Global, around: Around, tree: &Statement) -> Result<TypedStatement, AllocError>
+fn single(
+    typer: &mut Typer,
+    alloc: Global,
+    around: Around,
+    tree: &Statement,
+) -> Result<TypedStatement, AllocError>
     ensures made { IfOk result (λ s. s ≡ made_by (single around (part tree.now)) typer.old) }
     ensures state { OnOk result (typer.new ≡ after (single around (part tree.now)) typer.old) }
 {
@@ -281,7 +299,12 @@ fn single(typer: &mut Typer, alloc: Global, around: Around, tree: &Statement) ->
 // A statement that is a scope of its own.
 #[cycle(statements)]
 #[tactic(auto, using(crate::proofs::StatementLaws::alone_laws))]
-fn alone(typer: &mut Typer, alloc: Global, around: Around, tree: &Statement) -> Result<TypedStatement, AllocError>
+fn alone(
+    typer: &mut Typer,
+    alloc: Global,
+    around: Around,
+    tree: &Statement,
+) -> Result<TypedStatement, AllocError>
     ensures made { IfOk result (λ s. s ≡ made_by (alone around (part tree.now)) typer.old) }
     ensures state { OnOk result (typer.new ≡ after (alone around (part tree.now)) typer.old) }
 {
@@ -410,7 +433,13 @@ fn groups(
 // The labels of a group, and its statements.
 #[cycle(statements)]
 #[tactic(auto, using(crate::proofs::StatementLaws::group_laws))]
-fn one_group(typer: &mut Typer, alloc: Global, around: Around, kind: Kind, tree: &Group) -> Result<TypedGroup, AllocError>
+fn one_group(
+    typer: &mut Typer,
+    alloc: Global,
+    around: Around,
+    kind: Kind,
+    tree: &Group,
+) -> Result<TypedGroup, AllocError>
     ensures made { IfOk result (λ g. g ≡ made_by (group_rule around kind (group tree.now)) typer.old) }
     ensures state { OnOk result (typer.new ≡ after (group_rule around kind (group tree.now)) typer.old) }
 {

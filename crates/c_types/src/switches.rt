@@ -22,7 +22,11 @@ pub(crate) fn unused_label(typer: &mut Typer, alloc: Global, name: &Ident) -> Re
 
 // A value of `case`, or `default`, stands once in a `switch`.
 #[tactic(auto, using(crate::proofs::PartLaws::fresh_laws))]
-fn fresh(typer: &mut Typer, span: Span, value: Option<u64>) -> Result<(Span, Option<u64>), AllocError>
+fn fresh(
+    typer: &mut Typer,
+    span: Span,
+    value: Option<u64>,
+) -> Result<(Span, Option<u64>), AllocError>
     ensures made { IfOk result (λ label. label ≡ made_by (fresh span value) typer.old) }
     ensures state { OnOk result (typer.new ≡ after (fresh span value) typer.old) }
 {
@@ -34,7 +38,11 @@ fn fresh(typer: &mut Typer, span: Span, value: Option<u64>) -> Result<(Span, Opt
 
 // A `case` of a value, if it has one.
 #[tactic(auto, using(crate::proofs::PartLaws::valued_laws))]
-fn case_valued(typer: &mut Typer, span: Span, value: Option<u64>) -> Result<(Span, Option<u64>), AllocError>
+fn case_valued(
+    typer: &mut Typer,
+    span: Span,
+    value: Option<u64>,
+) -> Result<(Span, Option<u64>), AllocError>
     ensures made { IfOk result (λ label. label ≡ made_by (case_valued span value) typer.old) }
     ensures state { OnOk result (typer.new ≡ after (case_valued span value) typer.old) }
 {

@@ -1,5 +1,5 @@
 -- What expressions do to the state of typing, a law for each rule.
-use Rattle.std.proofs.Common.{◌≡◌, ℕ, ◌+◌, ◌<◌, ◌≤◌, true, false, List, [], ◌∷◌, ◌++◌, map, length, get_or, drop, Option, Some, None, refl, sym, ap, subst, ◌∙◌, rules, append_assoc, append-nil}
+use Rattle.std.proofs.Common.{◌≡◌, ℕ, ◌+◌, ◌<◌, ◌≤◌, List, [], ◌∷◌, ◌++◌, map, length, get_or, drop, Option, Some, None, refl, sym, ap, subst, ◌∙◌, rules, append_assoc, append-nil}
 use Rattle.std.specs.Prelude.{slice_get, ◌==◌, ◌&&◌}
 use Rattle.std.specs.Option.{is_some}
 use Rattle.cfa.specs.Kinds.{same_kind}
@@ -14,15 +14,11 @@ use Rattle.c_parse.specs.declared.expr.ExprForm.TheVariants as form
 use Rattle.c_parse.specs.declared.expr.ExprForm.TheOpen.{ExprForm-F}
 use Rattle.c_parse.specs.declared.expr.ExprTree.{ExprTree}
 use Rattle.cfa.specs.declared.parts.Variable.{Variable}
-use Rattle.expression_types.specs.declared.scopes.Bound.{Bound}
 use Rattle.expression_types.specs.declared.scopes.Signature.{Signature}
-use Rattle.expression_types.specs.declared.scopes.Meaning.TheVariants as meanings
 use Rattle.typed_trees.specs.declared.expression.TypedExpr.{TypedExpr}
 use Rattle.typed_trees.specs.declared.expression.TypedExprForm.TheVariants as forms
 use Rattle.expression_types.specs.declared.scopes.ParameterKind.{ParameterKind}
 use Rattle.typed_trees.specs.declared.expression.TypedCall.{TypedCall}
-use Rattle.expression_types.specs.declared.constants.Folded.{Folded}
-use Rattle.expression_types.specs.declared.constants.Folded.TheVariants as folds
 use Rattle.expression_types.specs.Constants.{folded}
 use Rattle.expression_types.specs.declared.typer.Given.{Given}
 use Rattle.expression_types.specs.declared.typer.Sort.{Sort}
@@ -30,8 +26,8 @@ use Rattle.expression_types.specs.declared.typer.Sort.TheVariants as sorts
 use Rattle.expression_types.specs.declared.typer.Typer.{Typer}
 use Rattle.expression_types.specs.Kinds.{promotion}
 use Rattle.expression_types.specs.Scopes.{newest}
-use Rattle.expression_types.specs.Rule.{Rule, pure, ◌then◌, fault, expect, with_fault, look, temporary, uncounted, numbered_from, made_by, after}
-use Rattle.expression_types.specs.Expressions.{Piece, typed, converted_to, unary_of, binary_of, choice_of, load_of, missing_at, wanted, integer, variable_sort, meant, named, name_at, no_variable, array_named, array_at, no_function, function_named, function_at, callable, nothing_given, word_given, array_given, joined, same_length, lent, argument_if, argument, arguments, arguments_from, call_of, call_rule, called, form_rule, tree_rule, form_typing, piece, typing, fitted, constant_of, constant}
+use Rattle.expression_types.specs.Rule.{Rule, pure, ◌then◌, expect, with_fault, look, temporary, numbered_from, made_by, after}
+use Rattle.expression_types.specs.Expressions.{Piece, typed, converted_to, unary_of, binary_of, choice_of, load_of, missing_at, wanted, integer, named, name_at, array_named, array_at, function_named, function_at, callable, nothing_given, word_given, array_given, joined, same_length, lent, argument, arguments, arguments_from, call_of, call_rule, called, form_rule, form_typing, piece, typing, fitted, constant_of, constant}
 use Rattle.expression_types.proofs.RuleLaws.{pure_made, pure_after, then_made, then_after, fault_made, fault_after, look_made, look_after, temporary_made, temporary_after, uncounted_made, uncounted_after}
 
 -- ---- an integer is needed
@@ -244,7 +240,7 @@ module _ (t : ExprTree) (s : Typer) where
 
   pub choice_made : (x y z : ExprTree) → t.form ≡ form.Choice x y z
       → made_by (typing t) s ≡ (let s1 = after temporary s in let s2 = after (integer (piece x)) s1 in let s3 = after (integer (piece y)) s2 in
-          sorts.Value (choice_of t.span (made_by (integer (piece x)) s1) (made_by (integer (piece y)) s2) (made_by (integer (piece z)) s3) (made_by temporary s)))
+      sorts.Value (choice_of t.span (made_by (integer (piece x)) s1) (made_by (integer (piece y)) s2) (made_by (integer (piece z)) s3) (made_by temporary s)))
   choice_made x y z e = ap (λ r. made_by r s) (choice_is x y z e) ∙ simp (then_made, pure_made)
 
   pub choice_after : (x y z : ExprTree) → t.form ≡ form.Choice x y z → after (typing t) s ≡ after (integer (piece z)) (after (integer (piece y)) (after (integer (piece x)) (after temporary s)))
@@ -268,7 +264,7 @@ pub ruleset form_laws = (either_made, either_after, choice_made, choice_after, c
 module _ (span : Span) (w : List ℕ) (xs : List ExprTree) (s : Typer) where
   pub call_rule_made : made_by (call_rule span w (map piece xs)) s
       ≡ (let s1 = after temporary s in let f = made_by (function_at span w (length xs)) s1 in
-        (f.result, call_of f (made_by (arguments (map piece xs) f.parameters) (after (function_at span w (length xs)) s1)) (made_by temporary s)))
+      (f.result, call_of f (made_by (arguments (map piece xs) f.parameters) (after (function_at span w (length xs)) s1)) (made_by temporary s)))
   unfolding call_rule
   call_rule_made = simp (then_made, pure_made, length-map)
 
@@ -397,13 +393,13 @@ module _ (ps : List ParameterKind) (all : List Piece) (s0 : Typer) (list : List 
 module _ (kind : Option Kind) (t : ExprTree) (s : Typer) where
   pub constant_made : made_by (constant kind t) s
       ≡ (let e = made_by (integer (piece t)) (numbered_from 0 s) in
-        made_by (constant_of t.span (folded (fitted kind e))) (numbered_from s.temporary (after (integer (piece t)) (numbered_from 0 s))))
+      made_by (constant_of t.span (folded (fitted kind e))) (numbered_from s.temporary (after (integer (piece t)) (numbered_from 0 s))))
   unfolding constant
   constant_made = simp (then_made, uncounted_made, uncounted_after)
 
   pub constant_after : after (constant kind t) s
       ≡ (let e = made_by (integer (piece t)) (numbered_from 0 s) in
-        after (constant_of t.span (folded (fitted kind e))) (numbered_from s.temporary (after (integer (piece t)) (numbered_from 0 s))))
+      after (constant_of t.span (folded (fitted kind e))) (numbered_from s.temporary (after (integer (piece t)) (numbered_from 0 s))))
   unfolding constant
   constant_after = simp (then_after, uncounted_made, uncounted_after)
 

@@ -1,9 +1,9 @@
 -- The first fault of a list is before no other.
-use Rattle.std.proofs.Common.{◌≡◌, ℕ, ◌<◌, Bool, true, false, List, [], ◌∷◌, Option, Some, None, refl, ap, sym, subst, ◌∙◌, arith, inl, inr}
-use Rattle.std.specs.Prelude.{◌⊎◌, if◌then◌else◌}
+use Rattle.std.proofs.Common.{◌≡◌, Bool, true, false, List, [], ◌∷◌, Some, None, refl, sym, subst, arith, inl, inr}
+use Rattle.std.specs.Prelude.{if◌then◌else◌}
 use Rattle.std.proofs.lemmas.Bool.Decides.{nat_tests}
 use Rattle.expression_types.specs.declared.faults.Found.{Found}
-use Rattle.expression_types.specs.Faults.{is_before, noted, first_with, Among, IsFirst}
+use Rattle.expression_types.specs.Faults.{is_before, first_with, Among, IsFirst}
 
 not_before : (a b c : Found) → is_before a b ≡ false → is_before b c ≡ false → is_before a c ≡ false
 not_before a b c p q = grind (arith, nat_tests)
@@ -19,15 +19,23 @@ Bounded f fs = (g : Found) → Among g fs → is_before g f ≡ false
 
 -- one more fault, in front of those of which the first is known
 from_later : (x : Found) (xs : List Found) (a f : Found) → is_before x a ≡ true → Among f (x ∷ xs) × Bounded f (x ∷ xs) → Among f (a ∷ x ∷ xs) × Bounded f (a ∷ x ∷ xs)
-from_later x xs a f p h = (inr h.0, λ g. elim [
-    inl e ↦ subst (λ z. is_before z f ≡ false) (sym e) (not_before a x f (not_both x a p) (h.1 x (inl refl)))
-  | inr r ↦ h.1 g r ])
+from_later x xs a f p h = (
+  inr h.0,
+  λ g. elim [
+    | inl e ↦ subst (λ z. is_before z f ≡ false) (sym e) (not_before a x f (not_both x a p) (h.1 x (inl refl)))
+    | inr r ↦ h.1 g r
+  ],
+)
 
 from_earlier : (x : Found) (xs : List Found) (a f : Found) → is_before x a ≡ false → Among f (a ∷ xs) × Bounded f (a ∷ xs) → Among f (a ∷ x ∷ xs) × Bounded f (a ∷ x ∷ xs)
-from_earlier x xs a f p h = (elim h.0 [ inl e ↦ inl e | inr r ↦ inr (inr r) ], λ g. elim [
-    inl e ↦ h.1 g (inl e)
-  | inr (inl e) ↦ subst (λ z. is_before z f ≡ false) (sym e) (not_before x a f p (h.1 a (inl refl)))
-  | inr (inr r) ↦ h.1 g (inr r) ])
+from_earlier x xs a f p h = (
+  elim h.0 [ inl e ↦ inl e | inr r ↦ inr (inr r) ],
+  λ g. elim [
+    | inl e ↦ h.1 g (inl e)
+    | inr (inl e) ↦ subst (λ z. is_before z f ≡ false) (sym e) (not_before x a f p (h.1 a (inl refl)))
+    | inr (inr r) ↦ h.1 g (inr r)
+  ],
+)
 
 module _ (xs : List Found) (ih : (a f : Found) → first_with (Some a) xs ≡ Some f → Among f (a ∷ xs) × Bounded f (a ∷ xs)) (x a f : Found) where
   by_test : (b : Bool) → is_before x a ≡ b → first_with (if b then Some x else Some a) xs ≡ Some f → Among f (a ∷ x ∷ xs) × Bounded f (a ∷ x ∷ xs)

@@ -1,12 +1,12 @@
 -- Faults, and the first of a list.
-use Rattle.std.specs.Prelude.{◌≡◌, ◌⊎◌, ℕ, Bool, true, false, if◌then◌else◌, ◌==◌, nat_lt, List, [], ◌∷◌, Option, Some, None}
+use Rattle.std.specs.Prelude.{◌≡◌, ◌⊎◌, Bool, false, if◌then◌else◌, ◌==◌, nat_lt, List, [], ◌∷◌, Option, Some, None}
 use Rattle.expression_types.specs.declared.faults.Found.{Found}
 
 -- the earlier place, by its file and the first byte of its token, and at one place the lesser code
 abbrev pub is_before : Found → Found → Bool
 is_before a b =
     if a.span.file == b.span.file then
-      (if a.span.start == b.span.start then nat_lt a.code b.code else nat_lt a.span.start b.span.start)
+    (if a.span.start == b.span.start then nat_lt a.code b.code else nat_lt a.span.start b.span.start)
     else nat_lt a.span.file b.span.file
 
 abbrev pub noted : Option Found → Found → Option Found

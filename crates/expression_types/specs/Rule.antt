@@ -9,7 +9,6 @@ use Rattle.expression_types.specs.Faults.{noted, first_with}
 use Rattle.expression_types.specs.Scopes.{newest, has_name, has_case}
 
 infixr 20 ◌then◌
-
 -- where a rule is used: the names that are bound, the oldest first, the labels that the function has so far, the values
 -- of `case` that the innermost `switch` has so far, none standing for `default`, the level of the innermost scope, that
 -- of the file being 0, and the numbers of the next local's cell and of the next temporary's; outside of all functions

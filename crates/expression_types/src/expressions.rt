@@ -6,7 +6,9 @@ ghost use Rattle.expression_types.specs.Expressions.{integer, piece, typing, arg
 
 use crate::constants::{Folded, constant_value};
 use crate::kinds::{promotion, same_kind};
-use crate::parts::{binary_of, call_of, called, choice_of, converted_to, fitted, load_of, missing_at, unary_of};
+use crate::parts::{
+    binary_of, call_of, called, choice_of, converted_to, fitted, load_of, missing_at, unary_of,
+};
 use crate::scopes::ParameterKind;
 use crate::typer::{Given, Sort, Typer};
 use c_parse::{ExprForm, ExprTree};
@@ -177,9 +179,7 @@ impl Typer {
             Some(parameter) => match parameter.length {
                 None => {
                     let word = self.integer(alloc, tree)?;
-                    given
-                        .words
-                        .push(converted_to(alloc, parameter.kind, word)?)
+                    given.words.push(converted_to(alloc, parameter.kind, word)?)
                 }
                 Some(length) => {
                     let sort = self.sort(alloc, tree)?;
@@ -191,7 +191,14 @@ impl Typer {
 
     // An array argument, from what it stands for.
     #[tactic(auto, using(crate::proofs::ExpressionLaws::lent_laws))]
-    fn lent(&mut self, span: Span, kind: Kind, length: u32, sort: Sort, given: &mut Given) -> Result<(), AllocError>
+    fn lent(
+        &mut self,
+        span: Span,
+        kind: Kind,
+        length: u32,
+        sort: Sort,
+        given: &mut Given,
+    ) -> Result<(), AllocError>
         ensures made { OnOk result (given.new ≡ joined given.old (made_by (lent span kind length sort) self.old)) }
         ensures state { OnOk result (self.new ≡ after (lent span kind length sort) self.old) }
     {
@@ -214,7 +221,12 @@ impl Typer {
 
     /// The value of a constant expression, converted to a kind where there is one.
     #[tactic(auto, using(crate::proofs::ExpressionLaws::constant_laws))]
-    pub fn constant(&mut self, alloc: Global, kind: Option<Kind>, tree: &ExprTree) -> Result<Option<u64>, AllocError>
+    pub fn constant(
+        &mut self,
+        alloc: Global,
+        kind: Option<Kind>,
+        tree: &ExprTree,
+    ) -> Result<Option<u64>, AllocError>
         ensures made { IfOk result (λ v. v ≡ made_by (constant kind tree.now) self.old) }
         ensures state { OnOk result (self.new ≡ after (constant kind tree.now) self.old) }
     {

@@ -71,13 +71,21 @@ fn is_comparison(op: BinaryOp) -> bool
 pub fn left_kind(op: BinaryOp, a: Kind, b: Kind) -> Kind
     ensures { result ≡ left_kind op a b }
 {
-    if is_shift(op) { promotion(a) } else { meeting(a, b) }
+    if is_shift(op) {
+        promotion(a)
+    } else {
+        meeting(a, b)
+    }
 }
 
 pub fn right_kind(op: BinaryOp, a: Kind, b: Kind) -> Kind
     ensures { result ≡ right_kind op a b }
 {
-    if is_shift(op) { promotion(b) } else { meeting(a, b) }
+    if is_shift(op) {
+        promotion(b)
+    } else {
+        meeting(a, b)
+    }
 }
 
 pub fn binary_kind(op: BinaryOp, kind: Kind) -> Kind

@@ -5,22 +5,22 @@
 //! [`Typer`]: each of its calls makes what its rule makes, and goes to the state behind that rule.
 #![tactic(auto)]
 
-mod names;
 mod cells;
 mod constants;
 mod expressions;
 mod faults;
 mod kinds;
 pub mod laws;
+mod names;
 mod parts;
 mod scopes;
 mod typer;
 mod values;
 
 pub use constants::Folded;
-pub use parts::{converted_to, copied, no_variable};
 pub use faults::Found;
 pub use kinds::{left_kind, promotion, right_kind, same_kind};
+pub use parts::{converted_to, copied, no_variable};
 pub use scopes::{Bound, Cases, Meaning, Names, ParameterKind, Scopes, Signature};
 pub use typer::{Given, Sort, Typer};
 pub use values::{expr_of, place_of_typed};

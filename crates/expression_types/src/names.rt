@@ -16,7 +16,12 @@ use typed_trees::{TypedExpr, TypedExprForm};
 impl Typer {
     /// A name that stands alone.
     #[tactic(auto, using(crate::proofs::ExpressionLaws::name_laws))]
-    pub(crate) fn named(&mut self, alloc: Global, span: Span, name: &Name) -> Result<Sort, AllocError>
+    pub(crate) fn named(
+        &mut self,
+        alloc: Global,
+        span: Span,
+        name: &Name,
+    ) -> Result<Sort, AllocError>
         ensures made { IfOk result (λ sort. sort ≡ made_by (name_at span name.now) self.old) }
         ensures state { OnOk result (self.new ≡ after (name_at span name.now) self.old) }
     {
@@ -45,7 +50,12 @@ impl Typer {
 
     /// The array of a name before an index.
     #[tactic(auto, using(crate::proofs::ExpressionLaws::name_laws))]
-    pub fn array_at(&mut self, alloc: Global, span: Span, name: &Name) -> Result<Variable, AllocError>
+    pub fn array_at(
+        &mut self,
+        alloc: Global,
+        span: Span,
+        name: &Name,
+    ) -> Result<Variable, AllocError>
         ensures made { IfOk result (λ v. v ≡ made_by (array_at span name.now) self.old) }
         ensures state { OnOk result (self.new ≡ after (array_at span name.now) self.old) }
     {

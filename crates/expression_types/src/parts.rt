@@ -2,7 +2,9 @@
 ghost use Rattle.std.specs.Prelude.{◌≡◌, IfOk};
 ghost use Rattle.expression_types.specs.Expressions.{converted_to, unary_of, binary_of, choice_of, load_of, missing_at, no_variable, called, call_of, fitted};
 
-use crate::kinds::{binary_kind, left_kind, meeting, operand_kind, right_kind, same_kind, unary_kind};
+use crate::kinds::{
+    binary_kind, left_kind, meeting, operand_kind, right_kind, same_kind, unary_kind,
+};
 use crate::scopes::Signature;
 use crate::typer::{Given, Sort};
 use c_values::{BinaryOp, Kind, UnaryOp};
@@ -25,7 +27,11 @@ pub fn converted_to(alloc: Global, kind: Kind, e: TypedExpr) -> Result<TypedExpr
 }
 
 // An expression, converted to a kind where there is one.
-pub(crate) fn fitted(alloc: Global, kind: Option<Kind>, e: TypedExpr) -> Result<TypedExpr, AllocError>
+pub(crate) fn fitted(
+    alloc: Global,
+    kind: Option<Kind>,
+    e: TypedExpr,
+) -> Result<TypedExpr, AllocError>
     ensures { IfOk result (λ r. r ≡ fitted kind e) }
 {
     match kind {
@@ -34,7 +40,12 @@ pub(crate) fn fitted(alloc: Global, kind: Option<Kind>, e: TypedExpr) -> Result<
     }
 }
 
-pub(crate) fn unary_of(alloc: Global, span: Span, op: UnaryOp, a: TypedExpr) -> Result<TypedExpr, AllocError>
+pub(crate) fn unary_of(
+    alloc: Global,
+    span: Span,
+    op: UnaryOp,
+    a: TypedExpr,
+) -> Result<TypedExpr, AllocError>
     ensures { IfOk result (λ r. r ≡ unary_of span op a) }
 {
     let kind = operand_kind(op, a.kind);
@@ -145,7 +156,12 @@ pub(crate) fn call_of(function: &Signature, given: Given, cell: u32) -> TypedCal
     }
 }
 
-pub(crate) fn called(alloc: Global, span: Span, kind: Option<Kind>, call: TypedCall) -> Result<Sort, AllocError>
+pub(crate) fn called(
+    alloc: Global,
+    span: Span,
+    kind: Option<Kind>,
+    call: TypedCall,
+) -> Result<Sort, AllocError>
     ensures { IfOk result (λ sort. sort ≡ called span kind call) }
 {
     match kind {
