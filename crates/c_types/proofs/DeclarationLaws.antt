@@ -1,9 +1,7 @@
 -- What declarations do to the state of typing, a law for each rule.
-use Rattle.std.proofs.Common.{◌≡◌, ℕ, ◌+◌, ◌<◌, ◌≤◌, Bool, true, false, not, List, [], ◌∷◌, ◌++◌, map, length, get_or, drop, Option, Some, None, refl, sym, ap, subst, ◌∙◌, rules, append_assoc, append-nil, arith}
-use Rattle.std.specs.Prelude.{nat_le, ◌&&◌, ◌==◌}
+use Rattle.std.proofs.Common.{◌≡◌, ℕ, ◌≤◌, true, not, List, length, Option, Some, None, arith}
 use Rattle.fq_core.specs.declared.span.Span.{Span}
 use Rattle.c_values.specs.declared.kinds.Kind.{Kind}
-use Rattle.c_values.specs.Kind.{int}
 use Rattle.c_parse.specs.declared.expr.ExprTree.{ExprTree}
 use Rattle.c_parse.specs.declared.expr.Ident.{Ident}
 use Rattle.c_parse.specs.declared.statement.Declarator.{Declarator}
@@ -11,16 +9,13 @@ use Rattle.c_parse.specs.declared.statement.Initial.{Initial}
 use Rattle.c_parse.specs.declared.statement.Initial.TheVariants as initials
 use Rattle.cfa.specs.declared.parts.Variable.{Variable}
 use Rattle.cfa.specs.declared.parts.VariablePlace.TheVariants as places
-use Rattle.typed_trees.specs.declared.expression.TypedExpr.{TypedExpr}
-use Rattle.typed_trees.specs.declared.statement.TypedStatement.{TypedStatement}
 use Rattle.typed_trees.specs.declared.statement.TypedForm.TheVariants as forms
-use Rattle.typed_trees.specs.declared.unit.Global.{Global}
 use Rattle.expression_types.specs.declared.typer.Typer.{Typer}
 use Rattle.expression_types.specs.Scopes.{newest}
-use Rattle.expression_types.specs.Rule.{Rule, pure, ◌then◌, fault, with_fault, expect, look, here, local, bind, each, alone_in, made_by, after}
+use Rattle.expression_types.specs.Rule.{with_fault, expect, local, bind, made_by, after}
 use Rattle.expression_types.specs.Expressions.{integer, piece, converted_to, constant}
 use Rattle.expression_types.proofs.RuleLaws.{pure_made, pure_after, then_made, then_after, fault_made, fault_after, expect_false, look_made, look_after, here_made, here_after}
-use Rattle.c_types.specs.Declarations.{statement_of, same_level, unused, variable_of, bound_as, bind_variable, is_array_length, length_if, length_within, length_at, cells_of, is_list_for, value_for, values_for, begun, local_rule}
+use Rattle.c_types.specs.Declarations.{statement_of, same_level, unused, variable_of, bound_as, bind_variable, is_array_length, length_within, length_at, cells_of, is_list_for, value_for, values_for, begun, local_rule}
 
 module _ (d : Ident) (s : Typer) where
   pub unused_after : after (unused d) s ≡ after (expect 31 d.span (not (same_level s.level (newest d.name s.bound)))) s

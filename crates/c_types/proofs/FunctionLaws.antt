@@ -11,20 +11,18 @@ use Rattle.c_parse.specs.declared.unit.Body.{Body}
 use Rattle.c_parse.specs.declared.unit.Parameter.{Parameter}
 use Rattle.cfa.specs.declared.parts.Variable.{Variable}
 use Rattle.typed_trees.specs.declared.expression.Callee.{Callee}
-use Rattle.typed_trees.specs.declared.statement.TypedStatement.{TypedStatement}
 use Rattle.typed_trees.specs.declared.unit.TypedFunction.{TypedFunction}
-use Rattle.expression_types.specs.declared.faults.Found.{Found}
 use Rattle.expression_types.specs.declared.scopes.Bound.{Bound}
 use Rattle.expression_types.specs.declared.scopes.ParameterKind.{ParameterKind}
 use Rattle.expression_types.specs.declared.scopes.Signature.{Signature}
 use Rattle.expression_types.specs.declared.typer.Typer.{Typer}
-use Rattle.expression_types.specs.Faults.{noted, first_with}
+use Rattle.expression_types.specs.Faults.{first_with}
 use Rattle.expression_types.specs.Scopes.{newest}
-use Rattle.expression_types.specs.Rule.{Rule, pure, ◌then◌, expect, with_fault, look, here, bind, in_scope, entered, left, at, made_by, after}
+use Rattle.expression_types.specs.Rule.{Rule, expect, with_fault, bind, entered, left, at, made_by, after}
 use Rattle.expression_types.proofs.RuleLaws.{first_with-append, pure_made, pure_after, then_made, then_after, look_made, look_after, here_made, here_after, scope_made, scope_after}
 use Rattle.c_types.specs.declared.parameters.Parameters.{Parameters}
 use Rattle.c_types.specs.Statements.{statements_typing}
-use Rattle.c_types.specs.Functions.{taken, parameters_rule, signature_of, may_declare, bound_function, declare, in_frame, too_large, framed, bind_parameters, in_function, body_rule, function_of, defined_rule, function_rule, frame_state, limited, unframed}
+use Rattle.c_types.specs.Functions.{taken, parameters_rule, signature_of, may_declare, bound_function, declare, too_large, framed, bind_parameters, in_function, body_rule, function_of, defined_rule, function_rule, frame_state, limited, unframed}
 
 module _ (d : Ident) (f : Signature) (s : Typer) where
   pub declare_after : after (declare d f) s

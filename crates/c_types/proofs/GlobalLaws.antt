@@ -1,5 +1,5 @@
 -- What the declarations of a file do to the state of typing, a law for each rule.
-use Rattle.std.proofs.Common.{◌≡◌, ℕ, ◌+◌, ◌-◌, ◌<◌, ◌≤◌, Bool, true, false, not, List, [], ◌∷◌, ◌++◌, map, length, get_or, drop, Option, Some, None, refl, sym, ap, subst, ◌∙◌, rules, append_assoc, append-nil, length-append, arith}
+use Rattle.std.proofs.Common.{◌≡◌, ℕ, ◌+◌, ◌-◌, ◌<◌, ◌≤◌, true, List, [], ◌∷◌, ◌++◌, length, get_or, drop, Option, Some, None, sym, ap, ◌∙◌, append_assoc, append-nil, length-append, arith}
 use Rattle.std.proofs.Math.ListN.{replicate}
 use Rattle.std.proofs.lemmas.List.{replicate-append-replicate, drop_more, drop_all}
 use Rattle.std.specs.Prelude.{nat_le}
@@ -13,7 +13,7 @@ use Rattle.c_parse.specs.declared.statement.Initial.{Initial}
 use Rattle.c_parse.specs.declared.statement.Initial.TheVariants as initials
 use Rattle.cfa.specs.declared.parts.VariablePlace.TheVariants as places
 use Rattle.expression_types.specs.declared.typer.Typer.{Typer}
-use Rattle.expression_types.specs.Rule.{Rule, pure, ◌then◌, fault, with_fault, expect, look, here, local, bind, each, alone_in, made_by, after}
+use Rattle.expression_types.specs.Rule.{with_fault, expect, local, bind, made_by, after}
 use Rattle.expression_types.specs.Expressions.{constant}
 use Rattle.expression_types.proofs.RuleLaws.{pure_made, pure_after, then_made, then_after, fault_made, fault_after, expect_false, here_made, here_after}
 use Rattle.c_types.specs.Declarations.{unused, variable_of, bind_variable, length_at, cells_of, is_list_for, value_or_zero, first_value, first_values, with_zeros, begun_global, global_rule, enumerated, next_value, bound_constant, constant_rule, constants_from}

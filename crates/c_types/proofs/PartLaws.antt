@@ -1,20 +1,19 @@
 -- What the parts of statements do to the state of typing, a law for each rule.
-use Rattle.std.proofs.Common.{◌≡◌, ℕ, ◌+◌, ◌<◌, ◌≤◌, Bool, true, false, not, List, [], ◌∷◌, ◌++◌, map, length, get_or, drop, Option, Some, None, refl, sym, ap, subst, ◌∙◌, rules, append_assoc, append-nil}
+use Rattle.std.proofs.Common.{◌≡◌, ℕ, not, List, [], ◌∷◌, ◌++◌, map, Option, Some, None, refl, ◌∙◌}
 use Rattle.fq_core.specs.declared.span.Span.{Span}
 use Rattle.c_values.specs.declared.kinds.Kind.{Kind}
 use Rattle.c_parse.specs.declared.expr.ExprTree.{ExprTree}
 use Rattle.c_parse.specs.declared.expr.Ident.{Ident}
-use Rattle.cfa.specs.declared.parts.Variable.{Variable}
 use Rattle.typed_trees.specs.declared.expression.TypedExpr.{TypedExpr}
 use Rattle.typed_trees.specs.declared.statement.TypedStatement.{TypedStatement}
 use Rattle.typed_trees.specs.declared.statement.TypedForm.TheVariants as forms
 use Rattle.expression_types.specs.declared.typer.Typer.{Typer}
 use Rattle.expression_types.specs.Scopes.{newest, has_name, has_case}
-use Rattle.expression_types.specs.Rule.{Rule, pure, ◌then◌, fault, with_fault, expect, look, is_label, bind_label, is_case, bind_case, each, alone_in, made_by, after}
-use Rattle.expression_types.specs.Expressions.{integer, piece, converted_to, place_of, no_variable, array_at, call_rule, constant}
+use Rattle.expression_types.specs.Rule.{with_fault, expect, look, bind_label, bind_case, made_by, after}
+use Rattle.expression_types.specs.Expressions.{integer, piece, converted_to, place_of, array_at, call_rule, constant}
 use Rattle.expression_types.proofs.RuleLaws.{pure_made, pure_after, then_made, then_after, fault_made, fault_after, expect_false, look_made, look_after, is_label_made, is_label_after, is_case_made, is_case_after}
 use Rattle.c_types.specs.Declarations.{statement_of}
-use Rattle.c_types.specs.Statements.{integer_named, variable_at, place_rule, one_of, test_rule, unused_label, fresh, case_valued, case_rule, only, return_rule, call_statement}
+use Rattle.c_types.specs.Statements.{integer_named, variable_at, place_rule, one_of, test_rule, unused_label, fresh, case_valued, case_rule, return_rule, call_statement}
 
 -- ---- places
 

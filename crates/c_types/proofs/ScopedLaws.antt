@@ -1,5 +1,5 @@
 -- One expression in a scope of the graph.
-use Rattle.std.proofs.Common.{◌≡◌, ℕ, ◌+◌, ◌-◌, ◌<◌, ◌≤◌, Bool, true, false, List, [], ◌∷◌, ◌++◌, length, get_or, drop, Option, Some, None, refl, sym, ap, subst, ◌∙◌, arith}
+use Rattle.std.proofs.Common.{◌≡◌, ℕ, ◌+◌, ◌-◌, ◌<◌, ◌≤◌, true, false, List, [], ◌∷◌, ◌++◌, length, get_or, drop, Some, None, refl, sym, ap, ◌∙◌, arith}
 use Rattle.std.specs.Prelude.{if◌then◌else◌}
 use Rattle.std.proofs.lemmas.List.{drop_more, drop_all}
 use Rattle.c_parse.specs.declared.expr.ExprTree.{ExprTree}
@@ -13,7 +13,7 @@ use Rattle.expression_types.specs.declared.typer.Sort.{Sort}
 use Rattle.expression_types.specs.declared.typer.Typer.{Typer}
 use Rattle.expression_types.specs.Expressions.{typing}
 use Rattle.expression_types.specs.Faults.{first_with, first_of}
-use Rattle.expression_types.specs.Rule.{At, Done, made_by, after}
+use Rattle.expression_types.specs.Rule.{made_by, after}
 use Rattle.expression_types.proofs.FirstLaws.{none_is_none}
 use Rattle.c_types.specs.Declarations.{bound_as}
 use Rattle.c_types.specs.Scoped.{names_in, at_scope, sort_expr, faultless_expr, done_expr, expression_in}

@@ -1,13 +1,11 @@
 -- What statements do to the state of typing, a law for each rule.
-use Rattle.std.proofs.Common.{◌≡◌, ℕ, ◌+◌, ◌<◌, ◌≤◌, Bool, true, false, List, [], ◌∷◌, ◌++◌, map, length, get_or, drop, Option, Some, None, refl, sym, ap, subst, ◌∙◌, rules, append_assoc, append-nil}
+use Rattle.std.proofs.Common.{◌≡◌, Bool, List, [], ◌∷◌, map, length, Option, Some, None, refl, ap, ◌∙◌, rules}
 use Rattle.std.specs.Prelude.{option_map}
 use Rattle.fq_core.specs.declared.span.Span.{Span}
 use Rattle.c_values.specs.declared.kinds.Kind.{Kind}
 use Rattle.c_values.specs.declared.operators.BinaryOp.{BinaryOp}
-use Rattle.c_parse.specs.declared.expr.ExprForm.{the_lemmas as expr_lemmas}
 use Rattle.c_parse.specs.declared.expr.ExprTree.{ExprTree}
 use Rattle.c_parse.specs.declared.expr.Ident.{Ident}
-use Rattle.c_parse.specs.declared.statement.CaseLabel.{CaseLabel}
 use Rattle.c_parse.specs.declared.statement.Declarator.{Declarator}
 use Rattle.c_parse.specs.declared.statement.PlaceTree.{PlaceTree}
 use Rattle.c_parse.specs.declared.statement.Form.{Form, the_lemmas}
@@ -15,18 +13,17 @@ use Rattle.c_parse.specs.declared.statement.Form.TheVariants as form
 use Rattle.c_parse.specs.declared.statement.Form.TheOpen.{Form-F}
 use Rattle.c_parse.specs.declared.statement.Statement.{Statement}
 use Rattle.c_parse.specs.declared.statement.Group.{Group, out-Group}
-use Rattle.typed_trees.specs.declared.expression.TypedExpr.{TypedExpr}
 use Rattle.typed_trees.specs.declared.statement.TypedStatement.{TypedStatement}
 use Rattle.typed_trees.specs.declared.statement.TypedGroup.{TypedGroup}
 use Rattle.typed_trees.specs.declared.statement.TypedForm.TheVariants as forms
 use Rattle.expression_types.specs.declared.typer.Typer.{Typer}
 use Rattle.expression_types.specs.Kinds.{promotion}
-use Rattle.expression_types.specs.Rule.{Rule, pure, ◌then◌, fault, expect, with_fault, temporary, in_scope, in_switch, each, alone_in, entered, left, with_cases, made_by, after}
-use Rattle.expression_types.specs.Expressions.{integer, piece, converted_to, call_rule}
-use Rattle.expression_types.proofs.RuleLaws.{pure_made, pure_after, then_made, then_after, fault_made, fault_after, scope_made, scope_after, switch_made, switch_after, each_map}
+use Rattle.expression_types.specs.Rule.{Rule, pure, ◌then◌, expect, temporary, in_scope, in_switch, each, alone_in, entered, left, with_cases, made_by, after}
+use Rattle.expression_types.specs.Expressions.{integer, piece, converted_to}
+use Rattle.expression_types.proofs.RuleLaws.{pure_made, pure_after, then_made, then_after, scope_made, scope_after, switch_made, switch_after, each_map}
 use Rattle.c_types.specs.declared.around.Around.{Around}
 use Rattle.c_types.specs.Declarations.{statement_of, locals_rule}
-use Rattle.c_types.specs.Statements.{in_loop, in_cases, place_rule, assigned, step_operator, one_at, Part, GroupPart, one_of, in_turn, single, alone, arm_rule, arms_rule, last_rule, first_rule, test_rule, next_rule, unused_label, cases_rule, group_of, group_rule, groups_rule, only, return_rule, form_rule, one_group, one_rule, form_of, group, part, statement_rule, arm_of, arms_typing, groups_typing, statements_typing, call_statement, switch_rule}
+use Rattle.c_types.specs.Statements.{in_loop, in_cases, place_rule, assigned, step_operator, one_at, Part, GroupPart, one_of, in_turn, single, alone, arm_rule, last_rule, first_rule, test_rule, next_rule, unused_label, cases_rule, group_of, group_rule, groups_rule, only, return_rule, form_rule, form_of, group, part, statement_rule, arm_of, arms_typing, groups_typing, statements_typing, call_statement, switch_rule}
 
 part_is : (t : Statement) → part t ≡ record { span = t.span; rule = λ u. form_of t.form u t.span }
 unfolding form_of part

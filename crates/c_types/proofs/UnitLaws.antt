@@ -1,10 +1,9 @@
 -- What items do to the state of typing, and what a unit is answered.
-use Rattle.std.proofs.Common.{◌≡◌, ℕ, ◌+◌, ◌<◌, ◌≤◌, Bool, true, false, List, [], ◌∷◌, ◌++◌, length, get_or, drop, Option, Some, None, refl, sym, ap, subst, ◌∙◌, append_assoc, append-nil}
+use Rattle.std.proofs.Common.{◌≡◌, ℕ, ◌+◌, ◌<◌, ◌≤◌, List, [], ◌∷◌, ◌++◌, length, get_or, drop, Option, Some, None, refl, sym, ap, subst, ◌∙◌, append_assoc, append-nil}
 use Rattle.std.specs.List.{fold}
-use Rattle.std.specs.Prelude.{Result, Ok, Err}
+use Rattle.std.specs.Prelude.{Ok, Err}
 use Rattle.std.proofs.lemmas.List.{drop_more, drop_all}
 use Rattle.fq_core.specs.declared.span.Span.{Span}
-use Rattle.fq_core.specs.declared.refusal.Fault.{Fault}
 use Rattle.fq_core.specs.declared.refusal.Place.{Place}
 use Rattle.c_parse.specs.Expression.{refusal}
 use Rattle.c_parse.proofs.OutcomeLaws.{same_refusal}
@@ -19,15 +18,15 @@ use Rattle.c_parse.specs.declared.unit.Parameter.{Parameter}
 use Rattle.typed_trees.specs.declared.unit.Typed.{Typed}
 use Rattle.expression_types.specs.declared.faults.Found.{Found}
 use Rattle.expression_types.specs.declared.typer.Typer.{Typer}
-use Rattle.expression_types.specs.Faults.{first_with, first_of, IsFirst}
-use Rattle.expression_types.specs.Rule.{Rule, pure, ◌then◌, made_by, after}
+use Rattle.expression_types.specs.Faults.{first_with, first_of}
+use Rattle.expression_types.specs.Rule.{pure, made_by, after}
 use Rattle.expression_types.proofs.FirstLaws.{first_is_first, none_is_none}
 use Rattle.expression_types.proofs.RuleLaws.{pure_made, pure_after, then_made, then_after}
 use Rattle.c_types.specs.declared.program.Program.{Program}
 use Rattle.c_types.specs.declared.units.Parts.{Parts}
 use Rattle.c_types.specs.Declarations.{globals_rule, constants_from}
 use Rattle.c_types.specs.Functions.{function_rule}
-use Rattle.c_types.specs.Units.{callee_of, program_of, no_parts, joined_parts, item_rule, items_rule, start, unit_done, faults_of, typed_with, typed_of}
+use Rattle.c_types.specs.Units.{callee_of, program_of, no_parts, joined_parts, item_rule, items_rule, faults_of, typed_with, typed_of}
 use Rattle.c_types.specs.Refusal.{refusal_of, place_of_fault, outcome_by, outcome, IsTyped, IsRefused}
 
 -- ---- folds, from a place on

@@ -12,7 +12,6 @@ use Rattle.cfa.specs.declared.parts.VariablePlace.TheVariants as places
 use Rattle.cfa.specs.Each.{matched}
 use Rattle.cfa.specs.Kinds.{same_kind}
 use Rattle.typed_trees.specs.declared.expression.Callee.{Callee}
-use Rattle.typed_trees.specs.declared.expression.Callee.TheVariants as callees
 use Rattle.typed_trees.specs.declared.statement.TypedStatement.{TypedStatement}
 use Rattle.typed_trees.specs.declared.unit.TypedFunction.{TypedFunction}
 use Rattle.expression_types.specs.declared.faults.Found.{Found}
@@ -23,7 +22,7 @@ use Rattle.expression_types.specs.declared.scopes.Meaning.{Meaning}
 use Rattle.expression_types.specs.declared.scopes.Meaning.TheVariants as meanings
 use Rattle.expression_types.specs.declared.typer.Typer.{Typer}
 use Rattle.expression_types.specs.Faults.{first_with}
-use Rattle.expression_types.specs.Rule.{At, Done, Rule, pure, ◌then◌, expect, look, here, bind, in_scope, each}
+use Rattle.expression_types.specs.Rule.{At, Rule, pure, ◌then◌, expect, look, here, bind, in_scope}
 use Rattle.c_types.specs.declared.around.Around.{Around}
 use Rattle.c_types.specs.declared.parameters.Parameters.{Parameters}
 use Rattle.c_types.specs.Declarations.{unused, variable_of, bind_variable, length_at}

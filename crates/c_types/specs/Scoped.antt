@@ -1,5 +1,5 @@
 -- The typing of one expression where the variables of a scope of the graph are declared.
-use Rattle.std.specs.Prelude.{Bool, if◌then◌else◌, List, [], ◌∷◌, ◌++◌, Option, Some, None}
+use Rattle.std.specs.Prelude.{if◌then◌else◌, List, [], ◌∷◌, ◌++◌, Option, Some, None}
 use Rattle.c_parse.specs.declared.expr.ExprTree.{ExprTree}
 use Rattle.c_parse.specs.SequencePoints.{has_sequence_point}
 use Rattle.cfa.specs.declared.expr.Expr.{Expr}

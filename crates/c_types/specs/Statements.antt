@@ -1,5 +1,5 @@
 -- The typing of statements (ISO/IEC 9899:2011, 6.8), a rule for each form.
-use Rattle.std.specs.Prelude.{ℕ, ◌+◌, Bool, true, false, not, if◌then◌else◌, List, [], ◌∷◌, ◌++◌, map, length, Option, Some, None}
+use Rattle.std.specs.Prelude.{ℕ, Bool, true, false, not, if◌then◌else◌, List, [], ◌∷◌, map, length, Option, Some, None}
 use Rattle.fq_core.specs.declared.span.Span.{Span}
 use Rattle.c_values.specs.declared.kinds.Kind.{Kind}
 use Rattle.c_values.specs.declared.operators.BinaryOp.{BinaryOp}
@@ -8,7 +8,6 @@ use Rattle.c_values.specs.Kind.{int}
 use Rattle.c_parse.specs.declared.expr.ExprTree.{ExprTree}
 use Rattle.c_parse.specs.declared.expr.Ident.{Ident}
 use Rattle.c_parse.specs.declared.statement.CaseLabel.{CaseLabel}
-use Rattle.c_parse.specs.declared.statement.PlaceTree.{PlaceTree}
 use Rattle.c_parse.specs.declared.statement.Form.{Form, fold-Form}
 use Rattle.c_parse.specs.declared.statement.Form.TheOpen.{Form-F, Group-F, Statement-F}
 use Rattle.c_parse.specs.declared.statement.Statement.{Statement, fold-Statement}

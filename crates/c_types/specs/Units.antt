@@ -1,19 +1,14 @@
 -- The typing of units (ISO/IEC 9899:2011, 6.9): which typed tree a unit has, and all that is wrong in it.
-use Rattle.std.specs.Prelude.{◌≡◌, ℕ, ◌+◌, Bool, true, false, if◌then◌else◌, ◌||◌, List, [], ◌∷◌, ◌++◌, map, Option, Some, None}
+use Rattle.std.specs.Prelude.{ℕ, Bool, true, false, if◌then◌else◌, ◌||◌, List, [], ◌∷◌, ◌++◌, Option, Some, None}
 use Rattle.std.specs.List.{fold}
-use Rattle.fq_core.specs.declared.span.Span.{Span}
 use Rattle.c_values.specs.declared.kinds.Kind.{Kind}
-use Rattle.c_parse.specs.declared.expr.Ident.{Ident}
 use Rattle.c_parse.specs.declared.unit.Body.{Body}
 use Rattle.c_parse.specs.declared.unit.Item.{Item}
 use Rattle.c_parse.specs.declared.unit.Item.TheVariants as items
 use Rattle.c_parse.specs.declared.unit.Parameter.{Parameter}
-use Rattle.cfa.specs.declared.parts.InputFunction.{InputFunction}
 use Rattle.typed_trees.specs.declared.expression.Callee.{Callee}
 use Rattle.typed_trees.specs.declared.expression.Callee.TheVariants as callees
-use Rattle.typed_trees.specs.declared.unit.Global.{Global}
 use Rattle.typed_trees.specs.declared.unit.Typed.{Typed}
-use Rattle.typed_trees.specs.declared.unit.TypedFunction.{TypedFunction}
 use Rattle.expression_types.specs.declared.faults.Found.{Found}
 use Rattle.expression_types.specs.Rule.{At, Done, Rule, pure, ◌then◌}
 use Rattle.expression_types.specs.Scopes.{has_name, name_place}

@@ -1,5 +1,5 @@
 -- What expressions do to the state of typing, a law for each rule.
-use Rattle.std.proofs.Common.{◌≡◌, ℕ, ◌+◌, ◌<◌, ◌≤◌, true, false, List, [], ◌∷◌, ◌++◌, map, length, get_or, drop, Option, Some, None, refl, sym, ap, subst, ◌∙◌, rules, append_assoc, append-nil}
+use Rattle.std.proofs.Common.{◌≡◌, ℕ, ◌+◌, ◌<◌, ◌≤◌, List, [], ◌∷◌, ◌++◌, map, length, get_or, drop, Option, Some, None, refl, sym, ap, subst, ◌∙◌, rules, append_assoc, append-nil}
 use Rattle.std.specs.Prelude.{slice_get, ◌==◌, ◌&&◌}
 use Rattle.std.specs.Option.{is_some}
 use Rattle.cfa.specs.Kinds.{same_kind}
@@ -14,15 +14,11 @@ use Rattle.c_parse.specs.declared.expr.ExprForm.TheVariants as form
 use Rattle.c_parse.specs.declared.expr.ExprForm.TheOpen.{ExprForm-F}
 use Rattle.c_parse.specs.declared.expr.ExprTree.{ExprTree}
 use Rattle.cfa.specs.declared.parts.Variable.{Variable}
-use Rattle.expression_types.specs.declared.scopes.Bound.{Bound}
 use Rattle.expression_types.specs.declared.scopes.Signature.{Signature}
-use Rattle.expression_types.specs.declared.scopes.Meaning.TheVariants as meanings
 use Rattle.typed_trees.specs.declared.expression.TypedExpr.{TypedExpr}
 use Rattle.typed_trees.specs.declared.expression.TypedExprForm.TheVariants as forms
 use Rattle.expression_types.specs.declared.scopes.ParameterKind.{ParameterKind}
 use Rattle.typed_trees.specs.declared.expression.TypedCall.{TypedCall}
-use Rattle.expression_types.specs.declared.constants.Folded.{Folded}
-use Rattle.expression_types.specs.declared.constants.Folded.TheVariants as folds
 use Rattle.expression_types.specs.Constants.{folded}
 use Rattle.expression_types.specs.declared.typer.Given.{Given}
 use Rattle.expression_types.specs.declared.typer.Sort.{Sort}
@@ -30,8 +26,8 @@ use Rattle.expression_types.specs.declared.typer.Sort.TheVariants as sorts
 use Rattle.expression_types.specs.declared.typer.Typer.{Typer}
 use Rattle.expression_types.specs.Kinds.{promotion}
 use Rattle.expression_types.specs.Scopes.{newest}
-use Rattle.expression_types.specs.Rule.{Rule, pure, ◌then◌, fault, expect, with_fault, look, temporary, uncounted, numbered_from, made_by, after}
-use Rattle.expression_types.specs.Expressions.{Piece, typed, converted_to, unary_of, binary_of, choice_of, load_of, missing_at, wanted, integer, variable_sort, meant, named, name_at, no_variable, array_named, array_at, no_function, function_named, function_at, callable, nothing_given, word_given, array_given, joined, same_length, lent, argument_if, argument, arguments, arguments_from, call_of, call_rule, called, form_rule, tree_rule, form_typing, piece, typing, fitted, constant_of, constant}
+use Rattle.expression_types.specs.Rule.{Rule, pure, ◌then◌, expect, with_fault, look, temporary, numbered_from, made_by, after}
+use Rattle.expression_types.specs.Expressions.{Piece, typed, converted_to, unary_of, binary_of, choice_of, load_of, missing_at, wanted, integer, named, name_at, array_named, array_at, function_named, function_at, callable, nothing_given, word_given, array_given, joined, same_length, lent, argument, arguments, arguments_from, call_of, call_rule, called, form_rule, form_typing, piece, typing, fitted, constant_of, constant}
 use Rattle.expression_types.proofs.RuleLaws.{pure_made, pure_after, then_made, then_after, fault_made, fault_after, look_made, look_after, temporary_made, temporary_after, uncounted_made, uncounted_after}
 
 -- ---- an integer is needed

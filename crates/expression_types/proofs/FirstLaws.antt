@@ -1,9 +1,9 @@
 -- The first fault of a list is before no other.
-use Rattle.std.proofs.Common.{◌≡◌, ℕ, ◌<◌, Bool, true, false, List, [], ◌∷◌, Option, Some, None, refl, ap, sym, subst, ◌∙◌, arith, inl, inr}
-use Rattle.std.specs.Prelude.{◌⊎◌, if◌then◌else◌}
+use Rattle.std.proofs.Common.{◌≡◌, Bool, true, false, List, [], ◌∷◌, Some, None, refl, sym, subst, arith, inl, inr}
+use Rattle.std.specs.Prelude.{if◌then◌else◌}
 use Rattle.std.proofs.lemmas.Bool.Decides.{nat_tests}
 use Rattle.expression_types.specs.declared.faults.Found.{Found}
-use Rattle.expression_types.specs.Faults.{is_before, noted, first_with, Among, IsFirst}
+use Rattle.expression_types.specs.Faults.{is_before, first_with, Among, IsFirst}
 
 not_before : (a b c : Found) → is_before a b ≡ false → is_before b c ≡ false → is_before a c ≡ false
 not_before a b c p q = grind (arith, nat_tests)

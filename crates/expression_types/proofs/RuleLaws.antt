@@ -1,5 +1,5 @@
 -- What rules do to the state of typing.
-use Rattle.std.proofs.Common.{◌≡◌, ℕ, ◌+◌, ◌-◌, ◌<◌, ◌≤◌, List, [], ◌∷◌, ◌++◌, true, false, map, length, take, drop, get_or, Option, Some, None, refl, sym, ap, subst, ◌∙◌, append_assoc, append-nil, arith}
+use Rattle.std.proofs.Common.{◌≡◌, ℕ, ◌+◌, ◌-◌, ◌<◌, ◌≤◌, List, [], ◌∷◌, ◌++◌, true, false, map, length, drop, get_or, Option, refl, sym, ap, subst, ◌∙◌, append_assoc, append-nil, arith}
 use Rattle.std.proofs.lemmas.List.{take_at, drop_all, drop_more}
 use Rattle.fq_core.specs.declared.span.Span.{Span}
 use Rattle.expression_types.specs.declared.faults.Found.{Found}
@@ -7,7 +7,7 @@ use Rattle.expression_types.specs.declared.scopes.Bound.{Bound}
 use Rattle.expression_types.specs.declared.typer.Typer.{Typer}
 use Rattle.expression_types.specs.Faults.{noted, first_with}
 use Rattle.expression_types.specs.Scopes.{newest, has_name, has_case}
-use Rattle.expression_types.specs.Rule.{Rule, Done, At, at, behind, pure, ◌then◌, fault, expect, with_fault, look, is_label, here, temporary, local, bind, bind_label, is_case, bind_case, in_scope, in_switch, uncounted, each, alone_in, entered, left, with_cases, numbered_from, made_by, after}
+use Rattle.expression_types.specs.Rule.{Rule, at, behind, pure, ◌then◌, fault, expect, with_fault, look, is_label, here, temporary, local, bind, bind_label, is_case, bind_case, in_scope, in_switch, uncounted, each, alone_in, entered, left, with_cases, numbered_from, made_by, after}
 
 pub first_with-append : (first : Option Found) (fs gs : List Found) → first_with first (fs ++ gs) ≡ first_with (first_with first fs) gs
 unfolding first_with

@@ -1,5 +1,5 @@
 -- The expressions that typed ones are, a law for each form.
-use Rattle.std.proofs.Common.{◌≡◌, ℕ, Option, Some, None, refl, sym, ap, ◌∙◌, rules}
+use Rattle.std.proofs.Common.{◌≡◌, ℕ, Some, None, ap, ◌∙◌, rules}
 use Rattle.std.specs.Prelude.{option_map}
 use Rattle.c_values.specs.declared.kinds.Kind.{Kind}
 use Rattle.c_values.specs.declared.operators.UnaryOp.{UnaryOp}
@@ -13,7 +13,7 @@ use Rattle.typed_trees.specs.declared.expression.TypedExprForm.{TypedExprForm, f
 use Rattle.typed_trees.specs.declared.expression.TypedExprForm.TheVariants as forms
 use Rattle.typed_trees.specs.declared.expression.TypedExprForm.TheOpen.{TypedExprForm-F}
 use Rattle.typed_trees.specs.declared.expression.TypedPlace.{TypedPlace, out-TypedPlace}
-use Rattle.typed_trees.specs.declared.expression.TypedCall.{TypedCall, out-TypedCall, fold-TypedCall}
+use Rattle.typed_trees.specs.declared.expression.TypedCall.{TypedCall, out-TypedCall}
 use Rattle.expression_types.specs.Values.{Valued, value_step, call_step, expr_step, place_step, place_with, cell_of, valued, expr_of, place_of_typed}
 
 unfoldable pub form_valued : TypedExprForm → Kind → Expr

@@ -7,7 +7,7 @@ use Rattle.c_values.specs.declared.operators.BinaryOp.{BinaryOp}
 use Rattle.c_values.specs.Kind.{is_kind, is_value, converted}
 use Rattle.c_values.specs.Operations.{is_shift, truth_of, unary_value, binary_value}
 use Rattle.cfa.specs.Kinds.{same_kind}
-use Rattle.typed_trees.specs.declared.expression.TypedExprForm.TheOpen.{TypedExprForm-F, TypedExpr-F}
+use Rattle.typed_trees.specs.declared.expression.TypedExprForm.TheOpen.{TypedExprForm-F}
 use Rattle.typed_trees.specs.declared.expression.TypedExpr.{TypedExpr, fold-TypedExpr}
 use Rattle.expression_types.specs.declared.constants.Folded.{Folded}
 use Rattle.expression_types.specs.declared.constants.Folded.TheVariants.{Varying, Undefined, Value}

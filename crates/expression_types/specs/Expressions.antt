@@ -1,5 +1,5 @@
 -- The typing of expressions (ISO/IEC 9899:2011, 6.5), a rule for each form.
-use Rattle.std.specs.Prelude.{ℕ, ◌+◌, Bool, true, false, not, if◌then◌else◌, ◌&&◌, ◌==◌, List, [], ◌∷◌, ◌++◌, map, length, Option, Some, None, slice_get}
+use Rattle.std.specs.Prelude.{ℕ, ◌+◌, Bool, false, if◌then◌else◌, ◌&&◌, ◌==◌, List, [], ◌∷◌, ◌++◌, length, Option, Some, None, slice_get}
 use Rattle.std.specs.Option.{is_some}
 use Rattle.fq_core.specs.declared.span.Span.{Span}
 use Rattle.c_values.specs.declared.kinds.Kind.{Kind}

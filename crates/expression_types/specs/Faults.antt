@@ -1,5 +1,5 @@
 -- Faults, and the first of a list.
-use Rattle.std.specs.Prelude.{◌≡◌, ◌⊎◌, ℕ, Bool, true, false, if◌then◌else◌, ◌==◌, nat_lt, List, [], ◌∷◌, Option, Some, None}
+use Rattle.std.specs.Prelude.{◌≡◌, ◌⊎◌, Bool, false, if◌then◌else◌, ◌==◌, nat_lt, List, [], ◌∷◌, Option, Some, None}
 use Rattle.expression_types.specs.declared.faults.Found.{Found}
 
 -- the earlier place, by its file and the first byte of its token, and at one place the lesser code

@@ -1,4 +1,4 @@
-use Rattle.std.proofs.Common.{◌≡◌, sym, ap, ◌∙◌, ◌+◌, drop}
+use Rattle.std.proofs.Common.{sym, ◌∙◌, ◌+◌, drop}
 use Rattle.expression_types.specs.Rule.{after}
 use Rattle.c_types.specs.Declarations.{constants_from}
 use Rattle.c_types.proofs.GlobalLaws.{constants_end, constants_more}
