@@ -89,3 +89,12 @@ ran_then {B = B} x f a m b v m1 c w m2 X Y =
       end = Y.end ∙ ap (λ (r : Flowed B). r.end) (same_flow f X.gives X.end n e k);
       gives = Y.gives ∙ ap (λ (r : Flowed B). r.gives) (same_flow f X.gives X.end n e k);
     }
+
+-- what two flows make, one after another
+pub then_made : {A B : Type 0} (x : Flow A) (f : A → Flow B) (a : ℕ) (m : Parts) → after (made_by (x then f) a) m
+    ≡ (let d = x a (length m.nodes) (length m.edges) (length m.scopes) in after (made_by (f d.gives) d.end) (after (made_by x a) m))
+then_made x f a m = let d = x a (length m.nodes) (length m.edges) (length m.scopes) in after_at (made_by (x then f) a) m (made_by x a ∷ made_by (f d.gives) d.end ∷ []) refl
+
+-- a flow that goes on with what it makes of what is known
+pub ran_gives : {A B : Type 0} (x : Flow A) (g : A → B) (a : ℕ) (m : Parts) (b : ℕ) (v : A) (m1 : Parts) → Ran A x a m b v m1 → Ran B (x then λ v. give (g v)) a m b (g v) m1
+ran_gives x g a m b v m1 X = ran_then x (λ v. give (g v)) a m b v m1 b (g v) m1 X (gave (g v) b m1)

@@ -190,7 +190,7 @@ form_step (TypedExprForm-F.Choice c x y cell) span kind = unsplit span kind (cho
 form_step (TypedExprForm-F.Call c) span kind = unsplit span kind (call_pure c kind)
 
 abbrev pub expr_step : TypedExpr-F Shaped Calling Value Spot → Value
-expr_step x = x.form x.span x.kind
+expr_step x = record { span = x.span; kind = x.kind; pure = (x.form x.span x.kind).pure; cond = (x.form x.span x.kind).cond }
 
 abbrev pub place_step : TypedPlace-F Shaped Calling Value Spot → Spot
 place_step p = record { variable = p.variable; index = p.index }
