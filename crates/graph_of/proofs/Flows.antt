@@ -18,7 +18,8 @@ use Rattle.graph_of.specs.declared.parts.Around.{Around}
 use Rattle.graph_of.specs.declared.parts.Parts.{Parts}
 use Rattle.graph_of.specs.Builder.{Builder, Flow, in_order, give, ◌then◌, ending}
 use Rattle.graph_of.specs.Edges.{put, guards}
-use Rattle.graph_of.specs.Expressions.{Operand, Value, Spot, Calling, element_of, spot_index, spot_cell, words_in_order, call_edges, not_cond, both_cond, either_cond, other_cond, call_pure, truth_pure, part_row, choice_pure, load_pure, convert_pure, unary_pure, binary_pure, unary_value}
+use Rattle.graph_of.specs.declared.parts.Operand.{Operand}
+use Rattle.graph_of.specs.Expressions.{Value, Spot, Calling, element_of, spot_index, spot_cell, words_in_order, call_edges, not_cond, both_cond, either_cond, other_cond, call_pure, truth_pure, part_row, choice_pure, load_pure, convert_pure, unary_pure, binary_pure, unary_value}
 use Rattle.graph_of.proofs.Fits.{Agrees, agrees_front, Fits, fits_given, fits_node, fits_edge, fits_nil, fits_cons, fits_after, ◌&◌}
 use Rattle.graph_of.proofs.Given.{stand, From, To, Behind, Deep, Arranged, arrange, to_behind, behind, goes, resumes, from_at, to_at, third, later, stands}
 

@@ -7,3 +7,4 @@ pub mod SwitchRows
 pub mod Trees
 pub mod Made
 pub mod Whole
+pub mod After

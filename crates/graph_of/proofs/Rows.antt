@@ -16,7 +16,9 @@ use Rattle.cfa_order.specs.Order.{Standing, GoesOn, IsInOrder}
 use Rattle.graph_of.specs.declared.parts.Around.{Around}
 use Rattle.graph_of.specs.Builder.{Builder, Flow, in_order, numbered, give, ◌then◌, ending}
 use Rattle.graph_of.specs.Edges.{Lowering, stated, seeing, scope_behind, node_here, label_edge, skip, step, edge_of}
-use Rattle.graph_of.specs.Expressions.{Operand, Cell, Value, Spot, Calling, cell_of, element_of, spot_cell, words_in_order, call_edges}
+use Rattle.graph_of.specs.declared.parts.Operand.{Operand}
+use Rattle.graph_of.specs.declared.parts.Target.{Target}
+use Rattle.graph_of.specs.Expressions.{Value, Spot, Calling, cell_of, element_of, spot_cell, words_in_order, call_edges}
 use Rattle.graph_of.specs.Statements.{Piece, sequence, block_row, break_row, continue_row, return_row, label_row, test_row, combined, reads_in_place, assign_row, local_row, element_row, elements_row, clear, array_row, call_row}
 use Rattle.graph_of.proofs.Fits.{Fits, fits_given, fits_node, fits_edge, fits_scope, fits_nil, fits_cons, ◌&◌}
 use Rattle.graph_of.proofs.Given.{From, To, Behind, LeavesFrom, Deep, Arranged, arrange, to_behind, leaves, goes, resumes, from_at, to_at, later, stands}
@@ -72,7 +74,7 @@ test_is op x moves h u a z n e k lo loops d =
 pub assign_is : (p : Spot) (op : Option (BinaryOp × Kind)) (x : Value) → IsSpot p → IsValue x → IsLowering (assign_row p op x)
 assign_is p op x hp hx u a z n e k lo loops d =
     let X = flow_step_is (spot_cell p u then λ c. x.pure u then λ v. give (c, v))
-    (λ (cv : Cell × Operand) b. step u (Assign (cv.0).place (combined p.variable.kind op (cv.0).place (cv.1).value)) (p.variable.name ∷ []) (reads_in_place p.variable op (cv.0).reads ++ (cv.1).reads) b z) u.depth a z n e k lo loops
+    (λ (cv : Target × Operand) b. step u (Assign (cv.0).place (combined p.variable.kind op (cv.0).place (cv.1).value)) (p.variable.name ∷ []) (reads_in_place p.variable op (cv.0).reads ++ (cv.1).reads) b z) u.depth a z n e k lo loops
     (then_is (spot_cell p u) (λ c. x.pure u then λ v. give (c, v)) u.depth (spot_index_is p.variable p.index hp u) (λ c. then_gives (x.pure u) (λ v. (c, v)) u.depth (hx.pure u))) d
     (λ v m p q r. fits_edge) in
     arrange X.hi X.wide X.fits (λ at ag g. (g.0, to_behind g.1))

@@ -100,9 +100,9 @@ place_at z h = subst IsSpot (sym e) (value_is z.index h)
 
 expression_at : (x : TypedExpr-F TypedExprForm TypedCall TypedExpr TypedPlace) → FormHas x.form → ValueHas (roll-TypedExpr x)
 unfolding value_of shape_of
-expression_at x h = subst IsValue (sym e) (h x.span x.kind)
+expression_at x h = subst IsValue (sym e) (record { pure = (h x.span x.kind).pure; cond = (h x.span x.kind).cond })
   where
-    e : value_of (roll-TypedExpr x) ≡ shape_of x.form x.span x.kind
+    e : value_of (roll-TypedExpr x) ≡ record { span = x.span; kind = x.kind; pure = (shape_of x.form x.span x.kind).pure; cond = (shape_of x.form x.span x.kind).cond }
     e = search (rules, expression_lemmas)
 
 -- a place whose index is given with what holds of it

@@ -25,18 +25,10 @@ use Rattle.typed_trees.specs.declared.expression.TypedExprForm.TheOpen.{TypedCal
 use Rattle.typed_trees.specs.declared.expression.TypedExpr.{TypedExpr, fold-TypedExpr}
 use Rattle.typed_trees.specs.declared.expression.TypedPlace.{TypedPlace, fold-TypedPlace}
 use Rattle.graph_of.specs.declared.parts.Around.{Around}
+use Rattle.graph_of.specs.declared.parts.Operand.{Operand}
+use Rattle.graph_of.specs.declared.parts.Target.{Target}
 use Rattle.graph_of.specs.Builder.{Builder, Flow, node, in_order, numbered, give, ◌then◌, ending}
 use Rattle.graph_of.specs.Edges.{entry_of, exit_of, deciding, node_at, node_here, step, put, guards}
-
--- a value where control is, and the names of the variables that it is read from
-pub record Operand : Type 0 where
-  pub value : Expr
-  pub reads : List (List ℕ)
-
--- a cell, and the names of the variables that its index is read from
-pub record Cell : Type 0 where
-  pub place : CellPlace
-  pub reads : List (List ℕ)
 
 -- an expression: its value, and as a condition from a to t where it holds and to f where not
 pub record Value : Type 0 where
@@ -81,11 +73,11 @@ abbrev pub temporary : ℕ → Kind → Expr
 temporary cell kind = expr.Load (place.Local cell) kind
 
 -- pure of a place's index
-abbrev pub spot_index : Variable → Option Value → Around → Flow Cell
+abbrev pub spot_index : Variable → Option Value → Around → Flow Target
 spot_index v None u = give (record { place = cell_of v.place; reads = [] })
 spot_index v (Some index) u = index.pure u then λ i. give (record { place = element_of v i.value; reads = i.reads })
 
-abbrev pub spot_cell : Spot → Around → Flow Cell
+abbrev pub spot_cell : Spot → Around → Flow Target
 spot_cell p u = spot_index p.variable p.index u
 
 -- ---- calls
@@ -198,7 +190,7 @@ form_step (TypedExprForm-F.Choice c x y cell) span kind = unsplit span kind (cho
 form_step (TypedExprForm-F.Call c) span kind = unsplit span kind (call_pure c kind)
 
 abbrev pub expr_step : TypedExpr-F Shaped Calling Value Spot → Value
-expr_step x = x.form x.span x.kind
+expr_step x = record { span = x.span; kind = x.kind; pure = (x.form x.span x.kind).pure; cond = (x.form x.span x.kind).cond }
 
 abbrev pub place_step : TypedPlace-F Shaped Calling Value Spot → Spot
 place_step p = record { variable = p.variable; index = p.index }

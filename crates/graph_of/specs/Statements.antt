@@ -17,7 +17,9 @@ use Rattle.cfa.specs.declared.parts.Variable.{Variable}
 use Rattle.graph_of.specs.declared.parts.Around.{Around}
 use Rattle.graph_of.specs.Builder.{Builder, node, in_order, numbered, give, ◌then◌, ending}
 use Rattle.graph_of.specs.Edges.{Lowering, stated, inside, deciding, seeing, scope_behind, node_at, node_here, step, skip, label_edge, enter_edge, back_edge}
-use Rattle.graph_of.specs.Expressions.{Operand, Cell, Value, Spot, Calling, array_of, cell_of, length_of, element_of, spot_cell, words_in_order, call_edges}
+use Rattle.graph_of.specs.declared.parts.Operand.{Operand}
+use Rattle.graph_of.specs.declared.parts.Target.{Target}
+use Rattle.graph_of.specs.Expressions.{Value, Spot, Calling, array_of, cell_of, length_of, element_of, spot_cell, words_in_order, call_edges}
 
 -- a statement: its first token, the variables that it declares, and what it makes
 pub record Piece : Type 0 where
@@ -149,7 +151,7 @@ reads_in_place v (Some op) index = v.name ∷ index
 -- `p = e`: pure of p's index, pure(e), edge to z Assign
 abbrev pub assign_row : Spot → Option (BinaryOp × Kind) → Value → Lowering
 assign_row p op x u a z = ending (spot_cell p u then λ c. x.pure u then λ v. give (c, v))
-    (λ (cv : Cell × Operand) b. step u (Assign (cv.0).place (combined p.variable.kind op (cv.0).place (cv.1).value)) (p.variable.name ∷ [])
+    (λ (cv : Target × Operand) b. step u (Assign (cv.0).place (combined p.variable.kind op (cv.0).place (cv.1).value)) (p.variable.name ∷ [])
     (reads_in_place p.variable op (cv.0).reads ++ (cv.1).reads) b z) a
 
 -- `T x`: edge to z Assign 0; `T x = e`: pure(e), edge to z Assign

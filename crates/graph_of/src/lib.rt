@@ -10,4 +10,4 @@
 pub mod laws;
 mod parts;
 
-pub use parts::{Around, Parts};
+pub use parts::{Around, Operand, Parts, Target};

@@ -1,7 +1,7 @@
 // What is made, and what it is made within.
-use cfa::{Edge, Node, Scope, StatementKind};
+use cfa::{CellPlace, Edge, Expr, Node, Scope, StatementKind};
 use containers::Vector;
-use fq_core::Span;
+use fq_core::{Name, Span};
 
 /// Nodes, edges and scopes that are made.
 #[derive(Debug, Drop)]
@@ -9,6 +9,20 @@ pub struct Parts {
     pub nodes: Vector<Node>,
     pub edges: Vector<Edge>,
     pub scopes: Vector<Scope>,
+}
+
+/// A value where control is, and the names of the variables that it is read from.
+#[derive(Debug, Drop)]
+pub struct Operand {
+    pub value: Expr,
+    pub reads: Vector<Name>,
+}
+
+/// A cell, and the names of the variables that its index is read from.
+#[derive(Debug, Drop)]
+pub struct Target {
+    pub place: CellPlace,
+    pub reads: Vector<Name>,
 }
 
 /// What a statement or an expression stands in.
