@@ -1,6 +1,7 @@
 // Derivations by resolution.
 use crate::clause::Clause;
-use containers::{Same, Vector};
+use containers::{Same, TryClone, Vector};
+use std::alloc::{AllocError, Global};
 
 /// A line of a derivation: a clause, and the chain of resolutions that gives it. Clauses are numbered from 1, the
 /// formula's first, then the lines'.
@@ -31,5 +32,24 @@ impl Same for DerivationLine {
 impl Same for Derivation {
     fn same(&self, other: &Derivation) -> bool {
         self.lines.same(&other.lines)
+    }
+}
+
+impl TryClone for DerivationLine {
+    fn try_clone(&self, alloc: Global) -> Result<DerivationLine, AllocError> {
+        let clause = self.clause.try_clone(alloc)?;
+        let steps = Vec::from_slice(alloc, self.steps.as_slice())?;
+        Ok(DerivationLine {
+            clause,
+            first: self.first,
+            steps: Vector::from_vec(steps),
+        })
+    }
+}
+
+impl TryClone for Derivation {
+    fn try_clone(&self, alloc: Global) -> Result<Derivation, AllocError> {
+        let lines = self.lines.try_clone(alloc)?;
+        Ok(Derivation { lines })
     }
 }

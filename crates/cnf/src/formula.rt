@@ -1,6 +1,7 @@
 // Formulas in conjunctive normal form.
 use crate::clause::Clause;
-use containers::{Same, Vector};
+use containers::{Same, TryClone, Vector};
+use std::alloc::{AllocError, Global};
 
 /// The conjunction of clauses. Contracts see it as the number of its variables and the list of its clauses.
 #[derive(Debug, Drop)]
@@ -13,5 +14,15 @@ pub struct Formula {
 impl Same for Formula {
     fn same(&self, other: &Formula) -> bool {
         self.variables == other.variables && self.clauses.same(&other.clauses)
+    }
+}
+
+impl TryClone for Formula {
+    fn try_clone(&self, alloc: Global) -> Result<Formula, AllocError> {
+        let clauses = self.clauses.try_clone(alloc)?;
+        Ok(Formula {
+            variables: self.variables,
+            clauses,
+        })
     }
 }

@@ -1,0 +1,9 @@
+pub mod AgainCovers
+pub mod AgainFilters
+pub mod Loops
+pub mod Predicates
+pub mod QueryLaws
+pub mod QueryOutcome
+pub mod Steps
+pub mod TakesCovers
+pub mod TakesFilters

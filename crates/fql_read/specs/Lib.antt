@@ -1,0 +1,9 @@
+pub mod Asks
+pub mod Forms
+pub mod Gives
+pub mod QueryForm
+pub mod QueryLimits
+pub mod Reading
+pub mod ReadingQueries
+pub mod Spelled
+pub mod Tables
