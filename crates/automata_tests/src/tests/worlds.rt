@@ -36,7 +36,7 @@ pub fn small(
 // Five inputs: three predicates and two guards, in this order.
 fn make_inputs(circuit: &mut Circuit) -> Result<Inputs, Memory>
     requires { length circuit.old ≤ 100 }
-    ensures wires { IfOk result (λ inputs. AreWires circuit.new inputs) }
+    ensures wires { IfOk result (λ inputs. AreWires circuit.new inputs.predicates inputs.guards) }
     ensures used { length circuit.new ≤ length circuit.old + 5 }
 {
     let here = circuit.input()?;

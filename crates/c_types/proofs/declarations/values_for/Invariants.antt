@@ -1,0 +1,8 @@
+use Rattle.std.proofs.Common.{[], drop}
+use Rattle.expression_types.specs.Rule.{alone_in}
+use Rattle.expression_types.proofs.RuleLaws.{Left}
+use Rattle.c_types.specs.Declarations.{value_for}
+use Rattle.c_types.proofs.declarations.values_for.Given as goal
+
+abbrev pub invariant-loop-tree : goal.invariant-loop-tree
+invariant-loop-tree l = Left (λ t. alone_in (value_for l.kind t)) [] l.trees l.initial.typer (drop l.tree-index l.trees) l.list l.typer

@@ -1,0 +1,19 @@
+use Rattle.std.proofs.Common.{[]}
+use Rattle.expression_types.specs.Rule.{alone_in}
+use Rattle.expression_types.proofs.RuleLaws.{left_one, left_made, left_after}
+use Rattle.c_types.specs.Declarations.{first_value, first_values}
+use Rattle.c_types.proofs.globals.first_values.Goals as goal
+
+pub loop-tree-preserved : goal.loop-tree-preserved
+loop-tree-preserved c =
+    left_one (first_value c.args.kind) [] c.args.trees.now c.args.typer.now c.loop-tree.tree-index c.tree-item.result
+    c.in_ok-first_value.field-0 c.loop-tree.list c.push.new.self c.loop-tree.typer c.first_value.new.typer
+    c.loop-tree-test.true c.tree-item.is c.in_ok-first_value.ensures.made c.in_ok-push.ensures.ok c.in_ok-first_value.ensures.state c.loop-tree.invariant
+
+pub returns-clause-made : goal.returns-clause-made
+unfolding first_values
+returns-clause-made c = left_made (λ t. alone_in (first_value c.args.kind t)) [] c.args.trees.now c.args.typer.now c.loop-tree.tree-index c.loop-tree.list c.loop-tree.typer c.loop-tree-test.false c.loop-tree.invariant
+
+pub returns-clause-state : goal.returns-clause-state
+unfolding first_values
+returns-clause-state c = left_after (λ t. alone_in (first_value c.args.kind t)) [] c.args.trees.now c.args.typer.now c.loop-tree.tree-index c.loop-tree.list c.loop-tree.typer c.loop-tree-test.false c.loop-tree.invariant

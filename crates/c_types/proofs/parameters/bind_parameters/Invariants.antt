@@ -1,0 +1,7 @@
+use Rattle.std.proofs.Common.{◌≡◌, drop}
+use Rattle.expression_types.specs.Rule.{after}
+use Rattle.c_types.specs.Functions.{bind_parameters}
+use Rattle.c_types.proofs.parameters.bind_parameters.Given as goal
+
+abbrev pub invariant-loop-variable : goal.invariant-loop-variable
+invariant-loop-variable l = after (bind_parameters (drop l.variable-index l.variables)) l.typer ≡ after (bind_parameters l.variables) l.initial.typer

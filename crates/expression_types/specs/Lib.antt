@@ -1,0 +1,7 @@
+pub mod Constants
+pub mod Expressions
+pub mod Faults
+pub mod Kinds
+pub mod Rule
+pub mod Scopes
+pub mod Values

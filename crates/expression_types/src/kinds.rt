@@ -1,0 +1,95 @@
+// The kinds of operands and results.
+ghost use Rattle.std.specs.Prelude.{◌≡◌};
+ghost use Rattle.c_values.specs.Operations.{is_shift, is_comparison, unary_kind, binary_kind};
+ghost use Rattle.cfa.specs.Kinds.{same_kind};
+ghost use Rattle.expression_types.specs.Kinds.{promotion, meeting, operand_kind, left_kind, right_kind};
+
+use c_values::{BinaryOp, Kind, UnaryOp, common, is_kind, promoted};
+
+pub fn same_kind(a: Kind, b: Kind) -> bool
+    ensures { result ≡ same_kind a b }
+{
+    a.width == b.width && a.signed == b.signed
+}
+
+#[tactic(auto, unfolding(crate::specs::Kinds::promotion))]
+pub fn promotion(kind: Kind) -> Kind
+    ensures { result ≡ promotion kind }
+{
+    if is_kind(kind) { promoted(kind) } else { kind }
+}
+
+#[tactic(auto, unfolding(crate::specs::Kinds::meeting))]
+pub fn meeting(a: Kind, b: Kind) -> Kind
+    ensures { result ≡ meeting a b }
+{
+    if is_kind(a) && is_kind(b) {
+        common(a, b)
+    } else {
+        a
+    }
+}
+
+pub fn operand_kind(op: UnaryOp, kind: Kind) -> Kind
+    ensures { result ≡ operand_kind op kind }
+{
+    match op {
+        UnaryOp::Not => kind,
+        UnaryOp::Neg | UnaryOp::Complement => promotion(kind),
+    }
+}
+
+pub fn unary_kind(op: UnaryOp, kind: Kind) -> Kind
+    ensures { result ≡ unary_kind op kind }
+{
+    match op {
+        UnaryOp::Not => Kind::INT,
+        UnaryOp::Neg | UnaryOp::Complement => kind,
+    }
+}
+
+pub(crate) fn is_shift(op: BinaryOp) -> bool
+    ensures { result ≡ is_shift op }
+{
+    matches!(op, BinaryOp::Shl | BinaryOp::Shr)
+}
+
+fn is_comparison(op: BinaryOp) -> bool
+    ensures { result ≡ is_comparison op }
+{
+    matches!(
+        op,
+        BinaryOp::Less
+            | BinaryOp::LessEqual
+            | BinaryOp::Greater
+            | BinaryOp::GreaterEqual
+            | BinaryOp::Equal
+            | BinaryOp::NotEqual
+    )
+}
+
+pub fn left_kind(op: BinaryOp, a: Kind, b: Kind) -> Kind
+    ensures { result ≡ left_kind op a b }
+{
+    if is_shift(op) {
+        promotion(a)
+    } else {
+        meeting(a, b)
+    }
+}
+
+pub fn right_kind(op: BinaryOp, a: Kind, b: Kind) -> Kind
+    ensures { result ≡ right_kind op a b }
+{
+    if is_shift(op) {
+        promotion(b)
+    } else {
+        meeting(a, b)
+    }
+}
+
+pub fn binary_kind(op: BinaryOp, kind: Kind) -> Kind
+    ensures { result ≡ binary_kind op kind }
+{
+    if is_comparison(op) { Kind::INT } else { kind }
+}
