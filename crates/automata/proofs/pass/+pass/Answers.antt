@@ -51,10 +51,10 @@ returns-in_ok-enter-in-Many-clause-passed g t c =
     if_both c.or-in-Many.result (λ out b v.
     passed_view c.args.node.now (many (view c.deref-in-Many.result.now)) e
     (passed_many c.in_ok-ended-in-Many.ensures.older c.in_ok-enter-in-Many.ensures.older c.or-in-Many.ensures.older _ _
-      (told_still g.S.StepMeaning.edge_tells g.S.StepMeaning.state_tells c.args.truth.now c.pass-in-Many.new.truth c.args.step.now c.args.letters.now (λ l w. g.met.S.StepMeaning.tells_still c.args.truth.now c.pass-in-Many.new.truth c.args.step.now l w c.in_ok-ended-in-Many.ensures.older c.requires.fits))
-      (view c.deref-in-Many.result.now) c.args.guard.taken c.args.begin c.in_ok-ended-in-Many.ended c.in_ok-enter-in-Many.field-0 out c.args.marks.now c.pass-in-Many.new.marks c.enter.new.marks
-      sized c.requires.guard.taken c.requires.begin c.in_ok-ended-in-Many.ensures.passed
-      (entered_same (view c.deref-in-Many-2.result.now) (view c.deref-in-Many.result.now) again c.in_ok-enter-in-Many.ensures.entered) b v)) c.or-in-Many.ensures.bit c.or-in-Many.ensures.value
+    (told_still g.S.StepMeaning.edge_tells g.S.StepMeaning.state_tells c.args.truth.now c.pass-in-Many.new.truth c.args.step.now c.args.letters.now (λ l w. g.met.S.StepMeaning.tells_still c.args.truth.now c.pass-in-Many.new.truth c.args.step.now l w c.in_ok-ended-in-Many.ensures.older c.requires.fits))
+    (view c.deref-in-Many.result.now) c.args.guard.taken c.args.begin c.in_ok-ended-in-Many.ended c.in_ok-enter-in-Many.field-0 out c.args.marks.now c.pass-in-Many.new.marks c.enter.new.marks
+    sized c.requires.guard.taken c.requires.begin c.in_ok-ended-in-Many.ensures.passed
+    (entered_same (view c.deref-in-Many-2.result.now) (view c.deref-in-Many.result.now) again c.in_ok-enter-in-Many.ensures.entered) b v)) c.or-in-Many.ensures.bit c.or-in-Many.ensures.value
 
 pub returns-in_ok-ended-in-Maybe-clause-passed : goal.returns-in_ok-ended-in-Maybe-clause-passed
 returns-in_ok-ended-in-Maybe-clause-passed g t c =
@@ -62,5 +62,5 @@ returns-in_ok-ended-in-Maybe-clause-passed g t c =
     if_both c.or-in-Maybe.result (λ out b v.
     passed_view c.args.node.now (maybe (view c.deref-in-Maybe.result.now)) e
     (passed_maybe c.in_ok-ended-in-Maybe.ensures.older c.or-in-Maybe.ensures.older _
-      (view c.deref-in-Maybe.result.now) c.args.guard.taken c.args.begin c.in_ok-ended-in-Maybe.ended out c.args.marks.now c.pass-in-Maybe.new.marks
-      c.requires.begin c.in_ok-ended-in-Maybe.ensures.passed b v)) c.or-in-Maybe.ensures.bit c.or-in-Maybe.ensures.value
+    (view c.deref-in-Maybe.result.now) c.args.guard.taken c.args.begin c.in_ok-ended-in-Maybe.ended out c.args.marks.now c.pass-in-Maybe.new.marks
+    c.requires.begin c.in_ok-ended-in-Maybe.ensures.passed b v)) c.or-in-Maybe.ensures.bit c.or-in-Maybe.ensures.value

@@ -12,4 +12,4 @@ returns-clause-marked g c = always_ok c.next_hit.result
 pub returns-clause-found : goal.returns-clause-found
 returns-clause-found g c = IfOk-weaker c.next_hit.result _ _ (λ h v.
     hit_stands c.in_ok-end.ensures.older c.next_hit.ensures.older _ (view c.args.node.now) c.args.guard.taken c.args.begin c.in_ok-end.end c.args.marks.now c.pass.new.marks c.in_ok-end.ensures.passed
-      c.args.last c.args.hit h c.requires.guard.taken c.requires.hit v) c.next_hit.ensures.value
+    c.args.last c.args.hit h c.requires.guard.taken c.requires.hit v) c.next_hit.ensures.value
