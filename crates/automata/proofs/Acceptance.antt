@@ -3,13 +3,12 @@ use Rattle.std.proofs.Common.{◌≡◌, ℕ, zero, suc, ◌+◌, ◌≤◌, ◌
 use Rattle.patterns.specs.Match.{Step, Form}
 use Rattle.patterns.specs.declared.letter.Letter.{Letter}
 use Rattle.circuit.specs.Truth.{World}
-use Rattle.automata.specs.Tree.{Tree}
+use Rattle.automata.specs.Tree.{Tree, AllNo}
 use Rattle.automata.specs.Values.{at}
 use Rattle.automata.specs.Views.{view}
 use Rattle.automata.specs.Reach.{numbered, Has, MayBegin, MayEnd, StandsFor, steps_after}
 use Rattle.automata.specs.Standing.{IsOf, step_at, HasMatch}
 use Rattle.automata.specs.declared.nfa.Nfa.{Nfa}
-use Rattle.automata.proofs.Ends.{AllNo}
 use Rattle.automata.proofs.Paths.{stands_at_first, may_begin_first}
 
 module _ {L : Type 0} (letters : List L) where

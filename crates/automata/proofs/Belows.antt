@@ -1,10 +1,10 @@
 -- The leaves of an unrolled pattern are numbers of its letters.
-use Rattle.std.proofs.Common.{◌≡◌, ℕ, zero, suc, ◌+◌, ◌-◌, ◌*◌, ◌≤◌, Bool, true, false, Option, Some, None, nat_le, if◌then◌else◌, ap, arith, mul-le-mul}
+use Rattle.std.proofs.Common.{◌≡◌, ℕ, zero, suc, ◌+◌, ◌-◌, ◌*◌, ◌≤◌, Bool, true, false, Option, Some, None, nat_le, nat_lt, if◌then◌else◌, ap, arith, mul-le-mul}
 use Rattle.patterns.specs.Match.{Form}
 use Rattle.patterns.specs.Match as form
 use Rattle.patterns.specs.Letters.{letter_count}
-use Rattle.automata.specs.Tree.{Tree, nothing, empty, leaves, Below}
-use Rattle.automata.specs.Unroll.{maybe_of, many_of, dot_of, either_of, followed, repeat_of, repeat_some, repeat_leafless, has_leaves, places, unroll}
+use Rattle.automata.specs.Tree.{Tree, nothing, empty, leaves, Below, leaf, dot, either, many, maybe}
+use Rattle.automata.specs.Unroll.{maybe_of, many_of, sized_dot, row_of, dot_of, either_of, followed, repeat_of, repeat_some, repeat_leafless, has_leaves, places, unroll}
 use Rattle.automata.specs.Values.{step_gates}
 use Rattle.automata.proofs.Counts.{gates_fit, leaves_fit}
 
@@ -17,12 +17,25 @@ module _ (count : ℕ) where
   below_many nothing h = tt
   below_many t h = h
 
+  below_if : (b : Bool) (s t : Tree) → Below count s → Below count t → Below count (if b then s else t)
+  below_if true s t x y = x
+  below_if false s t x y = y
+
+  below_row : (a b : Tree) → Below count a → Below count b → Below count (row_of a b)
+  below_row nothing b x y = (x, y)
+  below_row empty b x y = (x, y)
+  below_row (leaf l) b x y = (x, y)
+  below_row (dot n c d) b x y = below_if (nat_lt (leaves d) (leaves c)) (sized_dot c (row_of d b)) (sized_dot (dot n c d) b) (x.0, below_row d b x.1 y) (x, y)
+  below_row (either n c d) b x y = (x, y)
+  below_row (many c) b x y = (x, y)
+  below_row (maybe c) b x y = (x, y)
+
   below_dot : (a b : Tree) → Below count a → Below count b → Below count (dot_of a b)
   below_dot nothing b x y = tt
   below_dot empty b x y = y
   below_dot a nothing x y = tt
   below_dot a empty x y = x
-  below_dot a b x y = (x, y)
+  below_dot a b x y = below_row a b x y
 
   below_either : (a b : Tree) → Below count a → Below count b → Below count (either_of a b)
   below_either nothing b x y = y
@@ -34,10 +47,6 @@ module _ (count : ℕ) where
   below_followed : (a t : Tree) (n : ℕ) → Below count a → Below count t → Below count (followed a t n)
   below_followed a t zero x y = x
   below_followed a t (suc n) x y = below_dot (followed a t n) t (below_followed a t n x y) y
-
-  below_if : (b : Bool) (s t : Tree) → Below count s → Below count t → Below count (if b then s else t)
-  below_if true s t x y = x
-  below_if false s t x y = y
 
   below_leafless : (t : Tree) (least : ℕ) (most : Option ℕ) → Below count (repeat_leafless t least most)
   below_leafless t zero most = tt

@@ -1,13 +1,13 @@
 -- How parts are joined.
-use Rattle.std.proofs.Common.{◌≡◌, ℕ, zero, suc, ◌+◌, ◌-◌, ◌≤◌, ◌<◌, Option, Some, None, if◌then◌else◌, refl, ◌∙◌, ap, arith}
+use Rattle.std.proofs.Common.{◌≡◌, ℕ, zero, suc, ◌+◌, ◌-◌, ◌≤◌, ◌<◌, Option, Some, None, if◌then◌else◌, refl, ◌∙◌, ap, arith, lt-ltb, le-ltb}
 use Rattle.std.proofs.lemmas.Bool.{le-leb, lt-leb}
-use Rattle.automata.specs.Tree.{Tree, nothing, empty, leaf, dot, either, many, maybe, leaves, notes}
-use Rattle.automata.specs.Unroll.{dot_of, either_of, maybe_of, sized_dot, sized_either, many_of, followed, repeat_of, repeat_some}
-use Rattle.automata.specs.Building.{extent_of, by_extent, more_notes}
+use Rattle.automata.specs.Tree.{Tree, nothing, empty, leaf, dot, either, many, maybe, leaves, Sized}
+use Rattle.automata.specs.Unroll.{dot_of, either_of, maybe_of, sized_dot, row_of, sized_either, many_of, followed, repeat_of, repeat_some}
+use Rattle.automata.specs.Building.{extent_of, by_extent}
 use Rattle.automata.specs.declared.part.Extent.{Extent}
 use Rattle.automata.specs.declared.part.Extent.TheVariants.{Never, State, Leaves}
 
-dot_by_extent : (a b : Tree) → dot_of a b ≡ by_extent (extent_of a) a b (by_extent (extent_of b) b a (sized_dot a b))
+dot_by_extent : (a b : Tree) → dot_of a b ≡ by_extent (extent_of a) a b (by_extent (extent_of b) b a (row_of a b))
 dot_by_extent nothing b = refl
 dot_by_extent empty b = refl
 dot_by_extent a nothing = refl
@@ -36,7 +36,7 @@ dot_second_never a b e f = dot_by_extent a b ∙ at_extent _ _ _ _ Leaves e ∙ 
 pub dot_second_state : (a b : Tree) → extent_of a ≡ Leaves → extent_of b ≡ State → dot_of a b ≡ a
 dot_second_state a b e f = dot_by_extent a b ∙ at_extent _ _ _ _ Leaves e ∙ at_extent _ _ _ _ State f
 
-pub dot_both : (a b : Tree) → extent_of a ≡ Leaves → extent_of b ≡ Leaves → dot_of a b ≡ dot (leaves a) (notes a) a b
+pub dot_both : (a b : Tree) → extent_of a ≡ Leaves → extent_of b ≡ Leaves → dot_of a b ≡ row_of a b
 dot_both a b e f = dot_by_extent a b ∙ at_extent _ _ _ _ Leaves e ∙ at_extent _ _ _ _ Leaves f
 
 pub either_never : (a b : Tree) → extent_of a ≡ Never → either_of a b ≡ b
@@ -51,26 +51,16 @@ either_second_never a b e f = either_by_extent a b ∙ at_extent _ _ _ _ Leaves 
 pub either_second_state : (a b : Tree) → extent_of a ≡ Leaves → extent_of b ≡ State → either_of a b ≡ maybe_of a
 either_second_state a b e f = either_by_extent a b ∙ at_extent _ _ _ _ Leaves e ∙ at_extent _ _ _ _ State f
 
-pub either_both : (a b : Tree) → extent_of a ≡ Leaves → extent_of b ≡ Leaves → either_of a b ≡ either (leaves a) (notes a) a b
+pub either_both : (a b : Tree) → extent_of a ≡ Leaves → extent_of b ≡ Leaves → either_of a b ≡ either (leaves a) a b
 either_both a b e f = either_by_extent a b ∙ at_extent _ _ _ _ Leaves e ∙ at_extent _ _ _ _ Leaves f
 
 pub same_leaves_maybe : (t : Tree) → leaves (maybe_of t) ≡ leaves t
 same_leaves_maybe nothing = refl
 same_leaves_maybe t = refl
 
-pub same_notes_maybe : (t : Tree) → notes (maybe_of t) ≡ notes t
-same_notes_maybe nothing = refl
-same_notes_maybe t = refl
-
 pub same_leaves_many : (t : Tree) → leaves (many_of t) ≡ leaves t
 same_leaves_many nothing = refl
 same_leaves_many t = refl
-
-pub notes_many : (t : Tree) → notes (many_of t) ≡ notes t + more_notes t
-notes_many nothing = refl
-notes_many empty = refl
-notes_many (many a) = omega arith
-notes_many t = omega arith
 
 pub repeat_never : (t : Tree) (least : ℕ) (most : Option ℕ) → extent_of t ≡ Leaves → repeat_of t least most ≡ repeat_some t least most
 repeat_never nothing least most e = cc
@@ -81,8 +71,8 @@ pub leafless_zero : (t : Tree) (most : Option ℕ) → (extent_of t ≡ Leaves �
 leafless_zero nothing most e = refl
 leafless_zero empty most e = refl
 leafless_zero (leaf l) most e = absurd (e refl)
-leafless_zero (dot n k a b) most e = absurd (e refl)
-leafless_zero (either n k a b) most e = absurd (e refl)
+leafless_zero (dot n a b) most e = absurd (e refl)
+leafless_zero (either n a b) most e = absurd (e refl)
 leafless_zero (many a) most e = absurd (e refl)
 leafless_zero (maybe a) most e = absurd (e refl)
 
@@ -123,4 +113,31 @@ pub ruleset repeated = (repeat_never, some_open, some_wide, some_narrow)
 
 pub ruleset leafless = (leafless_zero, leafless_never, leafless_open, leafless_wide, leafless_narrow)
 
-pub ruleset joined = (same_leaves_many, notes_many, dot_never, dot_state, dot_second_never, dot_second_state, dot_both, either_never, either_state, either_second_never, either_second_state, either_both, same_leaves_maybe, same_notes_maybe)
+pub sized_maybe : (t : Tree) → Sized t → Sized (maybe_of t)
+sized_maybe nothing h = tt
+sized_maybe empty h = tt
+sized_maybe (leaf l) h = tt
+sized_maybe (dot n a b) h = h
+sized_maybe (either n a b) h = h
+sized_maybe (many a) h = h
+sized_maybe (maybe a) h = h
+
+pub sized_many : (t : Tree) → Sized t → Sized (many_of t)
+sized_many nothing h = tt
+sized_many empty h = tt
+sized_many (leaf l) h = tt
+sized_many (dot n a b) h = h
+sized_many (either n a b) h = h
+sized_many (many a) h = h
+sized_many (maybe a) h = h
+
+-- a short end is joined with what comes after
+pub row_turned : (n : ℕ) (x y b : Tree) → leaves y < leaves x → row_of (dot n x y) b ≡ dot (leaves x) x (row_of y b)
+row_turned n x y b lt = ap (λ z. if z then sized_dot x (row_of y b) else sized_dot (dot n x y) b) (lt-ltb (leaves y) (leaves x) lt)
+
+pub row_kept : (n : ℕ) (x y b : Tree) → leaves x ≤ leaves y → row_of (dot n x y) b ≡ dot (leaves x + leaves y) (dot n x y) b
+row_kept n x y b le = ap (λ z. if z then sized_dot x (row_of y b) else sized_dot (dot n x y) b) (le-ltb (leaves y) (leaves x) le)
+
+pub ruleset rows = (row_turned, row_kept)
+
+pub ruleset joined = (sized_maybe, sized_many, same_leaves_many, dot_never, dot_state, dot_second_never, dot_second_state, dot_both, either_never, either_state, either_second_never, either_second_state, either_both, same_leaves_maybe)

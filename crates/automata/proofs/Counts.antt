@@ -1,130 +1,237 @@
 -- How many gates a step of an unrolled pattern takes.
-use Rattle.std.proofs.Common.{◌≡◌, ℕ, zero, suc, ◌+◌, ◌*◌, ◌-◌, ◌≤◌, Bool, true, false, Option, Some, None, nat_le, if◌then◌else◌, refl, sym, ◌∙◌, ap, arith, mul-suc, mul-zero, mul-add, mul_comm, mul-le-mul_right}
+use Rattle.std.proofs.Common.{◌≡◌, ℕ, zero, suc, ◌+◌, ◌*◌, ◌-◌, ◌≤◌, Bool, true, false, Option, Some, None, nat_le, nat_lt, if◌then◌else◌, refl, sym, ◌∙◌, ap, arith, mul-suc, mul-zero, mul-add, mul_comm, mul-le-mul_right}
 use Rattle.std.proofs.lemmas.Bool.{leb-true}
 use Rattle.patterns.specs.Match.{Form}
 use Rattle.patterns.specs.Match as form
 use Rattle.patterns.specs.Letters.{times, letter_count}
-use Rattle.automata.specs.Tree.{Tree, nothing, empty, leaf, dot, either, many, maybe, leaves, notes, Sized}
-use Rattle.automata.specs.Values.{up_gates, down_gates, step_gates}
-use Rattle.automata.specs.Unroll.{maybe_of, many_of, dot_of, either_of, followed, repeat_of, repeat_some, repeat_leafless, has_leaves, places, unroll}
+use Rattle.automata.specs.Tree.{Tree, nothing, empty, leaf, dot, either, many, maybe, leaves, Sized}
+use Rattle.automata.specs.Values.{enter_gates, pass_gates, step_gates}
+use Rattle.automata.specs.Unroll.{maybe_of, many_of, dot_of, either_of, followed, repeat_of, repeat_some, repeat_leafless, has_leaves, sized_dot, row_of, places, unroll}
 
--- gates, and a little more
-abbrev pub slack : Tree → ℕ
+-- neither a repetition nor leafless
+abbrev pub is_plain : Tree → Bool
+is_plain nothing = false
+is_plain empty = false
+is_plain (leaf l) = true
+is_plain (dot n a b) = true
+is_plain (either n a b) = true
+is_plain (many a) = false
+is_plain (maybe a) = false
+
+-- sized, with no part that is leafless, and no repetition right in another
+abbrev pub Shaped : Tree → Type 0
+Shaped nothing = Unit {0}
+Shaped empty = Unit {0}
+Shaped (leaf l) = Unit {0}
+Shaped (dot n a b) = (n ≡ leaves a) × ((has_leaves a ≡ true) × ((has_leaves b ≡ true) × (Shaped a × Shaped b)))
+Shaped (either n a b) = (n ≡ leaves a) × ((has_leaves a ≡ true) × ((has_leaves b ≡ true) × (Shaped a × Shaped b)))
+Shaped (many a) = (is_plain a ≡ true) × Shaped a
+Shaped (maybe a) = (is_plain a ≡ true) × Shaped a
+
+pub sized_of : (t : Tree) → Shaped t → Sized t
+sized_of nothing h = tt
+sized_of empty h = tt
+sized_of (leaf l) h = tt
+sized_of (dot n a b) h = (h.0, (sized_of a h.1.1.1.0, sized_of b h.1.1.1.1))
+sized_of (either n a b) h = (h.0, (sized_of a h.1.1.1.0, sized_of b h.1.1.1.1))
+sized_of (many a) h = sized_of a h.1
+sized_of (maybe a) h = sized_of a h.1
+
+shaped_maybe : (t : Tree) → Shaped t → Shaped (maybe_of t)
+shaped_maybe nothing h = tt
+shaped_maybe empty h = tt
+shaped_maybe (leaf l) h = (refl, tt)
+shaped_maybe (dot n a b) h = (refl, h)
+shaped_maybe (either n a b) h = (refl, h)
+shaped_maybe (many a) h = h
+shaped_maybe (maybe a) h = h
+
+shaped_many : (t : Tree) → Shaped t → Shaped (many_of t)
+shaped_many nothing h = tt
+shaped_many empty h = tt
+shaped_many (leaf l) h = (refl, tt)
+shaped_many (dot n a b) h = (refl, h)
+shaped_many (either n a b) h = (refl, h)
+shaped_many (many a) h = h
+shaped_many (maybe a) h = h
+
+has_row : (a b : Tree) → has_leaves (row_of a b) ≡ true
+has_row nothing b = refl
+has_row empty b = refl
+has_row (leaf l) b = refl
+has_row (dot n x y) b = has_if (nat_lt (leaves y) (leaves x))
+  where
+    has_if : (c : Bool) → has_leaves (if c then sized_dot x (row_of y b) else sized_dot (dot n x y) b) ≡ true
+    has_if true = refl
+    has_if false = refl
+has_row (either n x y) b = refl
+has_row (many x) b = refl
+has_row (maybe x) b = refl
+
+leaves_turn : (z : Bool) (n : ℕ) (x y r b : Tree) → leaves r ≡ leaves y + leaves b → leaves (if z then sized_dot x r else sized_dot (dot n x y) b) ≡ leaves x + leaves y + leaves b
+leaves_turn true n x y r b e = omega (arith, e)
+leaves_turn false n x y r b e = refl
+
+leaves_row : (a b : Tree) → leaves (row_of a b) ≡ leaves a + leaves b
+leaves_row nothing b = refl
+leaves_row empty b = refl
+leaves_row (leaf l) b = refl
+leaves_row (dot n x y) b = leaves_turn (nat_lt (leaves y) (leaves x)) n x y (row_of y b) b (leaves_row y b)
+leaves_row (either n x y) b = refl
+leaves_row (many x) b = refl
+leaves_row (maybe x) b = refl
+
+shaped_if : (b : Bool) (s t : Tree) → Shaped s → Shaped t → Shaped (if b then s else t)
+shaped_if true s t x y = x
+shaped_if false s t x y = y
+
+new_dot : (a b : Tree) → has_leaves a ≡ true → has_leaves b ≡ true → Shaped a → Shaped b → Shaped (sized_dot a b)
+new_dot a b p q x y = (refl, (p, (q, (x, y))))
+
+shaped_row : (a b : Tree) → has_leaves a ≡ true → has_leaves b ≡ true → Shaped a → Shaped b → Shaped (row_of a b)
+shaped_row nothing b p q x y = cc
+shaped_row empty b p q x y = cc
+shaped_row (leaf l) b p q x y = new_dot (leaf l) b refl q x y
+shaped_row (dot n c d) b p q x y = shaped_if (nat_lt (leaves d) (leaves c)) (sized_dot c (row_of d b)) (sized_dot (dot n c d) b)
+    (new_dot c (row_of d b) x.1.0 (has_row d b) x.1.1.1.0 (shaped_row d b x.1.1.0 q x.1.1.1.1 y)) (new_dot (dot n c d) b refl q x y)
+shaped_row (either n c d) b p q x y = new_dot (either n c d) b refl q x y
+shaped_row (many c) b p q x y = new_dot (many c) b refl q x y
+shaped_row (maybe c) b p q x y = new_dot (maybe c) b refl q x y
+
+shaped_dot : (a b : Tree) → Shaped a → Shaped b → Shaped (dot_of a b)
+shaped_dot nothing b x y = tt
+shaped_dot empty b x y = y
+shaped_dot a nothing x y = tt
+shaped_dot a empty x y = x
+shaped_dot a b x y = shaped_row a b refl refl x y
+
+shaped_either : (a b : Tree) → Shaped a → Shaped b → Shaped (either_of a b)
+shaped_either nothing b x y = y
+shaped_either empty b x y = shaped_maybe b y
+shaped_either a nothing x y = x
+shaped_either a empty x y = shaped_maybe a x
+shaped_either a b x y = (refl, (refl, (refl, (x, y))))
+
+shaped_followed : (a t : Tree) (n : ℕ) → Shaped a → Shaped t → Shaped (followed a t n)
+shaped_followed a t zero x y = x
+shaped_followed a t (suc n) x y = shaped_dot (followed a t n) t (shaped_followed a t n x y) y
+
+shaped_leafless : (t : Tree) (least : ℕ) (most : Option ℕ) → Shaped (repeat_leafless t least most)
+shaped_leafless t zero most = tt
+shaped_leafless nothing (suc least) most = tt
+shaped_leafless t (suc least) None = tt
+shaped_leafless t (suc least) (Some most) = shaped_if (nat_le (suc least) most) empty nothing tt tt
+
+shaped_some : (t : Tree) (least : ℕ) (most : Option ℕ) → Shaped t → Shaped (repeat_some t least most)
+shaped_some t least None x = shaped_dot (followed empty t least) (many_of t) (shaped_followed empty t least tt x) (shaped_many t x)
+shaped_some t least (Some most) x = shaped_if (nat_le least most) _ nothing
+    (shaped_followed (followed empty t least) (maybe_of t) (most - least) (shaped_followed empty t least tt x) (shaped_maybe t x)) tt
+
+shaped_repeat : (t : Tree) (least : ℕ) (most : Option ℕ) → Shaped t → Shaped (repeat_of t least most)
+shaped_repeat t least most x = shaped_if (has_leaves t) (repeat_some t least most) (repeat_leafless t least most) (shaped_some t least most x) (shaped_leafless t least most)
+
+pub shaped_unroll : {L : Type 0} (n : ℕ) (f : Form L) → Shaped (unroll n f)
+shaped_unroll n form.nothing = tt
+shaped_unroll n (form.letter l) = tt
+shaped_unroll n (form.dot a b) = shaped_dot (unroll n a) (unroll (n + places a) b) (shaped_unroll n a) (shaped_unroll (n + places a) b)
+shaped_unroll n (form.either a b) = shaped_either (unroll n a) (unroll (n + places a) b) (shaped_unroll n a) (shaped_unroll (n + places a) b)
+shaped_unroll n (form.repeat a least most) = shaped_repeat (unroll n a) least most (shaped_unroll n a)
+
+pub sized_unroll : {L : Type 0} (n : ℕ) (f : Form L) → Sized (unroll n f)
+sized_unroll n f = sized_of (unroll n f) (shaped_unroll n f)
+
+-- what one more turn may cost
+abbrev slack : Tree → ℕ
 slack nothing = 0
 slack empty = 0
-slack (leaf l) = 7
-slack (dot n k a b) = 7
-slack (either n k a b) = 7
-slack (many a) = 6
-slack (maybe a) = 7
+slack (leaf l) = 4 * 1 + 2
+slack (dot n a b) = 4 * (leaves a + leaves b) + 2
+slack (either n a b) = 4 * (leaves a + leaves b) + 2
+slack (many a) = 0
+slack (maybe a) = 4 * leaves a + 1
 
-pub record Lean (t : Tree) : Type 0 where
-  pub few : up_gates t + down_gates t + slack t ≤ 10 * leaves t
-  pub sized : Sized t
+-- few gates for the leaves
+record Few (t : Tree) : Type 0 where
+  pass : pass_gates t + slack t ≤ 8 * (leaves t * leaves t) + 3 * leaves t
+  entry : enter_gates t + 1 ≤ 4 * leaves t
+  some : 1 ≤ leaves t
 
-lean_nothing : Lean nothing
-lean_nothing = record { few = omega arith; sized = tt }
+product : (m n : ℕ) → 1 ≤ m → 1 ≤ n → m + n ≤ m * n + 1
+product zero n p q = absurd (omega arith)
+product (suc x) zero p q = absurd (omega arith)
+product (suc x) (suc y) p q = omega (arith, mul-suc (suc x) y, mul_comm (suc x) y, mul-suc y x)
 
-lean_empty : Lean empty
-lean_empty = record { few = omega arith; sized = tt }
+square : (m n : ℕ) → (m + n) * (m + n) ≡ m * m + 2 * (m * n) + n * n
+square m n = omega (arith, mul-add (m + n) m n, mul_comm (m + n) m, mul_comm (m + n) n, mul-add m m n, mul-add n m n, mul_comm n m)
 
-lean_maybe : (t : Tree) → Lean t → Lean (maybe_of t)
-lean_maybe nothing h = lean_empty
-lean_maybe empty h = lean_empty
-lean_maybe (leaf l) h = record { few = h.few; sized = tt }
-lean_maybe (dot n k a b) h = record { few = h.few; sized = h.sized }
-lean_maybe (either n k a b) h = record { few = h.few; sized = h.sized }
-lean_maybe (many a) h = h
-lean_maybe (maybe a) h = h
+-- the bound holds of two parts together
+together : (p q m n : ℕ) → p ≤ 8 * (m * m) + 3 * m → q ≤ 8 * (n * n) + 3 * n → 1 ≤ m → 1 ≤ n → p + q + 1 + (4 * (m + n) + 2) ≤ 8 * ((m + n) * (m + n)) + 3 * (m + n)
+together p q m n f g x y = omega (arith, square m n, product m n x y)
 
-lean_many : (t : Tree) → Lean t → Lean (many_of t)
-lean_many nothing h = lean_empty
-lean_many empty h = lean_empty
-lean_many (leaf l) h = record { few = omega arith; sized = tt }
-lean_many (dot n k a b) h = let x = h.few in record { few = omega arith; sized = h.sized }
-lean_many (either n k a b) h = let x = h.few in record { few = omega arith; sized = h.sized }
-lean_many (many a) h = h
-lean_many (maybe a) h = let x = h.few in record { few = omega arith; sized = h.sized }
-
-lean_pair : (ua da sa la ub db sb lb : ℕ) → ua + da + sa ≤ 10 * la → ub + db + sb ≤ 10 * lb → 6 ≤ sa → 6 ≤ sb → (ua + ub + 3) + (da + db + 2) + 7 ≤ 10 * (la + lb)
-lean_pair ua da sa la ub db sb lb x y p q = omega arith
-
-lean_choice : (ua da sa la ub db sb lb : ℕ) → ua + da + sa ≤ 10 * la → ub + db + sb ≤ 10 * lb → 6 ≤ sa → 6 ≤ sb → (ua + ub + 2) + (da + db) + 7 ≤ 10 * (la + lb)
-lean_choice ua da sa la ub db sb lb x y p q = omega arith
-
-enough : (t : Tree) → has_leaves t ≡ true → 6 ≤ slack t
-enough nothing h = cc
-enough empty h = cc
-enough (leaf l) h = omega arith
-enough (dot n k a b) h = omega arith
-enough (either n k a b) h = omega arith
-enough (many a) h = omega arith
-enough (maybe a) h = omega arith
-
-new_dot : (a b : Tree) → has_leaves a ≡ true → has_leaves b ≡ true → Lean a → Lean b → Lean (dot (leaves a) (notes a) a b)
-new_dot a b p q x y = record {
-  few = lean_pair (up_gates a) (down_gates a) (slack a) (leaves a) (up_gates b) (down_gates b) (slack b) (leaves b) x.few y.few (enough a p) (enough b q);
-  sized = (refl, (refl, (x.sized, y.sized)));
+few_dot : (n : ℕ) (a b : Tree) → Few a → Few b → Few (dot n a b)
+few_dot n a b f g = let x = f.pass in let y = g.pass in let u = f.entry in let v = g.entry in let s = f.some in record {
+  pass = let h = together (pass_gates a) (pass_gates b) (leaves a) (leaves b) (omega arith) (omega arith) f.some g.some in omega arith;
+  entry = omega arith;
+  some = omega arith;
 }
 
-new_either : (a b : Tree) → has_leaves a ≡ true → has_leaves b ≡ true → Lean a → Lean b → Lean (either (leaves a) (notes a) a b)
-new_either a b p q x y = record {
-  few = lean_choice (up_gates a) (down_gates a) (slack a) (leaves a) (up_gates b) (down_gates b) (slack b) (leaves b) x.few y.few (enough a p) (enough b q);
-  sized = (refl, (refl, (x.sized, y.sized)));
+few_either : (n : ℕ) (a b : Tree) → Few a → Few b → Few (either n a b)
+few_either n a b f g = let x = f.pass in let y = g.pass in let u = f.entry in let v = g.entry in let s = f.some in record {
+  pass = together (pass_gates a) (pass_gates b) (leaves a) (leaves b) (omega arith) (omega arith) f.some g.some;
+  entry = omega arith;
+  some = omega arith;
 }
 
-lean_dot : (a b : Tree) → Lean a → Lean b → Lean (dot_of a b)
-lean_dot nothing b x y = lean_nothing
-lean_dot empty b x y = y
-lean_dot a nothing x y = lean_nothing
-lean_dot a empty x y = x
-lean_dot a b x y = new_dot a b refl refl x y
+plain_leaves : (t : Tree) → is_plain t ≡ true → has_leaves t ≡ true
+plain_leaves nothing e = cc
+plain_leaves empty e = cc
+plain_leaves (leaf l) e = refl
+plain_leaves (dot n a b) e = refl
+plain_leaves (either n a b) e = refl
+plain_leaves (many a) e = refl
+plain_leaves (maybe a) e = refl
 
-lean_either : (a b : Tree) → Lean a → Lean b → Lean (either_of a b)
-lean_either nothing b x y = y
-lean_either empty b x y = lean_maybe b y
-lean_either a nothing x y = x
-lean_either a empty x y = lean_maybe a x
-lean_either a b x y = new_either a b refl refl x y
+plain_slack : (t : Tree) → is_plain t ≡ true → slack t ≡ 4 * leaves t + 2
+plain_slack nothing e = cc
+plain_slack empty e = cc
+plain_slack (leaf l) e = refl
+plain_slack (dot n a b) e = refl
+plain_slack (either n a b) e = refl
+plain_slack (many a) e = cc
+plain_slack (maybe a) e = cc
 
-lean_followed : (a t : Tree) (n : ℕ) → Lean a → Lean t → Lean (followed a t n)
-lean_followed a t zero x y = x
-lean_followed a t (suc n) x y = lean_dot (followed a t n) t (lean_followed a t n x y) y
+few_of : (t : Tree) → has_leaves t ≡ true → Shaped t → Few t
+few_of nothing e h = cc
+few_of empty e h = cc
+few_of (leaf l) e h = record { pass = omega arith; entry = omega arith; some = omega arith }
+few_of (dot n a b) e h = few_dot n a b (few_of a h.1.0 h.1.1.1.0) (few_of b h.1.1.0 h.1.1.1.1)
+few_of (either n a b) e h = few_either n a b (few_of a h.1.0 h.1.1.1.0) (few_of b h.1.1.0 h.1.1.1.1)
+few_of (many a) e h = let f = few_of a (plain_leaves a h.0) h.1 in let s = plain_slack a h.0 in let x = f.pass in let y = f.entry in record {
+  pass = omega arith;
+  entry = f.entry;
+  some = f.some;
+}
+few_of (maybe a) e h = let f = few_of a (plain_leaves a h.0) h.1 in let s = plain_slack a h.0 in let x = f.pass in record {
+  pass = omega arith;
+  entry = f.entry;
+  some = f.some;
+}
 
-lean_if : (b : Bool) (s t : Tree) → Lean s → Lean t → Lean (if b then s else t)
-lean_if true s t x y = x
-lean_if false s t x y = y
-
-lean_leafless : (t : Tree) (least : ℕ) (most : Option ℕ) → Lean (repeat_leafless t least most)
-lean_leafless t zero most = lean_empty
-lean_leafless nothing (suc least) most = lean_nothing
-lean_leafless t (suc least) None = lean_empty
-lean_leafless t (suc least) (Some most) = lean_if (nat_le (suc least) most) empty nothing lean_empty lean_nothing
-
-lean_some : (t : Tree) (least : ℕ) (most : Option ℕ) → Lean t → Lean (repeat_some t least most)
-lean_some t least None x = lean_dot (followed empty t least) (many_of t) (lean_followed empty t least lean_empty x) (lean_many t x)
-lean_some t least (Some most) x = lean_if (nat_le least most) _ nothing
-    (lean_followed (followed empty t least) (maybe_of t) (most - least) (lean_followed empty t least lean_empty x) (lean_maybe t x)) lean_nothing
-
-lean_repeat : (t : Tree) (least : ℕ) (most : Option ℕ) → Lean t → Lean (repeat_of t least most)
-lean_repeat t least most x = lean_if (has_leaves t) (repeat_some t least most) (repeat_leafless t least most) (lean_some t least most x) (lean_leafless t least most)
-
-pub lean_unroll : {L : Type 0} (n : ℕ) (f : Form L) → Lean (unroll n f)
-lean_unroll n form.nothing = lean_nothing
-lean_unroll n (form.letter l) = record { few = omega arith; sized = tt }
-lean_unroll n (form.dot a b) = lean_dot (unroll n a) (unroll (n + places a) b) (lean_unroll n a) (lean_unroll (n + places a) b)
-lean_unroll n (form.either a b) = lean_either (unroll n a) (unroll (n + places a) b) (lean_unroll n a) (lean_unroll (n + places a) b)
-lean_unroll n (form.repeat a least most) = lean_repeat (unroll n a) least most (lean_unroll n a)
+few_step : (p s n : ℕ) → p + s ≤ 8 * (n * n) + 3 * n → p + 4 + 1 ≤ 8 * ((n + 2) * (n + 2))
+few_step p s n h = omega (arith, square n 2)
 
 -- the gates of a step fit the bound
 pub gates_fit : {L : Type 0} (n : ℕ) (f : Form L) → step_gates (unroll n f) + 1 ≤ 8 * ((leaves (unroll n f) + 2) * (leaves (unroll n f) + 2))
-gates_fit n f = let few = (lean_unroll n f).few in square (up_gates (unroll n f)) (down_gates (unroll n f)) (slack (unroll n f)) (leaves (unroll n f)) few
+gates_fit n f = by_leaves (unroll n f) (shaped_unroll n f)
   where
-    square : (u d s l : ℕ) → u + d + s ≤ 10 * l → u + d + 6 + 1 ≤ 8 * ((l + 2) * (l + 2))
-    square u d s l h = let e : (l + 2) * (l + 2) ≡ l * l + 4 * l + 4 = omega (arith, mul-add (l + 2) l 2, mul_comm (l + 2) l, mul-add l l 2) in omega arith
-
-pub sized_unroll : {L : Type 0} (n : ℕ) (f : Form L) → Sized (unroll n f)
-sized_unroll n f = (lean_unroll n f).sized
+    by_leaves : (t : Tree) → Shaped t → step_gates t + 1 ≤ 8 * ((leaves t + 2) * (leaves t + 2))
+    by_leaves nothing h = omega arith
+    by_leaves empty h = omega arith
+    by_leaves (leaf l) h = omega arith
+    by_leaves (dot n a b) h = few_step (pass_gates (dot n a b)) (slack (dot n a b)) (leaves (dot n a b)) (few_of (dot n a b) refl h).pass
+    by_leaves (either n a b) h = few_step (pass_gates (either n a b)) (slack (either n a b)) (leaves (either n a b)) (few_of (either n a b) refl h).pass
+    by_leaves (many a) h = few_step (pass_gates (many a)) (slack (many a)) (leaves (many a)) (few_of (many a) refl h).pass
+    by_leaves (maybe a) h = few_step (pass_gates (maybe a)) (slack (maybe a)) (leaves (maybe a)) (few_of (maybe a) refl h).pass
 
 leaves_maybe : (t : Tree) → leaves (maybe_of t) ≡ leaves t
 leaves_maybe nothing = refl
@@ -139,7 +246,7 @@ leaves_dot nothing b = omega arith
 leaves_dot empty b = omega arith
 leaves_dot a nothing = omega arith
 leaves_dot a empty = omega arith
-leaves_dot a b = omega arith
+leaves_dot a b = omega (arith, leaves_row a b)
 
 leaves_either : (a b : Tree) → leaves (either_of a b) ≤ leaves a + leaves b
 leaves_either nothing b = omega arith

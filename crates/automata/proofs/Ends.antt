@@ -3,7 +3,7 @@ use Rattle.std.proofs.Common.{◌≡◌, ℕ, zero, suc, ◌+◌, ◌≤◌, ◌
 use Rattle.std.proofs.lemmas.Bool.{and_parts, or_cases, and_from, true≢false, false≢true, cases_lt}
 use Rattle.std.proofs.lemmas.List.{take_at, drop_at, length-take-le, length-drop, take-append-drop}
 use Rattle.patterns.specs.Match.{Step, Turns}
-use Rattle.automata.specs.Tree.{Tree, nothing, empty, leaf, dot, either, many, maybe, Match, leaves, Sized, alone, ended, marks_after, Ends, Good, first_of_marks}
+use Rattle.automata.specs.Tree.{Tree, nothing, empty, leaf, dot, either, many, maybe, Match, leaves, Sized, alone, ended, marks_after, Ends, Good, first_of_marks, AllNo}
 
 or_left : (x y : Bool) → x ≡ true → (x || y) ≡ true
 or_left true y h = refl
@@ -24,9 +24,9 @@ module _ (path : ℕ → Step ℕ) where
   match_up empty i j h = omega arith
   match_up (leaf l) i j (inl (e, s)) = omega arith
   match_up (leaf l) i j (inr (e, s)) = omega arith
-  match_up (dot n k a b) i j (m, (f, g)) = let x = match_up a i m f in let y = match_up b m j g in omega arith
-  match_up (either n k a b) i j (inl h) = match_up a i j h
-  match_up (either n k a b) i j (inr h) = match_up b i j h
+  match_up (dot n a b) i j (m, (f, g)) = let x = match_up a i m f in let y = match_up b m j g in omega arith
+  match_up (either n a b) i j (inl h) = match_up a i j h
+  match_up (either n a b) i j (inr h) = match_up b i j h
   match_up (many a) i j (c, h) = turns_up a (match_up a) c i j h
   match_up (maybe a) i j (inl e) = omega arith
   match_up (maybe a) i j (inr h) = match_up a i j h
@@ -40,7 +40,7 @@ module _ (path : ℕ → Step ℕ) where
   alone_is nothing n = (λ e. absurd (false≢true e), λ h. absurd h)
   alone_is empty n = (λ e. refl, λ h. refl)
   alone_is (leaf l) n = (λ e. inl (refl, e), λ h. elim h [ inl (e, s) ↦ s | inr (e, s) ↦ absurd (omega arith) ])
-  alone_is (dot p k a b) n = (
+  alone_is (dot p a b) n = (
     λ e. let x = and_parts _ _ e in (n, ((alone_is a n).0 x.0, (alone_is b n).0 x.1)),
     λ (m, (f, g)). let x = match_up a n m f in let y = match_up b m n g in
         let e : m ≡ n = omega arith in
@@ -48,7 +48,7 @@ module _ (path : ℕ → Step ℕ) where
         let g' : Match path b n n = subst (λ v. Match path b v n) e g in
         and_from _ _ ((alone_is a n).1 f') ((alone_is b n).1 g'),
   )
-  alone_is (either p k a b) n = (
+  alone_is (either p a b) n = (
     λ e. elim (or_cases _ _ e) [ inl x ↦ inl ((alone_is a n).0 x) | inr x ↦ inr ((alone_is b n).0 x) ],
     λ h. elim h [ inl x ↦ or_left _ _ ((alone_is a n).1 x) | inr x ↦ or_right (alone (path n) a) _ ((alone_is b n).1 x) ],
   )
@@ -84,7 +84,7 @@ module _ (path : ℕ → Step ℕ) where
   ended_is nothing Begin n ms good = (λ e. absurd (false≢true e), λ (i, (lt, (b, h))). absurd h)
   ended_is empty Begin n ms good = (λ e. absurd (false≢true e), λ (i, (lt, (b, h))). absurd (omega arith))
   ended_is (leaf l) Begin n ms good = leaf_ended l Begin n ms good
-  ended_is (dot p k a b) Begin n ms good =
+  ended_is (dot p a b) Begin n ms good =
       let left = ended_is a Begin n (take p ms) good.0 in
       let right = ended_is b (Ends path a Begin) n (drop p ms) good.1 in (
         λ e. elim (or_cases _ _ e) [
@@ -98,7 +98,7 @@ module _ (path : ℕ → Step ℕ) where
               or_right (ended (path n) b (drop p ms)) _ (and_from _ _ (left.1 (i, (lt, (begins, subst (λ v. Match path a i v) e f)))) ((alone_is b n).1 (subst (λ v. Match path b v n) e g)))
         ],
       )
-  ended_is (either p k a b) Begin n ms good =
+  ended_is (either p a b) Begin n ms good =
       let left = ended_is a Begin n (take p ms) good.0 in
       let right = ended_is b Begin n (drop p ms) good.1 in (
         λ e. elim (or_cases _ _ e) [
@@ -159,11 +159,11 @@ pub length-marks_after : (s : Step ℕ) (guard : Bool) (t : Tree) (begin : Bool)
 length-marks_after s guard nothing begin ms = refl
 length-marks_after s guard empty begin ms = refl
 length-marks_after s guard (leaf l) begin ms = refl
-length-marks_after s guard (dot n k a b) begin ms =
+length-marks_after s guard (dot n a b) begin ms =
     let x = length-marks_after s guard a begin (take n ms) in
     let y = length-marks_after s guard b (ended s a (take n ms) || (begin && alone s a)) (drop n ms) in
     simp length-append (omega arith)
-length-marks_after s guard (either n k a b) begin ms =
+length-marks_after s guard (either n a b) begin ms =
     let x = length-marks_after s guard a begin (take n ms) in
     let y = length-marks_after s guard b begin (drop n ms) in
     simp length-append (omega arith)
@@ -180,31 +180,31 @@ module _ (path : ℕ → Step ℕ) where
   good_step nothing Begin n begin ms sized good here = tt
   good_step empty Begin n begin ms sized good here = tt
   good_step (leaf l) Begin n begin ms sized good here = here
-  good_step (dot p k a b) Begin n begin ms sized good here =
+  good_step (dot p a b) Begin n begin ms sized good here =
       two_good p (Good path a Begin (suc n)) (Good path b (Ends path a Begin) (suc n)) (marks_after (path n) true a begin (take p ms))
       (marks_after (path n) true b (ended (path n) a (take p ms) || (begin && alone (path n) a)) (drop p ms))
       (length-marks_after (path n) true a begin (take p ms) ∙ sym sized.0)
-      (good_step a Begin n begin (take p ms) sized.1.1.0 good.0 here)
-      (good_step b (Ends path a Begin) n _ (drop p ms) sized.1.1.1 good.1 (ends_is path a Begin n begin (take p ms) good.0 here))
-  good_step (either p k a b) Begin n begin ms sized good here =
+      (good_step a Begin n begin (take p ms) sized.1.0 good.0 here)
+      (good_step b (Ends path a Begin) n _ (drop p ms) sized.1.1 good.1 (ends_is path a Begin n begin (take p ms) good.0 here))
+  good_step (either p a b) Begin n begin ms sized good here =
       two_good p (Good path a Begin (suc n)) (Good path b Begin (suc n)) (marks_after (path n) true a begin (take p ms)) (marks_after (path n) true b begin (drop p ms))
       (length-marks_after (path n) true a begin (take p ms) ∙ sym sized.0)
-      (good_step a Begin n begin (take p ms) sized.1.1.0 good.0 here)
-      (good_step b Begin n begin (drop p ms) sized.1.1.1 good.1 here)
+      (good_step a Begin n begin (take p ms) sized.1.0 good.0 here)
+      (good_step b Begin n begin (drop p ms) sized.1.1 good.1 here)
   good_step (many a) Begin n begin ms sized good here =
       good_step a (Ends path (many a) Begin) n (begin || ended (path n) a ms) ms sized good (many_begins path a Begin n begin ms good here)
   good_step (maybe a) Begin n begin ms sized good here = good_step a Begin n begin ms sized good here
 
-no_leaves : (ms : List Bool) → length ms ≡ 0 → [] ≡ ms
+pub no_leaves : (ms : List Bool) → length ms ≡ 0 → [] ≡ ms
 no_leaves [] e = refl
 no_leaves (m ∷ ms) e = absurd (omega arith)
 
-one_leaf : (ms : List Bool) → length ms ≡ 1 → first_of_marks ms ∷ [] ≡ ms
+pub one_leaf : (ms : List Bool) → length ms ≡ 1 → first_of_marks ms ∷ [] ≡ ms
 one_leaf [] e = absurd (omega arith)
 one_leaf (m ∷ []) e = refl
 one_leaf (m ∷ k ∷ ms) e = absurd (omega arith)
 
-two_same : (p l r : ℕ) (ms xs ys : List Bool) → length ms ≡ l + r → p ≡ l → (length (take p ms) ≡ l → xs ≡ take p ms) → (length (drop p ms) ≡ r → ys ≡ drop p ms) → xs ++ ys ≡ ms
+pub two_same : (p l r : ℕ) (ms xs ys : List Bool) → length ms ≡ l + r → p ≡ l → (length (take p ms) ≡ l → xs ≡ take p ms) → (length (drop p ms) ≡ r → ys ≡ drop p ms) → xs ++ ys ≡ ms
 two_same p l r ms xs ys e pl x y =
     let f : length (take p ms) ≡ l = omega (arith, length-take-le p ms) in
     let g : length (drop p ms) ≡ r = omega (arith, length-drop p ms) in
@@ -215,24 +215,19 @@ pub marks_stay : (s : Step ℕ) (t : Tree) (begin : Bool) (ms : List Bool) → S
 marks_stay s nothing begin ms sized e = no_leaves ms e
 marks_stay s empty begin ms sized e = no_leaves ms e
 marks_stay s (leaf l) begin ms sized e = one_leaf ms e
-marks_stay s (dot p k a b) begin ms sized e =
-    two_same p (leaves a) (leaves b) ms _ _ e sized.0 (marks_stay s a begin (take p ms) sized.1.1.0) (marks_stay s b _ (drop p ms) sized.1.1.1)
-marks_stay s (either p k a b) begin ms sized e =
-    two_same p (leaves a) (leaves b) ms _ _ e sized.0 (marks_stay s a begin (take p ms) sized.1.1.0) (marks_stay s b begin (drop p ms) sized.1.1.1)
+marks_stay s (dot p a b) begin ms sized e =
+    two_same p (leaves a) (leaves b) ms _ _ e sized.0 (marks_stay s a begin (take p ms) sized.1.0) (marks_stay s b _ (drop p ms) sized.1.1)
+marks_stay s (either p a b) begin ms sized e =
+    two_same p (leaves a) (leaves b) ms _ _ e sized.0 (marks_stay s a begin (take p ms) sized.1.0) (marks_stay s b begin (drop p ms) sized.1.1)
 marks_stay s (many a) begin ms sized e = marks_stay s a (begin || ended s a ms) ms sized e
 marks_stay s (maybe a) begin ms sized e = marks_stay s a begin ms sized e
 
--- no mark holds
-abbrev pub AllNo : List Bool → Type 0
-AllNo [] = Unit {0}
-AllNo (m ∷ ms) = (m ≡ false) × AllNo ms
-
-no_take : (n : ℕ) (ms : List Bool) → AllNo ms → AllNo (take n ms)
+pub no_take : (n : ℕ) (ms : List Bool) → AllNo ms → AllNo (take n ms)
 no_take zero ms h = tt
 no_take (suc n) [] h = tt
 no_take (suc n) (m ∷ ms) h = (h.0, no_take n ms h.1)
 
-no_drop : (n : ℕ) (ms : List Bool) → AllNo ms → AllNo (drop n ms)
+pub no_drop : (n : ℕ) (ms : List Bool) → AllNo ms → AllNo (drop n ms)
 no_drop zero ms h = h
 no_drop (suc n) [] h = tt
 no_drop (suc n) (m ∷ ms) h = no_drop n ms h.1
@@ -246,7 +241,7 @@ pub good_at_first : (path : ℕ → Step ℕ) (t : Tree) (Begin : ℕ → Type 0
 good_at_first path nothing Begin ms h = tt
 good_at_first path empty Begin ms h = tt
 good_at_first path (leaf l) Begin ms h = (λ e. absurd (true≢false (sym e ∙ no_first ms h)), λ x. absurd x)
-good_at_first path (dot p k a b) Begin ms h = (good_at_first path a Begin (take p ms) (no_take p ms h), good_at_first path b _ (drop p ms) (no_drop p ms h))
-good_at_first path (either p k a b) Begin ms h = (good_at_first path a Begin (take p ms) (no_take p ms h), good_at_first path b Begin (drop p ms) (no_drop p ms h))
+good_at_first path (dot p a b) Begin ms h = (good_at_first path a Begin (take p ms) (no_take p ms h), good_at_first path b _ (drop p ms) (no_drop p ms h))
+good_at_first path (either p a b) Begin ms h = (good_at_first path a Begin (take p ms) (no_take p ms h), good_at_first path b Begin (drop p ms) (no_drop p ms h))
 good_at_first path (many a) Begin ms h = good_at_first path a _ ms h
 good_at_first path (maybe a) Begin ms h = good_at_first path a Begin ms h

@@ -5,7 +5,7 @@ use Rattle.patterns.specs.Match as form
 use Rattle.patterns.specs.Letters.{letter_count}
 use Rattle.patterns.proofs.Forms.{form_nothing, form_letter, form_dot, form_either, form_repeat}
 use Rattle.patterns.specs.declared.letter.Letter as L
-use Rattle.automata.specs.Tree.{leaves, notes}
+use Rattle.automata.specs.Tree.{leaves}
 use Rattle.automata.specs.Unroll.{unroll, places, letters_of}
 use Rattle.automata.specs.Views.{view}
 use Rattle.automata.specs.Values.{step_gates}
@@ -31,8 +31,8 @@ module _ (node : Node) (letters : List L.Letter) (f : Form L.Letter) (viewed : v
       sizes (form.either a b) = let x = sizes a in let y = sizes b in omega (arith, length-append (letters_of a) (letters_of b))
       sizes (form.repeat a least most) = sizes a
 
-  pub is_machine : (leaf_count note_count : ℕ) → leaf_count ≡ leaves (view node) → note_count ≡ notes (view node) → IsMachine node letters leaf_count note_count
-  is_machine leaf_count note_count x y = (rw viewed (sized_unroll 0 f), (rw viewed (below_unroll (length letters) 0 f (omega (arith, count))), (x, y)))
+  pub is_machine : (leaf_count : ℕ) → leaf_count ≡ leaves (view node) → IsMachine node letters leaf_count
+  is_machine leaf_count x = (rw viewed (sized_unroll 0 f), (rw viewed (below_unroll (length letters) 0 f (omega (arith, count))), x))
 
   pub matches : (path : ℕ → Step L.Letter) (i j : ℕ) → tree.Match (λ k. numbered letters (path k)) (view node) i j ↔ form.Match path f i j
   matches path i j = rw viewed (unroll_is path letters 0 f i j (lists_in letters [] [] 0 f (gathered ∙ sym (append-nil (letters_of f))) refl))

@@ -1,9 +1,9 @@
 pub mod Ends
+pub mod OneWorld
 pub mod Passes
-pub mod TwoParts
-pub mod TwoMarks
-pub mod Paths
+pub mod Parts
 pub mod StepLaws
+pub mod Paths
 pub mod OneStep
 pub mod Acceptance
 pub mod Unrolled

@@ -2,9 +2,9 @@
 use Rattle.std.proofs.Common.{◌≡◌, ℕ, suc, ◌+◌, ◌<◌, inl, inr, ◌↔◌, Bool, true, false, ◌||◌, not, if◌then◌else◌, List, [], ◌∷◌, ◌++◌, length, refl, sym, ◌∙◌, ap, subst, arith, length-append, add-zero, zero-add}
 use Rattle.std.proofs.lemmas.Bool.{or_cases, false≢true, cases_lt}
 use Rattle.patterns.specs.Match.{Step}
-use Rattle.automata.specs.Tree.{Tree, leaves, Sized, Good, Ends, marks_after}
+use Rattle.automata.specs.Tree.{Tree, leaves, Sized, Good, Ends, marks_after, AllNo}
 use Rattle.automata.specs.Reach.{numbered, Has, MayBegin, MayEnd, Accepts, StandsFor, ends_now, hit_after, steps_after}
-use Rattle.automata.proofs.Ends.{ends_is, good_step, marks_stay, good_at_first, AllNo}
+use Rattle.automata.proofs.Ends.{ends_is, good_step, marks_stay, good_at_first}
 
 module _ {L : Type 0} (letters : List L) where
   -- a path that has one more step has those before it

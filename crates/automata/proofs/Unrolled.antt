@@ -1,10 +1,10 @@
 -- An unrolled pattern matches what the pattern matches.
-use Rattle.std.proofs.Common.{◌≡◌, ℕ, zero, suc, ◌+◌, ◌-◌, ◌≤◌, ◌<◌, ◌⊎◌, inl, inr, ◌↔◌, Bool, true, false, Option, Some, None, List, [], ◌∷◌, ◌++◌, map, length, get_or, nat_le, if◌then◌else◌, refl, sym, ◌∙◌, ap, subst, arith, add-zero, add-suc, length-append, append_assoc}
+use Rattle.std.proofs.Common.{◌≡◌, ℕ, zero, suc, ◌+◌, ◌-◌, ◌≤◌, ◌<◌, ◌⊎◌, inl, inr, ◌↔◌, Bool, true, false, Option, Some, None, List, [], ◌∷◌, ◌++◌, map, length, get_or, nat_le, nat_lt, if◌then◌else◌, refl, sym, ◌∙◌, ap, subst, arith, add-zero, add-suc, length-append, append_assoc}
 use Rattle.std.proofs.lemmas.Bool.{leb-true, leb-false, cases_lt}
 use Rattle.patterns.specs.Match.{Step, Form, Turns, LetterMatch, AtMost}
 use Rattle.patterns.specs.Match as form
-use Rattle.automata.specs.Tree.{Tree, nothing, empty, leaf, dot, either, many, maybe, Match}
-use Rattle.automata.specs.Unroll.{maybe_of, many_of, dot_of, either_of, followed, repeat_of, repeat_some, repeat_leafless, has_leaves, places, letters_of, unroll}
+use Rattle.automata.specs.Tree.{Tree, nothing, empty, leaf, dot, either, many, maybe, Match, leaves}
+use Rattle.automata.specs.Unroll.{maybe_of, many_of, dot_of, either_of, followed, repeat_of, repeat_some, repeat_leafless, has_leaves, places, letters_of, unroll, sized_dot, row_of}
 use Rattle.automata.specs.Reach.{numbered}
 
 -- what holds of one holds of the other
@@ -58,8 +58,8 @@ module _ (path : ℕ → Step ℕ) where
   maybe_is nothing i j = (λ e. inl e, λ h. elim h [ inl e ↦ e | inr o ↦ absurd o ])
   maybe_is empty i j = (λ e. inl e, λ h. elim h [ inl e ↦ e | inr e ↦ e ])
   maybe_is (leaf l) i j = iff_self
-  maybe_is (dot n k a b) i j = iff_self
-  maybe_is (either n k a b) i j = iff_self
+  maybe_is (dot n a b) i j = iff_self
+  maybe_is (either n a b) i j = iff_self
   maybe_is (many a) i j = (λ h. inr h, λ h. elim h [ inl e ↦ (zero, e) | inr m ↦ m ])
   maybe_is (maybe a) i j = (λ h. inr h, λ h. elim h [ inl e ↦ inl e | inr m ↦ m ])
 
@@ -67,8 +67,8 @@ module _ (path : ℕ → Step ℕ) where
   many_is nothing i j = (λ e. (zero, e), λ (c, t). turns_of_none c i j t)
   many_is empty i j = (λ e. (zero, e), λ (c, t). turns_of_same c i j t)
   many_is (leaf l) i j = iff_self
-  many_is (dot n k a b) i j = iff_self
-  many_is (either n k a b) i j = iff_self
+  many_is (dot n a b) i j = iff_self
+  many_is (either n a b) i j = iff_self
   many_is (many a) i j = (λ h. (1, one_turn (Match path (many a)) i j h), λ (c, t). turns_of_many (Match path a) c i j t)
   many_is (maybe a) i j = (λ (c, t). (c, turns_from (λ i j o. inr o) c i j t), λ (c, t). turns_of_maybe (Match path a) c i j t)
 
@@ -84,6 +84,28 @@ module _ (path : ℕ → Step ℕ) where
   dot_none : (a : Tree) (i j : ℕ) → ⊥ ↔ ((m : ℕ) × (Match path a i m × ⊥))
   dot_none a i j = (λ h. absurd h, λ (m, (h, o)). o)
 
+  iff_if : {P : Type 0} (z : Bool) (s t : Tree) (i j : ℕ) → Match path s i j ↔ P → Match path t i j ↔ P → Match path (if z then s else t) i j ↔ P
+  iff_if true s t i j x y = x
+  iff_if false s t i j x y = y
+
+  turned : (n : ℕ) (c d b r : Tree) (i j : ℕ) → ((m : ℕ) → Match path r m j ↔ ((p : ℕ) × (Match path d m p × Match path b p j)))
+      → Match path (sized_dot c r) i j ↔ ((m : ℕ) × (Match path (dot n c d) i m × Match path b m j))
+  turned n c d b r i j h = (
+    (λ (m, (x, y)). let q = (h m).0 y in (q.0, ((m, (x, q.1.0)), q.1.1))),
+    (λ (p, ((m, (x, y)), z)). (m, (x, (h m).1 (p, (y, z))))),
+  )
+
+  -- a row, whichever way it is joined
+  row_is_dots : (a b : Tree) (i j : ℕ) → Match path (row_of a b) i j ↔ ((m : ℕ) × (Match path a i m × Match path b m j))
+  row_is_dots nothing b i j = iff_self
+  row_is_dots empty b i j = iff_self
+  row_is_dots (leaf l) b i j = iff_self
+  row_is_dots (dot n c d) b i j = iff_if (nat_lt (leaves d) (leaves c)) (sized_dot c (row_of d b)) (sized_dot (dot n c d) b) i j
+      (turned n c d b (row_of d b) i j (λ m. row_is_dots d b m j)) iff_self
+  row_is_dots (either n c d) b i j = iff_self
+  row_is_dots (many c) b i j = iff_self
+  row_is_dots (maybe c) b i j = iff_self
+
   dot_by : (a b : Tree) (i j : ℕ) → has_leaves a ≡ true → Match path (dot_of a b) i j ↔ ((m : ℕ) × (Match path a i m × Match path b m j))
   dot_by nothing b i j h = absurd (false_is_true h)
     where
@@ -92,26 +114,26 @@ module _ (path : ℕ → Step ℕ) where
   dot_by empty b i j h = dot_left b i j
   dot_by (leaf l) nothing i j h = dot_none (leaf l) i j
   dot_by (leaf l) empty i j h = dot_right (leaf l) i j
-  dot_by (leaf l) b i j h = iff_self
-  dot_by (dot n k a c) nothing i j h = dot_none (dot n k a c) i j
-  dot_by (dot n k a c) empty i j h = dot_right (dot n k a c) i j
-  dot_by (dot n k a c) b i j h = iff_self
-  dot_by (either n k a c) nothing i j h = dot_none (either n k a c) i j
-  dot_by (either n k a c) empty i j h = dot_right (either n k a c) i j
-  dot_by (either n k a c) b i j h = iff_self
+  dot_by (leaf l) b i j h = row_is_dots (leaf l) b i j
+  dot_by (dot n a c) nothing i j h = dot_none (dot n a c) i j
+  dot_by (dot n a c) empty i j h = dot_right (dot n a c) i j
+  dot_by (dot n a c) b i j h = row_is_dots (dot n a c) b i j
+  dot_by (either n a c) nothing i j h = dot_none (either n a c) i j
+  dot_by (either n a c) empty i j h = dot_right (either n a c) i j
+  dot_by (either n a c) b i j h = row_is_dots (either n a c) b i j
   dot_by (many a) nothing i j h = dot_none (many a) i j
   dot_by (many a) empty i j h = dot_right (many a) i j
-  dot_by (many a) b i j h = iff_self
+  dot_by (many a) b i j h = row_is_dots (many a) b i j
   dot_by (maybe a) nothing i j h = dot_none (maybe a) i j
   dot_by (maybe a) empty i j h = dot_right (maybe a) i j
-  dot_by (maybe a) b i j h = iff_self
+  dot_by (maybe a) b i j h = row_is_dots (maybe a) b i j
 
   pub dot_is : (a b : Tree) (i j : ℕ) → Match path (dot_of a b) i j ↔ ((m : ℕ) × (Match path a i m × Match path b m j))
   dot_is nothing b i j = (λ h. absurd h, λ (m, (h, o)). h)
   dot_is empty b i j = dot_left b i j
   dot_is (leaf l) b i j = dot_by (leaf l) b i j refl
-  dot_is (dot n k a c) b i j = dot_by (dot n k a c) b i j refl
-  dot_is (either n k a c) b i j = dot_by (either n k a c) b i j refl
+  dot_is (dot n a c) b i j = dot_by (dot n a c) b i j refl
+  dot_is (either n a c) b i j = dot_by (either n a c) b i j refl
   dot_is (many a) b i j = dot_by (many a) b i j refl
   dot_is (maybe a) b i j = dot_by (maybe a) b i j refl
 
@@ -127,12 +149,12 @@ module _ (path : ℕ → Step ℕ) where
   either_is (leaf l) nothing i j = either_none (leaf l) i j
   either_is (leaf l) empty i j = either_empty (leaf l) i j
   either_is (leaf l) b i j = iff_self
-  either_is (dot n k a c) nothing i j = either_none (dot n k a c) i j
-  either_is (dot n k a c) empty i j = either_empty (dot n k a c) i j
-  either_is (dot n k a c) b i j = iff_self
-  either_is (either n k a c) nothing i j = either_none (either n k a c) i j
-  either_is (either n k a c) empty i j = either_empty (either n k a c) i j
-  either_is (either n k a c) b i j = iff_self
+  either_is (dot n a c) nothing i j = either_none (dot n a c) i j
+  either_is (dot n a c) empty i j = either_empty (dot n a c) i j
+  either_is (dot n a c) b i j = iff_self
+  either_is (either n a c) nothing i j = either_none (either n a c) i j
+  either_is (either n a c) empty i j = either_empty (either n a c) i j
+  either_is (either n a c) b i j = iff_self
   either_is (many a) nothing i j = either_none (many a) i j
   either_is (many a) empty i j = either_empty (many a) i j
   either_is (many a) b i j = iff_self
@@ -210,8 +232,8 @@ module _ (path : ℕ → Step ℕ) where
           (λ e. (suc least, (omega arith, (small, subst (λ v. Turns (λ x y. x ≡ y) (suc least) i v) e (turns_stay (suc least) i)))), λ (c, (le, (high, t))). turns_of_same c i j t)
       leafless_at false small_if large_if = let large = large_if refl in (λ o. absurd o, λ (c, (le, (high, t))). absurd (omega arith))
   leafless_is (leaf l) least most i j h = cc
-  leafless_is (dot n k a b) least most i j h = cc
-  leafless_is (either n k a b) least most i j h = cc
+  leafless_is (dot n a b) least most i j h = cc
+  leafless_is (either n a b) least most i j h = cc
   leafless_is (many a) least most i j h = cc
   leafless_is (maybe a) least most i j h = cc
 

@@ -1,5 +1,6 @@
 pub mod Tree
 pub mod Values
+pub mod Passing
 pub mod Views
 pub mod Machine
 pub mod Guards

@@ -3,7 +3,7 @@ use Rattle.std.specs.Prelude.{◌≡◌, ℕ, zero, suc, ◌+◌, ◌<◌, ◌�
 use Rattle.patterns.specs.Match.{Step, Form, Match}
 use Rattle.patterns.specs.declared.letter.Letter.{Letter}
 use Rattle.circuit.specs.Truth.{World}
-use Rattle.automata.specs.Tree.{leaves, notes}
+use Rattle.automata.specs.Tree.{leaves}
 use Rattle.automata.specs.Tree as tree
 use Rattle.automata.specs.Values.{at, step_gates}
 use Rattle.automata.specs.Views.{view}
@@ -23,9 +23,6 @@ pub record IsOf (nfa : Nfa Letter) (pattern : Form Letter) (first last : Bool) :
 
 -- the bits of a reach that isn't spent are bits of this truth, as many as the automaton needs
 pub record Ready {T B : Type 0} (is_bit : T → B → Type 0) (t : T) (nfa : Nfa Letter) (reach : ReachBits B) : Type 0 where
-  pub edges_fit : length reach.edges.items ≡ length nfa.letters
-  pub states_fit : length reach.states.items ≡ length nfa.letters
-  pub notes_fit : length reach.found.items ≡ notes (view nfa.node)
   pub marks_fit : length reach.marks.items ≡ leaves (view nfa.node)
   pub mark_bits : All (is_bit t) reach.marks.items
   pub hit_bit : is_bit t reach.hit

@@ -14,9 +14,6 @@ use Rattle.circuit.specs.Bits.{at_same, bits_stay}
 module _ {T B : Type 0} {is_bit : T → B → Type 0} {holds : T → B → World → Bool} {old new : T} (e : Extends is_bit holds old new) (nfa : Nfa Letter) (reach : ReachBits B) where
   still_ready : Ready is_bit old nfa reach → Ready is_bit new nfa reach
   still_ready ready = record {
-    edges_fit = ready.edges_fit;
-    states_fit = ready.states_fit;
-    notes_fit = ready.notes_fit;
     marks_fit = ready.marks_fit;
     mark_bits = bits_stay reach.marks.items e ready.mark_bits;
     hit_bit = e.bit reach.hit ready.hit_bit;

@@ -2,13 +2,13 @@
 use Rattle.std.specs.Prelude.{◌≡◌, ℕ, zero, suc, ◌+◌, ◌<◌, ◌⊎◌, ◌↔◌, Bool, true, false, ◌&&◌, ◌||◌, if◌then◌else◌, List, [], ◌∷◌, ◌++◌, take, drop, slice_index_or}
 use Rattle.patterns.specs.Match.{Step, Turns, LetterMatch}
 
--- an unrolled pattern over the numbers of letters. A node with two parts knows how many leaves and notes its left part has
+-- an unrolled pattern over the numbers of letters. A node with two parts knows how many leaves its left part has
 pub data Tree : Type 0 where
   nothing : Tree
   empty : Tree
   leaf : ℕ → Tree
-  dot : ℕ → ℕ → Tree → Tree → Tree
-  either : ℕ → ℕ → Tree → Tree → Tree
+  dot : ℕ → Tree → Tree → Tree
+  either : ℕ → Tree → Tree → Tree
   many : Tree → Tree
   maybe : Tree → Tree
 
@@ -17,8 +17,8 @@ abbrev pub Match : (ℕ → Step ℕ) → Tree → ℕ → ℕ → Type 0
 Match path nothing i j = ⊥
 Match path empty i j = i ≡ j
 Match path (leaf l) i j = LetterMatch path l i j
-Match path (dot n k a b) i j = (m : ℕ) × (Match path a i m × Match path b m j)
-Match path (either n k a b) i j = Match path a i j ⊎ Match path b i j
+Match path (dot n a b) i j = (m : ℕ) × (Match path a i m × Match path b m j)
+Match path (either n a b) i j = Match path a i j ⊎ Match path b i j
 Match path (many a) i j = (c : ℕ) × Turns (Match path a) c i j
 Match path (maybe a) i j = (i ≡ j) ⊎ Match path a i j
 
@@ -26,27 +26,17 @@ abbrev pub leaves : Tree → ℕ
 leaves nothing = 0
 leaves empty = 0
 leaves (leaf l) = 1
-leaves (dot n k a b) = leaves a + leaves b
-leaves (either n k a b) = leaves a + leaves b
+leaves (dot n a b) = leaves a + leaves b
+leaves (either n a b) = leaves a + leaves b
 leaves (many a) = leaves a
 leaves (maybe a) = leaves a
-
--- the nodes that keep a note of what the pass upwards found
-abbrev pub notes : Tree → ℕ
-notes nothing = 0
-notes empty = 0
-notes (leaf l) = 0
-notes (dot n k a b) = 1 + (notes a + notes b)
-notes (either n k a b) = notes a + notes b
-notes (many a) = 1 + notes a
-notes (maybe a) = notes a
 
 abbrev pub Sized : Tree → Type 0
 Sized nothing = Unit {0}
 Sized empty = Unit {0}
 Sized (leaf l) = Unit {0}
-Sized (dot n k a b) = (n ≡ leaves a) × ((k ≡ notes a) × (Sized a × Sized b))
-Sized (either n k a b) = (n ≡ leaves a) × ((k ≡ notes a) × (Sized a × Sized b))
+Sized (dot n a b) = (n ≡ leaves a) × (Sized a × Sized b)
+Sized (either n a b) = (n ≡ leaves a) × (Sized a × Sized b)
 Sized (many a) = Sized a
 Sized (maybe a) = Sized a
 
@@ -55,8 +45,8 @@ abbrev pub alone : Step ℕ → Tree → Bool
 alone s nothing = false
 alone s empty = true
 alone s (leaf l) = s.state l
-alone s (dot n k a b) = alone s a && alone s b
-alone s (either n k a b) = alone s a || alone s b
+alone s (dot n a b) = alone s a && alone s b
+alone s (either n a b) = alone s a || alone s b
 alone s (many a) = true
 alone s (maybe a) = true
 
@@ -68,19 +58,34 @@ abbrev pub ended : Step ℕ → Tree → List Bool → Bool
 ended s nothing ms = false
 ended s empty ms = false
 ended s (leaf l) ms = first_of_marks ms && s.edge l
-ended s (dot n k a b) ms = ended s b (drop n ms) || (ended s a (take n ms) && alone s b)
-ended s (either n k a b) ms = ended s a (take n ms) || ended s b (drop n ms)
+ended s (dot n a b) ms = ended s b (drop n ms) || (ended s a (take n ms) && alone s b)
+ended s (either n a b) ms = ended s a (take n ms) || ended s b (drop n ms)
 ended s (many a) ms = ended s a ms
 ended s (maybe a) ms = ended s a ms
+
+-- no mark holds
+abbrev pub AllNo : List Bool → Type 0
+AllNo [] = Unit {0}
+AllNo (m ∷ ms) = (m ≡ false) × AllNo ms
+
+-- the marks with those of the leaves that may begin besides, where the guard holds and the whole may begin besides
+abbrev pub marks_with : Step ℕ → Bool → Tree → Bool → List Bool → List Bool
+marks_with s guard nothing begin ms = ms
+marks_with s guard empty begin ms = ms
+marks_with s guard (leaf l) begin ms = (first_of_marks ms || (guard && begin)) ∷ []
+marks_with s guard (dot n a b) begin ms = marks_with s guard a begin (take n ms) ++ marks_with s guard b (begin && alone s a) (drop n ms)
+marks_with s guard (either n a b) begin ms = marks_with s guard a begin (take n ms) ++ marks_with s guard b begin (drop n ms)
+marks_with s guard (many a) begin ms = marks_with s guard a begin ms
+marks_with s guard (maybe a) begin ms = marks_with s guard a begin ms
 
 -- the new marks where the guard holds and the whole may begin at the newest state or not; the old ones where it doesn't
 abbrev pub marks_after : Step ℕ → Bool → Tree → Bool → List Bool → List Bool
 marks_after s guard nothing begin ms = []
 marks_after s guard empty begin ms = []
 marks_after s guard (leaf l) begin ms = (if guard then begin else first_of_marks ms) ∷ []
-marks_after s guard (dot n k a b) begin ms =
+marks_after s guard (dot n a b) begin ms =
     marks_after s guard a begin (take n ms) ++ marks_after s guard b (ended s a (take n ms) || (begin && alone s a)) (drop n ms)
-marks_after s guard (either n k a b) begin ms = marks_after s guard a begin (take n ms) ++ marks_after s guard b begin (drop n ms)
+marks_after s guard (either n a b) begin ms = marks_after s guard a begin (take n ms) ++ marks_after s guard b begin (drop n ms)
 marks_after s guard (many a) begin ms = marks_after s guard a (begin || ended s a ms) ms
 marks_after s guard (maybe a) begin ms = marks_after s guard a begin ms
 
@@ -97,8 +102,8 @@ abbrev pub Good : (ℕ → Step ℕ) → Tree → (ℕ → Type 0) → ℕ → L
 Good path nothing Begin n ms = Unit {0}
 Good path empty Begin n ms = Unit {0}
 Good path (leaf l) Begin n ms = (first_of_marks ms ≡ true) ↔ Before Begin n
-Good path (dot p k a b) Begin n ms = Good path a Begin n (take p ms) × Good path b (Ends path a Begin) n (drop p ms)
-Good path (either p k a b) Begin n ms = Good path a Begin n (take p ms) × Good path b Begin n (drop p ms)
+Good path (dot p a b) Begin n ms = Good path a Begin n (take p ms) × Good path b (Ends path a Begin) n (drop p ms)
+Good path (either p a b) Begin n ms = Good path a Begin n (take p ms) × Good path b Begin n (drop p ms)
 Good path (many a) Begin n ms = Good path a (Ends path (many a) Begin) n ms
 Good path (maybe a) Begin n ms = Good path a Begin n ms
 
@@ -107,7 +112,7 @@ abbrev pub Below : ℕ → Tree → Type 0
 Below count nothing = Unit {0}
 Below count empty = Unit {0}
 Below count (leaf l) = l < count
-Below count (dot n k a b) = Below count a × Below count b
-Below count (either n k a b) = Below count a × Below count b
+Below count (dot n a b) = Below count a × Below count b
+Below count (either n a b) = Below count a × Below count b
 Below count (many a) = Below count a
 Below count (maybe a) = Below count a

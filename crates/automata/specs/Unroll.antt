@@ -1,8 +1,8 @@
 -- A pattern, unrolled over the numbers of its letters.
-use Rattle.std.specs.Prelude.{ℕ, zero, suc, ◌+◌, ◌-◌, nat_le, if◌then◌else◌, Bool, true, false, Option, Some, None, List, [], ◌∷◌, ◌++◌}
+use Rattle.std.specs.Prelude.{ℕ, zero, suc, ◌+◌, ◌-◌, nat_le, nat_lt, if◌then◌else◌, Bool, true, false, Option, Some, None, List, [], ◌∷◌, ◌++◌}
 use Rattle.patterns.specs.Match.{Form}
 use Rattle.patterns.specs.Match as form
-use Rattle.automata.specs.Tree.{Tree, nothing, empty, leaf, dot, either, many, maybe, leaves, notes}
+use Rattle.automata.specs.Tree.{Tree, nothing, empty, leaf, dot, either, many, maybe, leaves}
 
 -- zero or one
 abbrev pub maybe_of : Tree → Tree
@@ -11,8 +11,8 @@ maybe_of empty = empty
 maybe_of (many a) = many a
 maybe_of (maybe a) = maybe a
 maybe_of (leaf l) = maybe (leaf l)
-maybe_of (dot n k a b) = maybe (dot n k a b)
-maybe_of (either n k a b) = maybe (either n k a b)
+maybe_of (dot n a b) = maybe (dot n a b)
+maybe_of (either n a b) = maybe (either n a b)
 
 -- any number
 abbrev pub many_of : Tree → Tree
@@ -21,24 +21,35 @@ many_of empty = empty
 many_of (many a) = many a
 many_of (maybe a) = many a
 many_of (leaf l) = many (leaf l)
-many_of (dot n k a b) = many (dot n k a b)
-many_of (either n k a b) = many (either n k a b)
+many_of (dot n a b) = many (dot n a b)
+many_of (either n a b) = many (either n a b)
 
 -- a tree with leaves
 abbrev pub has_leaves : Tree → Bool
 has_leaves nothing = false
 has_leaves empty = false
 has_leaves (leaf l) = true
-has_leaves (dot n k a b) = true
-has_leaves (either n k a b) = true
+has_leaves (dot n a b) = true
+has_leaves (either n a b) = true
 has_leaves (many a) = true
 has_leaves (maybe a) = true
 
 abbrev pub sized_dot : Tree → Tree → Tree
-sized_dot a b = dot (leaves a) (notes a) a b
+sized_dot a b = dot (leaves a) a b
 
 abbrev pub sized_either : Tree → Tree → Tree
-sized_either a b = either (leaves a) (notes a) a b
+sized_either a b = either (leaves a) a b
+
+-- one after the other, where both have leaves. A short end of the first is joined with the second, so that rows grow as
+-- shallow trees
+abbrev pub row_of : Tree → Tree → Tree
+row_of (dot n x y) b = if nat_lt (leaves y) (leaves x) then sized_dot x (row_of y b) else sized_dot (dot n x y) b
+row_of nothing b = sized_dot nothing b
+row_of empty b = sized_dot empty b
+row_of (leaf l) b = sized_dot (leaf l) b
+row_of (either n x y) b = sized_dot (either n x y) b
+row_of (many x) b = sized_dot (many x) b
+row_of (maybe x) b = sized_dot (maybe x) b
 
 -- one after the other
 abbrev pub dot_of : Tree → Tree → Tree
@@ -46,7 +57,7 @@ dot_of nothing b = nothing
 dot_of empty b = b
 dot_of a nothing = nothing
 dot_of a empty = a
-dot_of a b = sized_dot a b
+dot_of a b = row_of a b
 
 -- one or the other
 abbrev pub either_of : Tree → Tree → Tree

@@ -110,6 +110,5 @@ pub fn build(
         first,
         last,
         leaves: part.leaves,
-        notes: part.notes,
     })
 }

@@ -1,7 +1,7 @@
 ghost use Rattle.std.specs.Prelude.{◌≡◌, ◌+◌, IfOk};
 ghost use Rattle.automata.specs.Building.{Counted};
-ghost use Rattle.automata.specs.Tree.{dot, either, leaves, notes};
-ghost use Rattle.automata.specs.Unroll.{dot_of, either_of, maybe_of, many_of};
+ghost use Rattle.automata.specs.Tree.{dot, either, leaves};
+ghost use Rattle.automata.specs.Unroll.{row_of, dot_of, either_of, maybe_of, many_of};
 ghost use Rattle.automata.specs.Views.{view};
 
 use crate::node::Node;
@@ -24,22 +24,16 @@ pub fn sum(a: usize, b: usize) -> Result<usize, Memory>
 fn new_dot(alloc: Global, a: Part, b: Part) -> Result<Part, Memory>
     requires a { Counted a }
     requires b { Counted b }
-    ensures node { IfOk result (λ p. view p.node ≡ dot (leaves (view a.node)) (notes (view a.node)) (view a.node) (view b.node)) }
+    ensures node { IfOk result (λ p. view p.node ≡ dot (leaves (view a.node)) (view a.node) (view b.node)) }
     ensures counts { IfOk result (λ p. Counted p) }
 {
     let leaves = sum(a.leaves, b.leaves)?;
-    let notes = sum(sum(a.notes, b.notes)?, 1)?;
     let node = Node::Dot {
         leaves: a.leaves,
-        notes: a.notes,
         left: boxed(alloc, a.node)?,
         right: boxed(alloc, b.node)?,
     };
-    Ok(Part {
-        node,
-        leaves,
-        notes,
-    })
+    Ok(Part { node, leaves })
 }
 
 /// A new node for a choice.
@@ -47,22 +41,16 @@ fn new_dot(alloc: Global, a: Part, b: Part) -> Result<Part, Memory>
 fn new_either(alloc: Global, a: Part, b: Part) -> Result<Part, Memory>
     requires a { Counted a }
     requires b { Counted b }
-    ensures node { IfOk result (λ p. view p.node ≡ either (leaves (view a.node)) (notes (view a.node)) (view a.node) (view b.node)) }
+    ensures node { IfOk result (λ p. view p.node ≡ either (leaves (view a.node)) (view a.node) (view b.node)) }
     ensures counts { IfOk result (λ p. Counted p) }
 {
     let leaves = sum(a.leaves, b.leaves)?;
-    let notes = sum(a.notes, b.notes)?;
     let node = Node::Either {
         leaves: a.leaves,
-        notes: a.notes,
         left: boxed(alloc, a.node)?,
         right: boxed(alloc, b.node)?,
     };
-    Ok(Part {
-        node,
-        leaves,
-        notes,
-    })
+    Ok(Part { node, leaves })
 }
 
 /// Zero matches or one.
@@ -76,8 +64,59 @@ pub fn maybe_part(alloc: Global, a: Part) -> Result<Part, Memory>
     Ok(Part {
         node,
         leaves: a.leaves,
-        notes: a.notes,
     })
+}
+
+/// One part after the other, where both have leaves: a short end of the first is joined with the second.
+#[tactic(auto, using(crate::proofs::Passes::up_laws, crate::proofs::Building::rows), unfolding(crate::specs::Views::view))]
+fn row_part(alloc: Global, a: Part, b: Part) -> Result<Part, Memory>
+    requires a { Counted a }
+    requires b { Counted b }
+    ensures node { IfOk result (λ p. view p.node ≡ row_of (view a.node) (view b.node)) }
+    ensures counts { IfOk result (λ p. Counted p) }
+{
+    let Part {
+        node,
+        leaves: all_leaves,
+    } = a;
+    match node {
+        Node::Dot {
+            leaves,
+            left,
+            right,
+        } => {
+            let right_leaves = all_leaves - leaves;
+            if right_leaves < leaves {
+                let end = Part {
+                    node: right.into_inner(),
+                    leaves: right_leaves,
+                };
+                let end = row_part(alloc, end, b)?;
+                let start = Part {
+                    node: left.into_inner(),
+                    leaves,
+                };
+                return new_dot(alloc, start, end);
+            }
+            let node = Node::Dot {
+                leaves,
+                left,
+                right,
+            };
+            let whole = Part {
+                node,
+                leaves: all_leaves,
+            };
+            new_dot(alloc, whole, b)
+        }
+        other => {
+            let whole = Part {
+                node: other,
+                leaves: all_leaves,
+            };
+            new_dot(alloc, whole, b)
+        }
+    }
 }
 
 /// One part after the other.
@@ -94,7 +133,7 @@ pub fn dot_part(alloc: Global, a: Part, b: Part) -> Result<Part, Memory>
         Extent::Leaves => match extent_at(&b.node) {
             Extent::Never => Ok(b),
             Extent::State => Ok(a),
-            Extent::Leaves => new_dot(alloc, a, b),
+            Extent::Leaves => row_part(alloc, a, b),
         },
     }
 }

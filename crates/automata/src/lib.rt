@@ -13,20 +13,21 @@
 #![tactic(auto)]
 
 mod construction;
-mod down;
+mod enter;
+mod guard;
+mod idle;
 mod join;
 pub mod laws;
+mod leaf;
 mod meaning;
 mod nfa;
 mod node;
-mod note;
 mod part;
+mod pass;
 mod reach;
 mod reach_bits;
-mod read;
 mod step;
 mod unroll;
-mod up;
 
 pub use construction::build;
 pub use meaning::StepMeaning;

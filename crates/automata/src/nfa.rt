@@ -11,6 +11,5 @@ pub struct Nfa<L> {
     pub(crate) first: bool,
     pub(crate) last: bool,
     pub(crate) leaves: usize,
-    pub(crate) notes: usize,
-    pub ghost fits: { IsMachine node letters leaves notes } by { IsMachine-prop node letters leaves notes },
+    pub ghost fits: { IsMachine node letters leaves } by { IsMachine-prop node letters leaves },
 }

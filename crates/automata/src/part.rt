@@ -8,12 +8,11 @@ use circuit::Memory;
 use containers::Boxed;
 use std::alloc::Global;
 
-/// A part of an unrolled pattern, and how many leaves and notes it has.
+/// A part of an unrolled pattern, and how many leaves it has.
 #[derive(Debug, Drop)]
 pub struct Part {
     pub node: Node,
     pub leaves: usize,
-    pub notes: usize,
 }
 
 /// What a part can match: no segment, one state alone, or something with leaves.
@@ -54,7 +53,6 @@ pub fn copy(alloc: Global, node: &Node) -> Result<Node, Memory>
         Node::Leaf(letter) => Ok(Node::Leaf(*letter)),
         Node::Dot {
             leaves,
-            notes,
             left,
             right,
         } => {
@@ -62,14 +60,12 @@ pub fn copy(alloc: Global, node: &Node) -> Result<Node, Memory>
             let right = boxed(alloc, copy(alloc, right)?)?;
             Ok(Node::Dot {
                 leaves: *leaves,
-                notes: *notes,
                 left,
                 right,
             })
         }
         Node::Either {
             leaves,
-            notes,
             left,
             right,
         } => {
@@ -77,7 +73,6 @@ pub fn copy(alloc: Global, node: &Node) -> Result<Node, Memory>
             let right = boxed(alloc, copy(alloc, right)?)?;
             Ok(Node::Either {
                 leaves: *leaves,
-                notes: *notes,
                 left,
                 right,
             })

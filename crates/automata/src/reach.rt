@@ -5,10 +5,9 @@ ghost use Rattle.circuit.specs.Truth.{World, Extends, HasRoom};
 ghost use Rattle.automata.specs.Reach.{told, steps_after};
 ghost use Rattle.automata.specs.Standing.{IsOf, IsReach, IsSpent, gates_of, Stands, HasMatch};
 
-use crate::down::Guard;
+use crate::guard::Guard;
 use crate::meaning::StepMeaning;
 use crate::nfa::Nfa;
-use crate::note::Note;
 use crate::reach_bits::ReachBits;
 use crate::step::take_step;
 use circuit::{Memory, Truth};
@@ -61,9 +60,6 @@ pub fn advance<T: Truth, S: StepMeaning<T>>(
         guard,
         begin,
         reach.hit,
-        &mut reach.edges,
-        &mut reach.states,
-        &mut reach.found,
         &mut reach.marks,
     )?;
     reach.hit = hit;
@@ -147,13 +143,6 @@ pub fn begin<T: Truth, S: StepMeaning<T>>(
 {
     let no = truth.no();
     let mut marks = filled(alloc, no, nfa.leaves)?;
-    let mut states = filled(alloc, no, nfa.letters.len())?;
-    let mut edges = filled(alloc, false, nfa.letters.len())?;
-    let note = Note {
-        alone: no,
-        ended: no,
-    };
-    let mut found = filled(alloc, note, nfa.notes)?;
     let yes = truth.yes();
     let guard = Guard {
         taken: yes,
@@ -168,17 +157,11 @@ pub fn begin<T: Truth, S: StepMeaning<T>>(
         guard,
         yes,
         no,
-        &mut edges,
-        &mut states,
-        &mut found,
         &mut marks,
     )?;
     Ok(ReachBits {
         marks,
         hit,
         spent: false,
-        edges,
-        states,
-        found,
     })
 }

@@ -2,16 +2,14 @@ ghost use Rattle.std.specs.Prelude.{◌≡◌, ◌+◌, ◌≤◌, if◌then◌e
 ghost use Rattle.circuit.specs.Truth.{World, Extends, HasRoom};
 ghost use Rattle.automata.specs.Guards.{IsGuard};
 ghost use Rattle.automata.specs.Reach.{hit_after, ends_now, numbered, told};
-ghost use Rattle.automata.specs.Tree.{Sized, Below, leaves, notes, marks_after};
+ghost use Rattle.automata.specs.Tree.{Sized, Below, leaves, marks_after};
 ghost use Rattle.automata.specs.Values.{at, step_gates};
 ghost use Rattle.automata.specs.Views.{view};
 
-use crate::down::{Guard, after_first, choose, down};
+use crate::guard::{Guard, choose};
 use crate::meaning::StepMeaning;
 use crate::node::Node;
-use crate::note::Note;
-use crate::read::read_letters;
-use crate::up::up;
+use crate::pass::pass;
 use circuit::{Memory, Truth};
 use patterns::Letter;
 
@@ -42,7 +40,7 @@ pub fn next_hit<T: Truth>(
 }
 
 /// One more step, in the worlds where it is taken: the new marks, and whether some match has been found.
-#[tactic(auto, using(crate::proofs::Passes::down_laws))]
+#[tactic(auto, using(crate::proofs::Passes::pass_laws))]
 pub fn take_step<T: Truth, S: StepMeaning<T>>(
     truth: &mut T,
     node: &Node,
@@ -52,22 +50,16 @@ pub fn take_step<T: Truth, S: StepMeaning<T>>(
     guard: Guard<T::Bit>,
     begin: T::Bit,
     hit: T::Bit,
-    edges: &mut [bool],
-    states: &mut [T::Bit],
-    found: &mut [Note<T::Bit>],
     marks: &mut [T::Bit],
 ) -> Result<T::Bit, Memory>
     requires sized { Sized (view node.now) }
+    requires marks { length marks.old ≡ leaves (view node.now) }
+    requires mark_bits { All (T.is_bit truth.old) marks.old }
     requires letters { Below (length letters.now) (view node.now) }
     requires fits { S.fits truth.old step.now }
     requires guard { IsGuard T.is_bit T.holds truth.old guard }
     requires begin { T.is_bit truth.old begin }
     requires hit { T.is_bit truth.old hit }
-    requires edges { length edges.old ≡ length letters.now }
-    requires states { length states.old ≡ length letters.now }
-    requires notes { length found.old ≡ notes (view node.now) }
-    requires marks { length marks.old ≡ leaves (view node.now) }
-    requires mark_bits { All (T.is_bit truth.old) marks.old }
     requires room { HasRoom T.counts_wires (T.wires truth.old + step_gates (view node.now)) }
     ensures older { Extends T.is_bit T.holds truth.old truth.new }
     ensures used { T.wires truth.new ≤ T.wires truth.old + step_gates (view node.now) }
@@ -77,10 +69,6 @@ pub fn take_step<T: Truth, S: StepMeaning<T>>(
     ensures found { IfOk result (λ h. (w : World) → T.holds truth.new h w ≡ (if T.holds truth.old guard.taken w then hit_after last (T.holds truth.old hit w) (ends_now (numbered letters.now (told S.edge_tells S.state_tells truth.old step.now w)) (view node.now) (T.holds truth.old begin w) (at T.holds truth.old marks.old w)) else T.holds truth.old hit w)) }
     ensures memory { OnErr result (IsTrue T.may_lack_memory) }
 {
-    read_letters(truth, letters, step, edges, states)?;
-    let whole = up(truth, node, edges, states, marks, found)?;
-    let end = after_first(truth, begin, whole)?;
-    let hit = next_hit(truth, last, guard, hit, end)?;
-    down(truth, node, found, guard, begin, marks)?;
-    Ok(hit)
+    let end = pass(truth, node, letters, step, guard, begin, marks)?;
+    next_hit(truth, last, guard, hit, end)
 }

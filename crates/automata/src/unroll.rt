@@ -1,12 +1,12 @@
 ghost use Rattle.std.specs.Prelude.{◌≡◌, ◌+◌, IfOk, OnOk, ◌++◌};
-ghost use Rattle.automata.specs.Building.{Counted, extent_of, more_notes};
+ghost use Rattle.automata.specs.Building.{Counted, extent_of};
 ghost use Rattle.automata.specs.declared.part.Extent.TheVariants.{State};
 ghost use Rattle.automata.specs.Tree.{nothing, empty, leaf};
 ghost use Rattle.automata.specs.Unroll.{many_of, followed, repeat_of, repeat_some, repeat_leafless, unroll, places, letters_of};
 ghost use Rattle.automata.specs.Views.{view};
 ghost use Rattle.patterns.specs.Letters.{form};
 
-use crate::join::{dot_part, either_part, maybe_part, sum};
+use crate::join::{dot_part, either_part, maybe_part};
 use crate::node::Node;
 use crate::part::{Extent, Part, copy, extent_at, many_node};
 use circuit::Memory;
@@ -23,7 +23,6 @@ fn empty_part() -> Part
     Part {
         node: Node::Empty,
         leaves: 0,
-        notes: 0,
     }
 }
 
@@ -36,7 +35,6 @@ pub fn nothing_part() -> Part
     Part {
         node: Node::Nothing,
         leaves: 0,
-        notes: 0,
     }
 }
 
@@ -49,7 +47,6 @@ pub fn leaf_part(number: u32) -> Part
     Part {
         node: Node::Leaf(number),
         leaves: 1,
-        notes: 0,
     }
 }
 
@@ -66,24 +63,10 @@ fn followed_part(alloc: Global, start: Part, turn: &Part, count: u32) -> Result<
         let next = Part {
             node: copy(alloc, &turn.node)?,
             leaves: turn.leaves,
-            notes: turn.notes,
         };
         row = dot_part(alloc, row, next)?;
     }
     Ok(row)
-}
-
-/// How many notes a repetition of this part adds.
-#[tactic(auto, using(crate::proofs::Passes::up_laws), unfolding(crate::specs::Views::view))]
-fn notes_more(node: &Node) -> usize
-    ensures { result ≡ more_notes (view node.now) }
-{
-    match node {
-        Node::Nothing => 0,
-        Node::Empty => 0,
-        Node::Many(_) => 0,
-        _ => 1,
-    }
 }
 
 /// Any number of matches.
@@ -93,12 +76,10 @@ fn many_part(alloc: Global, a: Part) -> Result<Part, Memory>
     ensures node { IfOk result (λ p. view p.node ≡ many_of (view a.node)) }
     ensures counts { IfOk result (λ p. Counted p) }
 {
-    let notes = sum(a.notes, notes_more(&a.node))?;
     let node = many_node(alloc, a.node)?;
     Ok(Part {
         node,
         leaves: a.leaves,
-        notes,
     })
 }
 

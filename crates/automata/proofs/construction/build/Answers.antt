@@ -8,7 +8,7 @@ pub invariant_of-result : goal.invariant_of-result
 invariant_of-result c = record {
   fits = is_machine c.in_ok-part.part.node c.gather.new.letters (form c.args.pattern.now) c.in_ok-part.ensures.node
       (c.in_ok-gather.ensures ∙ ap (λ xs. xs ++ letters_of (form c.args.pattern.now)) c.new-letters.ensures)
-      c.in_ok-part.part.leaves c.in_ok-part.part.notes c.in_ok-part.ensures.counts.leaves_counted c.in_ok-part.ensures.counts.notes_counted;
+      c.in_ok-part.part.leaves c.in_ok-part.ensures.counts.leaves_counted;
 }
 
 pub returns-clause-of : goal.returns-clause-of
