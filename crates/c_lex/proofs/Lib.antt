@@ -10,6 +10,7 @@ pub mod OneReadingLaws
 pub mod Runs
 pub mod Scans
 pub mod SearchingLaws
+pub mod SomeReadingLaws
 pub mod StepsLaws
 pub mod TableLaws
 pub mod TakenLaws

@@ -6,10 +6,11 @@ ghost use Rattle.std.specs.Char as char;
 ghost use Rattle.std.specs.Str.Parse.{digits_value};
 ghost use Rattle.c_values.specs.Kind.{is_in_range};
 ghost use Rattle.c_lex.specs.Forms.{constant_value};
-ghost use Rattle.c_lex.specs.Constants.{is_u, is_l, suffix_of, plain_kinds, long_kinds, kind_of_number, base_of, radix, number_in, number_of, foreign_words, foreign_words_of_1999, foreign_words_of_2011, foreign_marks, is_among, is_foreign_word, with_suffix, after_prefix, of_kind, constant_kind, word_kind, mark_kind, token_kind};
+ghost use Rattle.c_lex.specs.Constants.{is_u, is_l, suffix_of, plain_kinds, long_kinds, kind_of_number, base_of, radix, number_in, number_of, with_suffix, after_prefix, of_kind, constant_kind, word_kind, mark_kind, token_kind};
 
 use crate::bytes::{is_constant_byte, is_digit, is_letter};
 use crate::cut::rest_of;
+use crate::foreign::{is_foreign_mark, is_foreign_word};
 use crate::form::escape;
 use crate::token::TokenKind;
 use c_values::Kind;
@@ -222,54 +223,6 @@ fn value_of(base: Base, digits: &[u8]) -> Option<u64>
         }
     }
     Some(value)
-}
-
-fn is_first_foreign_word(text: &[u8]) -> bool
-    ensures { result ≡ is_among foreign_words text.now }
-{
-    text == b"struct".as_slice()
-        || text == b"union".as_slice()
-        || text == b"typedef".as_slice()
-        || text == b"float".as_slice()
-        || text == b"double".as_slice()
-        || text == b"goto".as_slice()
-        || text == b"sizeof".as_slice()
-        || text == b"volatile".as_slice()
-        || text == b"register".as_slice()
-        || text == b"auto".as_slice()
-}
-
-fn is_foreign_word_of_1999(text: &[u8]) -> bool
-    ensures { result ≡ is_among foreign_words_of_1999 text.now }
-{
-    text == b"restrict".as_slice()
-        || text == b"_Bool".as_slice()
-        || text == b"_Complex".as_slice()
-        || text == b"_Imaginary".as_slice()
-}
-
-fn is_foreign_word_of_2011(text: &[u8]) -> bool
-    ensures { result ≡ is_among foreign_words_of_2011 text.now }
-{
-    text == b"_Alignas".as_slice()
-        || text == b"_Alignof".as_slice()
-        || text == b"_Atomic".as_slice()
-        || text == b"_Generic".as_slice()
-        || text == b"_Noreturn".as_slice()
-        || text == b"_Static_assert".as_slice()
-        || text == b"_Thread_local".as_slice()
-}
-
-fn is_foreign_word(text: &[u8]) -> bool
-    ensures { result ≡ is_foreign_word text.now }
-{
-    is_first_foreign_word(text) || is_foreign_word_of_1999(text) || is_foreign_word_of_2011(text)
-}
-
-fn is_foreign_mark(text: &[u8]) -> bool
-    ensures { result ≡ is_among foreign_marks text.now }
-{
-    text == b".".as_slice() || text == b"->".as_slice() || text == b"...".as_slice()
 }
 
 #[tactic(auto, unfolding(crate::specs::Forms::constant_value))]

@@ -1,12 +1,13 @@
 // What the definitions imply.
 ghost use Rattle.c_lex.specs.Macros.{AllLoopOrEnd, LoopsHaveNoEnd};
 ghost use Rattle.c_lex.specs.NumbersOfKinds.{NumbersAreValues};
-ghost use Rattle.c_lex.specs.OneReading.{OneReading};
+ghost use Rattle.c_lex.specs.OneReading.{OneReading, SomeReading};
 
 /// Texts have one list of tokens, or one refusal: what `tokens` answers is determined by its texts, but for want of
 /// memory.
 pub fn one_reading()
-    ensures { OneReading }
+    ensures one { OneReading }
+    ensures some { SomeReading }
 {}
 
 /// A replacement in which a word is met within its own replacement has no end, and each other replacement has one

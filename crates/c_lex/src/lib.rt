@@ -11,6 +11,7 @@ mod constant;
 mod cut;
 mod directive;
 mod expand;
+mod foreign;
 mod form;
 mod laws;
 mod lexer;
@@ -22,9 +23,7 @@ mod table;
 mod take;
 mod token;
 
+pub use foreign::{is_foreign_mark, is_foreign_word};
 pub use laws::{a_loop_has_no_end, numbers_are_values, one_reading};
 pub use lexer::{are_small, tokens};
 pub use token::{SourceText, Token, TokenKind};
-
-#[cfg(test)]
-mod tests;

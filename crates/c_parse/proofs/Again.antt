@@ -21,7 +21,7 @@ use Rattle.c_parse.specs.declared.operator.Infix.TheVariants as infixes
 use Rattle.c_parse.specs.Types.{kind_of}
 use Rattle.c_parse.specs.Trees.{tree, prefixed, joined, level, prefix_mark, infix_mark}
 use Rattle.c_parse.specs.Grammar.{Text, mark, DerivesChoice, a_plain, a_choice, Derives, a_number, a_name, an_element, a_bare_call, a_call, parens, a_cast, a_prefix, an_infix, DerivesArguments, the_last, one_more, AreWords, end, word, place_of, name_token, number_token}
-use Rattle.c_parse.specs.Reading.{◌>>=◌, Read, Reader, is_type, is_mark, starts, starts_type, tail, with_word, words_of, past_words, type_at, infix_at, infix_of, by_operator, arguments_at, after_name, after_open, after_prefix, prefix_of, operand_at, operators_at, level_by, choice_by, expr_at}
+use Rattle.c_parse.specs.Reading.{◌>>=◌, Read, Reader, is_type, is_mark, starts, starts_type, tail, with_word, words_of, past_words, type_at, infix_at, infix_of, by_operator, arguments_at, after_name, after_open, prefix_of, operand_at, operators_at, level_by, choice_by, expr_at}
 use Rattle.c_parse.proofs.Steps.{Stops}
 use Rattle.c_parse.proofs.Firsts.{BeginsBy, BeginsBy-append, some_first, not_first}
 use Rattle.c_parse.proofs.Takes.{first_stays}

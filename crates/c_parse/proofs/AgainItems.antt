@@ -1,36 +1,33 @@
 -- What derives as an item is read again, whatever follows.
-use Rattle.std.proofs.Common.{◌≡◌, ℕ, zero, suc, ◌+◌, ◌≤◌, ◌<◌, Bool, true, false, List, [], ◌∷◌, ◌++◌, length, Option, Some, None, refl, sym, ap, ◌∙◌, append_assoc, arith}
+use Rattle.std.proofs.Common.{◌≡◌, suc, Bool, true, false, List, [], ◌∷◌, ◌++◌, length, Option, Some, None, refl, append_assoc, arith}
 use Rattle.std.specs.Prelude.{◌||◌}
 use Rattle.std.proofs.lemmas.List.{length-append}
 use Rattle.fq_core.specs.declared.span.Span.{Span}
 use Rattle.c_values.specs.declared.kinds.Kind.{Kind}
 use Rattle.c_parse.specs.declared.sign.Terminal.{Terminal}
-use Rattle.c_parse.specs.declared.sign.Sign.{Sign}
 use Rattle.c_parse.specs.declared.sign.Sign.TheVariants as sign
 use Rattle.c_parse.specs.declared.sign.Mark.{Mark}
 use Rattle.c_parse.specs.declared.sign.Mark.TheVariants as marks
 use Rattle.c_parse.specs.declared.expr.Ident.{Ident}
 use Rattle.c_parse.specs.declared.expr.ExprTree.{ExprTree}
-use Rattle.c_parse.specs.declared.statement.Statement.{Statement}
 use Rattle.c_parse.specs.declared.unit.Parameter.{Parameter}
 use Rattle.c_parse.specs.declared.unit.Body.{Body}
 use Rattle.c_parse.specs.declared.unit.Item.{Item}
 use Rattle.c_parse.specs.declared.unit.Item.TheVariants as item
 use Rattle.c_parse.specs.Types.{kind_of}
 use Rattle.c_parse.specs.StatementTrees.{ident}
-use Rattle.c_parse.specs.Grammar.{Text, mark, name_token, place_of, AreWords, end, word}
+use Rattle.c_parse.specs.Grammar.{Text, mark, name_token, place_of, end, word}
 use Rattle.c_parse.specs.declared.statement.Declarator.{Declarator}
 use Rattle.c_parse.specs.Separated.{DerivesSeparated, the_only, the_only_with_comma, and_others}
 use Rattle.c_parse.specs.Declarations.{DerivesType, a_type, no_bracket, in_brackets, no_first, one_first, some_first, DerivesDeclarator, a_declarator, DerivesDeclarators}
-use Rattle.c_parse.specs.Statements.{AreConsts, no_const, a_const, DerivesBody}
-use Rattle.c_parse.specs.Items.{ForFunction, static_function, extern_function, inline_function, const_function, ForVariable, static_variable, const_variable, AreAll, none_left, one_more_word, DerivesResult, nothing_given, a_kind, DerivesNamed, without_name, with_name, DerivesParameter, a_parameter, DerivesParameters, no_parameter, void_parameter, some_parameters, DerivesEnd, declared, defined, AreTag, no_tag, a_tag, DerivesConstant, plain_constant, with_value, DerivesItem, a_function, some_variables, some_constants}
-use Rattle.c_parse.specs.Reading.{Read, ◌>>=◌, is_mark, starts, starts_type, tail, expect, type_at}
-use Rattle.c_parse.specs.ReadingStatements.{choice_in, separated_at, name_at, bracketed_at, declarators_at, past_consts, body_at, statement_at}
+use Rattle.c_parse.specs.Statements.{no_const, a_const}
+use Rattle.c_parse.specs.Items.{ForFunction, static_function, extern_function, inline_function, const_function, ForVariable, static_variable, const_variable, AreAll, none_left, one_more_word, nothing_given, a_kind, DerivesNamed, without_name, with_name, DerivesParameter, a_parameter, DerivesParameters, no_parameter, void_parameter, some_parameters, DerivesEnd, declared, defined, AreTag, no_tag, a_tag, DerivesConstant, plain_constant, with_value, DerivesItem, a_function, some_variables, some_constants}
+use Rattle.c_parse.specs.Reading.{starts, starts_type, tail}
+use Rattle.c_parse.specs.ReadingStatements.{separated_at, name_at, body_at, statement_at}
 use Rattle.c_parse.specs.ReadingItems.{is_shared, is_of_functions, is_before, starts_before, past_before, for_variables, by_name, parameter_at, parameters_at, end_at, function_at, past_named, constant_at, enum_at, typed_at, void_at, item_at}
 use Rattle.c_parse.proofs.Again.{Stays, Stays_mark}
-use Rattle.c_parse.proofs.Firsts.{BeginsBy, BeginsBy-append, not_first}
 use Rattle.c_parse.proofs.TakesStatements.{type_first}
-use Rattle.c_parse.proofs.AgainParts.{choice_in_again, separated_again, bracketed_again, declarators_again, declarators_begin, begins_name, no_type_first, consts_again, type_at_again, type_no_const}
+use Rattle.c_parse.proofs.AgainParts.{choice_in_again, separated_again, bracketed_again, declarators_again, declarators_begin, no_type_first, consts_again, type_at_again, type_no_const}
 use Rattle.c_parse.proofs.AgainStatements.{body_again}
 
 -- ---- the words in front

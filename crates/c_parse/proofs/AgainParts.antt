@@ -1,7 +1,7 @@
 -- What derives as a declaration or a statement is read again.
-use Rattle.std.proofs.Common.{◌≡◌, ℕ, zero, suc, ◌+◌, ◌≤◌, ◌<◌, Bool, true, false, List, [], ◌∷◌, ◌++◌, length, Option, Some, None, refl, sym, ap, ◌∙◌, append_assoc, arith}
-use Rattle.std.specs.Prelude.{◌&&◌, ◌||◌}
-use Rattle.std.proofs.lemmas.List.{append-nil, length-append}
+use Rattle.std.proofs.Common.{◌≡◌, ℕ, zero, suc, ◌≤◌, ◌<◌, Bool, true, false, List, [], ◌∷◌, ◌++◌, length, Option, Some, None, refl, ◌∙◌, append_assoc, arith}
+use Rattle.std.specs.Prelude.{◌&&◌}
+use Rattle.std.proofs.lemmas.List.{length-append}
 use Rattle.fq_core.specs.declared.span.Span.{Span}
 use Rattle.c_values.specs.declared.kinds.Kind.{Kind}
 use Rattle.c_values.specs.declared.operators.BinaryOp.{BinaryOp}
@@ -14,22 +14,20 @@ use Rattle.c_parse.specs.declared.sign.Mark.TheVariants as marks
 use Rattle.c_parse.specs.declared.expr.ExprTree.{ExprTree}
 use Rattle.c_parse.specs.declared.statement.PlaceTree.{PlaceTree}
 use Rattle.c_parse.specs.declared.statement.Initial.{Initial}
-use Rattle.c_parse.specs.declared.statement.Initial.TheVariants as initial
 use Rattle.c_parse.specs.declared.statement.Declarator.{Declarator}
 use Rattle.c_parse.specs.declared.statement.CaseLabel.{CaseLabel}
-use Rattle.c_parse.specs.declared.statement.Group.{Group}
 use Rattle.c_parse.specs.declared.statement.Statement.{Statement}
 use Rattle.c_parse.specs.declared.statement.Form.TheVariants as form
 use Rattle.c_parse.specs.Types.{kind_of}
-use Rattle.c_parse.specs.StatementTrees.{statement, ident, place_tree, declarator, case_label, group, assigned_by, step_by}
-use Rattle.c_parse.specs.Grammar.{Text, mark, name_token, place_of, AreWords, end, word, DerivesChoice, DerivesArguments}
+use Rattle.c_parse.specs.StatementTrees.{statement, ident, place_tree, assigned_by, step_by}
+use Rattle.c_parse.specs.Grammar.{Text, mark, name_token, end, word, DerivesChoice, DerivesArguments}
 use Rattle.c_parse.specs.Separated.{DerivesSeparated, the_only, the_only_with_comma, and_others}
 use Rattle.c_parse.specs.Declarations.{DerivesType, a_type, DerivesBracketed, no_bracket, in_brackets, DerivesFirst, no_first, one_first, some_first, DerivesDeclarator, a_declarator, DerivesDeclarators}
-use Rattle.c_parse.specs.Statements.{AreConsts, no_const, a_const, DerivesPlace, a_place, DerivesSimple, an_assignment, a_step_after, a_step_before, a_bare_run, a_run, DerivesLocal, a_local, DerivesOptional, no_choice, some_choice, DerivesBegin, begins_not, begins_simple, begins_local, DerivesNext, no_next, a_next, DerivesLabel, a_case, a_default, DerivesLabels, last_label, more_labels}
-use Rattle.c_parse.specs.Reading.{Read, ◌>>=◌, is_mark, is_type, starts, starts_type, tail, expect, infix_of, type_at, arguments_at, expr_at}
-use Rattle.c_parse.specs.ReadingStatements.{choice_in, separated_at, bracketed_at, first_at, declarator_at, declarators_at, past_consts, starts_local, local_at, changed_by, changed_at, named_at, stepped_at, simple_at, test_at, optional_at, begin_at, next_at, starts_label, label_at, labels_at}
+use Rattle.c_parse.specs.Statements.{AreConsts, no_const, a_const, a_place, DerivesSimple, an_assignment, a_step_after, a_step_before, a_bare_run, a_run, DerivesLocal, a_local, DerivesOptional, no_choice, some_choice, DerivesBegin, begins_not, begins_simple, begins_local, DerivesNext, no_next, a_next, DerivesLabel, a_case, a_default, DerivesLabels, last_label, more_labels}
+use Rattle.c_parse.specs.Reading.{Read, is_mark, is_type, starts, starts_type, infix_of, type_at}
+use Rattle.c_parse.specs.ReadingStatements.{choice_in, separated_at, bracketed_at, first_at, declarator_at, declarators_at, past_consts, starts_local, local_at, changed_at, named_at, stepped_at, simple_at, test_at, optional_at, begin_at, next_at, starts_label, label_at, labels_at}
 use Rattle.c_parse.proofs.Again.{Stays, Stays_mark, choice_again, arguments_again, Choice_begins, Arguments_begin, type_again}
-use Rattle.c_parse.proofs.Firsts.{BeginsBy, BeginsBy-append, some_first as first_there, not_first}
+use Rattle.c_parse.proofs.Firsts.{BeginsBy, BeginsBy-append, not_first}
 use Rattle.c_parse.proofs.TakesStatements.{type_first}
 
 pub choice_in_again : {t : ExprTree} {xs : List Terminal} → DerivesChoice t xs → (rest : List Terminal) → Stays rest → choice_in (xs ++ rest) ≡ Some (t, rest)

@@ -1,37 +1,29 @@
 -- What derives as a statement is read again.
-use Rattle.std.proofs.Common.{◌≡◌, ℕ, zero, suc, ◌+◌, ◌≤◌, ◌<◌, Bool, true, false, List, [], ◌∷◌, ◌++◌, length, Option, Some, None, refl, sym, ap, ◌∙◌, append_assoc, arith}
-use Rattle.std.specs.Prelude.{◌&&◌, ◌||◌}
+use Rattle.std.proofs.Common.{◌≡◌, ℕ, zero, suc, ◌+◌, ◌≤◌, ◌<◌, Bool, true, false, List, [], ◌∷◌, ◌++◌, length, Option, Some, None, refl, append_assoc, arith}
+use Rattle.std.specs.Prelude.{◌||◌}
 use Rattle.std.proofs.lemmas.List.{append-nil, length-append}
 use Rattle.fq_core.specs.declared.span.Span.{Span}
-use Rattle.c_values.specs.declared.kinds.Kind.{Kind}
-use Rattle.c_values.specs.declared.operators.BinaryOp.{BinaryOp}
 use Rattle.c_parse.specs.declared.sign.Terminal.{Terminal}
-use Rattle.c_parse.specs.declared.sign.TypeWord.{TypeWord}
 use Rattle.c_parse.specs.declared.sign.Sign.{Sign}
 use Rattle.c_parse.specs.declared.sign.Sign.TheVariants as sign
 use Rattle.c_parse.specs.declared.sign.Mark.{Mark}
 use Rattle.c_parse.specs.declared.sign.Mark.TheVariants as marks
 use Rattle.c_parse.specs.declared.expr.ExprTree.{ExprTree}
-use Rattle.c_parse.specs.declared.statement.PlaceTree.{PlaceTree}
-use Rattle.c_parse.specs.declared.statement.Initial.{Initial}
-use Rattle.c_parse.specs.declared.statement.Initial.TheVariants as initial
-use Rattle.c_parse.specs.declared.statement.Declarator.{Declarator}
 use Rattle.c_parse.specs.declared.statement.CaseLabel.{CaseLabel}
 use Rattle.c_parse.specs.declared.statement.Group.{Group}
 use Rattle.c_parse.specs.declared.statement.Statement.{Statement}
 use Rattle.c_parse.specs.declared.statement.Form.TheVariants as form
 use Rattle.c_parse.specs.Types.{kind_of}
-use Rattle.c_parse.specs.StatementTrees.{statement, ident, place_tree, declarator, case_label, group, assigned_by, step_by}
-use Rattle.c_parse.specs.Grammar.{Text, mark, name_token, place_of, AreWords, end, word, DerivesChoice, DerivesArguments}
-use Rattle.c_parse.specs.Separated.{DerivesSeparated, the_only, the_only_with_comma, and_others}
-use Rattle.c_parse.specs.Declarations.{DerivesType, a_type, DerivesBracketed, no_bracket, in_brackets, DerivesFirst, no_first, one_first, some_first, DerivesDeclarator, a_declarator, DerivesDeclarators}
-use Rattle.c_parse.specs.Statements.{AreConsts, no_const, a_const, DerivesPlace, a_place, DerivesSimple, an_assignment, a_step_after, a_step_before, a_bare_run, a_run, DerivesLocal, a_local, DerivesOptional, no_choice, some_choice, DerivesBegin, begins_not, begins_simple, begins_local, DerivesNext, no_next, a_next, DerivesLabel, a_case, a_default, DerivesLabels, last_label, more_labels, DerivesStatement, a_block, an_empty, a_simple, a_label, an_if, a_while, a_do, a_for, a_switch, a_break, a_continue, a_return, an_assert, an_assume, DerivesBody, no_more, local_then, statement_then, DerivesArms, an_arm, no_else, an_else, else_if, DerivesGroups, no_group, a_group}
-use Rattle.c_parse.specs.Reading.{Read, ◌>>=◌, is_mark, is_type, starts, starts_type, tail, expect, infix_of, type_at, arguments_at, expr_at}
-use Rattle.c_parse.specs.ReadingStatements.{choice_in, separated_at, bracketed_at, first_at, declarator_at, declarators_at, past_consts, starts_local, local_at, changed_by, changed_at, named_at, stepped_at, simple_at, test_at, optional_at, begin_at, next_at, starts_label, label_at, labels_at, Reads, one_at, ends_body, body_at, groups_at, arms_at, do_at, for_at, switch_at, return_at, assert_at, assume_at, statement_of_mark, labelled_at, statement_by, statement_at}
-use Rattle.c_parse.proofs.Again.{Stays, Stays_mark, choice_again, arguments_again, Choice_begins, Arguments_begin, type_again}
+use Rattle.c_parse.specs.StatementTrees.{statement, ident, group, step_by}
+use Rattle.c_parse.specs.Grammar.{Text, mark, name_token, end, word, DerivesChoice}
+use Rattle.c_parse.specs.Declarations.{a_type}
+use Rattle.c_parse.specs.Statements.{no_const, a_const, DerivesSimple, DerivesLocal, a_local, DerivesOptional, DerivesBegin, DerivesNext, DerivesLabels, DerivesStatement, a_block, an_empty, a_simple, a_label, an_if, a_while, a_do, a_for, a_switch, a_break, a_continue, a_return, an_assert, an_assume, DerivesBody, no_more, local_then, statement_then, DerivesArms, an_arm, no_else, an_else, else_if, DerivesGroups, no_group, a_group}
+use Rattle.c_parse.specs.Reading.{Read, ◌>>=◌, is_mark, starts, expect}
+use Rattle.c_parse.specs.ReadingStatements.{starts_local, local_at, stepped_at, starts_label, labels_at, Reads, one_at, ends_body, body_at, groups_at, arms_at, do_at, for_at, switch_at, return_at, assert_at, assume_at, statement_of_mark, labelled_at, statement_by, statement_at}
+use Rattle.c_parse.proofs.Again.{Stays_mark}
 use Rattle.c_parse.proofs.Firsts.{BeginsBy, BeginsBy-append, some_first as first_there, not_first}
-use Rattle.c_parse.proofs.TakesStatements.{Closed, HasFirst, statement_first}
-use Rattle.c_parse.proofs.AgainParts.{test_again, no_type_first, no_local_first, local_again, local_starts, IsRead, by_name, by_step, simple_is_read, simple_begins, begins_simple_by, optional_again, begin_again, next_again, labels_again, labels_start}
+use Rattle.c_parse.proofs.TakesStatements.{Closed}
+use Rattle.c_parse.proofs.AgainParts.{test_again, no_local_first, local_again, local_starts, IsRead, by_name, by_step, simple_is_read, simple_begins, begins_simple_by, optional_again, begin_again, next_again, labels_again, labels_start}
 
 -- what a statement may begin with
 abbrev pub begins : Sign → Bool

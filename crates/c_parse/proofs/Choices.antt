@@ -1,5 +1,5 @@
 -- Choices that are read by a loop.
-use Rattle.std.proofs.Common.{◌≡◌, ℕ, zero, suc, true, false, List, [], ◌∷◌, ◌++◌, length, Some, None, refl, sym, ap, ◌∙◌, arith}
+use Rattle.std.proofs.Common.{◌≡◌, ℕ, suc, true, false, List, [], ◌∷◌, ◌++◌, length, Some, None, refl, sym, ap, ◌∙◌, arith}
 use Rattle.c_parse.specs.declared.sign.Terminal.{Terminal}
 use Rattle.c_parse.specs.declared.sign.Mark.TheVariants as marks
 use Rattle.c_parse.specs.declared.stop.Stop.{Stop}
@@ -7,12 +7,11 @@ use Rattle.c_parse.specs.declared.stop.Stop.TheVariants.{Memory, Syntax}
 use Rattle.c_parse.specs.declared.expr.ExprTree.{ExprTree}
 use Rattle.c_parse.specs.declared.expr.ExprForm.TheVariants as form
 use Rattle.c_parse.specs.declared.expressions.OpenChoice.{OpenChoice}
-use Rattle.fq_core.specs.declared.span.Span.{Span}
 use Rattle.c_parse.specs.Gives.{Fails}
 use Rattle.c_parse.specs.Trees.{tree}
 use Rattle.c_parse.specs.Grammar.{place_of}
 use Rattle.c_parse.specs.Choices.{closed}
-use Rattle.c_parse.specs.Reading.{Read, Reader, ◌>>=◌, starts, tail, expect, level_by, choice_by, expr_at}
+use Rattle.c_parse.specs.Reading.{Read, ◌>>=◌, starts, tail, expect, level_by, choice_by, expr_at}
 
 pub closed_last : (cs : List OpenChoice) (c : OpenChoice) (last : ExprTree) → closed (cs ++ c ∷ []) last ≡ closed cs (tree c.span (form.Choice c.test c.yes last))
 unfolding closed

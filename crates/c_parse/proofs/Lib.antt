@@ -8,6 +8,7 @@ pub mod LimitsLaws
 pub mod Loops
 pub mod LoopsItems
 pub mod LoopsStatements
+pub mod OneOutcome
 pub mod OpenStatements
 pub mod OutcomeLaws
 pub mod Steps

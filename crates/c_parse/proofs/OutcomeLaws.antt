@@ -1,13 +1,12 @@
 -- What is answered, and why.
 use Rattle.std.proofs.Common.{◌≡◌, ℕ, Bool, true, false, List, Option, Some, None, Result, Ok, Err, refl, sym, ap, subst, ◌∙◌}
-use Rattle.std.specs.Prelude.{IfOk, IfSome, IsErrOf}
+use Rattle.std.specs.Prelude.{IfOk, IsErrOf}
 use Rattle.fq_core.specs.declared.refusal.Place.{Place}
 use Rattle.fq_core.specs.declared.refusal.Place.TheVariants as place
 use Rattle.fq_core.specs.declared.refusal.Fault.{Fault}
 use Rattle.fq_core.specs.declared.refusal.Fault.TheVariants as fault
 use Rattle.c_parse.specs.declared.sign.Terminal.{Terminal}
 use Rattle.c_parse.specs.declared.expr.ExprTree.{ExprTree}
-use Rattle.c_parse.specs.Grammar.{DerivesChoice}
 use Rattle.c_parse.specs.Limits.{first_foreign, first_passed}
 use Rattle.c_parse.specs.Expression.{line_of, refusal, IsWithin, IsRefusedEarly, out_of_profile, too_deep, Spells, IsExpression, IsRefusedExpression, early, no_expression, IsUnlessMemory}
 use Rattle.c_parse.specs.Outcome.{early_of, early_cause, by_early, or_syntax, if_unsequenced, expression_outcome}

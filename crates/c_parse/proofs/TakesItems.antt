@@ -1,6 +1,6 @@
 -- What is read as an item derives from the tokens that were taken.
-use Rattle.std.proofs.Common.{◌≡◌, ℕ, zero, suc, Bool, true, false, List, [], ◌∷◌, ◌++◌, length, Option, Some, None, refl, sym, ap, subst, ◌∙◌, append_assoc}
-use Rattle.std.specs.Prelude.{IfSome, ◌||◌}
+use Rattle.std.proofs.Common.{◌≡◌, suc, Bool, true, false, List, [], ◌∷◌, ◌++◌, length, Option, Some, None, refl, sym, ap, subst, ◌∙◌, append_assoc}
+use Rattle.std.specs.Prelude.{IfSome}
 use Rattle.std.proofs.lemmas.Option.{IfSome_then}
 use Rattle.fq_core.specs.declared.span.Span.{Span}
 use Rattle.c_values.specs.declared.kinds.Kind.{Kind}
@@ -9,12 +9,10 @@ use Rattle.c_parse.specs.declared.sign.Sign.{Sign}
 use Rattle.c_parse.specs.declared.sign.Sign.TheVariants as sign
 use Rattle.c_parse.specs.declared.sign.Mark.{Mark}
 use Rattle.c_parse.specs.declared.sign.Mark.TheVariants as marks
-use Rattle.c_parse.specs.declared.unit.Item.{Item}
 use Rattle.c_parse.specs.StatementTrees.{ident}
 use Rattle.c_parse.specs.Grammar.{Text, mark, name_token, place_of}
-use Rattle.c_parse.specs.Separated.{DerivesSeparated}
 use Rattle.c_parse.specs.Items.{ForFunction, static_function, extern_function, inline_function, const_function, ForVariable, static_variable, const_variable, AreAll, none_left, one_more_word, DerivesResult, nothing_given, a_kind, DerivesNamed, without_name, with_name, DerivesParameter, a_parameter, DerivesParameters, no_parameter, void_parameter, some_parameters, DerivesEnd, declared, defined, AreTag, no_tag, a_tag, DerivesConstant, plain_constant, with_value, DerivesItem, a_function, some_variables, some_constants}
-use Rattle.c_parse.specs.Reading.{Read, ◌>>=◌, is_mark, starts, tail, expect, type_at}
+use Rattle.c_parse.specs.Reading.{starts, tail, expect, type_at}
 use Rattle.c_parse.specs.ReadingStatements.{choice_in, separated_at, name_at, bracketed_at, declarators_at, past_consts, body_at, statement_at}
 use Rattle.c_parse.specs.ReadingItems.{is_shared, is_of_functions, is_before, past_before, for_variables, by_name, parameter_at, parameters_at, end_at, function_at, past_named, constant_at, enum_at, typed_at, void_at, item_at}
 use Rattle.c_parse.proofs.Steps.{then_some, either_some, starts-true, expect_takes}

@@ -1,13 +1,13 @@
 -- All items.
-use Rattle.std.proofs.Common.{◌≡◌, ◌≢◌, ℕ, zero, suc, ◌+◌, ◌≤◌, ◌<◌, List, [], ◌∷◌, ◌++◌, length, Option, Some, None, refl, sym, ap, subst, ◌∙◌, append_assoc, arith}
+use Rattle.std.proofs.Common.{◌≡◌, ℕ, zero, suc, ◌≤◌, ◌<◌, List, [], ◌∷◌, ◌++◌, length, Option, Some, None, refl, sym, ap, subst, ◌∙◌, append_assoc, arith}
 use Rattle.std.specs.Prelude.{IfSome}
 use Rattle.std.proofs.lemmas.List.{append-nil, length-append}
 use Rattle.c_parse.specs.declared.sign.Terminal.{Terminal}
 use Rattle.c_parse.specs.declared.unit.Item.{Item}
 use Rattle.c_parse.specs.Types.{kind_of}
-use Rattle.c_parse.specs.Items.{DerivesItem, a_function, some_variables, some_constants, DerivesItems, no_items, an_item_and}
+use Rattle.c_parse.specs.Items.{DerivesItem, DerivesItems, no_items, an_item_and}
 use Rattle.c_parse.specs.UnitForm.{EndsAt}
-use Rattle.c_parse.specs.ReadingItems.{item_at, after_item, items_at, past_before, typed_at}
+use Rattle.c_parse.specs.ReadingItems.{item_at, after_item, items_at, typed_at}
 use Rattle.c_parse.specs.Reading.{type_at}
 use Rattle.c_parse.proofs.Takes.{Takes}
 use Rattle.c_parse.proofs.TakesItems.{item_takes}

@@ -1,13 +1,12 @@
 -- What is answered for a unit, and why.
-use Rattle.std.proofs.Common.{◌≡◌, ℕ, List, [], ◌∷◌, length, Option, Some, None, Result, Ok, Err, refl, sym, ap, subst, ◌∙◌}
+use Rattle.std.proofs.Common.{◌≡◌, ℕ, List, [], ◌∷◌, length, Option, Some, None, Ok, Err, refl, subst}
 use Rattle.fq_core.specs.declared.refusal.Place.{Place}
-use Rattle.fq_core.specs.declared.refusal.Fault.{Fault}
 use Rattle.c_parse.specs.declared.sign.Terminal.{Terminal}
 use Rattle.c_parse.specs.declared.unit.Item.{Item}
 use Rattle.c_parse.specs.declared.unit.Unit.{Unit as Whole}
 use Rattle.c_parse.specs.Items.{DerivesItems}
-use Rattle.c_parse.specs.Expression.{line_of, refusal, IsWithin}
-use Rattle.c_parse.specs.UnitForm.{EndsAt, IsUnit, IsRefusedUnit, early, no_item}
+use Rattle.c_parse.specs.Expression.{line_of, refusal}
+use Rattle.c_parse.specs.UnitForm.{IsUnit, IsRefusedUnit, early, no_item}
 use Rattle.c_parse.specs.Outcome.{early_cause, by_early, by_rest, unit_outcome}
 use Rattle.c_parse.specs.ReadingItems.{items_at}
 use Rattle.c_parse.proofs.OutcomeLaws.{early-none, within-none, early-some, some-early, same_refusal}

@@ -1,8 +1,7 @@
 -- Which tokens are an expression, and why others are refused.
-use Rattle.std.specs.Prelude.{◌≡◌, ℕ, false, List, Option, Some, None, Result, Ok, Err}
+use Rattle.std.specs.Prelude.{◌≡◌, ℕ, false, List, Some, None, Result, Ok, Err}
 use Rattle.fq_core.specs.declared.refusal.Place.{Place}
 use Rattle.fq_core.specs.declared.refusal.Place.TheVariants as place
-use Rattle.fq_core.specs.declared.refusal.Refusal.{Refusal}
 use Rattle.fq_core.specs.declared.refusal.Fault.{Fault}
 use Rattle.fq_core.specs.declared.refusal.Fault.TheVariants as fault
 use Rattle.c_parse.specs.declared.sign.Terminal.{Terminal}

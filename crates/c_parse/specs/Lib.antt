@@ -4,6 +4,7 @@ pub mod Expression
 pub mod Gives
 pub mod Grammar
 pub mod Items
+pub mod Laws
 pub mod Limits
 pub mod Marks
 pub mod OpenStatements

@@ -1,8 +1,7 @@
 -- Reading items from left to right. Nothing that is promised speaks of this.
-use Rattle.std.specs.Prelude.{ℕ, zero, suc, Bool, true, false, ◌&&◌, ◌||◌, if◌then◌else◌, List, [], ◌∷◌, length, Option, Some, None}
+use Rattle.std.specs.Prelude.{ℕ, zero, suc, Bool, true, false, ◌||◌, if◌then◌else◌, List, [], ◌∷◌, length, Option, Some, None}
 use Rattle.fq_core.specs.declared.span.Span.{Span}
 use Rattle.c_values.specs.declared.kinds.Kind.{Kind}
-use Rattle.c_parse.specs.declared.sign.Mark.{Mark}
 use Rattle.c_parse.specs.declared.sign.Mark.TheVariants as marks
 use Rattle.c_parse.specs.declared.sign.Sign.{Sign}
 use Rattle.c_parse.specs.declared.sign.Terminal.{Terminal}
@@ -15,7 +14,7 @@ use Rattle.c_parse.specs.declared.unit.Item.TheVariants as item
 use Rattle.c_parse.specs.Grammar.{Text, place_of}
 use Rattle.c_parse.specs.StatementTrees.{ident}
 use Rattle.c_parse.specs.Reading.{Read, ◌>>=◌, is_mark, starts, tail, expect, type_at}
-use Rattle.c_parse.specs.ReadingStatements.{choice_in, separated_at, name_of, name_at, bracketed_at, declarators_at, past_consts, body_at, statement_at}
+use Rattle.c_parse.specs.ReadingStatements.{choice_in, separated_at, name_at, bracketed_at, declarators_at, past_consts, body_at, statement_at}
 
 -- the words that the declarations of functions and of variables may begin with, those of functions alone, and what
 -- follows such words

@@ -1,5 +1,5 @@
 -- Which words name an integer type (ISO/IEC 9899:2011, 6.7.2p2).
-use Rattle.std.specs.Prelude.{ℕ, ◌+◌, Bool, true, false, ◌&&◌, ◌||◌, ◌==◌, nat_le, if◌then◌else◌, List, [], ◌∷◌, count_by, Option, Some, None, option_map}
+use Rattle.std.specs.Prelude.{ℕ, ◌+◌, Bool, true, false, ◌&&◌, ◌==◌, nat_le, if◌then◌else◌, List, [], ◌∷◌, count_by, Option, Some, None, option_map}
 use Rattle.std.specs.List.{list_all}
 use Rattle.c_values.specs.declared.kinds.Kind.{Kind}
 use Rattle.c_parse.specs.declared.sign.TypeWord.{TypeWord}

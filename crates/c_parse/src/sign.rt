@@ -1,10 +1,9 @@
 // What the grammar calls a token (ISO/IEC 9899:2011, 5.1.1.2p1, phase 7, and annex A).
 ghost use Rattle.std.specs.Prelude.{◌≡◌, find, map, IfOk};
 ghost use Rattle.std.specs.Str.{bytes_eq};
-ghost use Rattle.c_lex.specs.Constants.{is_among, foreign_words, foreign_words_of_1999, foreign_words_of_2011, foreign_marks, is_foreign_word};
 ghost use Rattle.c_parse.specs.Signs.{spelling, type_spelling, word_sign, mark_sign, sign_of, terminal_of};
 
-use c_lex::{Token, TokenKind};
+use c_lex::{Token, TokenKind, is_foreign_mark, is_foreign_word};
 use c_values::Kind;
 use fq_core::{Memory, Name, Span};
 use std::alloc::Global;
@@ -315,54 +314,6 @@ fn type_word_spelled(words: &[TypeWord], text: &[u8]) -> Option<TypeWord>
         }
     }
     None
-}
-
-fn is_first_foreign_word(text: &[u8]) -> bool
-    ensures { result ≡ is_among foreign_words text.now }
-{
-    text == b"struct".as_slice()
-        || text == b"union".as_slice()
-        || text == b"typedef".as_slice()
-        || text == b"float".as_slice()
-        || text == b"double".as_slice()
-        || text == b"goto".as_slice()
-        || text == b"sizeof".as_slice()
-        || text == b"volatile".as_slice()
-        || text == b"register".as_slice()
-        || text == b"auto".as_slice()
-}
-
-fn is_foreign_word_of_1999(text: &[u8]) -> bool
-    ensures { result ≡ is_among foreign_words_of_1999 text.now }
-{
-    text == b"restrict".as_slice()
-        || text == b"_Bool".as_slice()
-        || text == b"_Complex".as_slice()
-        || text == b"_Imaginary".as_slice()
-}
-
-fn is_foreign_word_of_2011(text: &[u8]) -> bool
-    ensures { result ≡ is_among foreign_words_of_2011 text.now }
-{
-    text == b"_Alignas".as_slice()
-        || text == b"_Alignof".as_slice()
-        || text == b"_Atomic".as_slice()
-        || text == b"_Generic".as_slice()
-        || text == b"_Noreturn".as_slice()
-        || text == b"_Static_assert".as_slice()
-        || text == b"_Thread_local".as_slice()
-}
-
-fn is_foreign_word(text: &[u8]) -> bool
-    ensures { result ≡ is_foreign_word text.now }
-{
-    is_first_foreign_word(text) || is_foreign_word_of_1999(text) || is_foreign_word_of_2011(text)
-}
-
-fn is_foreign_mark(text: &[u8]) -> bool
-    ensures { result ≡ is_among foreign_marks text.now }
-{
-    text == b".".as_slice() || text == b"->".as_slice() || text == b"...".as_slice()
 }
 
 #[tactic(auto, unfolding(crate::specs::Signs::word_sign))]

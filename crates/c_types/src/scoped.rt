@@ -4,10 +4,22 @@ ghost use Rattle.c_types.specs.Scoped.{expression_in, names_in, sort_expr};
 
 use c_parse::ExprTree;
 use cfa::{Expr, Scope, Variable};
-use containers::TryClone;
+use chains::Chain;
+use containers::{TryClone, Vector};
 use expression_types::{Bound, Cases, Meaning, Names, Scopes, Sort, Typer, copied, expr_of};
 use fq_core::Memory;
 use std::alloc::{AllocError, Global};
+
+// The variables of a scope, in a row.
+fn row_of(alloc: Global, variables: &Chain<Variable>) -> Result<Vector<Variable>, AllocError>
+    ensures { IfOk result (λ row. row ≡ variables.now) }
+{
+    let mut row = Vector::new(alloc);
+    for variable in variables.iter() {
+        row.push(copied(alloc, variable)?)?;
+    }
+    Ok(row)
+}
 
 // The names of a scope's variables, which lie there with the innermost first.
 fn names_in(alloc: Global, variables: &[Variable]) -> Result<Scopes, AllocError>
@@ -50,8 +62,9 @@ pub fn type_expression(
     if tree.has_sequence_point() {
         return Ok(None);
     }
+    let variables = row_of(alloc, &scope.variables)?;
     let mut typer = Typer {
-        bound: names_in(alloc, scope.variables.as_slice())?,
+        bound: names_in(alloc, variables.as_slice())?,
         labels: Names::new(alloc),
         cases: Cases::new(alloc),
         level: 0,

@@ -23,8 +23,6 @@ mod kinds;
 pub mod laws;
 mod operators;
 mod shifts;
-#[cfg(test)]
-mod tests;
 
 pub use arithmetic::{add, mul, neg, sub};
 pub use bitwise::{and, not, or, xor};

@@ -1,9 +1,15 @@
 -- Loops that test each element of a list. The loop goes over `ys`, which is the list `xs`.
-use Rattle.std.proofs.Common.{◌≡◌, ℕ, ◌+◌, ◌<◌, ◌≤◌, List, Some, length, get_or, sym, ap, ◌∙◌, subst, ⊎_elim, arith}
+use Rattle.std.proofs.Common.{◌≡◌, ℕ, zero, suc, ◌+◌, ◌<◌, ◌≤◌, List, [], ◌∷◌, Some, refl, length, get_or, sym, ap, ◌∙◌, subst, ⊎_elim, arith}
 use Rattle.std.specs.Prelude.{slice_get}
 use Rattle.std.proofs.lemmas.Bool.{cases_eq}
 use Rattle.std.proofs.lemmas.Option.{slice_get_read, slice_get_within, same_Some}
 use Rattle.cfa.specs.Each.{Each}
+
+-- the element at a place within
+pub element_at : {X : Type 0} (xs : List X) (i : ℕ) → i < length xs → (x : X) × (slice_get xs i ≡ Some x)
+element_at [] i h = absurd (omega (arith, h))
+element_at (x ∷ xs) zero h = (x, refl)
+element_at (x ∷ xs) (suc i) h = element_at xs i (omega (arith, h))
 
 -- P of each element below a place
 abbrev pub EachBelow : {X : Type 0} → List X → ℕ → (ℕ → X → Type 0) → Type 0

@@ -1,14 +1,16 @@
 -- The places of the elements that pass a test.
-use Rattle.std.proofs.Common.{◌≡◌, ℕ, ◌+◌, ◌<◌, Bool, true, false, List, [], ◌∷◌, ◌++◌, Some, map, take, length, get_or, refl, sym, ap, subst, ◌∙◌, arith, append_assoc, length-append, length-take, add-zero}
-use Rattle.std.specs.Prelude.{◌↔◌, ◌==◌, slice_get, cond}
+use Rattle.std.proofs.Common.{◌≡◌, ℕ, zero, suc, ◌+◌, ◌<◌, Bool, true, false, List, [], ◌∷◌, ◌++◌, Some, map, take, length, get_or, refl, sym, ap, subst, ◌∙◌, arith, append_assoc, length-append, length-take, add-zero}
+use Rattle.std.specs.Prelude.{◌↔◌, ◌==◌, Contains, slice_get, cond}
 use Rattle.std.specs.List.{filter}
 use Rattle.std.specs.Option.{IsSomeAnd}
+use Rattle.std.proofs.lemmas.Bool.{eqb-true, eq-eqb}
 use Rattle.std.proofs.lemmas.List.{take_more}
+use Rattle.std.proofs.lemmas.Option.{same_Some, slice_get_within, slice_get-get_or, get_or_from_slice_get}
 use Rattle.cfa.specs.declared.parts.Edge.{Edge}
 use Rattle.cfa.specs.declared.parts.GraphParts.{GraphParts}
 use Rattle.cfa.specs.Graph.{Continues, edges_from}
 use Rattle.cfa.specs.Table.{places_from, outgoing_of, ContinuesAt}
-use Rattle.cfa.proofs.Exits.{given}
+use Rattle.cfa.proofs.Exits.{taken, given}
 
 cond_append : (t : Bool) (n : ℕ) (ns ms : List ℕ) → cond t (n ∷ (ns ++ ms)) (ns ++ ms) ≡ cond t (n ∷ ns) ns ++ ms
 cond_append true n ns ms = refl
@@ -77,3 +79,59 @@ continues_by parts (a ∷ b ∷ c ∷ ns) (e ∷ f ∷ g ∷ es) h = (λ b. b, �
 -- a node goes on by the numbers of its edges where it does by its edges
 pub continues_tells : (parts : GraphParts) (node : ℕ) → ContinuesAt parts (outgoing_of parts node) ↔ Continues (edges_from parts node)
 continues_tells parts node = continues_by parts (outgoing_of parts node) (edges_from parts node) (picked (λ (e : Edge). e.source == node) parts.edges)
+
+-- ---- the places are those of the elements that pass
+
+module _ {X : Type 0} (test : X → Bool) where
+  shifted : (t : Bool) (n : ℕ) (ns : List ℕ) (j a : ℕ) → slice_get ns j ≡ Some a → (i : ℕ) × (slice_get (cond t (n ∷ ns) ns) i ≡ Some a)
+  shifted true n ns j a e = (suc j, e)
+  shifted false n ns j a e = (j, e)
+
+  -- the place of an element that passes is among the places
+  pub has_place : (first : ℕ) (xs : List X) (k : ℕ) (x : X) → slice_get xs k ≡ Some x → test x ≡ true → (j : ℕ) × (slice_get (places_from test first xs) j ≡ Some (first + k))
+  has_place first [] k x e t = absurd (cc)
+  has_place first (y ∷ xs) zero x e t =
+      let same : y ≡ x = same_Some y x e in
+      let yes_test : test y ≡ true = ap test same ∙ t in
+      let zero_sum : first + 0 ≡ first = omega arith in
+      (zero, ap (λ b. slice_get (cond b (first ∷ places_from test (first + 1) xs) (places_from test (first + 1) xs)) 0) yes_test ∙ ap Some (sym zero_sum))
+  has_place first (y ∷ xs) (suc k) x e t =
+      let rest = has_place (first + 1) xs k x e t in
+      let sum : first + 1 + k ≡ first + suc k = omega arith in
+      shifted (test y) first (places_from test (first + 1) xs) rest.0 (first + suc k) (rest.1 ∙ ap Some sum)
+
+  -- an element of these places passes, which is what a place means
+  abbrev pub PassesAt : ℕ → List X → ℕ → Type 0
+  PassesAt first xs a = (k : ℕ) × (x : X) × (slice_get xs k ≡ Some x) × (a ≡ first + k) × (test x ≡ true)
+
+  later_passes : (first : ℕ) (x : X) (xs : List X) (a : ℕ) → PassesAt (first + 1) xs a → PassesAt first (x ∷ xs) a
+  later_passes first x xs a p = (suc p.0, p.1, p.2, omega (arith, p.3), p.4)
+
+  pub at_place : (first : ℕ) (xs : List X) (j a : ℕ) → slice_get (places_from test first xs) j ≡ Some a → PassesAt first xs a
+  at_place first [] j a e = absurd (cc)
+  at_place first (x ∷ xs) j a e = by (λ i h. at_place (first + 1) xs i a h) (test x) refl j e
+    where
+      by : ((i : ℕ) → slice_get (places_from test (first + 1) xs) i ≡ Some a → PassesAt (first + 1) xs a) → (t : Bool) → test x ≡ t → (j : ℕ) → slice_get (cond t (first ∷ places_from test (first + 1) xs) (places_from test (first + 1) xs)) j ≡ Some a → PassesAt first (x ∷ xs) a
+      by more true t zero h = let same = same_Some first a h in (zero, x, refl, omega arith, t)
+      by more true t (suc i) h = later_passes first x xs a (more i h)
+      by more false t i h = later_passes first x xs a (more i h)
+
+-- ---- the outgoing edges of a node
+
+at_source : (parts : GraphParts) (node at : ℕ) → IsSomeAnd (slice_get parts.edges at) (λ (e : Edge). e.source ≡ node) → (e : Edge) × (slice_get parts.edges at ≡ Some e) × (e.source ≡ node)
+at_source parts node at h = taken (λ (e : Edge). e.source ≡ node) (slice_get parts.edges at) h
+
+pub outgoing_tells : (parts : GraphParts) (node at : ℕ) → Contains (outgoing_of parts node) at ↔ IsSomeAnd (slice_get parts.edges at) (λ (e : Edge). e.source ≡ node)
+outgoing_tells parts node at = (
+  λ has.
+      let read = slice_get-get_or (outgoing_of parts node) has.0 at has.1 ∙ ap Some has.2 in
+      let passes = at_place (λ (e : Edge). e.source == node) 0 parts.edges has.0 at read in
+      let is : passes.0 ≡ at = omega (arith, passes.3) in
+      given (λ (e : Edge). e.source ≡ node) (slice_get parts.edges at) passes.1 (ap (slice_get parts.edges) (sym is) ∙ passes.2) (eqb-true passes.1.source node passes.4),
+  λ leaves.
+      let there = at_source parts node at leaves in
+      let found = has_place (λ (e : Edge). e.source == node) 0 parts.edges at there.0 there.1 (eq-eqb there.0.source node there.2) in
+      let sum : 0 + at ≡ at = omega arith in
+      let read = found.1 ∙ ap Some sum in
+      (found.0, slice_get_within (outgoing_of parts node) found.0 at read, get_or_from_slice_get (outgoing_of parts node) found.0 at at read),
+)

@@ -1,5 +1,5 @@
 -- A table that gains one number at a time.
-use Rattle.std.proofs.Common.{◌≡◌, ℕ, zero, suc, ◌+◌, ◌<◌, true, false, List, [], ◌∷◌, ◌++◌, Some, take, length, get_or, refl, sym, ap, subst, ◌∙◌, inl, inr, ⊎_elim, arith, append-nil}
+use Rattle.std.proofs.Common.{◌≡◌, ℕ, zero, suc, ◌+◌, ◌<◌, true, false, List, [], ◌∷◌, ◌++◌, Some, take, length, get_or, refl, sym, ap, ◌∙◌, inl, inr, ⊎_elim, arith, append-nil}
 use Rattle.std.specs.Prelude.{◌⊎◌, ◌==◌, slice_get, slice_set, cond}
 use Rattle.std.proofs.lemmas.Bool.{eq-eqb}
 use Rattle.std.proofs.lemmas.Bool.Decides.{nat_tests}
@@ -42,9 +42,3 @@ module _ {X : Type 0} (key : X → ℕ) where
       each k row h.1 ∙ sym (append-nil (places_from (λ y. key y == k) 0 (take i xs)))
       ∙ ap (λ t. places_from (λ y. key y == k) 0 (take i xs) ++ cond t (i ∷ []) []) (sym no_test) ∙ sym step)
       (after_write rows (key x) k new row e)
-
-  -- the same, where the row's number was computed before
-  pub rows_more_at : (xs zs : List X) (same : zs ≡ xs) (i at : ℕ) (x : X) (rows : List (List ℕ)) (old new : List ℕ) → at ≡ key x → i < length zs → x ≡ get_or zs i x → at < length rows → old ≡ get_or rows at old → new ≡ old ++ (i ∷ []) → RowsAt xs i rows → RowsAt xs (i + 1) (slice_set rows at new)
-  rows_more_at xs zs same i at x rows old new is within read place was grown each =
-      let P : ℕ → Type 0 = λ n. RowsAt xs (i + 1) (slice_set rows n new) in
-      subst P (sym is) (rows_more xs zs same i x rows old new within read (omega (arith, is)) (was ∙ ap (λ n. get_or rows n old) is) grown each)

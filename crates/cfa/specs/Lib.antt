@@ -10,3 +10,4 @@ pub mod Rules
 pub mod States
 pub mod Table
 pub mod Values
+pub mod Laws

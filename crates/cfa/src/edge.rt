@@ -6,7 +6,7 @@ ghost use Rattle.cfa.specs.Graph.{room_of, IsNodeOf, callee_of, returned_call, i
 
 use crate::expr::{ArrayPlace, CellPlace, Expr};
 use crate::parts::{Edge, Function, GraphParts, Operation};
-use crate::rules::{array_fits, checked_kind, has_kind, place_fits};
+use crate::rules::{FunctionRoom, array_fits, checked_kind, has_kind, place_fits};
 use c_values::Kind;
 
 pub(crate) fn is_node_of(parts: &GraphParts, function: usize, node: u32) -> bool
@@ -89,48 +89,43 @@ fn target_fits(parts: &GraphParts, function: u32, target: u32, operation: &Opera
     }
 }
 
-fn dest_fits(parts: &GraphParts, function: &Function, dest: &Option<CellPlace>) -> bool
-    ensures { result ≡ dest_fits (room_of parts.now function.now) dest.now }
+fn dest_fits(room: &FunctionRoom<'_>, dest: &Option<CellPlace>) -> bool
+    ensures { result ≡ dest_fits room.now dest.now }
 {
     match dest {
         None => true,
-        Some(place) => place_fits(parts, function, place),
+        Some(place) => place_fits(room, place),
     }
 }
 
-fn arrays_fit(
-    parts: &GraphParts,
-    function: &Function,
-    places: &[ArrayPlace],
-    lengths: &[u32],
-) -> bool
-    ensures { result ≡ arrays_fit (room_of parts.now function.now) places.now lengths.now }
+fn arrays_fit(room: &FunctionRoom<'_>, places: &[ArrayPlace], lengths: &[u32]) -> bool
+    ensures { result ≡ arrays_fit room.now places.now lengths.now }
 {
     if places.len() != lengths.len() {
         return false;
     }
     for i in 0..places.len() {
-        if !array_fits(parts, function, places[i], lengths[i]) {
+        if !array_fits(room, places[i], lengths[i]) {
             return false;
         }
     }
     true
 }
 
-fn word_fits(parts: &GraphParts, function: &Function, word: &Expr, kind: Kind) -> bool
-    ensures { result ≡ word_fits (room_of parts.now function.now) word.now kind }
+fn word_fits(room: &FunctionRoom<'_>, word: &Expr, kind: Kind) -> bool
+    ensures { result ≡ word_fits room.now word.now kind }
 {
-    has_kind(checked_kind(parts, function, word), kind)
+    has_kind(checked_kind(room, word), kind)
 }
 
-fn words_fit(parts: &GraphParts, function: &Function, words: &[Expr], kinds: &[Kind]) -> bool
-    ensures { result ≡ words_fit (room_of parts.now function.now) words.now kinds.now }
+fn words_fit(room: &FunctionRoom<'_>, words: &[Expr], kinds: &[Kind]) -> bool
+    ensures { result ≡ words_fit room.now words.now kinds.now }
 {
     if words.len() != kinds.len() {
         return false;
     }
     for i in 0..words.len() {
-        if !word_fits(parts, function, &words[i], kinds[i]) {
+        if !word_fits(room, &words[i], kinds[i]) {
             return false;
         }
     }
@@ -138,49 +133,43 @@ fn words_fit(parts: &GraphParts, function: &Function, words: &[Expr], kinds: &[K
 }
 
 fn call_fits(
-    parts: &GraphParts,
-    function: &Function,
-    callee: u32,
+    room: &FunctionRoom<'_>,
+    callee: Option<&Function>,
     words: &[Expr],
     arrays: &[ArrayPlace],
 ) -> bool
-    ensures { result ≡ call_fits (room_of parts.now function.now) (slice_get parts.now.functions callee) words.now arrays.now }
+    ensures { result ≡ call_fits room.now (option_copied callee.entry) words.now arrays.now }
 {
-    match parts.functions.get(callee as usize) {
+    match callee {
         None => false,
         Some(callee) => {
-            words_fit(parts, function, words, &callee.parameters)
-                && arrays_fit(parts, function, arrays, &callee.arrays)
+            words_fit(room, words, &callee.parameters) && arrays_fit(room, arrays, &callee.arrays)
         }
     }
 }
 
-fn expr_fits(parts: &GraphParts, function: &Function, expr: &Expr) -> bool
-    ensures { result ≡ expr_fits (room_of parts.now function.now) expr.now }
+fn expr_fits(room: &FunctionRoom<'_>, expr: &Expr) -> bool
+    ensures { result ≡ expr_fits room.now expr.now }
 {
-    checked_kind(parts, function, expr).is_some()
+    checked_kind(room, expr).is_some()
 }
 
-fn operands_fit(parts: &GraphParts, function: &Function, operation: &Operation) -> bool
-    ensures { result ≡ operands_fit parts.now (room_of parts.now function.now) operation.now }
+fn operands_fit(parts: &GraphParts, room: &FunctionRoom<'_>, operation: &Operation) -> bool
+    ensures { result ≡ operands_fit parts.now room.now operation.now }
 {
     match operation {
         Operation::Skip => true,
-        Operation::Assign { place, value } => {
-            place_fits(parts, function, place) && expr_fits(parts, function, value)
-        }
-        Operation::Clear { array, length } => array_fits(parts, function, *array, *length),
+        Operation::Assign { place, value } => { place_fits(room, place) && expr_fits(room, value) }
+        Operation::Clear { array, length } => array_fits(room, *array, *length),
         Operation::Guard { test, .. } | Operation::Assert(test) | Operation::Assume(test) => {
-            expr_fits(parts, function, test)
+            expr_fits(room, test)
         }
         Operation::Call {
             callee,
             words,
             arrays,
-        } => call_fits(parts, function, *callee, words, arrays),
-        Operation::Return { dest, .. } | Operation::Answer { dest, .. } => {
-            dest_fits(parts, function, dest)
-        }
+        } => call_fits(room, parts.functions.get(*callee as usize), words, arrays),
+        Operation::Return { dest, .. } | Operation::Answer { dest, .. } => { dest_fits(room, dest) }
     }
 }
 
@@ -189,7 +178,10 @@ fn edge_operands_fit(parts: &GraphParts, edge: &Edge) -> bool
 {
     match parts.functions.get(edge.function as usize) {
         None => false,
-        Some(function) => operands_fit(parts, function, &edge.operation),
+        Some(function) => {
+            let room = FunctionRoom::of(parts, function);
+            operands_fit(parts, &room, &edge.operation)
+        }
     }
 }
 

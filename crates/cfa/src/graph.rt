@@ -2,12 +2,12 @@
 ghost use Rattle.std.specs.Prelude.{◌≡◌, ◌<◌, ◌↔◌, length, slice_get, IsTrue, IfOk, IfErr};
 ghost use Rattle.cfa.specs.Fault.{IsFault};
 ghost use Rattle.cfa.specs.Graph.{IsGraph, EdgesFit, RestFits};
-ghost use Rattle.cfa.specs.Names.{IsFirstNamed};
+ghost use Rattle.cfa.specs.Names.{first_named};
 ghost use Rattle.cfa.specs.Table.{outgoing_of, IsOutgoing};
 
 use crate::edge::first_ill_edge;
 use crate::fault::GraphFault;
-use crate::names::{first_named, name_rows};
+use crate::names::first_numbers;
 use crate::parts::{Edge, Function, GraphParts, InputFunction, Node, Scope};
 use crate::rest::{
     functions_fit, global_kinds_fit, inputs_fit, nodes_fit, returns_fit, scopes_fit, variables_fit,
@@ -17,6 +17,7 @@ use c_values::Kind;
 use containers::Vector;
 use fq_core::Name;
 use std::alloc::{AllocError, Global};
+use std::collections::BTreeMap;
 use std::marker::Model;
 
 /// How many cells the globals may have.
@@ -28,8 +29,8 @@ pub struct Graph {
     parts: GraphParts,
     /// By node, the numbers of the edges that leave it.
     rows: Vector<Vector<u32>>,
-    /// By a hash of their names, the numbers of the functions.
-    names: Vector<Vector<u32>>,
+    /// By name, the number of the first function that has it.
+    names: BTreeMap<Vec<u8>, u32>,
 }
 
 impl Model for Graph {
@@ -108,11 +109,11 @@ impl Graph {
         if !rest_fits(alloc, &parts, &rows)? {
             return Err(GraphFault::IllPart);
         }
-        let names = name_rows(alloc, &parts)?;
+        let names = first_numbers(alloc, &parts)?;
         Ok(Graph {
             parts,
             rows: Vector::from_vec(rows),
-            names: Vector::from_vec(names),
+            names,
         })
     }
 
@@ -189,8 +190,8 @@ impl Graph {
 
     /// The number of the defined function with this name, the least where several have it.
     pub fn function_named(&self, name: &[u8]) -> Option<u32>
-        ensures { IsFirstNamed self.now.functions name.now result }
+        ensures { result ≡ first_named self.now.functions name.now }
     {
-        first_named(&self.parts, &self.names, name)
+        self.names.get(name).copied()
     }
 }

@@ -10,6 +10,7 @@ mod edge;
 mod expr;
 mod fault;
 mod graph;
+pub mod laws;
 mod names;
 mod parts;
 mod rest;
@@ -26,6 +27,3 @@ pub use parts::{
     Edge, Function, GraphParts, InputFunction, Node, Operation, Scope, Variable, VariablePlace,
 };
 pub use state::{Frame, Predicates, State, Trap};
-
-#[cfg(test)]
-mod tests;

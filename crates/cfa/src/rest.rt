@@ -7,7 +7,7 @@ ghost use Rattle.cfa.specs.Graph.{room_of, IsNodeOf, NodeFits, FunctionFits, sig
 
 use crate::edge::{is_node_of, is_return};
 use crate::parts::{Edge, Function, GraphParts, Node, Scope, Variable, VariablePlace};
-use crate::rules::has_length;
+use crate::rules::FunctionRoom;
 use c_values::{Kind, is_kind};
 use std::alloc::{AllocError, Global};
 
@@ -118,14 +118,10 @@ fn global_fits(globals: usize, length: Option<u32>, place: VariablePlace) -> boo
 fn scope_fits(parts: &GraphParts, scope: &Scope) -> bool
     ensures { result ≡ scope_fits (length parts.now.globals) scope.now }
 {
-    for variable in scope.variables.iter() {
-        if !(is_kind(variable.kind)
-            && global_fits(parts.globals.len(), variable.length, variable.place))
-        {
-            return false;
-        }
-    }
-    true
+    let globals = parts.globals.len();
+    scope.variables.iter().all(|variable| {
+        is_kind(variable.kind) && global_fits(globals, variable.length, variable.place)
+    })
 }
 
 pub(crate) fn scopes_fit(parts: &GraphParts) -> bool
@@ -139,32 +135,26 @@ pub(crate) fn scopes_fit(parts: &GraphParts) -> bool
     true
 }
 
-fn variable_fits(parts: &GraphParts, function: &Function, variable: &Variable) -> bool
-    ensures { result ≡ variable_fits (room_of parts.now function.now) variable.now.length variable.now.place }
+fn variable_fits(room: &FunctionRoom<'_>, variable: &Variable) -> bool
+    ensures { result ≡ variable_fits room.now variable.now.length variable.now.place }
 {
     match variable.place {
-        VariablePlace::Global(first) => {
-            first as u64 + cell_count(variable.length) <= parts.globals.len() as u64
-        }
-        VariablePlace::Local(first) => {
-            first as u64 + cell_count(variable.length) <= function.cells as u64
-        }
+        VariablePlace::Global(first) => room.has_globals(first, cell_count(variable.length)),
+        VariablePlace::Local(first) => room.has_locals(first, cell_count(variable.length)),
         VariablePlace::Lent(parameter) => match variable.length {
             None => false,
-            Some(length) => has_length(function, parameter, length),
+            Some(length) => room.has_length(parameter, length),
         },
     }
 }
 
-fn scope_fits_in(parts: &GraphParts, function: &Function, scope: &Scope) -> bool
-    ensures { result ≡ scope_fits_in (room_of parts.now function.now) scope.now }
+fn scope_fits_in(room: &FunctionRoom<'_>, scope: &Scope) -> bool
+    ensures { result ≡ scope_fits_in room.now scope.now }
 {
-    for variable in scope.variables.iter() {
-        if !variable_fits(parts, function, variable) {
-            return false;
-        }
-    }
-    true
+    scope
+        .variables
+        .iter()
+        .all(|variable| variable_fits(room, variable))
 }
 
 fn sees_fit(parts: &GraphParts, function: u32, scope: u32) -> bool
@@ -176,7 +166,7 @@ fn sees_fit(parts: &GraphParts, function: u32, scope: u32) -> bool
     let Some(scope) = parts.scopes.get(scope as usize) else {
         return true;
     };
-    scope_fits_in(parts, function, scope)
+    scope_fits_in(&FunctionRoom::of(parts, function), scope)
 }
 
 // Whether each node's function has room for what the node sees. Nodes of one function that share a scope and follow one

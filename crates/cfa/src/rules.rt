@@ -1,6 +1,5 @@
 // Whether the expressions and places of a function meet the rules.
-ghost use Rattle.std.specs.Prelude.{◌≡◌, slice_get};
-ghost use Rattle.cfa.specs.Graph.{room_of};
+ghost use Rattle.std.specs.Prelude.{◌≡◌, ◌+◌, ◌^◌, ◌<◌, nat_le, slice_get};
 ghost use Rattle.c_values.specs.Operations.{is_shift, unary_kind, binary_kind};
 ghost use Rattle.cfa.specs.Kinds.{same_kind};
 ghost use Rattle.cfa.specs.Rules.{is_length, array_fits, place_fits, checked_kind, has_kind, kind_if, right_fits};
@@ -8,6 +7,64 @@ ghost use Rattle.cfa.specs.Rules.{is_length, array_fits, place_fits, checked_kin
 use crate::expr::{ArrayPlace, CellPlace, Expr, binary_kind, unary_kind};
 use crate::parts::{Function, GraphParts};
 use c_values::{BinaryOp, Kind, is_kind, is_value};
+use std::marker::Model;
+
+/// What the places of a function may name: how many cells the globals and the function's frame have, and the lengths of
+/// its array parameters.
+#[derive(Drop)]
+pub(crate) struct FunctionRoom<'a> {
+    globals: usize,
+    cells: u32,
+    arrays: &'a [u32],
+}
+
+impl<'a> Model for FunctionRoom<'a> {
+    ghost use Rattle.cfa.specs.Rules.{Room};
+
+    ghost Value = { Room };
+
+    ghost view = { λ r. record { globals = r.globals; cells = r.cells; arrays = r.arrays.now } };
+}
+
+impl<'a> FunctionRoom<'a> {
+    ghost use Rattle.cfa.specs.Graph.{room_of};
+
+    pub(crate) fn of(parts: &'a GraphParts, function: &'a Function) -> FunctionRoom<'a>
+        ensures { result ≡ room_of parts.now function.now }
+    {
+        FunctionRoom {
+            globals: parts.globals.len(),
+            cells: function.cells,
+            arrays: &function.arrays,
+        }
+    }
+
+    /// Whether an array parameter has this length.
+    pub(crate) fn has_length(&self, parameter: u32, length: u32) -> bool
+        ensures { result ≡ is_length (slice_get self.now.arrays parameter) length }
+    {
+        match self.arrays.get(parameter as usize) {
+            None => false,
+            Some(own) => *own == length,
+        }
+    }
+
+    /// Whether so many cells from the first on lie within the globals.
+    pub(crate) fn has_globals(&self, first: u32, count: u64) -> bool
+        requires { count < 2 ^ 32 }
+        ensures { result ≡ nat_le (first + count) self.now.globals }
+    {
+        first as u64 + count <= self.globals as u64
+    }
+
+    /// Whether so many cells from the first on lie within the frame.
+    pub(crate) fn has_locals(&self, first: u32, count: u64) -> bool
+        requires { count < 2 ^ 32 }
+        ensures { result ≡ nat_le (first + count) self.now.cells }
+    {
+        first as u64 + count <= self.cells as u64
+    }
+}
 
 fn same_kind(a: Kind, b: Kind) -> bool
     ensures { result ≡ same_kind a b }
@@ -21,47 +78,30 @@ fn is_shift(op: BinaryOp) -> bool
     matches!(op, BinaryOp::Shl | BinaryOp::Shr)
 }
 
-pub(crate) fn has_length(function: &Function, parameter: u32, length: u32) -> bool
-    ensures { result ≡ is_length (slice_get function.now.arrays parameter) length }
-{
-    match function.arrays.get(parameter as usize) {
-        None => false,
-        Some(own) => *own == length,
-    }
-}
-
 // An array of this length lies, whole, within the globals or the frame, or is an array parameter of this length.
-pub(crate) fn array_fits(
-    parts: &GraphParts,
-    function: &Function,
-    place: ArrayPlace,
-    length: u32,
-) -> bool
-    ensures { result ≡ array_fits (room_of parts.now function.now) place length }
+pub(crate) fn array_fits(room: &FunctionRoom<'_>, place: ArrayPlace, length: u32) -> bool
+    ensures { result ≡ array_fits room.now place length }
 {
     match place {
-        ArrayPlace::Global(first) => { first as u64 + length as u64 <= parts.globals.len() as u64 }
-        ArrayPlace::Local(first) => first as u64 + length as u64 <= function.cells as u64,
-        ArrayPlace::Lent(parameter) => has_length(function, parameter, length),
+        ArrayPlace::Global(first) => room.has_globals(first, length as u64),
+        ArrayPlace::Local(first) => room.has_locals(first, length as u64),
+        ArrayPlace::Lent(parameter) => room.has_length(parameter, length),
     }
 }
 
 #[cycle(rules)]
-#[tactic(auto, using(crate::proofs::Laws::expr_laws), unfolding(crate::specs::Rules::place_fits, crate::specs::Rules::checked_kind))]
-pub(crate) fn place_fits(parts: &GraphParts, function: &Function, place: &CellPlace) -> bool
-    ensures { result ≡ place_fits (room_of parts.now function.now) place.now }
+#[tactic(auto, using(crate::proofs::ExprLaws::expr_laws), unfolding(crate::specs::Rules::place_fits, crate::specs::Rules::checked_kind))]
+pub(crate) fn place_fits(room: &FunctionRoom<'_>, place: &CellPlace) -> bool
+    ensures { result ≡ place_fits room.now place.now }
 {
     match place {
-        CellPlace::Global(cell) => (*cell as usize) < parts.globals.len(),
-        CellPlace::Local(cell) => *cell < function.cells,
+        CellPlace::Global(cell) => (*cell as usize) < room.globals,
+        CellPlace::Local(cell) => *cell < room.cells,
         CellPlace::Element {
             array,
             index,
             length,
-        } => {
-            checked_kind(parts, function, index).is_some()
-                && array_fits(parts, function, *array, *length)
-        }
+        } => { checked_kind(room, index).is_some() && array_fits(room, *array, *length) }
     }
 }
 
@@ -92,27 +132,27 @@ fn kind_if(fits: bool, kind: Kind) -> Option<Kind>
 
 // The kind of an expression that meets the rules.
 #[cycle(rules)]
-#[tactic(auto, using(crate::proofs::Laws::expr_laws), unfolding(crate::specs::Rules::place_fits, crate::specs::Rules::checked_kind))]
-pub(crate) fn checked_kind(parts: &GraphParts, function: &Function, expr: &Expr) -> Option<Kind>
-    ensures { result ≡ checked_kind (room_of parts.now function.now) expr.now }
+#[tactic(auto, using(crate::proofs::ExprLaws::expr_laws), unfolding(crate::specs::Rules::place_fits, crate::specs::Rules::checked_kind))]
+pub(crate) fn checked_kind(room: &FunctionRoom<'_>, expr: &Expr) -> Option<Kind>
+    ensures { result ≡ checked_kind room.now expr.now }
 {
     match expr {
         Expr::Constant(value, kind) => kind_if(is_value(*value, *kind), *kind),
         Expr::Load(place, kind) => {
-            let fits = place_fits(parts, function, place) && is_kind(*kind);
+            let fits = place_fits(room, place) && is_kind(*kind);
             kind_if(fits, *kind)
         }
         Expr::Convert(operand, kind) => {
-            let fits = checked_kind(parts, function, operand).is_some() && is_kind(*kind);
+            let fits = checked_kind(room, operand).is_some() && is_kind(*kind);
             kind_if(fits, *kind)
         }
         Expr::Unary(op, operand, kind) => {
-            let fits = has_kind(checked_kind(parts, function, operand), *kind);
+            let fits = has_kind(checked_kind(room, operand), *kind);
             kind_if(fits, unary_kind(*op, *kind))
         }
         Expr::Binary(op, left, right, kind) => {
-            let fits = has_kind(checked_kind(parts, function, left), *kind)
-                && right_fits(*op, checked_kind(parts, function, right), *kind);
+            let fits = has_kind(checked_kind(room, left), *kind)
+                && right_fits(*op, checked_kind(room, right), *kind);
             kind_if(fits, binary_kind(*op, *kind))
         }
     }

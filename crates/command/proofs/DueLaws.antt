@@ -1,10 +1,11 @@
 -- What is due at each end of the way from the words to the text.
-use Rattle.std.proofs.Common.{◌≡◌, ℕ, ◌<◌, ◌≤◌, List, [], length, Option, None, Some, refl, inl, inr, arith, lit<}
+use Rattle.std.proofs.Common.{◌≡◌, ℕ, ◌<◌, ◌≤◌, List, [], length, Option, None, Some, refl, inl, inr, subst, lit<}
 use Rattle.std.specs.Prelude.{IfSome, replicate}
 use Rattle.std.proofs.lemmas.Bool.{lt-leb}
 use Rattle.std.proofs.lemmas.Fmt.{decimal_digit}
 use Rattle.std.proofs.lemmas.List.{length-replicate}
 use Rattle.fq_core.specs.declared.refusal.Place.TheVariants as place
+use Rattle.fq_io.specs.Counts.{Rose}
 use Rattle.command.specs.declared.source.Program.{Program}
 use Rattle.command.specs.Inputs.{inputs_of}
 use Rattle.fq_core.specs.declared.refusal.Fault.{Fault}
@@ -127,9 +128,9 @@ failed_refused r words sources fault.Memory file Q is q due = tt
 
 -- a failure after some time is a failure since before it
 pub failed_since : (holds : List ℕ → Option (List ℕ)) (held : List ℕ → Option (List ℕ)) (last : Option (Option (List ℕ))) (before middle after : ℕ) (file : List ℕ)
-    → before ≤ middle → HasFailedAt record { holds = held; last_failed = last; faults_before = middle; faults_after = after } file
+    → middle ≡ before → HasFailedAt record { holds = held; last_failed = last; faults_before = middle; faults_after = after } file
     → HasFailedAt record { holds = holds; last_failed = last; faults_before = before; faults_after = after } file
-failed_since holds held last before middle after file stay failed = record {
+failed_since holds held last before middle after file same failed = record {
   last = failed.last;
-  rose = omega (arith, failed.rose, stay);
+  rose = subst (λ n. Rose n after) same failed.rose;
 }

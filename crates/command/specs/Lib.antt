@@ -12,3 +12,4 @@ pub mod Source
 pub mod Suite
 pub mod Tokens
 pub mod Words
+pub mod Status

@@ -30,6 +30,3 @@ mod words;
 
 pub use command::run;
 pub use status::Status;
-
-#[cfg(test)]
-mod tests;

@@ -1,5 +1,5 @@
 // From the words to the text that they ask for.
-ghost use Rattle.std.specs.Prelude.{◌≡◌, ◌≤◌, ◌<◌, List, ℕ, Option, Some, drop, IfOk, IfErr, IfNone, IfSome, length, map, string_bytes, vec_len};
+ghost use Rattle.std.specs.Prelude.{◌≡◌, ◌≤◌, ◌<◌, List, ℕ, Option, Some, drop, IfOk, IfErr, IfNone, IfSome, OnOk, length, map, string_bytes, vec_len};
 ghost use Rattle.fq_core.specs.declared.refusal.Place.TheVariants as place;
 ghost use Rattle.command.specs.Inputs.{most_bytes};
 ghost use Rattle.command.specs.Refusal.{IfRefused, said_by};
@@ -43,7 +43,7 @@ fn read<F: Files>(alloc: Global, files: &mut F, file: &str) -> Result<Option<Vec
     ensures failed { IfErr result (λ fault. IfRefused fault (λ _.
         HasFailedAt (reads F.holds F.last_failed F.faults files.old files.new) file.now)) }
     ensures same_files { F.holds files.new ≡ F.holds files.old }
-    ensures faults_stay { F.faults files.old ≤ F.faults files.new }
+    ensures no_fault { OnOk result (F.faults files.new ≡ F.faults files.old) }
 {
     let name = Name::new(alloc, file.as_bytes())?;
     match files.read_whole(alloc, file, MOST_BYTES) {

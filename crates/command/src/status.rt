@@ -1,6 +1,8 @@
 // How a run of the program ends.
+ghost use Rattle.std.specs.Prelude.{◌≡◌};
+ghost use Rattle.command.specs.Status.{exit_status};
 
-/// How a run of the program ends. The number of each, from 0, is the program's exit status.
+/// How a run of the program ends.
 #[derive(Clone, Copy, Debug, PartialEq, Eq)]
 pub enum Status {
     /// The text of the answer was written whole.
@@ -23,4 +25,26 @@ pub enum Status {
     CertificateRejected,
     /// The words, the source, the query or the inputs need something that isn't built yet.
     NotBuilt,
+}
+
+impl Status {
+    /// The program's exit status, from 0 to 11.
+    pub fn exit_status(self) -> u8
+        ensures { result ≡ exit_status self }
+    {
+        match self {
+            Status::Done => 0,
+            Status::DoneOpen => 1,
+            Status::Usage => 2,
+            Status::SourceRefused => 3,
+            Status::QueryRefused => 4,
+            Status::InputRefused => 5,
+            Status::Limit => 6,
+            Status::ReadFault => 7,
+            Status::WriteFault => 8,
+            Status::Memory => 9,
+            Status::CertificateRejected => 10,
+            Status::NotBuilt => 11,
+        }
+    }
 }

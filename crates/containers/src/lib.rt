@@ -14,6 +14,3 @@ pub use boxed::Boxed;
 pub use same::{Same, same_items};
 pub use try_clone::TryClone;
 pub use vector::Vector;
-
-#[cfg(test)]
-mod tests;

@@ -19,6 +19,3 @@ pub use refusal::{Fault, Place, Refusal};
 pub use span::Span;
 pub use statement_kind::StatementKind;
 pub use word::{WordText, word_of};
-
-#[cfg(test)]
-mod tests;

@@ -17,11 +17,11 @@ fn words(rt: &HostRuntime) -> Result<Vec<String>, io::Error> {
 
 fn main(rt: HostRuntime) -> ExitCode {
     let Ok(words) = words(&rt) else {
-        return ExitCode::from(Status::Memory as u8);
+        return ExitCode::from(Status::Memory.exit_status());
     };
     let mut files = RealFiles::new(&rt);
     let mut out = RealSink::new(rt.stdout());
     let mut err = RealSink::new(rt.stderr());
     let status = run(rt.alloc(), &words, &mut files, &mut out, &mut err);
-    ExitCode::from(status as u8)
+    ExitCode::from(status.exit_status())
 }

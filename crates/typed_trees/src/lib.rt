@@ -3,7 +3,8 @@
 //!
 //! They stand on `containers`, `fq_core` and `c_values`, and share the variables and input functions of `cfa`. They are
 //! plain data: vectors and boxes are seen by contracts as what they hold, so that a typed tree is seen as a tree.
-//! `c_types` says which typed tree a unit has, and `c_lower` makes its graph.
+//! `c_types` says which typed tree a unit has, and `c_lower` makes its graph. What lowering needs of a unit, and typing
+//! promises, is `IsFitting` of `specs/Fitting.antt`.
 #![tactic(auto)]
 
 mod expression;

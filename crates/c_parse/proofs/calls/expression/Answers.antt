@@ -1,4 +1,4 @@
-use Rattle.std.proofs.Common.{◌≡◌, map, sym, ◌∙◌, Ok, Err}
+use Rattle.std.proofs.Common.{map, Ok, Err}
 use Rattle.c_parse.specs.Signs.{terminal_of}
 use Rattle.c_parse.specs.Expression.{refusal}
 use Rattle.c_parse.specs.Outcome.{expression_outcome}

@@ -39,7 +39,7 @@ returns-in_err-bytes-clause-err g c =
     let spelled = sym c.in_ok-program.ensures.program ∙ c.in-Some-3.is in
     rw (p.1, p.2) (failed_refused _ _ _ _ _ _ c.in_err-bytes.ensures.refusal c.in_err-bytes.ensures.failed
     (λ failed. due_inputs_failure _ _ (asked c.in-Some.measurement) c.in-Some-2.source.items _ named first (rw c.deref.ensures.value at spelled)
-    (failed_since _ _ _ _ _ _ _ c.in_ok-source.ensures.faults_stay failed)))
+    (failed_since _ _ _ _ _ _ _ c.in_ok-source.ensures.no_fault failed)))
 
 pub returns-in_default-4-clause-err : goal.returns-in_default-4-clause-err
 returns-in_default-4-clause-err g c =

@@ -1,0 +1,13 @@
+pub mod Ends
+pub mod Passes
+pub mod TwoParts
+pub mod TwoMarks
+pub mod Paths
+pub mod StepLaws
+pub mod OneStep
+pub mod Acceptance
+pub mod Unrolled
+pub mod Counts
+pub mod Building
+pub mod Belows
+pub mod Forms

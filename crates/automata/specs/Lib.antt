@@ -1,0 +1,10 @@
+pub mod Tree
+pub mod Values
+pub mod Views
+pub mod Machine
+pub mod Guards
+pub mod Reach
+pub mod Standing
+pub mod Unroll
+pub mod Building
+pub mod Still

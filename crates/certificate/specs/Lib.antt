@@ -1,0 +1,5 @@
+pub mod Certificates
+pub mod Differences
+pub mod Numbers
+pub mod Reading
+pub mod Refusals

@@ -1,0 +1,107 @@
+-- One more gate, and what the wires hold then.
+use Rattle.std.proofs.Common.{subst, ◌≡◌, ℕ, zero, suc, ◌+◌, ◌≤◌, ◌<◌, Bool, true, false, not, ◌&&◌, ◌||◌, if◌then◌else◌, List, [], ◌∷◌, ◌++◌, length, get_or, take, refl, sym, ◌∙◌, ap, arith, length-append}
+use Rattle.std.proofs.lemmas.List.{take_more}
+use Rattle.circuit.specs.Truth.{World, Extends}
+use Rattle.circuit.specs.declared.lit.Lit.{Lit}
+use Rattle.circuit.specs.declared.lit.Gate.{Gate}
+use Rattle.circuit.specs.declared.lit.Gate.TheVariants.{Input, And}
+use Rattle.circuit.specs.Wires.{lit_value, gate_value, held_from, held, lit_holds, IsWire, input_count, PartsUpTo, PartsLieBelow}
+
+pub held_more : (below : List Bool) (gates : List Gate) (g : Gate) (w : World) → held_from below (gates ++ g ∷ []) w ≡ held_from below gates w ++ gate_value (held_from below gates w) w g ∷ []
+held_more below [] g w = refl
+held_more below (x ∷ gates) g w = held_more (below ++ gate_value below w x ∷ []) gates g w
+
+length-held_from : (below : List Bool) (gates : List Gate) (w : World) → length (held_from below gates w) ≡ length below + length gates
+length-held_from below [] w = omega arith
+length-held_from below (x ∷ gates) w = let e = length-held_from (below ++ gate_value below w x ∷ []) gates w in omega (arith, length-append below (gate_value below w x ∷ []))
+
+index_below : (xs ys : List Bool) (n : ℕ) → n < length xs → get_or (xs ++ ys) n false ≡ get_or xs n false
+index_below [] ys n lt = absurd (omega arith)
+index_below (x ∷ xs) ys zero lt = refl
+index_below (x ∷ xs) ys (suc n) lt = index_below xs ys n (omega arith)
+
+index_last : (xs : List Bool) (y : Bool) (n : ℕ) → n ≡ length xs → get_or (xs ++ y ∷ []) n false ≡ y
+index_last [] y zero e = refl
+index_last [] y (suc n) e = absurd (omega arith)
+index_last (x ∷ xs) y zero e = absurd (omega arith)
+index_last (x ∷ xs) y (suc n) e = index_last xs y n (omega arith)
+
+module _ (gates : List Gate) (g : Gate) where
+  kept : (l : Lit) (w : World) → IsWire gates l → lit_holds (gates ++ g ∷ []) l w ≡ lit_holds gates l w
+  kept l w small =
+      let size = length-held_from (true ∷ []) gates w in
+      let e : get_or (held (gates ++ g ∷ []) w) l.wire false ≡ get_or (held gates w) l.wire false =
+      ap (λ xs. get_or xs l.wire false) (held_more (true ∷ []) gates g w) ∙ index_below (held gates w) _ l.wire (omega arith) in
+      ap (λ b. if l.negated then not b else b) e
+
+  -- older literals are wires still, and hold what they held
+  pub gates_extend : Extends IsWire lit_holds gates (gates ++ g ∷ [])
+  gates_extend = record {
+    bit = λ l small. omega (arith, length-append gates (g ∷ []));
+    same = λ l small w. kept l w small;
+  }
+
+  -- the new wire
+  pub newest : (wire : ℕ) (w : World) → wire ≡ suc (length gates) → get_or (held (gates ++ g ∷ []) w) wire false ≡ gate_value (held gates w) w g
+  newest wire w e =
+      let size = length-held_from (true ∷ []) gates w in
+      ap (λ xs. get_or xs wire false) (held_more (true ∷ []) gates g w) ∙ index_last (held gates w) _ wire (omega arith)
+
+pub neither : (a b : Bool) → not (not a && not b) ≡ (a || b)
+neither true b = refl
+neither false true = refl
+neither false false = refl
+
+pub lit_not : (a : List Bool) (l : Lit) (b : Bool) → b ≡ not l.negated → lit_value a (record { wire = l.wire; negated = b }) ≡ not (lit_value a l)
+lit_not a l b e = ap (λ x. if x then not (get_or a l.wire false) else get_or a l.wire false) e ∙ flipped l.negated (get_or a l.wire false)
+  where
+    flipped : (n x : Bool) → (if not n then not x else x) ≡ not (if n then not x else x)
+    flipped true true = refl
+    flipped true false = refl
+    flipped false x = refl
+
+first_stays : (x : Bool) (below : List Bool) (gates : List Gate) (w : World) → get_or (held_from (x ∷ below) gates w) 0 false ≡ x
+first_stays x below [] w = refl
+first_stays x below (g ∷ gates) w = first_stays x (below ++ gate_value (x ∷ below) w g ∷ []) gates w
+
+-- wire 0 is yes
+pub constant_wire : (gates : List Gate) (w : World) → get_or (held gates w) 0 false ≡ true
+constant_wire gates w = first_stays true [] gates w
+
+-- the gates with one more
+pub record AfterGate (old new : List Gate) (g : Gate) : Type 0 where
+  pub older : Extends IsWire lit_holds old new
+  pub used : length new ≡ length old + 1
+  pub newest : (wire : ℕ) (w : World) → wire ≡ length old + 1 → get_or (held new w) wire false ≡ gate_value (held old w) w g
+
+pub after_gate : (old new : List Gate) (g : Gate) → new ≡ old ++ g ∷ [] → AfterGate old new g
+after_gate old new g e = subst (λ gates. AfterGate old gates g) (sym e) (record {
+  older = gates_extend old g;
+  used = length-append old (g ∷ []);
+  newest = λ wire w k. newest old g wire w (omega arith);
+})
+
+pub input_count_more : (gates : List Gate) (number : ℕ) → input_count (gates ++ Input number ∷ []) ≡ input_count gates + 1
+input_count_more [] number = refl
+input_count_more (Input k ∷ gates) number = omega (arith, input_count_more gates number)
+input_count_more (And left right ∷ gates) number = input_count_more gates number
+
+pub input_count_same : (gates : List Gate) (left right : Lit) → input_count (gates ++ And left right ∷ []) ≡ input_count gates
+input_count_same [] left right = refl
+input_count_same (Input k ∷ gates) left right = ap (λ n. 1 + n) (input_count_same gates left right)
+input_count_same (And l r ∷ gates) left right = input_count_same gates left right
+
+pub input_count_within : (gates : List Gate) → input_count gates ≤ length gates
+input_count_within [] = omega arith
+input_count_within (Input k ∷ gates) = omega (arith, input_count_within gates)
+input_count_within (And left right ∷ gates) = omega (arith, input_count_within gates)
+
+pub below_more : (below : ℕ) (gates : List Gate) (g : Gate) → PartsLieBelow below gates → PartsUpTo (below + length gates) g → PartsLieBelow below (gates ++ g ∷ [])
+below_more below [] g h k = let e : below + 0 ≡ below = omega arith in (subst (λ n. PartsUpTo n g) e k, tt)
+below_more below (x ∷ gates) g h k = let e : below + suc (length gates) ≡ suc below + length gates = omega arith in
+    (h.0, below_more (suc below) gates g h.1 (subst (λ n. PartsUpTo n g) e k))
+
+-- what the wires hold, one gate further
+pub held_next : (gates : List Gate) (i : ℕ) (d : Gate) (w : World) → i < length gates
+    → held (take (i + 1) gates) w ≡ held (take i gates) w ++ gate_value (held (take i gates) w) w (get_or gates i d) ∷ []
+held_next gates i d w lt = ap (λ gs. held gs w) (take_more gates i d lt) ∙ held_more (true ∷ []) (take i gates) (get_or gates i d) w

@@ -1,0 +1,3 @@
+pub mod Truth
+pub mod Bits
+pub mod Wires

@@ -1,0 +1,3 @@
+pub mod ChecksLaws
+pub mod ClauseLaws
+pub mod ResolutionLaws

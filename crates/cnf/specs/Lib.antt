@@ -1,0 +1,5 @@
+pub mod Checks
+pub mod Clauses
+pub mod Dimacs
+pub mod Formulas
+pub mod Resolution

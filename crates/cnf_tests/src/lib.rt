@@ -1,0 +1,5 @@
+//! Tests of `cnf`.
+#![tactic(auto)]
+
+#[cfg(test)]
+mod tests;

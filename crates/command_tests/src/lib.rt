@@ -1,0 +1,5 @@
+//! The tests of `command`, in a crate of their own so that `command` is proved once.
+#![tactic(auto)]
+
+#[cfg(test)]
+mod tests;

@@ -1,0 +1,4 @@
+pub mod LineLaws
+pub mod MarksLaws
+pub mod NumbersLaws
+pub mod StepLaws

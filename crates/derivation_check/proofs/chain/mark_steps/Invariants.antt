@@ -1,0 +1,9 @@
+use Rattle.std.proofs.Common.{◌≡◌, drop}
+use Rattle.cnf.specs.Checks.{clauses_before, resolved}
+use Rattle.derivation_check.specs.Marks.{marked}
+use Rattle.derivation_check.proofs.chain.mark_steps.Given as goal
+
+abbrev pub invariant-loop-step : goal.invariant-loop-step
+invariant-loop-step l =
+    resolved (clauses_before l.formula l.derivation l.before) (marked l.marks) (drop l.step-index l.steps)
+    ≡ resolved (clauses_before l.formula l.derivation l.before) (marked l.initial.marks) l.steps

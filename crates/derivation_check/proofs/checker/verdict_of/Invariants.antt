@@ -1,0 +1,10 @@
+use Rattle.std.proofs.Common.{ℕ, ◌<◌}
+use Rattle.cnf.specs.Checks.{IsRightAt}
+use Rattle.derivation_check.specs.Marks.{IsClear}
+use Rattle.derivation_check.proofs.checker.verdict_of.Given as goal
+
+abbrev pub invariant-loop-at : goal.invariant-loop-at
+invariant-loop-at l = record {
+  clear : IsClear l.marks;
+  right : (k : ℕ) → k < l.at → IsRightAt l.formula l.derivation k;
+}

@@ -1,0 +1,3 @@
+pub mod Marks
+pub mod Tasks
+pub mod Verdicts

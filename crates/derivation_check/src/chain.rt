@@ -1,0 +1,90 @@
+// A line's chain of resolutions, on marks.
+ghost use Rattle.std.specs.Prelude.{◌≡◌, ◌∷◌, ℕ, ℤ, List, IsTrue, Some, None, if◌then◌else◌, length};
+ghost use Rattle.std.specs.Bool.{OnTrue};
+ghost use Rattle.cnf.specs.Checks.{chain_of, clauses_before, resolved};
+ghost use Rattle.cnf.specs.Clauses.{has_literal};
+ghost use Rattle.cnf.specs.Resolution.{can_resolve, resolvent};
+ghost use Rattle.derivation_check.specs.Marks.{HasPlaces, IsClear, has_places, marked};
+
+use crate::marks::{is_marked, mark_all, mark_others, unmark};
+use crate::numbers::clause_before;
+use cnf::{Clause, Derivation, DerivationLine, Formula, is_literal, negation};
+
+/// Marks the clause that a line's chain gives. False where the chain doesn't exist.
+pub(crate) fn mark_chain(
+    marks: &mut [bool],
+    formula: &Formula,
+    derivation: &Derivation,
+    before: usize,
+    line: &DerivationLine,
+) -> bool
+    requires clear { IsClear marks.old }
+    requires places { HasPlaces (length marks.old) formula.now derivation.now }
+    ensures { chain_of (clauses_before formula.now derivation.now before) line.now ≡ (if result then Some (marked marks.new) else None) }
+{
+    match clause_before(formula, derivation, before, line.first) {
+        Some(first) => {
+            mark_all(marks, first.literals());
+            mark_steps(marks, formula, derivation, before, &line.steps)
+        }
+        None => false,
+    }
+}
+
+// Resolves in turn. False where a resolvent doesn't exist.
+fn mark_steps(
+    marks: &mut [bool],
+    formula: &Formula,
+    derivation: &Derivation,
+    before: usize,
+    steps: &[(u32, i32)],
+) -> bool
+    requires { HasPlaces (length marks.old) formula.now derivation.now }
+    ensures { resolved (clauses_before formula.now derivation.now before) (marked marks.old) steps.now
+        ≡ (if result then Some (marked marks.new) else None) }
+{
+    for step in steps {
+        if !mark_step(marks, formula, derivation, before, step.0, step.1) {
+            return false;
+        }
+    }
+    true
+}
+
+// One step.
+fn mark_step(
+    marks: &mut [bool],
+    formula: &Formula,
+    derivation: &Derivation,
+    before: usize,
+    antecedent: u32,
+    pivot: i32,
+) -> bool
+    requires { HasPlaces (length marks.old) formula.now derivation.now }
+    ensures { (rest : List (ℕ × ℤ)) →
+        resolved (clauses_before formula.now derivation.now before) (marked marks.old) ((antecedent, pivot) ∷ rest)
+        ≡ (if result then resolved (clauses_before formula.now derivation.now before) (marked marks.new) rest else None) }
+{
+    match clause_before(formula, derivation, before, antecedent) {
+        Some(antecedent) => resolve_marked(marks, pivot, antecedent),
+        None => false,
+    }
+}
+
+// Resolves the marked clause with an antecedent. False where they have no resolvent.
+fn resolve_marked(marks: &mut [bool], pivot: i32, antecedent: &Clause) -> bool
+    requires { IsTrue (has_places (length marks.old) antecedent.now) }
+    ensures value { result ≡ can_resolve (marked marks.old) pivot (has_literal antecedent.now) }
+    ensures marks { OnTrue result
+        ((x : ℤ) → marked marks.new x ≡ resolvent (marked marks.old) pivot (has_literal antecedent.now) x) }
+{
+    let literals = antecedent.literals();
+    if !is_literal(pivot) {
+        return false;
+    }
+    if !is_marked(marks, pivot) {
+        return false;
+    }
+    unmark(marks, pivot);
+    mark_others(marks, literals, negation(pivot))
+}

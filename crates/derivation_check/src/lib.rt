@@ -1,0 +1,21 @@
+//! A checker of derivations by resolution.
+//!
+//! It stands on `cnf`, which says when a derivation checks over a formula, and shows that then no assignment
+//! satisfies the formula. `Checker::prepare` takes all memory, and `Checker::check` none: its answer is Yes exactly
+//! where the derivation checks, and else names the first line that isn't right, or says that no empty clause ends it.
+//!
+//! The clause so far of a chain is kept as marks on a table of literals, so that a step costs as much as reading its
+//! antecedent.
+#![tactic(auto)]
+
+mod chain;
+mod checker;
+mod line;
+mod marks;
+mod numbers;
+mod table;
+mod verdict;
+
+pub use checker::Checker;
+pub use cnf::{Derivation, DerivationLine};
+pub use verdict::Verdict;

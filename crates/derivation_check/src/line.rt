@@ -1,0 +1,78 @@
+// Whether a line is right.
+ghost use Rattle.std.specs.Prelude.{◌≡◌, ◌↔◌, IsTrue, length};
+ghost use Rattle.std.specs.Bool.{OnTrue};
+ghost use Rattle.std.specs.List.{list_all};
+ghost use Rattle.cnf.specs.Checks.{IsRight, clauses_before};
+ghost use Rattle.derivation_check.specs.Marks.{HasPlaces, IsClear, is_clear_chain, is_clear_of, marked};
+
+use crate::chain::mark_chain;
+use crate::marks::{all_marked, any_marked, unmark_all};
+use crate::numbers::clause_before;
+use cnf::{Derivation, DerivationLine, Formula};
+
+/// Whether a line is right over the formula and the first `before` lines. Then no mark is left.
+pub(crate) fn is_right(
+    marks: &mut [bool],
+    formula: &Formula,
+    derivation: &Derivation,
+    before: usize,
+    line: &DerivationLine,
+) -> bool
+    requires clear { IsClear marks.old }
+    requires places { HasPlaces (length marks.old) formula.now derivation.now }
+    ensures right { IsTrue result ↔ IsRight (clauses_before formula.now derivation.now before) line.now }
+    ensures clear { OnTrue result (IsClear marks.new) }
+{
+    if !mark_chain(marks, formula, derivation, before, line) {
+        return false;
+    }
+    let listed = line.clause.literals();
+    if !all_marked(marks, listed) {
+        return false;
+    }
+    unmark_all(marks, listed);
+    // Each mark that was made is on a literal of the chain's clauses.
+    is_chain_clear(marks, formula, derivation, before, line)
+}
+
+// Whether no literal of the clauses of a line's chain is marked.
+fn is_chain_clear(
+    marks: &[bool],
+    formula: &Formula,
+    derivation: &Derivation,
+    before: usize,
+    line: &DerivationLine,
+) -> bool
+    ensures { result ≡ is_clear_chain (clauses_before formula.now derivation.now before) (marked marks.now) line.now }
+{
+    is_clause_clear(marks, formula, derivation, before, line.first)
+        && are_steps_clear(marks, formula, derivation, before, &line.steps)
+}
+
+fn are_steps_clear(
+    marks: &[bool],
+    formula: &Formula,
+    derivation: &Derivation,
+    before: usize,
+    steps: &[(u32, i32)],
+) -> bool
+    ensures { result ≡ list_all (λ step. is_clear_of (clauses_before formula.now derivation.now before) (marked marks.now) step.0) steps.now }
+{
+    steps.iter().all(|step| is_clause_clear(marks, formula, derivation, before, step.0))
+}
+
+// Whether no literal of the clause with a number is marked.
+fn is_clause_clear(
+    marks: &[bool],
+    formula: &Formula,
+    derivation: &Derivation,
+    before: usize,
+    number: u32,
+) -> bool
+    ensures { result ≡ is_clear_of (clauses_before formula.now derivation.now before) (marked marks.now) number }
+{
+    match clause_before(formula, derivation, before, number) {
+        Some(clause) => !any_marked(marks, clause.literals()),
+        None => true,
+    }
+}

@@ -1,0 +1,10 @@
+pub mod Fits
+pub mod Given
+pub mod Flows
+pub mod Rows
+pub mod Branches
+pub mod SwitchRows
+pub mod Trees
+pub mod Made
+pub mod Whole
+pub mod After

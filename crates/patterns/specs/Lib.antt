@@ -1,0 +1,4 @@
+pub mod Match
+pub mod Letters
+pub mod Paths
+pub mod Places

@@ -1,0 +1,138 @@
+-- The tokens of texts: their numbers, and the files of their places.
+use Rattle.std.proofs.Common.{◌≡◌, ℕ, ◌+◌, ◌<◌, ◌≤◌, Bool, true, false, List, [], ◌∷◌, ◌++◌, Some, None, length, refl, arith}
+use Rattle.std.specs.Prelude.{IsTrue, Option, map, nat_lt, cond, ⊤}
+use Rattle.std.specs.List.{list_all}
+use Rattle.std.proofs.lemmas.Bool.{lt-ltb}
+use Rattle.fq_core.specs.declared.span.Span.{Span}
+use Rattle.c_values.specs.declared.kinds.Kind.{Kind}
+use Rattle.c_values.specs.Kind.{is_value}
+use Rattle.c_values.proofs.Fitting.{and_both}
+use Rattle.c_lex.specs.declared.cut.Lexeme.{Lexeme}
+use Rattle.c_lex.specs.declared.macros.Macro.{Macro}
+use Rattle.c_lex.specs.declared.macros.Replacement.{Replacement}
+use Rattle.c_lex.specs.declared.token.SourceText.{SourceText}
+use Rattle.c_lex.specs.declared.token.Token.{Token}
+use Rattle.c_lex.specs.declared.token.TokenKind.{TokenKind}
+use Rattle.c_lex.specs.declared.token.TokenKind.TheVariants as kind
+use Rattle.c_lex.specs.Lexed.{Outcome, accepted, refused, after, Reads, all_read, too_wide, loops, too_many, a_token, included, unknown_byte, wrong, defined_twice, wide_list, defined, unknown, open_comment, ReadsTexts, no_text, refuses, accepts, token_at}
+use Rattle.c_lex.specs.NumbersOfKinds.{HasValue, HaveValues}
+use Rattle.c_lex.specs.Places.{span_of}
+use Rattle.c_lex.proofs.NumbersLaws.{numbers}
+use Rattle.c_parse.specs.declared.sign.Mark.{Mark}
+use Rattle.c_parse.specs.declared.sign.Sign.{Sign}
+use Rattle.c_parse.specs.declared.sign.Sign.TheVariants as sign
+use Rattle.c_parse.specs.declared.sign.TypeWord.{TypeWord}
+use Rattle.c_parse.specs.Signs.{terminal_of, sign_of, word_sign, mark_sign, keyword_or_other, type_or_name, mark_or_foreign}
+use Rattle.tree_contents.specs.Contents.{token_passes, sign_passes, UnitsOfTexts}
+use Rattle.tree_contents.proofs.Items.{items_pass}
+
+-- ---- what the grammar calls a number is a number
+
+module _ (number : ℕ → Kind → Bool) (place : Span → Bool) where
+  foreign_name : (t : Bool) (text : List ℕ) → sign_passes number place (cond t sign.Foreign (sign.Name text)) ≡ true
+  foreign_name true text = refl
+  foreign_name false text = refl
+
+  named : (o : Option TypeWord) (t : Bool) (text : List ℕ) → sign_passes number place (type_or_name o text) ≡ true
+  named (Some w) t text = refl
+  named None t text = foreign_name _ text
+
+  keyed : (o : Option Mark) (text : List ℕ) → sign_passes number place (keyword_or_other o text) ≡ true
+  keyed (Some m) text = refl
+  keyed None text = named _ true text
+
+  word_passes : (text : List ℕ) → sign_passes number place (word_sign text) ≡ true
+  unfolding word_sign
+  word_passes text = keyed _ text
+
+  foreign_mark : (t : Bool) → sign_passes number place (cond t sign.Foreign sign.Unknown) ≡ true
+  foreign_mark true = refl
+  foreign_mark false = refl
+
+  marked : (o : Option Mark) (text : List ℕ) → sign_passes number place (mark_or_foreign o text) ≡ true
+  marked (Some m) text = refl
+  marked None text = foreign_mark _
+
+  mark_passes : (text : List ℕ) → sign_passes number place (mark_sign text) ≡ true
+  unfolding mark_sign
+  mark_passes text = marked _ text
+
+valued_sign : (k : TokenKind) (text : List ℕ) (place : Span → Bool) → HasValue k → sign_passes (λ n kind. is_value kind n) place (sign_of k text) ≡ true
+valued_sign kind.Word text place h = word_passes (λ n kind. is_value kind n) place text
+valued_sign (kind.Number n k) text place h = h
+valued_sign kind.Mark text place h = mark_passes (λ n kind. is_value kind n) place text
+valued_sign kind.Foreign text place h = refl
+
+free_sign : (s : Sign) (place : Span → Bool) → sign_passes (λ n kind. true) place s ≡ true
+free_sign (sign.Number n k) place = refl
+free_sign _ place = refl
+
+pub valued : (ts : List Token) → HaveValues ts → IsTrue (list_all (token_passes (λ n kind. is_value kind n) (λ place. true)) (map terminal_of ts))
+valued [] h = refl
+valued (t ∷ ts) h = and_both (token_passes (λ n kind. is_value kind n) (λ place. true) (terminal_of t)) _ (valued_sign t.kind t.text (λ place. true) h.0) (valued ts h.1)
+
+-- ---- files
+
+abbrev Lies : ℕ → ℕ → List Token → Type 0
+Lies low high [] = ⊤
+Lies low high (t ∷ ts) = (low ≤ t.span.file) × (t.span.file < high) × Lies low high ts
+
+lies_append : (low high : ℕ) (ts us : List Token) → Lies low high ts → Lies low high us → Lies low high (ts ++ us)
+lies_append low high [] us h k = k
+lies_append low high (t ∷ ts) us h k = (h.0, h.1, lies_append low high ts us h.2 k)
+
+lies_wider : (low high least most : ℕ) (ts : List Token) → least ≤ low → high ≤ most → Lies low high ts → Lies least most ts
+lies_wider low high least most [] a b h = tt
+lies_wider low high least most (t ∷ ts) a b h = (omega (arith, h.0), omega (arith, h.1), lies_wider low high least most ts a b h.2)
+
+abbrev Gives : ℕ → ℕ → Outcome → Type 0
+Gives low high (accepted ts m r) = Lies low high ts
+Gives low high (refused code place) = ⊤
+
+after_gives : (low high : ℕ) (ts : List Token) (o : Outcome) → Lies low high ts → Gives low high o → Gives low high (after ts o)
+after_gives low high ts (accepted us m r) h k = lies_append low high ts us h k
+after_gives low high ts (refused code place) h k = tt
+
+spanned : (file : ℕ) (text : List ℕ) (at n : ℕ) (rs : List Replacement) → Lies file (file + 1) (map (token_at (span_of file text at n)) rs)
+unfolding span_of
+spanned file text at n [] = tt
+spanned file text at n (r ∷ rs) = (omega arith, omega arith, spanned file text at n rs)
+
+reads_give : {file : ℕ} {text : List ℕ} {table : List Macro} {made replaced : ℕ} {ls : List Lexeme} {o : Outcome} → Reads file text table made replaced ls o → Gives file (file + 1) o
+reads_give all_read = tt
+reads_give (too_wide at n h) = tt
+reads_give (loops at n h k) = tt
+reads_give (too_many us m at n h k l) = tt
+reads_give {file = file} {text = text} (a_token {o = o} us m at n h k l d) = after_gives file (file + 1) _ o (spanned file text at n us) (reads_give d)
+reads_give (included line at n c e d) = reads_give d
+reads_give (unknown_byte line at n c e) = tt
+reads_give (wrong line at n c e) = tt
+reads_give (defined_twice line at n b m c e f) = tt
+reads_give (wide_list line at n b m c e f g) = tt
+reads_give (defined line list at n b m c e f g d) = reads_give d
+reads_give (unknown at) = tt
+reads_give (open_comment at) = tt
+
+wider : (low high least most : ℕ) (o : Outcome) → least ≤ low → high ≤ most → Gives low high o → Gives least most o
+wider low high least most (accepted ts m r) a b h = lies_wider low high least most ts a b h
+wider low high least most (refused code place) a b h = tt
+
+texts_give : {file made replaced : ℕ} {ts : List SourceText} {o : Outcome} → ReadsTexts file made replaced ts o → Gives file (file + length ts) o
+texts_give no_text = tt
+texts_give (refuses x) = tt
+texts_give {file = file} (accepts {us = us} {o = o} {ts = ts} x d) =
+    after_gives file _ us o (lies_wider file (file + 1) file _ us (omega arith) (omega arith) (reads_give x.read))
+    (wider (file + 1) (file + 1 + length ts) file _ o (omega arith) (omega arith) (texts_give d))
+
+below_by : (n : ℕ) (t : Token) → t.span.file < n → IsTrue (token_passes (λ n kind. true) (λ place. nat_lt place.file n) (terminal_of t))
+below_by n t h = and_both (nat_lt t.span.file n) _ (lt-ltb t.span.file n h) (free_sign (terminal_of t).sign (λ place. nat_lt place.file n))
+
+pub placed : (n : ℕ) (ts : List Token) → Lies 0 n ts → IsTrue (list_all (token_passes (λ n kind. true) (λ place. nat_lt place.file n)) (map terminal_of ts))
+placed n [] h = refl
+placed n (t ∷ ts) h = and_both (token_passes (λ n kind. true) (λ place. nat_lt place.file n) (terminal_of t)) _ (below_by n t h.1) (placed n ts h.2)
+
+pub units_of_texts : UnitsOfTexts
+units_of_texts texts tokens items lexed derived = (
+  items_pass (λ n kind. is_value kind n) (λ place. true) derived (valued tokens (numbers texts tokens lexed)),
+  items_pass (λ n kind. true) (λ place. nat_lt place.file (length texts)) derived (placed (length texts) tokens (lies_wider 0 (0 + length texts) 0 (length texts) tokens (omega arith) (omega arith) (texts_give lexed.2))),
+)
