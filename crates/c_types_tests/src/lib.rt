@@ -1,0 +1,6 @@
+//! The tests of `c_types`: texts with the typed trees that they have, or the faults for which they are refused, worked by
+//! hand from C11 (ISO/IEC 9899:2011, 6.2.1, 6.3.1 and 6.5 to 6.9).
+#![tactic(auto)]
+
+#[cfg(test)]
+mod tests;
