@@ -1,0 +1,4 @@
+mod Ways
+mod WaysFlows
+mod WaysRows
+mod WaysSwitch
