@@ -2,3 +2,5 @@ mod Ways
 mod WaysFlows
 mod WaysRows
 mod WaysSwitch
+mod Sits
+mod Settings
