@@ -4,3 +4,4 @@ mod WaysRows
 mod WaysSwitch
 mod Sits
 mod Settings
+mod Operands
