@@ -5,3 +5,4 @@ mod WaysSwitch
 mod Sits
 mod Settings
 mod Operands
+mod SitsFlows

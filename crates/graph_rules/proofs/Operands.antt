@@ -126,7 +126,7 @@ module _ (room : Room) where
   cell_meets None (variable.Lent parameter) h n l = absurd (cc)
   cell_meets (Some length) p h n l = absurd (cc)
 
-  array_meets : (length : Option ℕ) (p : VariablePlace) → IsTrue (variable_fits room length p) → IsTrue (not (is_none length)) → IsTrue (array_fits room (array_of p) (length_of length))
+  pub array_meets : (length : Option ℕ) (p : VariablePlace) → IsTrue (variable_fits room length p) → IsTrue (not (is_none length)) → IsTrue (array_fits room (array_of p) (length_of length))
   array_meets None p h n = absurd (cc)
   array_meets (Some length) (variable.Global first) h n = h
   array_meets (Some length) (variable.Local first) h n = h
