@@ -6,3 +6,5 @@ mod Sits
 mod Settings
 mod Operands
 mod SitsFlows
+mod SitsValues
+mod SitsRows
