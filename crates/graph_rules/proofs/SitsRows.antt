@@ -1,17 +1,17 @@
 -- What statements make meets the rules.
 use Rattle.std.proofs.Common.{◌≡◌, ℕ, ◌+◌, ◌^◌, ◌<◌, ◌≤◌, Bool, true, false, List, [], ◌∷◌, ◌++◌, length, Option, Some, None, refl, sym, ap, subst, ◌∙◌, rules, arith}
-use Rattle.std.specs.Prelude.{IsTrue, ◌&&◌, nat_lt, nat_le, slice_get}
+use Rattle.std.specs.Prelude.{IsTrue, ◌&&◌, nat_lt, nat_le, slice_get, if◌then◌else◌, pos, ◌-◌, ◌-ℤ◌}
 use Rattle.std.specs.List.{AllByRecursion, list_all}
 use Rattle.std.specs.Option.{is_some}
-use Rattle.std.proofs.lemmas.Bool.{lt-ltb}
+use Rattle.std.proofs.lemmas.Bool.{lt-ltb, le-leb}
 use Rattle.std.proofs.lemmas.List.Folds.{list_all-append}
 use Rattle.fq_core.specs.declared.span.Span.{Span}
 use Rattle.fq_core.specs.declared.statement_kind.StatementKind.{StatementKind}
 use Rattle.fq_core.specs.declared.statement_kind.StatementKind.TheVariants as kinds
-use Rattle.c_values.specs.Kind.{is_kind, is_value, int}
+use Rattle.c_values.specs.Kind.{IsInRange, is_kind, is_value, int, number_of, least, greatest}
 use Rattle.c_values.specs.declared.kinds.Kind.{Kind}
 use Rattle.c_values.specs.declared.operators.BinaryOp.{BinaryOp}
-use Rattle.c_values.proofs.Fitting.{and_left, and_right, and_both, IsValue-zero}
+use Rattle.c_values.proofs.Fitting.{and_left, and_right, and_both, IsValue-zero, le_is, value_from_parts}
 use Rattle.cfa.specs.declared.expr.CellPlace.{CellPlace}
 use Rattle.cfa.specs.declared.expr.CellPlace.TheVariants as place
 use Rattle.cfa.specs.declared.expr.Expr.{Expr}
@@ -173,3 +173,70 @@ module _ (c : Setting) where
   local_is x (Some v) hx h u a z n e k w at to s =
       ending_is c (OperandFits c h.0) (v.pure u) (λ o b. step u (Assign (cell_of x.place) o.value) (x.name ∷ []) o.reads b z) (h.1.pure u w)
       (λ o m p q r fit from sits. edge_meets c w.function w.file from to (plain_put (cell_of x.place) h.0 o (integer_cell c.names x hx) fit)) a n e k at s
+
+  -- ---- arrays
+
+  -- a small index is an int
+  index_value : (i : ℕ) → i < 16384 → IsTrue (is_value int i)
+  unfolding number_of least greatest
+  index_value i h =
+      let below : nat_lt i (2 ^ 63) ≡ true = lt-ltb i (2 ^ 63) (omega arith) in
+      let number : number_of int i ≡ pos i = ap (λ b. if b then pos i else (pos i -ℤ pos (2 ^ 64))) below in
+      let range : IsInRange int (pos i) = (le_is (least int) (pos i) refl, le_is (pos i) (greatest int) (le-leb i (2 ^ 31 - 1) (omega arith))) in
+      value_from_parts int i (record { of_kind = refl; pattern = omega arith; range = subst (IsInRange int) (sym number) range })
+
+  element_is : (x : Variable) (i : ℕ) (v : Value) → IsTrue (is_array c.names x) → i < 16384 → HasValue c v → IsLowering c (element_row x i v)
+  element_is x i v hx le h u a z n e k w at to s =
+      let index = constant_checked c.names.room i int (index_value i le) in
+      ending_is c (OperandFits c h.0) (v.pure u) (λ o b. step u (Assign (element_of x (expr.Constant i int)) o.value) (x.name ∷ []) o.reads b z) (h.1.pure u w)
+      (λ o m p q r fit from sits. edge_meets c w.function w.file from to (plain_put (element_of x (expr.Constant i int)) h.0 o (element_place c.names x (expr.Constant i int) int hx index) fit)) a n e k at s
+
+  -- one, and then another, from a node between them that is made first
+  followed_is : (first rest : Lowering) → IsLowering c first → IsLowering c rest → IsLowering c (λ u a z. numbered (λ n e k. node_here u ∷ first u a n ∷ rest u n z ∷ []))
+  followed_is first rest hf hr u a z n e k w at to s =
+      let S = all_sit c.graph _ n e k s in
+      let m = at_node c w.function S.0 in
+      let mx = first u a n (n + 1) (e + 0) (k + 0) in
+      all_meet c.graph _ n e k (node_meets c u u.span e w w.file & hf u a n (n + 1) (e + 0) (k + 0) w at m S.1.0
+      & hr u n z (n + 1 + length mx.nodes) (e + 0 + length mx.edges) (k + 0 + length mx.scopes) w m to S.1.1.0 & tt)
+
+  elements_are : (x : Variable) (i : ℕ) (v : Value) (vs : List Value) → IsTrue (is_array c.names x) → i + length (v ∷ vs) ≤ 16384 → HasValue c v → AllByRecursion (HasValue c) vs → IsLowering c (elements_row x i (v ∷ vs))
+  elements_are x i v [] hx le h hs u a z n e k w at to s = element_is x i v hx (omega arith) h u a z n e k w at to s
+  elements_are x i v (next ∷ rest) hx le h hs u a z n e k w at to s =
+      followed_is (element_row x i v) (elements_row x (i + 1) (next ∷ rest)) (element_is x i v hx (omega arith) h) (elements_are x (i + 1) next rest hx (omega arith) hs.0 hs.1) u a z n e k w at to s
+
+  pub array_is : (x : Variable) (vs : List Value) → IsTrue (is_array c.names x) → length vs ≤ 16384 → AllByRecursion (HasValue c) vs → IsLowering c (array_row x vs)
+  array_is x [] hx le hs u a z n e k w at to s = clear_is x hx u a z n e k w at to s
+  array_is x (v ∷ rest) hx le hs u a z n e k w at to s =
+      followed_is (clear x) (elements_row x 0 (v ∷ rest)) (clear_is x hx) (elements_are x 0 v rest hx (omega arith) hs.0 hs.1) u a z n e k w at to s
+
+  -- ---- labels and calls
+
+  pub label_is : (name : List ℕ) (p : Piece) → IsPiece c p → IsLowering c (label_row name p)
+  label_is name p hp u a z n e k w at to s =
+      followed_is (λ u a z. label_edge u name a z) p.make (λ u a z n e k w at to s. edge_meets c w.function w.file at to (plain_skip c)) hp.make u a z n e k w at to s
+
+  pub call_is : (call : Calling) (result : Option Kind) → CallFits c call.callee call.words call.arrays result → IsLowering c (call_row call)
+  call_is call result h u a z n e k w at to s =
+      call_ends c call.callee call.words call.arrays result None u z h (record { place = refl; some = tt }) w to a n e k at s
+
+  -- ---- blocks
+
+  pub sequence_is : (p : Piece) (ps : List Piece) → IsPiece c p → AllByRecursion (IsPiece c) ps → IsLowering c (sequence (p ∷ ps))
+  sequence_is p [] h hs u a z n e k w at to s = h.make u a z n e k w at to s
+  sequence_is p (next ∷ rest) h hs u a z n e k w at to s =
+      let S = all_sit c.graph _ n e k s in
+      let v = seeing u p.declares k in
+      let m = at_node c w.function S.0 in
+      let w' = as_seeing u p.declares (n + 1) (e + 0) k h.declares w S.1.0 in
+      let ms = scope_behind u p.declares (n + 1) (e + 0) (k + 0) in
+      let n1 = n + 1 + length ms.nodes in
+      let e1 = e + 0 + length ms.edges in
+      let k1 = k + 0 + length ms.scopes in
+      let mx = p.make u a n n1 e1 k1 in
+      all_meet c.graph _ n e k (node_meets c v next.span e w' hs.0.span & scope_meets u p.declares (n + 1) (e + 0) (k + 0) w h.declares & h.make u a n n1 e1 k1 w at m S.1.1.0
+      & sequence_is next rest hs.0 hs.1 v n z (n1 + length mx.nodes) (e1 + length mx.edges) (k1 + length mx.scopes) w' m to S.1.1.1.0 & tt)
+
+  pub block_is : (ps : List Piece) → AllByRecursion (IsPiece c) ps → IsLowering c (block_row ps)
+  block_is [] hs u a z n e k w at to s = skip_is (stated u u.span kinds.Empty) a z n e k (as_stated u u.span kinds.Empty w.file w) at to s
+  block_is (p ∷ rest) hs u a z n e k w at to s = sequence_is p rest hs.0 hs.1 u a z n e k w at to s
