@@ -8,3 +8,5 @@ mod Operands
 mod SitsFlows
 mod SitsValues
 mod SitsRows
+mod SitsBranches
+mod SitsSwitch
