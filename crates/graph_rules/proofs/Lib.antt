@@ -10,3 +10,4 @@ mod SitsValues
 mod SitsRows
 mod SitsBranches
 mod SitsSwitch
+mod ValueTrees
