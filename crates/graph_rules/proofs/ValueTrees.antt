@@ -23,14 +23,14 @@ use Rattle.typed_trees.specs.declared.expression.TypedExprForm.{TypedExprForm, f
 use Rattle.typed_trees.specs.declared.expression.TypedExprForm.TheOpen.{TypedExpr-F, TypedExprForm-F, TypedPlace-F}
 use Rattle.typed_trees.specs.declared.expression.TypedPlace.{TypedPlace, ind-TypedPlace, map-TypedPlace, roll-TypedPlace}
 use Rattle.typed_trees.specs.declared.unit.TypedFunction.{TypedFunction}
-use Rattle.typed_trees.specs.Fitting.{Nameable, Fit, CallFit, expression_fit, expression_fits, place_fits, call_fit, operands_meet, gives, is_cell, is_variable, span_fits, word_fits, word_kinds, array_fits, array_lengths, callee_fits, defined_fits, input_fits, indexed}
+use Rattle.typed_trees.specs.Fitting.{Nameable, Fit, CallFit, expression_fit, expression_fits, place_fits, call_fit, operands_meet, gives, is_cell, is_variable, span_fits, is_array, word_fits, word_kinds, array_fits, array_lengths, callee_fits, defined_fits, input_fits, indexed}
 use Rattle.typed_trees.specs.Fitting as fitting
 use Rattle.graph_of.specs.Builder.{Builder, Flow}
 use Rattle.graph_of.specs.declared.parts.Around.{Around}
 use Rattle.graph_of.specs.declared.parts.Operand.{Operand}
 use Rattle.graph_of.specs.Expressions.{Calling, Value, Spot, Shaped, unary_value, unary_pure, binary_pure, truth_pure, other_cond, both_cond, either_cond, shape_of, value_of, spot_of, calling_of, form_step}
 use Rattle.graph_rules.proofs.Settings.{Setting}
-use Rattle.graph_rules.proofs.Operands.{same_kind_is}
+use Rattle.graph_rules.proofs.Operands.{same_kind_is, integer_variable, array_variable}
 use Rattle.graph_rules.proofs.WaysFlows as ways
 use Rattle.graph_rules.proofs.SitsFlows as sits
 use Rattle.graph_rules.proofs.SitsValues as value
@@ -242,3 +242,84 @@ module _ (c : Setting) where
 
       f : call_fit c.names (roll-TypedCall (record { callee = callee; words = words; arrays = arrays; cell = cell })) ≡ fitting.call_step c.names (record { callee = callee; words = map (expression_fit c.names) words; arrays = arrays; cell = cell })
       f = search (rules, expression_lemmas)
+
+  index_holds : (v : Variable) (o : Option TypedExpr) → IfSome o ValueHas → IsTrue (indexed c.names v (option_map (expression_fit c.names) o)) → SpotHolds c (record { variable = v; index = option_map value_of o })
+  index_holds v None h m = record { ways = tt; sits = m; variable = integer_variable c.names v m }
+  index_holds v (Some x) h m =
+      let both : IsTrue (is_array c.names v && expression_fits c.names x) = m in
+      let X = h (and_right _ _ both) in
+      record { ways = X.ways; sits = (and_left _ _ both, (kind_in x, X.sits)); variable = array_variable c.names v (and_left _ _ both) }
+
+  place_at : (z : TypedPlace-F TypedExprForm TypedCall TypedExpr TypedPlace) → IfSome z.index ValueHas → PlaceHas (roll-TypedPlace z)
+  unfolding spot_of value_of place_fits expression_fit
+  place_at z h fits = subst (SpotHolds c) (sym e) (index_holds z.variable z.index h (subst IsTrue f fits))
+    where
+      e : spot_of (roll-TypedPlace z) ≡ record { variable = z.variable; index = option_map value_of z.index }
+      e = search (rules, expression_lemmas)
+
+      f : place_fits c.names (roll-TypedPlace z) ≡ indexed c.names z.variable (option_map (expression_fit c.names) z.index)
+      f = search (rules, expression_lemmas)
+
+  expression_at : (x : TypedExpr-F TypedExprForm TypedCall TypedExpr TypedPlace) → FormHas x.form → ValueHas (roll-TypedExpr x)
+  unfolding value_of shape_of expression_fit form_fits
+  expression_at x h fits =
+      let all : IsTrue (is_kind x.kind && span_fits c.names x.span && form_fits c.names x.form x.kind) = subst (λ (q : Fit). IsTrue q.fits) f fits in
+      let most : IsTrue (is_kind x.kind && span_fits c.names x.span) = and_left _ _ all in
+      let X = h x.span x.kind (span_there c x.span (and_right _ _ most)) (and_left _ _ most) (and_right _ _ all) in
+      subst (λ (q : Value). ValueHolds c q (expression_fit c.names (roll-TypedExpr x)).kind) (sym e)
+      (subst (λ (q : Fit). ValueHolds c (record { span = x.span; kind = x.kind; pure = (shape_of x.form x.span x.kind).pure; cond = (shape_of x.form x.span x.kind).cond }) q.kind) (sym f)
+      (record { ways = record { pure = X.ways.pure; cond = X.ways.cond }; sits = record { span = span_there c x.span (and_right _ _ most); same = refl; pure = X.sits.pure; cond = X.sits.cond } }))
+    where
+      e : value_of (roll-TypedExpr x) ≡ record { span = x.span; kind = x.kind; pure = (shape_of x.form x.span x.kind).pure; cond = (shape_of x.form x.span x.kind).cond }
+      e = search (rules, expression_lemmas)
+
+      f : expression_fit c.names (roll-TypedExpr x) ≡ record { kind = x.kind; fits = is_kind x.kind && span_fits c.names x.span && form_fits c.names x.form x.kind }
+      f = search (rules, expression_lemmas)
+
+  -- a place whose index is given with what holds of it
+  place_has : (y : TypedPlace-F ((f : TypedExprForm) × FormHas f) ((q : TypedCall) × CallHas q) ((x : TypedExpr) × ValueHas x) ((p : TypedPlace) × PlaceHas p))
+      → PlaceHas (roll-TypedPlace (map-TypedPlace _ _ _ _ TypedExprForm TypedCall TypedExpr TypedPlace (λ q. q.0) (λ q. q.0) (λ q. q.0) (λ q. q.0) y))
+  place_has y = place_at _ (index y.variable y.index)
+    where
+      index : (v : Variable) (o : Option ((x : TypedExpr) × ValueHas x))
+          → IfSome (map-TypedPlace ((f : TypedExprForm) × FormHas f) ((q : TypedCall) × CallHas q) ((x : TypedExpr) × ValueHas x) ((p : TypedPlace) × PlaceHas p) TypedExprForm TypedCall TypedExpr TypedPlace (λ q. q.0) (λ q. q.0) (λ q. q.0) (λ q. q.0) (record { variable = v; index = o })).index ValueHas
+      index v None = tt
+      index v (Some q) = q.1
+
+  module _ {S : Type 0} (f : S → TypedExpr) (g : (q : S) → ValueHas (f q)) where
+    all_have : (ys : List S) → AllByRecursion ValueHas (map f ys)
+    all_have [] = tt
+    all_have (y ∷ ys) = (g y, all_have ys)
+
+  pub value_holds : (x : TypedExpr) → ValueHas x
+  value_holds x = ind-TypedExpr FormHas CallHas ValueHas PlaceHas
+      (λ x'. elim [
+        | TypedExprForm-F.Constant n ↦ λ e. subst (λ z. FormHas (roll-TypedExprForm z)) e (constant_at n)
+        | TypedExprForm-F.Load p ↦ λ e. subst (λ z. FormHas (roll-TypedExprForm z)) e (load_at p.0 p.1)
+        | TypedExprForm-F.Convert y ↦ λ e. subst (λ z. FormHas (roll-TypedExprForm z)) e (convert_at y.0 y.1)
+        | TypedExprForm-F.Unary op y ↦ λ e. subst (λ z. FormHas (roll-TypedExprForm z)) e (unary_at op y.0 y.1)
+        | TypedExprForm-F.Binary op y z' ↦ λ e. subst (λ z. FormHas (roll-TypedExprForm z)) e (binary_at op y.0 z'.0 y.1 z'.1)
+        | TypedExprForm-F.Both y z' cell ↦ λ e. subst (λ z. FormHas (roll-TypedExprForm z)) e (both_at y.0 z'.0 cell y.1 z'.1)
+        | TypedExprForm-F.Either y z' cell ↦ λ e. subst (λ z. FormHas (roll-TypedExprForm z)) e (either_at y.0 z'.0 cell y.1 z'.1)
+        | TypedExprForm-F.Choice t y z' cell ↦ λ e. subst (λ z. FormHas (roll-TypedExprForm z)) e (choice_at t.0 y.0 z'.0 cell t.1 y.1 z'.1)
+        | TypedExprForm-F.Call q ↦ λ e. subst (λ z. FormHas (roll-TypedExprForm z)) e (call_form_at q.0 q.1)
+      ])
+      (λ x' y e. subst (λ z. CallHas (roll-TypedCall z)) e (call_at y.callee _ y.arrays y.cell (all_have (λ q. q.0) (λ q. q.1) y.words)))
+      (λ x' y e. subst (λ z. ValueHas (roll-TypedExpr z)) e (expression_at (record { span = y.span; kind = y.kind; form = y.form.0 }) y.form.1))
+      (λ x' y e. subst (λ z. PlaceHas (roll-TypedPlace z)) e (place_has y)) x
+
+  -- ---- calls and places by themselves
+
+  pub spot_holds : (p : TypedPlace) → IsTrue (place_fits c.names p) → SpotHolds c (spot_of p)
+  spot_holds p = ind-TypedPlace (λ f. Unit {0}) (λ q. Unit {0}) (λ x. Unit {0}) PlaceHas (λ x y e. tt) (λ x y e. tt) (λ x y e. tt) (λ x y e. place_at x (index x.index)) p
+    where
+      index : (o : Option TypedExpr) → IfSome o ValueHas
+      index None = tt
+      index (Some x) = value_holds x
+
+  pub call_holds : (q : TypedCall) → IsTrue (call_fit c.names q).fits → CallHolds c (calling_of q) (call_fit c.names q).result
+  call_holds q = ind-TypedCall (λ f. Unit {0}) CallHas (λ x. Unit {0}) (λ p. Unit {0}) (λ x y e. tt) (λ x y e. call_at x.callee x.words x.arrays x.cell (words x.words)) (λ x y e. tt) (λ x y e. tt) q
+    where
+      words : (xs : List TypedExpr) → AllByRecursion ValueHas xs
+      words [] = tt
+      words (x ∷ xs) = (value_holds x, words xs)
