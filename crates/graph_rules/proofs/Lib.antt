@@ -11,3 +11,4 @@ mod SitsRows
 mod SitsBranches
 mod SitsSwitch
 mod ValueTrees
+mod StatementTrees
