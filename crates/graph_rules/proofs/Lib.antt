@@ -12,3 +12,4 @@ mod SitsBranches
 mod SitsSwitch
 mod ValueTrees
 mod StatementTrees
+mod WaysWhole
