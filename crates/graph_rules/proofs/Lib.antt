@@ -13,3 +13,5 @@ mod SitsSwitch
 mod ValueTrees
 mod StatementTrees
 mod WaysWhole
+mod WholeSettings
+mod Whole
