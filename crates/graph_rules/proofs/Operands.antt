@@ -72,7 +72,7 @@ module _ (room : Room) where
       let e : checked_kind room (expr.Convert x kind) ≡ kind_if (is_some (checked_kind room x) && is_kind kind) kind = search (rules, the_lemmas) in
       e ∙ kind_passed (is_some (checked_kind room x) && is_kind kind) kind (and_both (is_some (checked_kind room x)) (is_kind kind) (ap is_some h) k)
 
-  has_own : (o : Option Kind) (kind : Kind) → o ≡ Some kind → IsTrue (has_kind o kind)
+  pub has_own : (o : Option Kind) (kind : Kind) → o ≡ Some kind → IsTrue (has_kind o kind)
   has_own o kind h = subst (λ p. IsTrue (has_kind p kind)) (sym h) (same_kind_self kind)
 
   pub unary_checked : (op : UnaryOp) (x : Expr) (kind : Kind) → checked_kind room x ≡ Some kind → checked_kind room (expr.Unary op x kind) ≡ Some (unary_kind op kind)

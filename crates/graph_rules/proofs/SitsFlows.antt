@@ -44,7 +44,7 @@ use Rattle.graph_of.specs.GraphOf.{function_of}
 use Rattle.graph_of.proofs.Fits.{◌&◌}
 use Rattle.graph_rules.proofs.Sits.{Sits, AllSit, all_sit, Meets, all_meet, meet_nil}
 use Rattle.graph_rules.proofs.Settings.{Setting, AtNode, Within, node_within, at_node, third_node, in_functions, node_meets, operands_meet as operands_are, edge_meets, plain_assign, plain_guard, plain_answer}
-use Rattle.graph_rules.proofs.Operands.{same_kind_self, constant_checked, load_checked, convert_checked, unary_checked, binary_checked, local_fits, temporary_checked, array_meets, integer_cell, element_place}
+use Rattle.graph_rules.proofs.Operands.{has_own, constant_checked, load_checked, convert_checked, unary_checked, binary_checked, local_fits, temporary_checked, array_meets, integer_cell, element_place}
 
 -- ---- what flows
 
@@ -132,9 +132,6 @@ module _ (c : Setting) where
   abbrev pub SpotFits : Spot → Type 0
   SpotFits p = IndexFits p.variable p.index
 
-  has_own : (o : Option Kind) (kind : Kind) → o ≡ Some kind → IsTrue (has_kind o kind)
-  has_own o kind h = subst (λ p. IsTrue (has_kind p kind)) (sym h) (same_kind_self kind)
-
   pub words_are : (xs : List Value) (kinds : List Kind) → AllZip (IsValue c) xs kinds → IsPure c (WordsFit c kinds) (words_in_order xs)
   words_are [] [] hs u w = give_is (WordsFit c []) [] (record { fits = refl })
   words_are [] (k ∷ ks) hs u w = absurd hs
@@ -142,7 +139,7 @@ module _ (c : Setting) where
   words_are (x ∷ xs) (k ∷ ks) hs u w =
       then_is (OperandFits c k) (WordsFit c (k ∷ ks)) (x.pure u) _ (hs.0.pure u w)
       (λ v fit. then_gives (WordsFit c ks) (WordsFit c (k ∷ ks)) (words_in_order xs u) (λ vs. v ∷ vs) (words_are xs ks hs.1 u w)
-      (λ vs rest. record { fits = and_both (word_fits c.names.room v.value k) (words_fit c.names.room (map (λ (w : Operand). w.value) vs) ks) (has_own (checked_kind c.names.room v.value) k fit.checked) rest.fits }))
+      (λ vs rest. record { fits = and_both (word_fits c.names.room v.value k) (words_fit c.names.room (map (λ (w : Operand). w.value) vs) ks) (has_own c.names.room (checked_kind c.names.room v.value) k fit.checked) rest.fits }))
 
   -- ---- calls
 

@@ -1,6 +1,7 @@
 -- What a `switch` makes meets the rules.
 use Rattle.std.proofs.Common.{◌≡◌, ℕ, suc, ◌+◌, ◌<◌, Bool, true, false, List, [], ◌∷◌, ◌++◌, map, length, Option, Some, None, refl, sym, ap, subst, ◌∙◌}
 use Rattle.std.specs.Prelude.{IsTrue, ◌&&◌, nat_lt}
+use Rattle.std.proofs.lemmas.List.{length-map}
 use Rattle.std.specs.List.{AllByRecursion, list_all}
 use Rattle.std.specs.Option.{is_some}
 use Rattle.std.proofs.lemmas.Bool.{ltb-true}
@@ -112,10 +113,6 @@ module _ (c : Setting) where
   nodes_meet u [] w = tt
   nodes_meet u (g ∷ groups) w = ((node_meets c u u.span 0 w w.file).nodes.0, nodes_meet u groups w)
 
-  length-nodes : (u : Around) (groups : List Group) → length (map (λ (g : Group). node_at u u.span) groups) ≡ length groups
-  length-nodes u [] = refl
-  length-nodes u (g ∷ groups) = ap suc (length-nodes u groups)
-
   pub switch_is : (x : Value) (cell : ℕ) (groups : List Group) → IsValue c x x.kind → IsTrue (is_kind x.kind) → IsTrue (nat_lt cell c.names.room.cells) → AllByRecursion (IsGroup c x.kind) groups → IsLowering c (switch_row x cell groups)
   switch_is x cell groups hx hk h hs u a z n e k w at to s =
       let q = n + length groups in
@@ -125,7 +122,7 @@ module _ (c : Setting) where
       let r2 = sit_rest c.graph _ _ _ _ _ r1 in
       let r3 = sit_rest c.graph _ _ _ _ _ r2 in
       let there = all_at u groups n w.function (sit_first c.graph _ _ n e k s).nodes in
-      let same : n1 ≡ n + length groups = ap (λ m. n + m) (length-nodes u groups) in
+      let same : n1 ≡ n + length groups = ap (λ m. n + m) (length-map groups (λ (g : Group). node_at u u.span)) in
       let middle = subst (AtNode c) same (at_node c w.function (sit_first c.graph _ _ _ _ _ r0)) in
       let mv = ending (x.pure u) (λ v b. put u cell v.value v.reads b q) a (n1 + 1) (e + 0 + 0) (k + 0 + 0) in
       let n2 = n1 + 1 + length mv.nodes in

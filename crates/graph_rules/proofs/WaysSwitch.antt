@@ -1,5 +1,6 @@
 -- The ways on that a `switch` makes.
 use Rattle.std.proofs.Common.{◌≡◌, ℕ, suc, ◌+◌, List, [], ◌∷◌, ◌++◌, map, length, refl, ap, arith}
+use Rattle.std.proofs.lemmas.List.{length-map}
 use Rattle.std.specs.List.{AllByRecursion}
 use Rattle.c_values.specs.declared.kinds.Kind.{Kind}
 use Rattle.graph_of.specs.declared.parts.Around.{Around}
@@ -45,10 +46,6 @@ groups_are (group ∷ next ∷ rest) hs u g z n e k =
     leading_cons _ _ n e k (nodes_of u (next ∷ rest) (g + 1)) (λ i. 0) _ _ (block_is group.body hs.0 u g (g + 1) n e k)
     (groups_are (next ∷ rest) hs.1 u (g + 1) z (n + length m.nodes) (e + length m.edges) (k + length m.scopes)) (λ i. omega arith)
 
-length-nodes : (u : Around) (groups : List Group) → length (map (λ (g : Group). node_at u u.span) groups) ≡ length groups
-length-nodes u [] = refl
-length-nodes u (g ∷ groups) = ap suc (length-nodes u groups)
-
 pub switch_is : (x : Value) (cell : ℕ) (groups : List Group) → IsValue x → AllByRecursion IsGroup groups → IsLowering (switch_row x cell groups)
 switch_is x cell groups hx hs u a z n e k =
     let c = n + length groups in
@@ -61,7 +58,7 @@ switch_is x cell groups hx hs u a z n e k =
     let mc = cases_row u cell x.kind (cases_from n groups) (default_from n groups z) c n2 e2 k2 in
     let C = cases_are (cases_from n groups) u cell x.kind (default_from n groups z) c n2 e2 k2 in
     let G = groups_are groups hs (within u z) n z (n2 + length mc.nodes) (e2 + length mc.edges) (k2 + length mc.scopes) in
-    let same : n1 ≡ n + length groups = ap (λ m. n + m) (length-nodes u groups) in
+    let same : n1 ≡ n + length groups = ap (λ m. n + m) (length-map groups (λ (g : Group). node_at u u.span)) in
     let none : ℕ → ℕ = λ i. 0 in
     let sum = nodes_of u groups n in
     leading_cons _ _ n e k (λ i. here i a + sum i) none _ _ (nodes_lead (map (λ (g : Group). node_at u u.span) groups) n)
