@@ -153,17 +153,12 @@ module _ (c : Setting) where
   value_sits None f = tt
   value_sits (Some x) f = has x f
 
-  values_ways : (xs : List TypedExpr) → IsTrue (list_all (expression_fits c.names) xs) → AllByRecursion ways_flows.IsValue (map value_of xs)
-  values_ways [] f = tt
-  values_ways (x ∷ xs) f =
+  values_hold : (xs : List TypedExpr) → IsTrue (list_all (expression_fits c.names) xs) → AllByRecursion ways_flows.IsValue (map value_of xs) × AllByRecursion (sits.HasValue c) (map value_of xs)
+  values_hold [] f = (tt, tt)
+  values_hold (x ∷ xs) f =
       let all : IsTrue (expression_fits c.names x && list_all (expression_fits c.names) xs) = f in
-      ((value_holds c x (and_left _ _ all)).ways, values_ways xs (and_right _ _ all))
-
-  values_sit : (xs : List TypedExpr) → IsTrue (list_all (expression_fits c.names) xs) → AllByRecursion (sits.HasValue c) (map value_of xs)
-  values_sit [] f = tt
-  values_sit (x ∷ xs) f =
-      let all : IsTrue (expression_fits c.names x && list_all (expression_fits c.names) xs) = f in
-      (has x (and_left _ _ all), values_sit xs (and_right _ _ all))
+      let R = values_hold xs (and_right _ _ all) in
+      (((value_holds c x (and_left _ _ all)).ways, R.0), (has x (and_left _ _ all), R.1))
 
   -- ---- the forms
 
@@ -195,7 +190,8 @@ module _ (c : Setting) where
       let own = and_left _ _ all in
       let short : length list ≤ 16384 = short_list v.length v.place (length list) (variable_place c.names v (array_variable c.names v own)) l in
       let long = length-map list value_of in
-      record { declares = and_both (is_variable c.names v) true (array_variable c.names v own) refl; ways = ways.array_is v (map value_of list) (values_ways list (and_right _ _ all)); sits = sits.array_is c v (map value_of list) own (omega arith) (values_sit list (and_right _ _ all)) })
+      let V = values_hold list (and_right _ _ all) in
+      record { declares = and_both (is_variable c.names v) true (array_variable c.names v own) refl; ways = ways.array_is v (map value_of list) V.0; sits = sits.array_is c v (map value_of list) own (omega arith) V.1 })
 
   operator_is : (op : Option (BinaryOp × Kind)) (x : TypedExpr) → IsTrue (operator_fits c.names op x) → sits.OperatorFits c op (expression_fit c.names x).kind
   operator_is None x f = tt
@@ -246,29 +242,22 @@ module _ (c : Setting) where
   abbrev arms_lists : List (TypedExpr × TypedStatement) → Bool
   arms_lists arms = list_all (λ (arm : TypedExpr × Bool). arm.1) (map (λ (arm : TypedExpr × TypedStatement). (arm.0, lists_fit arm.1)) arms)
 
-  arms_ways : (arms : List (TypedExpr × TypedStatement)) → ArmsMake arms → IsTrue (arms_fits arms) → IsTrue (arms_lists arms) → AllByRecursion ways.IsArm (arms_of arms)
-  arms_ways [] h f l = tt
-  arms_ways (arm ∷ arms) h f l =
+  each_arm : (arms : List (TypedExpr × TypedStatement)) → ArmsMake arms → IsTrue (arms_fits arms) → IsTrue (arms_lists arms) → AllByRecursion ways.IsArm (arms_of arms) × AllByRecursion (sits_branches.IsArm c) (arms_of arms)
+  each_arm [] h f l = (tt, tt)
+  each_arm (arm ∷ arms) h f l =
       let all : IsTrue (expression_fits c.names arm.0 && statement_fits c.names arm.1 && arms_fits arms) = f in
       let both : IsTrue (expression_fits c.names arm.0 && statement_fits c.names arm.1) = and_left _ _ all in
       let short : IsTrue (lists_fit arm.1 && arms_lists arms) = l in
-      (((value_holds c arm.0 (and_left _ _ both)).ways, (h.0 (and_right _ _ both) (and_left _ _ short)).ways), arms_ways arms h.1 (and_right _ _ all) (and_right _ _ short))
-
-  arms_sit : (arms : List (TypedExpr × TypedStatement)) → ArmsMake arms → IsTrue (arms_fits arms) → IsTrue (arms_lists arms) → AllByRecursion (sits_branches.IsArm c) (arms_of arms)
-  arms_sit [] h f l = tt
-  arms_sit (arm ∷ arms) h f l =
-      let all : IsTrue (expression_fits c.names arm.0 && statement_fits c.names arm.1 && arms_fits arms) = f in
-      let both : IsTrue (expression_fits c.names arm.0 && statement_fits c.names arm.1) = and_left _ _ all in
-      let short : IsTrue (lists_fit arm.1 && arms_lists arms) = l in
-      ((has arm.0 (and_left _ _ both), (h.0 (and_right _ _ both) (and_left _ _ short)).sits), arms_sit arms h.1 (and_right _ _ all) (and_right _ _ short))
+      let S = h.0 (and_right _ _ both) (and_left _ _ short) in
+      let R = each_arm arms h.1 (and_right _ _ all) (and_right _ _ short) in
+      ((((value_holds c arm.0 (and_left _ _ both)).ways, S.ways), R.0), ((has arm.0 (and_left _ _ both), S.sits), R.1))
 
   arms_hold : (arms : List (TypedExpr × TypedStatement)) (otherwise : Option Piece) → ArmsMake arms → IsTrue (arms_fit c.names (map (λ (arm : TypedExpr × TypedStatement). (arm.0, statement_fits c.names arm.1)) arms)) → IsTrue (arms_lists arms)
       → IfSome otherwise (PieceHolds c) → RowHolds c [] (arms_row (arms_of arms) otherwise)
   arms_hold [] otherwise h f l o = absurd (cc)
   arms_hold (arm ∷ arms) otherwise h f l o =
-      let W = arms_ways (arm ∷ arms) h f l in
-      let S = arms_sit (arm ∷ arms) h f l in
-      record { declares = refl; ways = ways.arms_are (tested (arm.0, piece arm.1)) (arms_of arms) otherwise W.0 W.1 (ways_if otherwise o); sits = sits_branches.arms_are c (tested (arm.0, piece arm.1)) (arms_of arms) otherwise S.0 S.1 (sits_if otherwise o) }
+      let A = each_arm (arm ∷ arms) h f l in
+      record { declares = refl; ways = ways.arms_are (tested (arm.0, piece arm.1)) (arms_of arms) otherwise A.0.0 A.0.1 (ways_if otherwise o); sits = sits_branches.arms_are c (tested (arm.0, piece arm.1)) (arms_of arms) otherwise A.1.0 A.1.1 (sits_if otherwise o) }
 
   if_at : (arms : List (TypedExpr × TypedStatement)) (otherwise : Option TypedStatement) → ArmsMake arms → IfSome otherwise Makes → FormHas (roll-TypedForm (TypedForm-F.If arms otherwise))
   unfolding shape piece form_fits statement_fits form_lists lists_fit
@@ -337,19 +326,15 @@ module _ (c : Setting) where
           let all : IsTrue (is_kind y.kind && span_fits c.names y.span && expression_form_fits c.names y.form y.kind) = subst (λ (q : Fit). IsTrue q.fits) e h in
           subst (λ (q : Fit). IsTrue (is_kind q.kind)) (sym e) (and_left _ _ (and_left _ _ all))
 
-  groups_ways : (kind : Kind) (gs : List TypedGroup) → AllByRecursion GroupHas gs → IsTrue (list_all (λ (g : Kind → Bool). g kind) (map (group_fits c.names) gs)) → IsTrue (list_all (λ fits. fits) (map group_lists gs)) → AllByRecursion ways_switch.IsGroup (map group_of gs)
-  groups_ways kind [] hs f l = tt
-  groups_ways kind (g ∷ gs) hs f l =
+  groups_hold : (kind : Kind) (gs : List TypedGroup) → AllByRecursion GroupHas gs → IsTrue (list_all (λ (g : Kind → Bool). g kind) (map (group_fits c.names) gs)) → IsTrue (list_all (λ fits. fits) (map group_lists gs))
+      → AllByRecursion ways_switch.IsGroup (map group_of gs) × AllByRecursion (sits_switch.IsGroup c kind) (map group_of gs)
+  groups_hold kind [] hs f l = (tt, tt)
+  groups_hold kind (g ∷ gs) hs f l =
       let fits : IsTrue (group_fits c.names g kind && list_all (λ (g : Kind → Bool). g kind) (map (group_fits c.names) gs)) = f in
       let short : IsTrue (group_lists g && list_all (λ fits. fits) (map group_lists gs)) = l in
-      ((hs.0 kind (and_left _ _ fits) (and_left _ _ short)).ways, groups_ways kind gs hs.1 (and_right _ _ fits) (and_right _ _ short))
-
-  groups_sit : (kind : Kind) (gs : List TypedGroup) → AllByRecursion GroupHas gs → IsTrue (list_all (λ (g : Kind → Bool). g kind) (map (group_fits c.names) gs)) → IsTrue (list_all (λ fits. fits) (map group_lists gs)) → AllByRecursion (sits_switch.IsGroup c kind) (map group_of gs)
-  groups_sit kind [] hs f l = tt
-  groups_sit kind (g ∷ gs) hs f l =
-      let fits : IsTrue (group_fits c.names g kind && list_all (λ (g : Kind → Bool). g kind) (map (group_fits c.names) gs)) = f in
-      let short : IsTrue (group_lists g && list_all (λ fits. fits) (map group_lists gs)) = l in
-      ((hs.0 kind (and_left _ _ fits) (and_left _ _ short)).sits, groups_sit kind gs hs.1 (and_right _ _ fits) (and_right _ _ short))
+      let G = hs.0 kind (and_left _ _ fits) (and_left _ _ short) in
+      let R = groups_hold kind gs hs.1 (and_right _ _ fits) (and_right _ _ short) in
+      ((G.ways, R.0), (G.sits, R.1))
 
   switch_holds : (x : Value) (kind : Kind) (cell : ℕ) (gs : List Group) → sits_flows.IsValue c x kind → IsTrue (is_kind kind) → IsTrue (is_cell c.names cell) → AllByRecursion (sits_switch.IsGroup c kind) gs → sits.IsLowering c (switch_row x cell gs)
   switch_holds x kind cell gs h k i hs =
@@ -367,10 +352,11 @@ module _ (c : Setting) where
       let all : IsTrue (expression_fits c.names x && is_cell c.names cell && list_all (λ (g : Kind → Bool). g kind) (map (group_fits c.names) gs)) = f in
       let both : IsTrue (expression_fits c.names x && is_cell c.names cell) = and_left _ _ all in
       let X = value_holds c x (and_left _ _ both) in
+      let G = groups_hold kind gs h (and_right _ _ all) l in
       record {
         declares = refl;
-        ways = ways_switch.switch_is (value_of x) cell (map group_of gs) X.ways (groups_ways kind gs h (and_right _ _ all) l);
-        sits = switch_holds (value_of x) kind cell (map group_of gs) X.sits (kind_known x (and_left _ _ both)) (and_right _ _ both) (groups_sit kind gs h (and_right _ _ all) l);
+        ways = ways_switch.switch_is (value_of x) cell (map group_of gs) X.ways G.0;
+        sits = switch_holds (value_of x) kind cell (map group_of gs) X.sits (kind_known x (and_left _ _ both)) (and_right _ _ both) G.1;
       })
 
   -- ---- jumps and tests

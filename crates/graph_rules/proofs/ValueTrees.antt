@@ -194,28 +194,24 @@ module _ (c : Setting) where
   -- ---- calls, places and expressions
 
   -- words that match their kinds
-  words_ways : (xs : List TypedExpr) (kinds : List Kind) → AllByRecursion ValueHas xs → IsTrue (matched (word_fits c.names) (map (expression_fit c.names) xs) kinds) → AllByRecursion ways.IsValue (map value_of xs)
-  words_ways [] kinds hs m = tt
-  words_ways (x ∷ xs) [] hs m = absurd (cc)
-  words_ways (x ∷ xs) (k ∷ ks) hs m =
-      let all : IsTrue (expression_fits c.names x && same_kind (kind_in x) k && matched (word_fits c.names) (map (expression_fit c.names) xs) ks) = m in
-      ((hs.0 (and_left _ _ (and_left _ _ all))).ways, words_ways xs ks hs.1 (and_right _ _ all))
-
-  words_sit : (xs : List TypedExpr) (kinds : List Kind) → AllByRecursion ValueHas xs → IsTrue (matched (word_fits c.names) (map (expression_fit c.names) xs) kinds) → AllZip (sits.IsValue c) (map value_of xs) kinds
-  words_sit [] [] hs m = tt
-  words_sit [] (k ∷ ks) hs m = absurd (cc)
-  words_sit (x ∷ xs) [] hs m = absurd (cc)
-  words_sit (x ∷ xs) (k ∷ ks) hs m =
+  words_hold : (xs : List TypedExpr) (kinds : List Kind) → AllByRecursion ValueHas xs → IsTrue (matched (word_fits c.names) (map (expression_fit c.names) xs) kinds) → AllByRecursion ways.IsValue (map value_of xs) × AllZip (sits.IsValue c) (map value_of xs) kinds
+  words_hold [] [] hs m = (tt, tt)
+  words_hold [] (k ∷ ks) hs m = absurd (cc)
+  words_hold (x ∷ xs) [] hs m = absurd (cc)
+  words_hold (x ∷ xs) (k ∷ ks) hs m =
       let all : IsTrue (expression_fits c.names x && same_kind (kind_in x) k && matched (word_fits c.names) (map (expression_fit c.names) xs) ks) = m in
       let own : IsTrue (expression_fits c.names x && same_kind (kind_in x) k) = and_left _ _ all in
-      (subst (sits.IsValue c (value_of x)) (same_kind_is (kind_in x) k (and_right _ _ own)) (hs.0 (and_left _ _ own)).sits, words_sit xs ks hs.1 (and_right _ _ all))
+      let X = hs.0 (and_left _ _ own) in
+      let R = words_hold xs ks hs.1 (and_right _ _ all) in
+      ((X.ways, R.0), (subst (sits.IsValue c (value_of x)) (same_kind_is (kind_in x) k (and_right _ _ own)) X.sits, R.1))
 
   defined_holds : (j : ℕ) (o : Option TypedFunction) (xs : List TypedExpr) (arrays : List Variable) → slice_get c.names.functions j ≡ o → AllByRecursion ValueHas xs → IsTrue (defined_fits c.names o (map (expression_fit c.names) xs) arrays).fits
       → AllByRecursion ways.IsValue (map value_of xs) × sits.DefinedFits c j (map value_of xs) arrays (defined_fits c.names o (map (expression_fit c.names) xs) arrays).result
   defined_holds j None xs arrays e hs m = absurd (cc)
   defined_holds j (Some f) xs arrays e hs m =
       let all : IsTrue (matched (word_fits c.names) (map (expression_fit c.names) xs) (word_kinds f) && matched (array_fits c.names) arrays (array_lengths f)) = m in
-      (words_ways xs (word_kinds f) hs (and_left _ _ all), record { callee = f; there = e; given_words = words_sit xs (word_kinds f) hs (and_left _ _ all); given_arrays = and_right _ _ all; same = refl })
+      let W = words_hold xs (word_kinds f) hs (and_left _ _ all) in
+      (W.0, record { callee = f; there = e; given_words = W.1; given_arrays = and_right _ _ all; same = refl })
 
   input_holds : (j : ℕ) (o : Option InputFunction) (xs : List TypedExpr) (arrays : List Variable) → slice_get c.names.inputs j ≡ o → IsTrue (input_fits c.names o (map (expression_fit c.names) xs) arrays).fits
       → AllByRecursion ways.IsValue (map value_of xs) × sits.InputFits c j (map value_of xs) (input_fits c.names o (map (expression_fit c.names) xs) arrays).result

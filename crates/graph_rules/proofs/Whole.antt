@@ -100,9 +100,6 @@ globals_known cells (g ∷ gs) h =
     list_all-append (λ (q : Kind × ℕ). is_kind q.0) (map (λ value. (g.variable.kind, value)) g.first) _ ∙ and_both _ _ first (globals_known cells gs (and_right (global_fits cells g) (list_all (global_fits cells) gs) h))
 
 module _ (t : Typed) (files : List (List ℕ)) (fitting : IsFitting t (length files)) (lists : ListsFit t) where
-  abbrev globals_in : List Variable
-  globals_in = global_variables t
-
   -- functions from a number on are the unit's
   abbrev Tail : ℕ → List TypedFunction → Type 0
   Tail i fs = (k : ℕ) (f : TypedFunction) → slice_get fs k ≡ Some f → slice_get t.functions (i + k) ≡ Some f

@@ -68,30 +68,21 @@ function_from i (f ∷ fs) (suc k) g is =
 
 module _ (globals : List Variable) where
   -- the nodes of a function's entry and exit
-  entry_at : (all : List Node) (i : ℕ) (fs : List TypedFunction) (k : ℕ) (f : TypedFunction) → Holds all (2 * i) (ends_from globals i fs) → slice_get fs k ≡ Some f → slice_get all (entry_of (i + k)) ≡ Some (node_at (around_of globals (i + k) f) f.span)
-  entry_at all i [] k f h is = absurd (cc)
-  entry_at all i (g ∷ fs) zero f h is =
-      let e : i ≡ i + 0 = omega arith in
-      subst (λ j. slice_get all (entry_of j) ≡ Some (node_at (around_of globals j f) f.span)) e (h.0 ∙ ap (λ (g : TypedFunction). Some (node_at (around_of globals i g) g.span)) (same_Some g f is))
-  entry_at all i (g ∷ fs) (suc k) f h is =
-      let e : i + 1 + k ≡ i + suc k = omega arith in
-      let next : 2 * i + 1 + 1 ≡ 2 * (i + 1) = omega arith in
-      subst (λ j. slice_get all (entry_of j) ≡ Some (node_at (around_of globals j f) f.span)) e (entry_at all (i + 1) fs k f (subst (λ n. Holds all n (ends_from globals (i + 1) fs)) next h.1.1) is)
+  record Ends (all : List Node) (i : ℕ) (f : TypedFunction) : Type 0 where
+    entry : slice_get all (entry_of i) ≡ Some (node_at (around_of globals i f) f.span)
+    exit : slice_get all (exit_of i) ≡ Some (node_at (around_of globals i f) f.close)
 
-  exit_at : (all : List Node) (i : ℕ) (fs : List TypedFunction) (k : ℕ) (f : TypedFunction) → Holds all (2 * i) (ends_from globals i fs) → slice_get fs k ≡ Some f → slice_get all (exit_of (i + k)) ≡ Some (node_at (around_of globals (i + k) f) f.close)
-  exit_at all i [] k f h is = absurd (cc)
-  exit_at all i (g ∷ fs) zero f h is =
+  ends_at : (all : List Node) (i : ℕ) (fs : List TypedFunction) (k : ℕ) (f : TypedFunction) → Holds all (2 * i) (ends_from globals i fs) → slice_get fs k ≡ Some f → Ends all (i + k) f
+  ends_at all i [] k f h is = absurd (cc)
+  ends_at all i (g ∷ fs) zero f h is =
       let e : i ≡ i + 0 = omega arith in
-      subst (λ j. slice_get all (exit_of j) ≡ Some (node_at (around_of globals j f) f.close)) e (h.1.0 ∙ ap (λ (g : TypedFunction). Some (node_at (around_of globals i g) g.close)) (same_Some g f is))
-  exit_at all i (g ∷ fs) (suc k) f h is =
+      subst (λ j. Ends all j f) e (subst (Ends all i) (same_Some g f is) (record { entry = h.0; exit = h.1.0 }))
+  ends_at all i (g ∷ fs) (suc k) f h is =
       let e : i + 1 + k ≡ i + suc k = omega arith in
       let next : 2 * i + 1 + 1 ≡ 2 * (i + 1) = omega arith in
-      subst (λ j. slice_get all (exit_of j) ≡ Some (node_at (around_of globals j f) f.close)) e (exit_at all (i + 1) fs k f (subst (λ n. Holds all n (ends_from globals (i + 1) fs)) next h.1.1) is)
+      subst (λ j. Ends all j f) e (ends_at all (i + 1) fs k f (subst (λ n. Holds all n (ends_from globals (i + 1) fs)) next h.1.1) is)
 
 module _ (t : Typed) (files : List (List ℕ)) (fitting : IsFitting t (length files)) where
-  abbrev whole : GraphParts
-  whole = graph_of t files
-
   pub whole_sits : Sits (graph_of t files) (made (global_variables t) t.functions) 0 0 0
   unfolding graph_of
   whole_sits = record {
@@ -102,9 +93,6 @@ module _ (t : Typed) (files : List (List ℕ)) (fitting : IsFitting t (length fi
 
   pub ends_sit : Sits (graph_of t files) (ends (global_variables t) t.functions 0 0 0) 0 0 0
   ends_sit = sit_first (graph_of t files) _ _ 0 0 0 whole_sits
-
-  names_in : TypedFunction → Nameable
-  names_in f = nameable t (length files) f
 
   -- what function_fits says
   pub record FunctionParts (f : TypedFunction) : Type 0 where
@@ -144,15 +132,16 @@ module _ (t : Typed) (files : List (List ℕ)) (fitting : IsFitting t (length fi
   unfolding graph_of
   function_there k f is = let e : 0 + k ≡ k = omega arith in functions_at 0 t.functions k f is ∙ ap (λ j. Some (function_of j f)) e
 
-  pub entry_there : (k : ℕ) (f : TypedFunction) → slice_get t.functions k ≡ Some f → slice_get (graph_of t files).nodes (entry_of k) ≡ Some (node_at (around_of (global_variables t) k f) f.span)
-  entry_there k f is =
+  ends_there : (k : ℕ) (f : TypedFunction) → slice_get t.functions k ≡ Some f → Ends (global_variables t) (graph_of t files).nodes k f
+  ends_there k f is =
       let e : 0 + k ≡ k = omega arith in
-      subst (λ j. slice_get (graph_of t files).nodes (entry_of j) ≡ Some (node_at (around_of (global_variables t) j f) f.span)) e (entry_at (global_variables t) (graph_of t files).nodes 0 t.functions k f ends_sit.nodes is)
+      subst (λ j. Ends (global_variables t) (graph_of t files).nodes j f) e (ends_at (global_variables t) (graph_of t files).nodes 0 t.functions k f ends_sit.nodes is)
+
+  pub entry_there : (k : ℕ) (f : TypedFunction) → slice_get t.functions k ≡ Some f → slice_get (graph_of t files).nodes (entry_of k) ≡ Some (node_at (around_of (global_variables t) k f) f.span)
+  entry_there k f is = (ends_there k f is).entry
 
   pub exit_there : (k : ℕ) (f : TypedFunction) → slice_get t.functions k ≡ Some f → slice_get (graph_of t files).nodes (exit_of k) ≡ Some (node_at (around_of (global_variables t) k f) f.close)
-  exit_there k f is =
-      let e : 0 + k ≡ k = omega arith in
-      subst (λ j. slice_get (graph_of t files).nodes (exit_of j) ≡ Some (node_at (around_of (global_variables t) j f) f.close)) e (exit_at (global_variables t) (graph_of t files).nodes 0 t.functions k f ends_sit.nodes is)
+  exit_there k f is = (ends_there k f is).exit
 
   pub files_same : length files ≡ length (graph_of t files).files
   unfolding graph_of
