@@ -1,12 +1,12 @@
 -- Kinds of expressions, places and variables that meet the rules of a room.
-use Rattle.std.proofs.Common.{◌≡◌, ℕ, ◌+◌, ◌^◌, ◌<◌, ◌≤◌, Bool, true, false, cond, Option, Some, None, refl, sym, ap, subst, ◌∙◌, rules, arith}
+use Rattle.std.proofs.Common.{◌≡◌, ℕ, ◌+◌, Bool, true, false, Option, Some, None, refl, sym, ap, subst, ◌∙◌, rules, arith}
 use Rattle.std.specs.Prelude.{IsTrue, not, ◌&&◌, ◌||◌, ◌==◌, nat_lt, nat_le, if◌then◌else◌}
 use Rattle.std.specs.Option.{is_some, is_none}
 use Rattle.std.proofs.lemmas.Bool.{eqb-true, eq-eqb, leb-true, lt-ltb}
 use Rattle.c_values.specs.declared.kinds.Kind.{Kind}
 use Rattle.c_values.specs.declared.operators.BinaryOp.{BinaryOp}
 use Rattle.c_values.specs.declared.operators.UnaryOp.{UnaryOp}
-use Rattle.c_values.specs.Kind.{is_kind, is_value, int}
+use Rattle.c_values.specs.Kind.{is_kind, is_value}
 use Rattle.c_values.specs.Operations.{unary_kind, binary_kind, is_shift}
 use Rattle.c_values.proofs.Fitting.{and_left, and_right, and_both}
 use Rattle.cfa.specs.declared.expr.ArrayPlace.{ArrayPlace}
@@ -17,7 +17,7 @@ use Rattle.cfa.specs.declared.expr.Expr.TheVariants as expr
 use Rattle.cfa.specs.declared.parts.Variable.{Variable}
 use Rattle.cfa.specs.declared.parts.VariablePlace.{VariablePlace}
 use Rattle.cfa.specs.declared.parts.VariablePlace.TheVariants as variable
-use Rattle.cfa.specs.Graph.{variable_fits, lent_fits}
+use Rattle.cfa.specs.Graph.{variable_fits}
 use Rattle.cfa.specs.Kinds.{same_kind, same_sign}
 use Rattle.cfa.specs.Rules.{Room, array_fits, has_kind, right_fits, kind_if, checked_kind, place_fits}
 use Rattle.typed_trees.specs.Fitting.{Nameable, operands_meet, is_integer, is_array, is_variable, is_lent}

@@ -1,5 +1,5 @@
 -- A function of a graph that a unit's functions make, and what is known within it.
-use Rattle.std.proofs.Common.{◌≡◌, ℕ, ◌+◌, ◌<◌, ◌≤◌, Bool, List, [], ◌∷◌, length, Option, Some, None, refl, sym, ap, subst, ◌∙◌, arith}
+use Rattle.std.proofs.Common.{◌≡◌, ℕ, ◌+◌, ◌<◌, ◌≤◌, Bool, [], ◌∷◌, length, Option, Some, refl, sym, ap, subst, ◌∙◌, arith}
 use Rattle.std.specs.Prelude.{slice_get, IsTrue, nat_lt}
 use Rattle.std.specs.Option.{IsSomeAnd}
 use Rattle.std.proofs.lemmas.Option.{slice_get_within, same_Some}
@@ -14,16 +14,14 @@ use Rattle.cfa.specs.declared.parts.Operation.{Operation}
 use Rattle.cfa.specs.declared.parts.Operation.TheVariants.{Skip, Assign, Clear, Guard, Answer, Assert, Assume}
 use Rattle.cfa.specs.declared.parts.Scope.{Scope}
 use Rattle.cfa.specs.Graph.{room_of, IsNodeOf, NumbersFit, SourceFits, TargetFits, PairFits, operands_fit, EdgeFits, scope_fits, scope_fits_in}
-use Rattle.cfa.specs.Rules.{Room}
 use Rattle.cfa.proofs.Exits.{given, taken}
 use Rattle.fq_core.specs.declared.span.Span.{Span}
 use Rattle.typed_trees.specs.declared.unit.TypedFunction.{TypedFunction}
 use Rattle.typed_trees.specs.Fitting.{Nameable}
 use Rattle.graph_of.specs.declared.parts.Around.{Around}
-use Rattle.graph_of.specs.declared.parts.Parts.{Parts}
 use Rattle.graph_of.specs.Edges.{entry_of, exit_of, node_at}
 use Rattle.graph_of.specs.GraphOf.{function_of}
-use Rattle.graph_rules.proofs.Sits.{Sits, Meets, NodeMeets, ScopeMeets}
+use Rattle.graph_rules.proofs.Sits.{Sits, Meets, NodeMeets}
 
 -- a function of a graph, with what its trees may name
 pub record Setting : Type 0 where

@@ -1,15 +1,12 @@
 -- Where what is made sits in a graph, and that it meets the graph's rules, piece by piece.
-use Rattle.std.proofs.Common.{◌≡◌, ℕ, zero, suc, ◌+◌, ◌<◌, ◌≤◌, Bool, true, false, List, [], ◌∷◌, ◌++◌, length, Option, Some, None, refl, sym, ap, subst, ◌∙◌, arith, append_assoc, length-append}
+use Rattle.std.proofs.Common.{◌≡◌, ℕ, ◌+◌, List, [], ◌∷◌, ◌++◌, length, Some, refl, subst, arith, append_assoc, length-append}
 use Rattle.std.specs.Prelude.{slice_get, IsTrue}
 use Rattle.std.specs.List.{AllByRecursion}
-use Rattle.std.specs.Option.{IsSomeAnd}
-use Rattle.std.proofs.lemmas.Option.{slice_get_within}
 use Rattle.cfa.specs.declared.parts.Edge.{Edge}
 use Rattle.cfa.specs.declared.parts.GraphParts.{GraphParts}
 use Rattle.cfa.specs.declared.parts.Node.{Node}
 use Rattle.cfa.specs.declared.parts.Scope.{Scope}
-use Rattle.cfa.specs.Graph.{IsNodeOf, EdgeFits, NodeFits, SeesFit, scope_fits}
-use Rattle.cfa.proofs.Exits.{given}
+use Rattle.cfa.specs.Graph.{EdgeFits, NodeFits, SeesFit, scope_fits}
 use Rattle.graph_of.specs.declared.parts.Parts.{Parts}
 use Rattle.graph_of.specs.Builder.{Builder, in_order}
 

@@ -1,11 +1,10 @@
 -- What `if` and loops make meets the rules.
-use Rattle.std.proofs.Common.{ℕ, ◌+◌, ◌<◌, List, [], ◌∷◌, ◌++◌, length, Option, Some, None, refl}
-use Rattle.std.specs.Prelude.{IfSome, IsTrue, ◌&&◌}
+use Rattle.std.proofs.Common.{ℕ, ◌+◌, ◌<◌, List, [], ◌∷◌, length, Option, Some, None, refl}
+use Rattle.std.specs.Prelude.{IfSome, IsTrue}
 use Rattle.std.specs.List.{AllByRecursion, list_all}
 use Rattle.std.proofs.lemmas.List.Folds.{list_all-append}
 use Rattle.fq_core.specs.declared.span.Span.{Span}
 use Rattle.c_values.proofs.Fitting.{and_both}
-use Rattle.cfa.specs.declared.parts.Variable.{Variable}
 use Rattle.typed_trees.specs.Fitting.{is_variable}
 use Rattle.graph_of.specs.declared.parts.Around.{Around}
 use Rattle.graph_of.specs.Edges.{Lowering, inside, deciding, seeing, scope_behind}
@@ -14,7 +13,7 @@ use Rattle.graph_of.specs.Statements.{Piece, sequence, arm_row, arms_row, while_
 use Rattle.graph_of.proofs.Fits.{◌&◌}
 use Rattle.graph_rules.proofs.Sits.{Sits, all_sit, Meets, all_meet}
 use Rattle.graph_rules.proofs.Settings.{Setting, AtNode, Within, at_node, third_node, node_meets, edge_meets, plain_skip}
-use Rattle.graph_rules.proofs.SitsFlows.{IsValue, as_deciding}
+use Rattle.graph_rules.proofs.SitsFlows.{as_deciding}
 use Rattle.graph_rules.proofs.SitsRows.{IsLowering, IsPiece, HasValue, OptionHas, as_inside, as_seeing, scope_meets, skip_is, sequence_is}
 use Rattle.std.proofs.Common.{◌∙◌}
 

@@ -1,23 +1,16 @@
 -- What expressions make meets the rules, and what they give does.
-use Rattle.std.proofs.Common.{◌≡◌, ℕ, ◌+◌, ◌<◌, Bool, true, false, List, [], ◌∷◌, ◌++◌, map, length, Option, None, Some, refl, sym, ap, subst, ◌∙◌}
-use Rattle.std.specs.Prelude.{IsTrue, ◌&&◌, nat_lt, slice_get, option_and_then}
+use Rattle.std.proofs.Common.{◌≡◌, ℕ, ◌+◌, ◌<◌, List, [], ◌∷◌, map, length, Option, None, Some, refl, sym, ap, subst, ◌∙◌}
+use Rattle.std.specs.Prelude.{IsTrue, slice_get, option_and_then}
 use Rattle.std.specs.List.{AllZip}
-use Rattle.std.specs.Option.{IsSome, IsSomeAnd, OnSome, is_some}
+use Rattle.std.specs.Option.{IsSome, OnSome}
 use Rattle.std.proofs.lemmas.Bool.{eqb-true}
 use Rattle.std.proofs.lemmas.Option.{slice_get_within}
-use Rattle.fq_core.specs.declared.span.Span.{Span}
-use Rattle.c_values.specs.Kind.{is_kind, is_value, int}
-use Rattle.c_values.specs.Operations.{unary_kind, binary_kind}
+use Rattle.c_values.specs.Kind.{is_kind}
 use Rattle.c_values.specs.declared.kinds.Kind.{Kind}
-use Rattle.c_values.specs.declared.operators.BinaryOp.{BinaryOp}
-use Rattle.c_values.specs.declared.operators.UnaryOp.{UnaryOp}
-use Rattle.c_values.specs.declared.operators.UnaryOp.TheVariants as unary
 use Rattle.c_values.proofs.Fitting.{and_left, and_right, and_both}
 use Rattle.cfa.specs.declared.expr.ArrayPlace.{ArrayPlace}
 use Rattle.cfa.specs.declared.expr.CellPlace.{CellPlace}
-use Rattle.cfa.specs.declared.expr.CellPlace.TheVariants as place
 use Rattle.cfa.specs.declared.expr.Expr.{Expr}
-use Rattle.cfa.specs.declared.expr.Expr.TheVariants as expr
 use Rattle.cfa.specs.declared.parts.Edge.{Edge}
 use Rattle.cfa.specs.declared.parts.Function.{Function}
 use Rattle.cfa.specs.declared.parts.InputFunction.{InputFunction}
@@ -32,19 +25,18 @@ use Rattle.cfa.proofs.Exits.{given}
 use Rattle.typed_trees.specs.declared.expression.Callee.{Callee}
 use Rattle.typed_trees.specs.declared.expression.Callee.TheVariants.{Defined, Input}
 use Rattle.typed_trees.specs.declared.unit.TypedFunction.{TypedFunction}
-use Rattle.typed_trees.specs.Fitting.{Nameable, word_kinds, array_lengths, is_variable, is_integer, is_array, operands_meet, array_fits}
+use Rattle.typed_trees.specs.Fitting.{word_kinds, array_lengths, is_variable, is_integer, is_array, array_fits}
 use Rattle.graph_of.specs.declared.parts.Around.{Around}
 use Rattle.graph_of.specs.declared.parts.Operand.{Operand}
-use Rattle.graph_of.specs.declared.parts.Parts.{Parts}
 use Rattle.graph_of.specs.declared.parts.Target.{Target}
-use Rattle.graph_of.specs.Builder.{Builder, Flow, Flowed, in_order, give, ◌then◌, ending}
-use Rattle.graph_of.specs.Edges.{entry_of, exit_of, deciding, edge_of, put, guards}
-use Rattle.graph_of.specs.Expressions.{Value, Spot, Calling, array_of, element_of, spot_index, spot_cell, words_in_order, reads_of, call_edges, not_cond, both_cond, either_cond, other_cond, call_pure, truth_pure, part_row, choice_pure, load_pure, convert_pure, unary_pure, binary_pure, unary_value}
+use Rattle.graph_of.specs.Builder.{Builder, Flow, Flowed, give, ◌then◌, ending}
+use Rattle.graph_of.specs.Edges.{entry_of, exit_of, deciding, edge_of}
+use Rattle.graph_of.specs.Expressions.{Value, Spot, array_of, element_of, spot_index, words_in_order, reads_of, call_edges}
 use Rattle.graph_of.specs.GraphOf.{function_of}
 use Rattle.graph_of.proofs.Fits.{◌&◌}
-use Rattle.graph_rules.proofs.Sits.{Sits, AllSit, all_sit, Meets, all_meet, meet_nil}
-use Rattle.graph_rules.proofs.Settings.{Setting, AtNode, Within, node_within, at_node, third_node, in_functions, node_meets, operands_meet as operands_are, edge_meets, plain_assign, plain_guard, plain_answer}
-use Rattle.graph_rules.proofs.Operands.{has_own, constant_checked, load_checked, convert_checked, unary_checked, binary_checked, local_fits, temporary_checked, array_meets, integer_cell, element_place}
+use Rattle.graph_rules.proofs.Sits.{Sits, all_sit, Meets, all_meet, meet_nil}
+use Rattle.graph_rules.proofs.Settings.{Setting, AtNode, Within, node_within, in_functions, operands_meet as operands_are, edge_meets, plain_answer}
+use Rattle.graph_rules.proofs.Operands.{has_own, array_meets, integer_cell, element_place}
 
 -- ---- what flows
 

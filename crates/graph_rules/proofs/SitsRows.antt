@@ -1,6 +1,6 @@
 -- What statements make meets the rules.
-use Rattle.std.proofs.Common.{◌≡◌, ℕ, ◌+◌, ◌^◌, ◌<◌, ◌≤◌, Bool, true, false, List, [], ◌∷◌, ◌++◌, length, Option, Some, None, refl, sym, ap, subst, ◌∙◌, rules, arith}
-use Rattle.std.specs.Prelude.{IsTrue, ◌&&◌, nat_lt, nat_le, slice_get, if◌then◌else◌, pos, ◌-◌, ◌-ℤ◌}
+use Rattle.std.proofs.Common.{◌≡◌, ℕ, ◌+◌, ◌^◌, ◌<◌, ◌≤◌, Bool, true, List, [], ◌∷◌, ◌++◌, length, Option, Some, None, refl, sym, ap, subst, ◌∙◌, arith}
+use Rattle.std.specs.Prelude.{IsTrue, ◌&&◌, nat_lt, slice_get, if◌then◌else◌, pos, ◌-◌, ◌-ℤ◌}
 use Rattle.std.specs.List.{AllByRecursion, list_all}
 use Rattle.std.specs.Option.{is_some}
 use Rattle.std.proofs.lemmas.Bool.{lt-ltb, le-leb}
@@ -18,25 +18,24 @@ use Rattle.cfa.specs.declared.expr.Expr.{Expr}
 use Rattle.cfa.specs.declared.expr.Expr.TheVariants as expr
 use Rattle.cfa.specs.declared.parts.Operation.{Operation}
 use Rattle.cfa.specs.declared.parts.Operation.TheVariants.{Assign}
-use Rattle.cfa.specs.declared.parts.Scope.{Scope}
 use Rattle.cfa.specs.declared.parts.Variable.{Variable}
 use Rattle.cfa.specs.declared.parts.VariablePlace.{VariablePlace}
 use Rattle.cfa.specs.declared.parts.VariablePlace.TheVariants as variable
-use Rattle.cfa.specs.Graph.{variable_fits, global_fits, scope_fits, scope_fits_in}
+use Rattle.cfa.specs.Graph.{variable_fits, global_fits, scope_fits}
 use Rattle.cfa.specs.Rules.{Room, checked_kind, place_fits, expr_fits}
 use Rattle.typed_trees.specs.Fitting.{is_variable, is_integer, is_array, operands_meet}
 use Rattle.graph_of.specs.declared.parts.Around.{Around}
 use Rattle.graph_of.specs.declared.parts.Operand.{Operand}
 use Rattle.graph_of.specs.declared.parts.Target.{Target}
-use Rattle.graph_of.specs.Builder.{Builder, Flow, in_order, numbered, give, ◌then◌, ending}
+use Rattle.graph_of.specs.Builder.{numbered, give, ◌then◌}
 use Rattle.graph_of.specs.Edges.{Lowering, stated, inside, within, seeing, sees_behind, scope_behind, node_here, label_edge, skip, step}
-use Rattle.graph_of.specs.Expressions.{Value, Spot, Calling, cell_of, element_of, spot_cell, words_in_order, call_edges}
+use Rattle.graph_of.specs.Expressions.{Value, Spot, Calling, cell_of, element_of, spot_cell}
 use Rattle.graph_of.specs.Statements.{Piece, sequence, block_row, break_row, continue_row, return_row, label_row, test_row, combined, reads_in_place, assign_row, local_row, element_row, elements_row, clear, array_row, call_row}
 use Rattle.graph_of.proofs.Fits.{◌&◌}
 use Rattle.graph_rules.proofs.Sits.{Sits, all_sit, Meets, all_meet, meet_nil}
 use Rattle.graph_rules.proofs.Settings.{Setting, AtNode, Within, IsPlain, at_node, node_meets, edge_meets, plain_skip, plain_assign, plain_clear}
 use Rattle.graph_rules.proofs.Operands.{constant_checked, local_fits, integer_variable, integer_cell, array_place, element_place, variable_kind, combined_checked}
-use Rattle.graph_rules.proofs.SitsFlows.{OperandFits, TargetFits, IsFlow, IsValue, then_is, then_gives, ending_is, spot_index_is, SpotFits, CallFits, DestFits, call_ends}
+use Rattle.graph_rules.proofs.SitsFlows.{OperandFits, TargetFits, IsValue, then_is, then_gives, ending_is, spot_index_is, SpotFits, CallFits, call_ends}
 use Rattle.graph_rules.proofs.SitsValues.{operand_fits}
 
 abbrev pub IsLowering : Setting → Lowering → Type 0

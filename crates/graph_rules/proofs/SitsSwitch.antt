@@ -1,27 +1,26 @@
 -- What a `switch` makes meets the rules.
-use Rattle.std.proofs.Common.{◌≡◌, ℕ, suc, ◌+◌, ◌<◌, Bool, true, false, List, [], ◌∷◌, ◌++◌, map, length, Option, Some, None, refl, sym, ap, subst, ◌∙◌}
+use Rattle.std.proofs.Common.{◌≡◌, ℕ, ◌+◌, ◌<◌, Bool, true, false, List, [], ◌∷◌, ◌++◌, map, length, Option, Some, None, ap, subst}
 use Rattle.std.specs.Prelude.{IsTrue, ◌&&◌, nat_lt}
 use Rattle.std.proofs.lemmas.List.{length-map}
-use Rattle.std.specs.List.{AllByRecursion, list_all}
+use Rattle.std.specs.List.{AllByRecursion}
 use Rattle.std.specs.Option.{is_some}
 use Rattle.std.proofs.lemmas.Bool.{ltb-true}
 use Rattle.fq_core.specs.declared.span.Span.{Span}
 use Rattle.c_values.specs.Kind.{is_kind, is_value}
 use Rattle.c_values.specs.declared.kinds.Kind.{Kind}
 use Rattle.c_values.specs.declared.operators.BinaryOp.TheVariants as binary
-use Rattle.c_values.proofs.Fitting.{and_left, and_right, and_both}
+use Rattle.c_values.proofs.Fitting.{and_left, and_right}
 use Rattle.cfa.specs.declared.expr.CellPlace.TheVariants as place
-use Rattle.cfa.specs.declared.expr.Expr.{Expr}
 use Rattle.cfa.specs.declared.expr.Expr.TheVariants as expr
 use Rattle.cfa.specs.declared.parts.Node.{Node}
-use Rattle.cfa.specs.Rules.{place_fits, expr_fits}
-use Rattle.typed_trees.specs.Fitting.{span_fits, label_fits, labels_fit}
+use Rattle.cfa.specs.Rules.{expr_fits}
+use Rattle.typed_trees.specs.Fitting.{span_fits, labels_fit}
 use Rattle.graph_of.specs.declared.parts.Around.{Around}
 use Rattle.graph_of.specs.Builder.{in_order, ending}
 use Rattle.graph_of.specs.Edges.{within, node_at, put}
 use Rattle.graph_of.specs.Expressions.{Value, temporary}
 use Rattle.graph_of.specs.Statements.{block_row}
-use Rattle.graph_of.specs.Switch.{Group, Case, cases_in, cases_from, has_default, default_at, default_from, cases_row, groups_row, group_nodes, switch_row}
+use Rattle.graph_of.specs.Switch.{Group, Case, cases_in, cases_from, has_default, default_at, default_from, cases_row, groups_row, switch_row}
 use Rattle.graph_of.proofs.Fits.{◌&◌}
 use Rattle.graph_rules.proofs.Sits.{Holds, Sits, sit_first, sit_rest, all_sit, NodeMeets, Meets, all_meet, meet_nil, meet_cons}
 use Rattle.graph_rules.proofs.Settings.{Setting, AtNode, Within, at_node, node_meets, edge_meets, plain_skip, plain_guard}

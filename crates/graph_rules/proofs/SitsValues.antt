@@ -1,32 +1,29 @@
 -- What conditions and values make meets the rules.
-use Rattle.std.proofs.Common.{◌≡◌, ℕ, ◌+◌, ◌<◌, Bool, true, false, List, [], ◌∷◌, ◌++◌, length, Option, None, Some, refl, sym, ap, subst, ◌∙◌}
+use Rattle.std.proofs.Common.{◌≡◌, ℕ, ◌+◌, ◌<◌, true, false, List, [], ◌∷◌, ◌++◌, length, Option, Some, ap}
 use Rattle.std.specs.Prelude.{IsTrue, nat_lt}
-use Rattle.std.specs.Option.{IsSome, OnSome, is_some}
+use Rattle.std.specs.Option.{is_some}
 use Rattle.fq_core.specs.declared.span.Span.{Span}
 use Rattle.c_values.specs.Kind.{is_kind, is_value, int}
 use Rattle.c_values.specs.Operations.{unary_kind, binary_kind}
 use Rattle.c_values.specs.declared.kinds.Kind.{Kind}
 use Rattle.c_values.specs.declared.operators.BinaryOp.{BinaryOp}
 use Rattle.c_values.specs.declared.operators.UnaryOp.{UnaryOp}
-use Rattle.c_values.specs.declared.operators.UnaryOp.TheVariants as unary
 use Rattle.c_values.proofs.Fitting.{and_both, IsValue-truth_of}
-use Rattle.cfa.specs.declared.expr.CellPlace.{CellPlace}
 use Rattle.cfa.specs.declared.expr.CellPlace.TheVariants as place
 use Rattle.cfa.specs.declared.expr.Expr.{Expr}
 use Rattle.cfa.specs.declared.expr.Expr.TheVariants as expr
-use Rattle.cfa.specs.declared.parts.Variable.{Variable}
 use Rattle.cfa.specs.Rules.{checked_kind, place_fits, expr_fits}
 use Rattle.typed_trees.specs.Fitting.{operands_meet}
 use Rattle.graph_of.specs.declared.parts.Around.{Around}
 use Rattle.graph_of.specs.declared.parts.Operand.{Operand}
-use Rattle.graph_of.specs.Builder.{Builder, Flow, in_order, give, ◌then◌, ending}
+use Rattle.graph_of.specs.Builder.{Builder, Flow, give}
 use Rattle.graph_of.specs.Edges.{deciding, put, guards}
-use Rattle.graph_of.specs.Expressions.{Value, Spot, Calling, spot_cell, words_in_order, call_edges, not_cond, both_cond, either_cond, other_cond, call_pure, truth_pure, part_row, choice_pure, load_pure, convert_pure, unary_pure, binary_pure, unary_value}
+use Rattle.graph_of.specs.Expressions.{Value, Spot, Calling, spot_cell, not_cond, both_cond, either_cond, other_cond, call_pure, truth_pure, part_row, choice_pure, load_pure, convert_pure, unary_pure, binary_pure}
 use Rattle.graph_of.proofs.Fits.{◌&◌}
 use Rattle.graph_rules.proofs.Sits.{Sits, all_sit, Meets, all_meet}
 use Rattle.graph_rules.proofs.Settings.{Setting, AtNode, Within, at_node, third_node, node_meets, edge_meets, plain_assign, plain_guard}
 use Rattle.graph_rules.proofs.Operands.{constant_checked, load_checked, convert_checked, unary_checked, binary_checked, local_fits, temporary_checked}
-use Rattle.graph_rules.proofs.SitsFlows.{OperandFits, TargetFits, Flowing, IsFlow, IsPure, IsTesting, IsValue, as_deciding, give_is, then_is, then_gives, ending_is, spot_index_is, SpotFits, CallFits, DestFits, call_ends}
+use Rattle.graph_rules.proofs.SitsFlows.{OperandFits, TargetFits, IsPure, IsTesting, as_deciding, give_is, then_is, then_gives, ending_is, spot_index_is, SpotFits, CallFits, DestFits, call_ends}
 
 module _ (c : Setting) where
   -- an operand is an expression that meets the rules

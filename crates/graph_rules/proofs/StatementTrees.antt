@@ -1,8 +1,8 @@
 -- What the trees of statements make, where they fit: it leads on, and meets the rules.
-use Rattle.std.proofs.Common.{◌≡◌, ℕ, ◌+◌, ◌<◌, ◌≤◌, Bool, true, false, List, [], ◌∷◌, map, length, Option, Some, None, refl, sym, ap, subst, ◌∙◌, rules, arith}
+use Rattle.std.proofs.Common.{◌≡◌, ℕ, ◌+◌, ◌<◌, ◌≤◌, Bool, true, List, [], ◌∷◌, map, length, Option, Some, None, refl, sym, subst, rules, arith}
 use Rattle.std.specs.Prelude.{IsTrue, IfSome, ◌&&◌, not, nat_le}
 use Rattle.std.specs.List.{AllByRecursion, list_all}
-use Rattle.std.specs.Option.{option_map, is_none}
+use Rattle.std.specs.Option.{option_map}
 use Rattle.std.proofs.lemmas.Bool.{leb-true}
 use Rattle.std.proofs.lemmas.List.{length-map}
 use Rattle.fq_core.specs.declared.span.Span.{Span}
@@ -11,13 +11,11 @@ use Rattle.c_values.specs.Kind.{is_kind}
 use Rattle.c_values.specs.declared.kinds.Kind.{Kind}
 use Rattle.c_values.specs.declared.operators.BinaryOp.{BinaryOp}
 use Rattle.c_values.proofs.Fitting.{and_left, and_right, and_both}
-use Rattle.cfa.specs.declared.expr.Expr.{Expr}
 use Rattle.cfa.specs.declared.parts.Operation.TheVariants.{Assert, Assume}
 use Rattle.cfa.specs.declared.parts.Variable.{Variable}
 use Rattle.cfa.specs.declared.parts.VariablePlace.{VariablePlace}
 use Rattle.cfa.specs.declared.parts.VariablePlace.TheVariants as variable
 use Rattle.cfa.specs.Graph.{variable_fits, cell_count}
-use Rattle.cfa.specs.Rules.{Room}
 use Rattle.typed_trees.specs.declared.expression.TypedCall.{TypedCall}
 use Rattle.typed_trees.specs.declared.expression.TypedExpr.{TypedExpr, ind-TypedExpr, roll-TypedExpr}
 use Rattle.typed_trees.specs.declared.expression.TypedExprForm.{TypedExprForm, the_lemmas as expression_lemmas}
@@ -36,7 +34,7 @@ use Rattle.graph_of.specs.Switch.{Group, switch_row}
 use Rattle.graph_of.specs.Table.{stating, tested, form_step, shape, group_of, piece}
 use Rattle.graph_rules.specs.Lists.{list_fits, lists_fit}
 use Rattle.graph_rules.specs.Lists as lists
-use Rattle.graph_rules.proofs.Settings.{Setting, IsPlain, plain_assert, plain_assume}
+use Rattle.graph_rules.proofs.Settings.{Setting, plain_assert, plain_assume}
 use Rattle.graph_rules.proofs.Operands.{integer_variable, array_variable, variable_kind, variable_place}
 use Rattle.graph_rules.proofs.WaysFlows as ways_flows
 use Rattle.graph_rules.proofs.WaysRows as ways
@@ -46,7 +44,7 @@ use Rattle.graph_rules.proofs.SitsRows as sits
 use Rattle.graph_rules.proofs.SitsBranches as sits_branches
 use Rattle.graph_rules.proofs.SitsSwitch as sits_switch
 use Rattle.graph_rules.proofs.SitsSwitch.{span_there}
-use Rattle.graph_rules.proofs.ValueTrees.{ValueHolds, form_fits as expression_form_fits, value_holds, spot_holds, call_holds}
+use Rattle.graph_rules.proofs.ValueTrees.{form_fits as expression_form_fits, value_holds, spot_holds, call_holds}
 
 -- ---- the tests of forms and groups
 
@@ -210,8 +208,11 @@ module _ (c : Setting) where
       let both : IsTrue (place_fits c.names p && operator_fits c.names op x) = and_left _ _ all in
       let P = spot_holds c p (and_left _ _ both) in
       let X = value_holds c x (and_right _ _ all) in
-      record { declares = refl; ways = ways.assign_is (spot_of p) op (value_of x) P.ways X.ways;
-        sits = sits.assign_is c (spot_of p) op (value_of x) (expression_fit c.names x).kind P.sits (variable_kind c.names (spot_of p).variable P.variable) X.sits (operator_is op x (and_right _ _ both)) })
+      record {
+        declares = refl;
+        ways = ways.assign_is (spot_of p) op (value_of x) P.ways X.ways;
+        sits = sits.assign_is c (spot_of p) op (value_of x) (expression_fit c.names x).kind P.sits (variable_kind c.names (spot_of p).variable P.variable) X.sits (operator_is op x (and_right _ _ both));
+      })
 
   call_at : (q : TypedCall) → FormHas (roll-TypedForm (TypedForm-F.Call q))
   unfolding shape form_fits

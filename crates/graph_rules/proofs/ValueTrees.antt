@@ -1,10 +1,10 @@
 -- What the trees of expressions make, where they fit: it leads on, and meets the rules.
-use Rattle.std.proofs.Common.{◌≡◌, ℕ, ◌<◌, Bool, true, false, List, [], ◌∷◌, map, length, Option, Some, None, refl, sym, ap, subst, ◌∙◌, rules}
-use Rattle.std.specs.Prelude.{IsTrue, IfSome, ◌&&◌, not, nat_lt, slice_get}
+use Rattle.std.proofs.Common.{◌≡◌, ℕ, ◌<◌, Bool, List, [], ◌∷◌, map, length, Option, Some, None, refl, sym, ap, subst, ◌∙◌, rules}
+use Rattle.std.specs.Prelude.{IsTrue, IfSome, ◌&&◌, nat_lt, slice_get}
 use Rattle.std.specs.List.{AllZip, AllByRecursion}
 use Rattle.std.specs.Option.{option_map}
 use Rattle.fq_core.specs.declared.span.Span.{Span}
-use Rattle.c_values.specs.Kind.{int, is_kind, is_value}
+use Rattle.c_values.specs.Kind.{int, is_kind}
 use Rattle.c_values.specs.Operations.{unary_kind, binary_kind}
 use Rattle.c_values.specs.declared.kinds.Kind.{Kind}
 use Rattle.c_values.specs.declared.operators.BinaryOp.{BinaryOp}

@@ -1,5 +1,5 @@
 -- How many ways lead on from each node, piece by piece.
-use Rattle.std.proofs.Common.{◌≡◌, ℕ, zero, suc, ◌+◌, Bool, true, false, List, [], ◌∷◌, ◌++◌, length, refl, sym, ap, subst, ◌∙◌, arith, append-nil, append_assoc}
+use Rattle.std.proofs.Common.{◌≡◌, ℕ, zero, suc, ◌+◌, Bool, true, false, List, [], ◌∷◌, ◌++◌, length, refl, sym, ap, subst, ◌∙◌, arith, append-nil}
 use Rattle.std.specs.Prelude.{not, ◌&&◌, ◌==◌, if◌then◌else◌}
 use Rattle.std.specs.List.{filter}
 use Rattle.std.proofs.lemmas.List.Elements.{filter-append}
@@ -8,7 +8,6 @@ use Rattle.cfa.specs.declared.parts.Edge.{Edge}
 use Rattle.cfa.specs.declared.parts.Node.{Node}
 use Rattle.cfa.specs.declared.parts.Operation.{Operation}
 use Rattle.cfa.specs.declared.parts.Operation.TheVariants.{Guard, Return}
-use Rattle.cfa.specs.declared.parts.Scope.{Scope}
 use Rattle.cfa.specs.Graph.{is_guard, is_return, Continues}
 use Rattle.graph_of.specs.declared.parts.Parts.{Parts}
 use Rattle.graph_of.specs.Builder.{Builder, in_order}

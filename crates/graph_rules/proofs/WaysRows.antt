@@ -1,5 +1,5 @@
 -- The ways on that statements make.
-use Rattle.std.proofs.Common.{◌≡◌, ℕ, ◌+◌, List, [], ◌∷◌, ◌++◌, length, Option, Some, None, refl, arith}
+use Rattle.std.proofs.Common.{ℕ, ◌+◌, List, [], ◌∷◌, ◌++◌, length, Option, Some, None, refl, arith}
 use Rattle.std.specs.List.{AllByRecursion}
 use Rattle.std.specs.Prelude.{IfSome}
 use Rattle.fq_core.specs.declared.span.Span.{Span}
@@ -16,13 +16,13 @@ use Rattle.cfa.specs.declared.parts.Variable.{Variable}
 use Rattle.graph_of.specs.declared.parts.Around.{Around}
 use Rattle.graph_of.specs.declared.parts.Operand.{Operand}
 use Rattle.graph_of.specs.declared.parts.Target.{Target}
-use Rattle.graph_of.specs.Builder.{Builder, Flow, in_order, numbered, give, ◌then◌, ending}
+use Rattle.graph_of.specs.Builder.{numbered, give, ◌then◌}
 use Rattle.graph_of.specs.Edges.{Lowering, stated, inside, deciding, seeing, scope_behind, node_here, label_edge, skip, step}
 use Rattle.graph_of.specs.Expressions.{Value, Spot, Calling, cell_of, element_of, spot_cell, words_in_order, call_edges}
 use Rattle.graph_of.specs.Statements.{Piece, sequence, block_row, arm_row, arms_row, while_row, do_row, for_test, for_step, for_loop, declared_by, for_row, break_row, continue_row, return_row, label_row, test_row, combined, reads_in_place, assign_row, local_row, element_row, elements_row, clear, array_row, call_row}
 use Rattle.graph_of.proofs.Fits.{◌&◌}
-use Rattle.graph_rules.proofs.Ways.{here, IsSingle, Lead, Leading, leading, lead_nil, lead_one, single}
-use Rattle.graph_rules.proofs.WaysFlows.{Closed, IsFlow, IsValue, IsSpot, then_is, then_gives, ending_is, spot_index_is, words_are, call_edges_are, third}
+use Rattle.graph_rules.proofs.Ways.{IsSingle, Leading, leading, lead_nil, lead_one, single}
+use Rattle.graph_rules.proofs.WaysFlows.{Closed, IsValue, IsSpot, then_is, then_gives, ending_is, spot_index_is, words_are, call_edges_are, third}
 
 abbrev pub IsLowering : Lowering → Type 0
 IsLowering s = (u : Around) (a z n e k : ℕ) → Closed (s u a z n e k) n a

@@ -1,5 +1,5 @@
 -- The ways on that a `switch` makes.
-use Rattle.std.proofs.Common.{◌≡◌, ℕ, suc, ◌+◌, List, [], ◌∷◌, ◌++◌, map, length, refl, ap, arith}
+use Rattle.std.proofs.Common.{◌≡◌, ℕ, ◌+◌, List, [], ◌∷◌, ◌++◌, map, length, refl, ap, arith}
 use Rattle.std.proofs.lemmas.List.{length-map}
 use Rattle.std.specs.List.{AllByRecursion}
 use Rattle.c_values.specs.declared.kinds.Kind.{Kind}
@@ -8,7 +8,7 @@ use Rattle.graph_of.specs.Builder.{in_order, ending}
 use Rattle.graph_of.specs.Edges.{within, node_at, put}
 use Rattle.graph_of.specs.Expressions.{Value}
 use Rattle.graph_of.specs.Statements.{block_row}
-use Rattle.graph_of.specs.Switch.{Group, Case, cases_from, default_from, cases_row, groups_row, group_nodes, switch_row}
+use Rattle.graph_of.specs.Switch.{Group, Case, cases_from, default_from, cases_row, groups_row, switch_row}
 use Rattle.graph_of.proofs.Fits.{◌&◌}
 use Rattle.graph_rules.proofs.Ways.{here, among, ways_append, among_append, Leading, leading, leading_cons, nodes_lead, lead_nil, lead_append, lead_two, single}
 use Rattle.graph_rules.proofs.WaysFlows.{Closed, IsValue, ending_is}

@@ -1,6 +1,6 @@
 -- From the counts of ways on to the rule for the edges that leave a node.
-use Rattle.std.proofs.Common.{◌≡◌, ℕ, zero, suc, ◌+◌, ◌*◌, ◌<◌, ◌≤◌, Bool, true, false, cond, List, [], ◌∷◌, ◌++◌, map, length, Some, refl, sym, ap, subst, ◌∙◌, arith}
-use Rattle.std.specs.Prelude.{IsTrue, not, ◌&&◌, ◌==◌, slice_get}
+use Rattle.std.proofs.Common.{◌≡◌, ℕ, zero, suc, ◌+◌, ◌*◌, ◌<◌, ◌≤◌, Bool, true, false, cond, List, [], ◌∷◌, map, length, Some, refl, sym, ap, subst, ◌∙◌, arith}
+use Rattle.std.specs.Prelude.{IsTrue, ◌==◌, slice_get}
 use Rattle.std.specs.List.{filter}
 use Rattle.std.proofs.lemmas.Bool.{eqb-true, eqb-false, eq-eqb, ne_eqb}
 use Rattle.std.proofs.lemmas.Option.{same_Some}
@@ -14,7 +14,7 @@ use Rattle.graph_of.specs.Edges.{entry_of, exit_of}
 use Rattle.graph_of.specs.Statements.{block_row}
 use Rattle.graph_of.specs.Table.{piece}
 use Rattle.graph_of.specs.GraphOf.{around_of, ends_from, ends, bodies_from, made}
-use Rattle.graph_rules.proofs.Ways.{here, among, ways, onward, Leads, Lead, Leading, lead_nil, leading, leading_cons}
+use Rattle.graph_rules.proofs.Ways.{here, among, onward, Leads, Leading, lead_nil, leading, leading_cons}
 use Rattle.graph_rules.proofs.WaysRows.{IsPiece, block_is}
 use Rattle.std.specs.List.{AllByRecursion}
 

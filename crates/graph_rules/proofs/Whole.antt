@@ -1,15 +1,12 @@
 -- The graph of a fitting unit meets the rules of automata.
-use Rattle.std.proofs.Common.{◌≡◌, ℕ, zero, suc, ◌+◌, ◌*◌, ◌<◌, ◌≤◌, Bool, true, false, List, [], ◌∷◌, ◌++◌, map, length, Option, Some, None, refl, sym, ap, subst, ◌∙◌, arith}
-use Rattle.std.specs.Prelude.{IsTrue, ◌&&◌, not, ◌==◌, slice_get, filter_map, option_and_then}
-use Rattle.std.specs.List.{AllByRecursion, list_all, flat_map, filter, cons_option}
-use Rattle.std.specs.Option.{IsSomeAnd}
+use Rattle.std.proofs.Common.{◌≡◌, ℕ, zero, suc, ◌+◌, ◌≤◌, Bool, true, false, List, [], ◌∷◌, map, length, Option, Some, None, refl, sym, ap, subst, ◌∙◌, arith}
+use Rattle.std.specs.Prelude.{IsTrue, slice_get, filter_map, option_and_then}
+use Rattle.std.specs.List.{AllByRecursion, list_all, flat_map, cons_option}
 use Rattle.std.proofs.lemmas.List.Folds.{list_all-append}
 use Rattle.std.proofs.lemmas.Option.{same_Some, slice_get_within, option_and_then_some}
 use Rattle.c_values.specs.Kind.{is_kind}
 use Rattle.c_values.specs.declared.kinds.Kind.{Kind}
 use Rattle.c_values.proofs.Fitting.{and_left, and_right, and_both}
-use Rattle.cfa.specs.declared.expr.Expr.{Expr}
-use Rattle.cfa.specs.declared.expr.CellPlace.{CellPlace}
 use Rattle.cfa.specs.declared.parts.Edge.{Edge}
 use Rattle.cfa.specs.declared.parts.Function.{Function}
 use Rattle.cfa.specs.declared.parts.GraphParts.{GraphParts}
@@ -19,29 +16,26 @@ use Rattle.cfa.specs.declared.parts.Operation.{Operation}
 use Rattle.cfa.specs.declared.parts.Operation.TheVariants.{Return}
 use Rattle.cfa.specs.declared.parts.Scope.{Scope}
 use Rattle.cfa.specs.declared.parts.Variable.{Variable}
-use Rattle.cfa.specs.Each.{Each}
-use Rattle.cfa.specs.Graph.{IsNodeOf, EdgeFits, SourceFits, IsExit, Continues, edges_from, function_called, callee_of, is_return, FunctionFits, NodeFits, RestFits, IsGraph, result_kind_fits, room_of}
+use Rattle.cfa.specs.Graph.{EdgeFits, SourceFits, IsExit, Continues, edges_from, function_called, callee_of, is_return, FunctionFits, IsGraph, result_kind_fits}
 use Rattle.cfa.proofs.Exits.{given, taken}
 use Rattle.typed_trees.specs.declared.unit.Global.{Global}
 use Rattle.typed_trees.specs.declared.unit.Typed.{Typed}
 use Rattle.typed_trees.specs.declared.unit.TypedFunction.{TypedFunction}
 use Rattle.typed_trees.specs.Fitting.{Nameable, IsFitting, global_cells, global_fits, nameable, is_global, is_variable, word_kind, word_kinds}
-use Rattle.graph_of.specs.declared.parts.Parts.{Parts}
 use Rattle.graph_of.specs.Builder.{in_order}
-use Rattle.graph_of.specs.Edges.{entry_of, exit_of, node_at}
+use Rattle.graph_of.specs.Edges.{entry_of, exit_of}
 use Rattle.graph_of.specs.Statements.{block_row}
 use Rattle.graph_of.specs.Table.{piece}
 use Rattle.graph_of.specs.GraphOf.{function_of, functions_from, global_variables, outermost, around_of, ends_from, ends, bodies_from, made, graph_of}
 use Rattle.graph_rules.specs.Lists.{ListsFit, lists_fit_in}
-use Rattle.graph_rules.proofs.Ways.{here, among, ways, onward, Leads, Lead, Leading}
-use Rattle.graph_rules.proofs.WaysRows.{IsPiece as LeadsOn}
+use Rattle.graph_rules.proofs.Ways.{among, ways, onward, Lead}
 use Rattle.graph_rules.proofs.WaysWhole.{among_one, among_most, onward_none, onward_all, continues_one, none_leads, exits, exits_none, exits_some, AllPieces, whole_leads}
 use Rattle.graph_rules.proofs.Sits.{Sits, sit_first, sit_rest, NodeMeets, ScopeMeets, EdgesMeet, Meets, meet_nil, meet_cons}
-use Rattle.graph_rules.proofs.Settings.{Setting, AtNode, Within, node_meets}
+use Rattle.graph_rules.proofs.Settings.{node_meets}
 use Rattle.graph_rules.proofs.SitsRows.{block_is}
 use Rattle.graph_rules.proofs.SitsSwitch.{span_there}
 use Rattle.graph_rules.proofs.StatementTrees.{PiecesHold, statements_hold}
-use Rattle.graph_rules.proofs.WholeSettings.{all_at_place, function_from, whole_sits, FunctionParts, parts_at, function_there, setting, at_entry, at_exit, within_function}
+use Rattle.graph_rules.proofs.WholeSettings.{all_at_place, function_from, whole_sits, parts_at, function_there, setting, at_entry, at_exit, within_function}
 
 -- ---- lists
 

@@ -1,32 +1,25 @@
 -- The functions of a fitting unit as settings of its graph.
-use Rattle.std.proofs.Common.{◌≡◌, ℕ, zero, suc, ◌+◌, ◌*◌, ◌<◌, ◌≤◌, Bool, true, false, List, [], ◌∷◌, ◌++◌, map, length, Option, Some, None, refl, sym, ap, subst, ◌∙◌, arith, length-append}
-use Rattle.std.specs.Prelude.{IsTrue, ◌&&◌, nat_lt, nat_le, slice_get, filter_map}
-use Rattle.std.specs.List.{AllByRecursion, list_all, flat_map}
-use Rattle.std.proofs.lemmas.Bool.{leb-true, lt-ltb, ltb-true}
+use Rattle.std.proofs.Common.{◌≡◌, ℕ, zero, suc, ◌+◌, ◌*◌, ◌≤◌, Bool, List, [], ◌∷◌, ◌++◌, map, length, Option, Some, refl, sym, ap, subst, ◌∙◌, arith}
+use Rattle.std.specs.Prelude.{IsTrue, ◌&&◌, nat_lt, nat_le, slice_get}
+use Rattle.std.specs.List.{list_all}
+use Rattle.std.proofs.lemmas.Bool.{leb-true, lt-ltb}
 use Rattle.std.proofs.lemmas.List.Folds.{list_all-append}
 use Rattle.std.proofs.lemmas.Option.{same_Some, slice_get_within}
-use Rattle.fq_core.specs.declared.span.Span.{Span}
 use Rattle.c_values.specs.Kind.{is_kind}
-use Rattle.c_values.specs.declared.kinds.Kind.{Kind}
 use Rattle.c_values.proofs.Fitting.{and_left, and_right, and_both}
 use Rattle.cfa.specs.declared.parts.Function.{Function}
-use Rattle.cfa.specs.declared.parts.GraphParts.{GraphParts}
 use Rattle.cfa.specs.declared.parts.Node.{Node}
-use Rattle.cfa.specs.declared.parts.Scope.{Scope}
 use Rattle.cfa.specs.declared.parts.Variable.{Variable}
 use Rattle.cfa.specs.declared.parts.VariablePlace.{VariablePlace}
 use Rattle.cfa.specs.declared.parts.VariablePlace.TheVariants as variable
-use Rattle.cfa.specs.Graph.{room_of, variable_fits, cell_count, result_kind_fits, scope_fits, scope_fits_in}
+use Rattle.cfa.specs.Graph.{room_of, variable_fits, cell_count, result_kind_fits}
 use Rattle.cfa.specs.Rules.{Room}
 use Rattle.typed_trees.specs.declared.unit.Global.{Global}
 use Rattle.typed_trees.specs.declared.unit.Typed.{Typed}
 use Rattle.typed_trees.specs.declared.unit.TypedFunction.{TypedFunction}
-use Rattle.typed_trees.specs.Fitting.{Nameable, IsFitting, global_cells, global_fits, function_fits, nameable, room_in, is_global, is_variable, span_fits, statement_fits, word_kinds}
-use Rattle.graph_of.specs.declared.parts.Around.{Around}
-use Rattle.graph_of.specs.declared.parts.Parts.{Parts}
-use Rattle.graph_of.specs.Builder.{in_order}
+use Rattle.typed_trees.specs.Fitting.{IsFitting, global_cells, global_fits, function_fits, nameable, room_in, is_global, is_variable, span_fits, statement_fits, word_kinds}
 use Rattle.graph_of.specs.Edges.{entry_of, exit_of, node_at}
-use Rattle.graph_of.specs.GraphOf.{function_of, functions_from, global_variables, outermost, around_of, ends_from, ends, bodies_from, made, graph_of}
+use Rattle.graph_of.specs.GraphOf.{function_of, functions_from, global_variables, outermost, around_of, ends_from, ends, made, graph_of}
 use Rattle.graph_rules.proofs.Sits.{Holds, holds_itself, Sits, sit_first}
 use Rattle.graph_rules.proofs.Settings.{Setting, AtNode, Within}
 use Rattle.graph_rules.proofs.SitsRows.{variables_own, variables_seen}

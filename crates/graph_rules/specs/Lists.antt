@@ -1,5 +1,5 @@
 -- Which units' local arrays have lists that an automaton can put into them: an element's place has an index of type int.
-use Rattle.std.specs.Prelude.{ℕ, Bool, true, false, not, ◌&&◌, nat_le, List, length, Option, Some, None, IsTrue}
+use Rattle.std.specs.Prelude.{ℕ, Bool, true, not, ◌&&◌, nat_le, length, Option, Some, None, IsTrue}
 use Rattle.std.specs.List.{list_all}
 use Rattle.cfa.specs.Graph.{cell_count}
 use Rattle.cfa.specs.declared.parts.Variable.{Variable}
