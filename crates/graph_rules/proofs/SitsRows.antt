@@ -175,8 +175,8 @@ module _ (c : Setting) where
 
   -- ---- arrays
 
-  -- a small index is an int
-  index_value : (i : ℕ) → i < 16384 → IsTrue (is_value int i)
+  -- an index below 2 ^ 31 is an int
+  index_value : (i : ℕ) → i < 2 ^ 31 → IsTrue (is_value int i)
   unfolding number_of least greatest
   index_value i h =
       let below : nat_lt i (2 ^ 63) ≡ true = lt-ltb i (2 ^ 63) (omega arith) in
@@ -184,7 +184,7 @@ module _ (c : Setting) where
       let range : IsInRange int (pos i) = (le_is (least int) (pos i) refl, le_is (pos i) (greatest int) (le-leb i (2 ^ 31 - 1) (omega arith))) in
       value_from_parts int i (record { of_kind = refl; pattern = omega arith; range = subst (IsInRange int) (sym number) range })
 
-  element_is : (x : Variable) (i : ℕ) (v : Value) → IsTrue (is_array c.names x) → i < 16384 → HasValue c v → IsLowering c (element_row x i v)
+  element_is : (x : Variable) (i : ℕ) (v : Value) → IsTrue (is_array c.names x) → i < 2 ^ 31 → HasValue c v → IsLowering c (element_row x i v)
   element_is x i v hx le h u a z n e k w at to s =
       let index = constant_checked c.names.room i int (index_value i le) in
       ending_is c (OperandFits c h.0) (v.pure u) (λ o b. step u (Assign (element_of x (expr.Constant i int)) o.value) (x.name ∷ []) o.reads b z) (h.1.pure u w)
@@ -199,12 +199,12 @@ module _ (c : Setting) where
       all_meet c.graph _ n e k (node_meets c u u.span e w w.file & hf u a n (n + 1) (e + 0) (k + 0) w at m S.1.0
       & hr u n z (n + 1 + length mx.nodes) (e + 0 + length mx.edges) (k + 0 + length mx.scopes) w m to S.1.1.0 & tt)
 
-  elements_are : (x : Variable) (i : ℕ) (v : Value) (vs : List Value) → IsTrue (is_array c.names x) → i + length (v ∷ vs) ≤ 16384 → HasValue c v → AllByRecursion (HasValue c) vs → IsLowering c (elements_row x i (v ∷ vs))
+  elements_are : (x : Variable) (i : ℕ) (v : Value) (vs : List Value) → IsTrue (is_array c.names x) → i + length (v ∷ vs) ≤ 2 ^ 31 → HasValue c v → AllByRecursion (HasValue c) vs → IsLowering c (elements_row x i (v ∷ vs))
   elements_are x i v [] hx le h hs u a z n e k w at to s = element_is x i v hx (omega arith) h u a z n e k w at to s
   elements_are x i v (next ∷ rest) hx le h hs u a z n e k w at to s =
       followed_is (element_row x i v) (elements_row x (i + 1) (next ∷ rest)) (element_is x i v hx (omega arith) h) (elements_are x (i + 1) next rest hx (omega arith) hs.0 hs.1) u a z n e k w at to s
 
-  pub array_is : (x : Variable) (vs : List Value) → IsTrue (is_array c.names x) → length vs ≤ 16384 → AllByRecursion (HasValue c) vs → IsLowering c (array_row x vs)
+  pub array_is : (x : Variable) (vs : List Value) → IsTrue (is_array c.names x) → length vs ≤ 2 ^ 31 → AllByRecursion (HasValue c) vs → IsLowering c (array_row x vs)
   array_is x [] hx le hs u a z n e k w at to s = clear_is x hx u a z n e k w at to s
   array_is x (v ∷ rest) hx le hs u a z n e k w at to s =
       followed_is (clear x) (elements_row x 0 (v ∷ rest)) (clear_is x hx) (elements_are x 0 v rest hx (omega arith) hs.0 hs.1) u a z n e k w at to s

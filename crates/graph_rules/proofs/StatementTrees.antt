@@ -1,6 +1,6 @@
 -- What the trees of statements make, where they fit: it leads on, and meets the rules.
-use Rattle.std.proofs.Common.{◌≡◌, ℕ, ◌+◌, ◌<◌, ◌≤◌, Bool, true, List, [], ◌∷◌, map, length, Option, Some, None, refl, sym, subst, rules, arith}
-use Rattle.std.specs.Prelude.{IsTrue, IfSome, ◌&&◌, not, nat_le}
+use Rattle.std.proofs.Common.{◌≡◌, ℕ, ◌^◌, ◌<◌, ◌≤◌, Bool, true, List, [], ◌∷◌, map, length, Option, Some, None, refl, sym, subst, rules, arith}
+use Rattle.std.specs.Prelude.{IsTrue, IfSome, ◌&&◌}
 use Rattle.std.specs.List.{AllByRecursion, list_all}
 use Rattle.std.specs.Option.{option_map}
 use Rattle.std.proofs.lemmas.Bool.{leb-true}
@@ -13,9 +13,6 @@ use Rattle.c_values.specs.declared.operators.BinaryOp.{BinaryOp}
 use Rattle.c_values.proofs.Fitting.{and_left, and_right, and_both}
 use Rattle.cfa.specs.declared.parts.Operation.TheVariants.{Assert, Assume}
 use Rattle.cfa.specs.declared.parts.Variable.{Variable}
-use Rattle.cfa.specs.declared.parts.VariablePlace.{VariablePlace}
-use Rattle.cfa.specs.declared.parts.VariablePlace.TheVariants as variable
-use Rattle.cfa.specs.Graph.{variable_fits, cell_count}
 use Rattle.typed_trees.specs.declared.expression.TypedCall.{TypedCall}
 use Rattle.typed_trees.specs.declared.expression.TypedExpr.{TypedExpr, ind-TypedExpr, roll-TypedExpr}
 use Rattle.typed_trees.specs.declared.expression.TypedExprForm.{TypedExprForm, the_lemmas as expression_lemmas}
@@ -32,10 +29,10 @@ use Rattle.graph_of.specs.Expressions.{Value, value_of, spot_of, calling_of}
 use Rattle.graph_of.specs.Statements.{Piece, arms_row}
 use Rattle.graph_of.specs.Switch.{Group, switch_row}
 use Rattle.graph_of.specs.Table.{stating, tested, form_step, shape, group_of, piece}
-use Rattle.graph_rules.specs.Lists.{list_fits, lists_fit}
+use Rattle.graph_rules.specs.Lists.{lists_fit}
 use Rattle.graph_rules.specs.Lists as lists
 use Rattle.graph_rules.proofs.Settings.{Setting, plain_assert, plain_assume}
-use Rattle.graph_rules.proofs.Operands.{integer_variable, array_variable, variable_kind, variable_place}
+use Rattle.graph_rules.proofs.Operands.{integer_variable, array_variable, variable_kind}
 use Rattle.graph_rules.proofs.WaysFlows as ways_flows
 use Rattle.graph_rules.proofs.WaysRows as ways
 use Rattle.graph_rules.proofs.WaysSwitch as ways_switch
@@ -171,12 +168,6 @@ module _ (c : Setting) where
       let own = and_left _ _ all in
       record { declares = and_both (is_variable c.names v) true (integer_variable c.names v own) refl; ways = ways.local_is v (option_map value_of first) (value_ways first (and_right _ _ all)); sits = sits.local_is c v (option_map value_of first) own (value_sits first (and_right _ _ all)) })
 
-  -- a list that fits is short
-  short_list : (length' : Option ℕ) (p : VariablePlace) (count : ℕ) → IsTrue (variable_fits c.names.room length' p) → IsTrue (not (is_lent p) && nat_le count (cell_count length')) → count ≤ 16384
-  short_list length' (variable.Global first) count h l = let own = leb-true (first + cell_count length') c.names.room.globals h in let le = leb-true count (cell_count length') l in let most = c.globals in omega arith
-  short_list length' (variable.Local first) count h l = let own = leb-true (first + cell_count length') c.names.room.cells h in let le = leb-true count (cell_count length') l in let most = c.cells in omega arith
-  short_list length' (variable.Lent parameter) count h l = absurd (cc)
-
   array_at : (v : Variable) (list : List TypedExpr) → FormHas (roll-TypedForm (TypedForm-F.LocalArray v list))
   unfolding shape form_fits form_lists
   array_at v list = form_is (TypedForm-F.LocalArray v list) _ _ _ _ _
@@ -186,7 +177,7 @@ module _ (c : Setting) where
       (λ f l.
       let all : IsTrue (is_array c.names v && list_all (expression_fits c.names) list) = f in
       let own = and_left _ _ all in
-      let short : length list ≤ 16384 = short_list v.length v.place (length list) (variable_place c.names v (array_variable c.names v own)) l in
+      let short : length list ≤ 2 ^ 31 = leb-true (length list) (2 ^ 31) l in
       let long = length-map list value_of in
       let V = values_hold list (and_right _ _ all) in
       record { declares = and_both (is_variable c.names v) true (array_variable c.names v own) refl; ways = ways.array_is v (map value_of list) V.0; sits = sits.array_is c v (map value_of list) own (omega arith) V.1 })

@@ -1,18 +1,12 @@
--- Which units' local arrays have lists that an automaton can put into them: an element's place has an index of type int.
-use Rattle.std.specs.Prelude.{ℕ, Bool, true, not, ◌&&◌, nat_le, length, Option, Some, None, IsTrue}
+-- Which units have lists for local arrays that an automaton can put into them: an element is named by an index of type
+-- int, so no list has more than 2 ^ 31 elements.
+use Rattle.std.specs.Prelude.{◌^◌, Bool, true, ◌&&◌, nat_le, length, Option, Some, None, IsTrue}
 use Rattle.std.specs.List.{list_all}
-use Rattle.cfa.specs.Graph.{cell_count}
-use Rattle.cfa.specs.declared.parts.Variable.{Variable}
-use Rattle.typed_trees.specs.Fitting.{is_lent}
 use Rattle.typed_trees.specs.declared.expression.TypedExpr.{TypedExpr}
 use Rattle.typed_trees.specs.declared.statement.TypedForm.TheOpen.{TypedForm-F, TypedGroup-F, TypedStatement-F}
 use Rattle.typed_trees.specs.declared.statement.TypedStatement.{TypedStatement, fold-TypedStatement}
 use Rattle.typed_trees.specs.declared.unit.Typed.{Typed}
 use Rattle.typed_trees.specs.declared.unit.TypedFunction.{TypedFunction}
-
--- a local array is not lent, and its list is no longer than the array (6.7.9p2)
-abbrev pub list_fits : Variable → ℕ → Bool
-list_fits v count = not (is_lent v.place) && nat_le count (cell_count v.length)
 
 abbrev pub part_fits : Option Bool → Bool
 part_fits None = true
@@ -21,7 +15,7 @@ part_fits (Some fits) = fits
 -- a statement, from what its parts give
 abbrev pub form_step : TypedForm-F Bool Bool Bool → Bool
 form_step (TypedForm-F.Block body) = list_all (λ fits. fits) body
-form_step (TypedForm-F.LocalArray v list) = list_fits v (length list)
+form_step (TypedForm-F.LocalArray v list) = nat_le (length list) (2 ^ 31)
 form_step (TypedForm-F.Label name body) = body
 form_step (TypedForm-F.If arms otherwise) = list_all (λ (arm : TypedExpr × Bool). arm.1) arms && part_fits otherwise
 form_step (TypedForm-F.While test body) = body
@@ -42,6 +36,6 @@ lists_fit = fold-TypedStatement Bool Bool Bool form_step group_step statement_st
 abbrev pub lists_fit_in : TypedFunction → Bool
 lists_fit_in f = list_all lists_fit f.body
 
--- the lists of a unit's local arrays fit
+-- no list of a unit is too long
 abbrev pub ListsFit : Typed → Type 0
 ListsFit t = IsTrue (list_all lists_fit_in t.functions)
