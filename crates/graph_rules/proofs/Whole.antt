@@ -27,7 +27,6 @@ use Rattle.graph_of.specs.Edges.{entry_of, exit_of}
 use Rattle.graph_of.specs.Statements.{block_row}
 use Rattle.graph_of.specs.Table.{piece}
 use Rattle.graph_of.specs.GraphOf.{function_of, functions_from, global_variables, outermost, around_of, ends_from, ends, bodies_from, made, graph_of}
-use Rattle.graph_rules.specs.Lists.{ListsFit, lists_fit_in}
 use Rattle.graph_rules.proofs.Ways.{among, ways, onward, Lead}
 use Rattle.graph_rules.proofs.WaysWhole.{among_one, among_most, onward_none, onward_all, continues_one, none_leads, exits, exits_none, exits_some, AllPieces, whole_leads}
 use Rattle.graph_rules.proofs.Sits.{Sits, sit_first, sit_rest, NodeMeets, ScopeMeets, EdgesMeet, Meets, meet_nil, meet_cons}
@@ -93,7 +92,7 @@ globals_known cells (g ∷ gs) h =
     let first = cells_known g.variable.kind g.first (and_left (is_kind g.variable.kind) (is_global cells g.variable.length g.variable.place) own) in
     list_all-append (λ (q : Kind × ℕ). is_kind q.0) (map (λ value. (g.variable.kind, value)) g.first) _ ∙ and_both _ _ first (globals_known cells gs (and_right (global_fits cells g) (list_all (global_fits cells) gs) h))
 
-module _ (t : Typed) (files : List (List ℕ)) (fitting : IsFitting t (length files)) (lists : ListsFit t) where
+module _ (t : Typed) (files : List (List ℕ)) (fitting : IsFitting t (length files)) where
   -- functions from a number on are the unit's
   abbrev Tail : ℕ → List TypedFunction → Type 0
   Tail i fs = (k : ℕ) (f : TypedFunction) → slice_get fs k ≡ Some f → slice_get t.functions (i + k) ≡ Some f
@@ -109,7 +108,7 @@ module _ (t : Typed) (files : List (List ℕ)) (fitting : IsFitting t (length fi
 
   -- the body of a function
   body_holds : (k : ℕ) (f : TypedFunction) (is : slice_get t.functions k ≡ Some f) → PiecesHold (setting t files fitting k f is) (map piece f.body)
-  body_holds k f is = statements_hold (setting t files fitting k f is) f.body (parts_at t files fitting k f is).body (all_at_place lists_fit_in t.functions k f lists is)
+  body_holds k f is = statements_hold (setting t files fitting k f is) f.body (parts_at t files fitting k f is).body
 
   all_pieces : (i : ℕ) (fs : List TypedFunction) → Tail i fs → AllPieces (global_variables t) fs
   all_pieces i [] at = tt
