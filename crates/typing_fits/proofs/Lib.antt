@@ -1,0 +1,4 @@
+pub mod Silent
+pub mod Sound
+pub mod Fine
+pub mod Expressions

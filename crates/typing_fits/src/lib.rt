@@ -1,0 +1,4 @@
+//! Typed units fit.
+#![tactic(auto)]
+
+pub mod laws;
