@@ -2,3 +2,5 @@ pub mod Silent
 pub mod Sound
 pub mod Fine
 pub mod Expressions
+pub mod Statements
+pub mod StatementRules
