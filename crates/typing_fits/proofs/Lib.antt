@@ -4,3 +4,6 @@ pub mod Fine
 pub mod Expressions
 pub mod Statements
 pub mod StatementRules
+pub mod Known
+pub mod Cells
+pub mod Functions
