@@ -241,8 +241,14 @@ global_takes kind d =
     after_quiet (variable_still _) (λ w. filled (variable_of d.name.name kind length (places.Global cell)) length cell (begun_fills d.name kind length d.first h) (leb-true (cell + cells_of length) 16384 p))))))
 
 -- the cells of globals, each with its kind and its first value
+abbrev pub cell_of : Kind → ℕ → Kind × ℕ
+cell_of kind value = (kind, value)
+
+abbrev pub of_global : Global → List (Kind × ℕ)
+of_global g = map (cell_of g.variable.kind) g.first
+
 abbrev pub cells_in : List Global → List (Kind × ℕ)
-cells_in gs = flat_map (λ (g : Global). map (λ value. (g.variable.kind, value)) g.first) gs
+cells_in gs = flat_map of_global gs
 
 pub record Total (l : ℕ) (gs : List Global) (c : ℕ) : Type 0 where
   pub count : c ≡ length (cells_in gs)
@@ -254,16 +260,16 @@ no_cells l = record { count = refl; limit = λ h. omega arith }
 two_totals : (l : ℕ) (xs ys : List Global) (b c : ℕ) → Total l xs b → Total (l + b) ys c → Total l (xs ++ ys) (b + (c + 0))
 two_totals l xs ys b c h k = record {
   count =
-      let joined = ap length (flat_map-append (λ (g : Global). map (λ value. (g.variable.kind, value)) g.first) xs ys) in
+      let joined = ap length (flat_map-append of_global xs ys) in
       omega (arith, h.count, k.count, joined, length-append (cells_in xs) (cells_in ys));
   limit = λ m. (let p = h.limit m in let q = k.limit p in omega arith);
 }
 
 one_total : (l : ℕ) (g : Global) (c : ℕ) → Cells l g c → Total l (g ∷ []) (c + 0)
 one_total l g c h =
-    let cells = map (λ value. (g.variable.kind, value)) g.first in
+    let cells = of_global g in
     let long = length-append cells [] in
-    let mapped : length cells ≡ length g.first = length-map g.first (λ value. (g.variable.kind, value)) in
+    let mapped : length cells ≡ length g.first = length-map g.first (cell_of g.variable.kind) in
     record { count = omega (arith, h.count, long, mapped); limit = λ m. (let p = h.limit in omega arith) }
 
 alone_takes : {m : Rule Global} → Takes Cells m → Takes Total (alone_in m)

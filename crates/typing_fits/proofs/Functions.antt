@@ -104,7 +104,7 @@ module _ (n : Nameable) where
       subst (λ o. IsTrue (is_length o m)) (sym (ap (slice_get n.room.arrays) e ∙ k 0)) ((Decides-eqb m m).1 refl)
 
   lent_more : (lent : ℕ) (o : Option ℕ) (rest : List ℕ) → LentFrom n.room.arrays lent (cons_option o rest) → LentFrom n.room.arrays (lent_behind lent o) rest
-  lent_more lent None rest k = k
+  lent_more lent None rest k j = k j
   lent_more lent (Some m) rest k j = (let e : lent + 1 + j ≡ lent + suc j = omega arith in ap (slice_get n.room.arrays) e ∙ k (suc j))
 
   pub placed_fit : (cell lent : ℕ) (vs : List Variable) (end : ℕ) → Placed cell lent vs end → end ≤ n.room.cells → LentFrom n.room.arrays lent (filter_map length_of vs) → AllByRecursion (λ v. IsTrue (is_variable n v)) vs
@@ -149,7 +149,7 @@ within_limit false f e = absurd (cc)
 all_front : (a b c d e f g : Bool) → IsTrue a → IsTrue b → IsTrue c → IsTrue d → IsTrue e → IsTrue f → IsTrue g → IsTrue (a && b && c && d && e && f && g)
 all_front a b c d e f g h i j k l m o = and_both (a && b && c && d && e && f) g (and_both (a && b && c && d && e) f (and_both (a && b && c && d) e (and_both (a && b && c) d (and_both (a && b) c (and_both a b h i) j) k) l) m) o
 
-result_is : (files : ℕ) (o : Option Kind) → IsTrue (result_passes number_is (place_in files) o) → IsTrue (result_kind_fits o)
+pub result_is : (files : ℕ) (o : Option Kind) → IsTrue (result_passes number_is (place_in files) o) → IsTrue (result_kind_fits o)
 result_is files None h = refl
 result_is files (Some kind) h = h
 

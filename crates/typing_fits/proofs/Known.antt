@@ -364,7 +364,7 @@ module _ (w : List ℕ) (f : Signature) where
 
 -- ---- a function is known from its declaration on
 
-declared_at : (d : Ident) (s : Signature) (at : At) → (declare d s at).bound ≡ bound_function d.name at.level s (newest d.name at.bound) ∷ []
+pub declared_at : (d : Ident) (s : Signature) (at : At) → (declare d s at).bound ≡ bound_function d.name at.level s (newest d.name at.bound) ∷ []
 unfolding declare ◌then◌ look here bind
 declared_at d s at = ap (λ bs. bs ++ bound_function d.name at.level s (newest d.name at.bound) ∷ []) ((expect_silent 31 d.span (may_declare s (newest d.name at.bound))).bound _)
 

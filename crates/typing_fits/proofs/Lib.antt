@@ -7,3 +7,4 @@ pub mod StatementRules
 pub mod Known
 pub mod Cells
 pub mod Functions
+pub mod Units
