@@ -146,13 +146,9 @@ module _ (number : ℕ → Kind → Bool) (place : Span → Bool) where
 
 -- ---- what the layers above need
 
--- every number in the items is a value of its kind
-abbrev pub NumbersAreValues : List Item → Type 0
-NumbersAreValues items = IsTrue (list_all (item_passes (λ n kind. is_value kind n) (λ place. true)) items)
-
--- every place in the items lies in one of so many files
-abbrev pub PlacesLieIn : ℕ → List Item → Type 0
-PlacesLieIn files items = IsTrue (list_all (item_passes (λ n kind. true) (λ place. nat_lt place.file files)) items)
+-- every number in the items is a value of its kind, and every place lies in one of so many files
+abbrev pub ContentsFit : ℕ → List Item → Type 0
+ContentsFit files items = IsTrue (list_all (item_passes (λ n kind. is_value kind n) (λ place. nat_lt place.file files)) items)
 
 -- ---- the laws
 
@@ -171,4 +167,4 @@ ExpressionsHoldTheirTokens =
 abbrev pub UnitsOfTexts : Type 0
 UnitsOfTexts =
     (texts : List SourceText) (tokens : List Token) (items : List Item) → Lexed texts tokens → DerivesItems items (map terminal_of tokens) →
-    NumbersAreValues items × PlacesLieIn (length texts) items
+    ContentsFit (length texts) items

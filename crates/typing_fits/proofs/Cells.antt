@@ -1,16 +1,16 @@
 -- How many cells the globals of an accepted unit have, and where each lies.
-use Rattle.std.proofs.Common.{◌≡◌, ℕ, zero, suc, ◌+◌, ◌-◌, ◌<◌, ◌≤◌, Bool, true, false, not, List, [], ◌∷◌, ◌++◌, map, length, Option, Some, None, refl, sym, ap, subst, ◌∙◌, arith, length-append}
-use Rattle.std.specs.Prelude.{IsTrue, ◌&&◌, ◌||◌, ◌==◌, nat_le, cond}
+use Rattle.std.proofs.Common.{◌≡◌, ℕ, suc, ◌+◌, ◌-◌, ◌≤◌, Bool, true, false, List, [], ◌∷◌, ◌++◌, map, length, Option, Some, None, refl, ap, subst, arith, length-append}
+use Rattle.std.specs.Prelude.{IsTrue, nat_le}
 use Rattle.std.specs.Option.{is_some}
-use Rattle.std.specs.List.{AllByRecursion, flat_map, list_all}
+use Rattle.std.specs.List.{flat_map}
 use Rattle.std.proofs.Math.ListN.{replicate, length-replicate}
 use Rattle.std.proofs.lemmas.Grind.{flat_map-append}
-use Rattle.std.proofs.lemmas.Bool.{leb-true, le-leb}
-use Rattle.std.proofs.lemmas.Bool.Decides.{Decides-eqb, nat_tests}
+use Rattle.std.proofs.lemmas.Bool.{leb-true}
+use Rattle.std.proofs.lemmas.Bool.Decides.{nat_tests}
 use Rattle.std.proofs.lemmas.List.{length-map}
 use Rattle.fq_core.specs.declared.span.Span.{Span}
 use Rattle.c_values.specs.declared.kinds.Kind.{Kind}
-use Rattle.c_values.proofs.Fitting.{and_left, and_right, and_both}
+use Rattle.c_values.proofs.Fitting.{and_left}
 use Rattle.c_parse.specs.declared.expr.ExprTree.{ExprTree}
 use Rattle.c_parse.specs.declared.expr.Ident.{Ident}
 use Rattle.c_parse.specs.declared.statement.Declarator.{Declarator}
@@ -24,9 +24,8 @@ use Rattle.cfa.specs.declared.parts.Variable.{Variable}
 use Rattle.cfa.specs.declared.parts.VariablePlace.TheVariants as places
 use Rattle.typed_trees.specs.declared.expression.Callee.{Callee}
 use Rattle.typed_trees.specs.declared.unit.Global.{Global}
-use Rattle.typed_trees.specs.declared.unit.TypedFunction.{TypedFunction}
 use Rattle.expression_types.specs.declared.scopes.Signature.{Signature}
-use Rattle.expression_types.specs.Rule.{At, Done, Rule, behind, pure, ◌then◌, fault, expect, look, here, local, bind, in_scope, uncounted, each, alone_in}
+use Rattle.expression_types.specs.Rule.{At, Rule, behind, pure, ◌then◌, fault, expect, here, local, bind, in_scope, uncounted, each, alone_in}
 use Rattle.expression_types.specs.declared.constants.Folded.{Folded}
 use Rattle.expression_types.specs.declared.constants.Folded.TheVariants as folds
 use Rattle.expression_types.specs.Constants.{folded}
@@ -34,12 +33,12 @@ use Rattle.expression_types.specs.Expressions.{integer, piece, fitted, constant_
 use Rattle.c_types.specs.declared.parameters.Parameters.{Parameters}
 use Rattle.c_types.specs.declared.program.Program.{Program}
 use Rattle.c_types.specs.declared.units.Parts.{Parts}
-use Rattle.c_types.specs.Declarations.{unused, variable_of, bind_variable, is_array_length, length_if, length_within, length_at, cells_of, is_list_for, first_value, first_values, with_zeros, begun_global, global_rule, globals_rule, enumerated, constant_rule, constants_from}
-use Rattle.c_types.specs.Functions.{declare, framed, body_rule, defined_rule, cell_behind, lent_behind, named_parameter, parameter_rule, parameters_from, parameters_rule, function_rule}
+use Rattle.c_types.specs.Declarations.{unused, variable_of, bind_variable, is_array_length, length_if, length_within, length_at, cells_of, is_list_for, first_values, with_zeros, begun_global, global_rule, globals_rule, enumerated, constant_rule, constants_from}
+use Rattle.c_types.specs.Functions.{declare, framed, body_rule, defined_rule, cell_behind, lent_behind, named_parameter, parameter_rule, parameters_from, function_rule}
 use Rattle.c_types.specs.Units.{callee_of, item_rule, items_rule}
-use Rattle.typing_fits.proofs.Silent.{Silent, then_silent, pure_silent, fault_silent, expect_silent, look_silent, constant_silent}
+use Rattle.typing_fits.proofs.Silent.{Silent, pure_silent, expect_silent, look_silent}
 use Rattle.typing_fits.proofs.Sound.{is_false, some_fault, left_empty, right_empty}
-use Rattle.typing_fits.proofs.Known.{length_silent, first_silent, firsts_silent, begun_silent}
+use Rattle.typing_fits.proofs.Known.{length_silent, first_silent, firsts_silent}
 
 -- ---- rules that take no cells of locals, whatever they add
 

@@ -1,5 +1,5 @@
 -- The typed expressions of accepted units fit.
-use Rattle.std.proofs.Common.{◌≡◌, ℕ, zero, suc, ◌+◌, ◌<◌, ◌≤◌, Bool, true, false, List, [], ◌∷◌, ◌++◌, map, length, Option, Some, None, refl, sym, ap, subst, ◌∙◌, arith, rules}
+use Rattle.std.proofs.Common.{◌≡◌, ℕ, suc, ◌+◌, Bool, true, List, [], ◌∷◌, ◌++◌, map, length, Option, Some, None, refl, sym, ap, subst, ◌∙◌, arith, rules}
 use Rattle.std.proofs.lemmas.List.{map-append}
 use Rattle.std.specs.Prelude.{slice_get, IsTrue, ◌&&◌, ◌==◌, nat_lt}
 use Rattle.std.specs.List.{AllByRecursion, list_all, filter_map, cons_option}
@@ -26,10 +26,9 @@ use Rattle.typed_trees.specs.declared.expression.Callee.{Callee}
 use Rattle.typed_trees.specs.declared.expression.Callee.TheVariants as callees
 use Rattle.typed_trees.specs.declared.expression.TypedExpr.{TypedExpr}
 use Rattle.typed_trees.specs.declared.expression.TypedExprForm.{the_lemmas}
-use Rattle.typed_trees.specs.declared.expression.TypedExprForm.TheVariants as forms
 use Rattle.typed_trees.specs.declared.expression.TypedCall.{TypedCall, roll-TypedCall}
 use Rattle.typed_trees.specs.declared.unit.TypedFunction.{TypedFunction}
-use Rattle.typed_trees.specs.Fitting.{Nameable, Fit, CallFit, word_kind, word_kinds, array_lengths, span_fits, is_variable, is_array, is_cell, word_fits, array_fits, defined_fits, input_fits, callee_fits, in_cell, expression_fit, place_fits, call_fit}
+use Rattle.typed_trees.specs.Fitting.{Nameable, CallFit, word_kinds, span_fits, is_variable, is_array, is_cell, word_fits, array_fits, defined_fits, input_fits, callee_fits, in_cell, expression_fit, call_fit}
 use Rattle.expression_types.specs.declared.scopes.Bound.{Bound}
 use Rattle.expression_types.specs.declared.scopes.ParameterKind.{ParameterKind}
 use Rattle.expression_types.specs.declared.scopes.Signature.{Signature}
@@ -42,12 +41,12 @@ use Rattle.expression_types.specs.declared.constants.Folded.{Folded}
 use Rattle.expression_types.specs.declared.constants.Folded.TheVariants as folds
 use Rattle.expression_types.specs.Constants.{folded}
 use Rattle.expression_types.specs.Kinds.{promotion}
-use Rattle.expression_types.specs.Rule.{Rule, pure, ◌then◌, fault, expect, look, temporary, uncounted}
-use Rattle.expression_types.specs.Expressions.{Piece, typed, converted_to, place_of, load_of, wanted, integer, variable_sort, meant, named, name_at, array_if, array_meant, array_named, array_at, callable, function_meant, function_named, function_at, nothing_given, word_given, array_given, joined, same_length, lent, argument_if, argument, arguments_from, arguments, callee_or, call_of, call_rule, called, form_rule, form_typing, piece, fitted, constant_of, constant}
+use Rattle.expression_types.specs.Rule.{Rule}
+use Rattle.expression_types.specs.Expressions.{Piece, converted_to, wanted, integer, variable_sort, meant, named, name_at, array_if, array_meant, array_named, array_at, callable, function_meant, function_named, function_at, nothing_given, word_given, array_given, joined, same_length, lent, argument_if, argument, arguments_from, callee_or, call_of, call_rule, called, form_rule, form_typing, piece, fitted, constant_of, constant}
 use Rattle.c_types.specs.Functions.{taken}
 use Rattle.typing_fits.proofs.Silent.{expression_silent}
 use Rattle.typing_fits.proofs.Sound.{is_false, DefinedAs, InputAs, CalleeIs, SignatureFits, MeaningFits, FoundFits, Limits, Sound, then_sound, pure_sound, fault_sound, expect_sound, look_sound, temporary_sound, uncounted_sound, roomier}
-use Rattle.typing_fits.proofs.Fine.{Fine, ValueOf, same_is, kind_same, promotion_is, constant_fine, convert_fine, both_fine, either_fine, load_fine, call_fine, integer_is, array_is, array_variable, variable_kind, whole_place, element_place, converted_fine, converted_kind, cell_is, operator_fine, operation_fine, alternative_fine}
+use Rattle.typing_fits.proofs.Fine.{Fine, ValueOf, kind_same, promotion_is, constant_fine, convert_fine, both_fine, either_fine, load_fine, call_fine, array_is, array_variable, variable_kind, whole_place, element_place, converted_fine, converted_kind, cell_is, operator_fine, operation_fine, alternative_fine}
 
 -- the numbers in a tree are values of their kinds, its places lie in files that are there, and its kinds are kinds
 abbrev pub place_in : ℕ → Span → Bool

@@ -1,6 +1,6 @@
 -- Typed expressions that fit, form by form: each fits with its kind, and what it is as a constant is a value of its kind.
-use Rattle.std.proofs.Common.{◌≡◌, ℕ, ◌+◌, ◌<◌, ◌≤◌, Bool, true, false, List, [], ◌∷◌, ◌++◌, map, length, Option, Some, None, refl, sym, ap, subst, ◌∙◌, arith, rules}
-use Rattle.std.specs.Prelude.{IsTrue, ◌&&◌, ◌||◌, not, cond, nat_lt, ◌==◌}
+use Rattle.std.proofs.Common.{◌≡◌, ℕ, ◌<◌, Bool, true, false, length, Option, Some, None, refl, sym, ap, subst, ◌∙◌, arith, rules}
+use Rattle.std.specs.Prelude.{IsTrue, ◌&&◌, ◌||◌, not, cond, ◌==◌}
 use Rattle.std.specs.Option.{is_none}
 use Rattle.std.proofs.lemmas.Bool.{lt-ltb}
 use Rattle.std.proofs.lemmas.Bool.Decides.{nat_tests}
@@ -10,7 +10,7 @@ use Rattle.c_values.specs.declared.operators.UnaryOp.{UnaryOp}
 use Rattle.c_values.specs.declared.operators.UnaryOp.TheVariants as unaries
 use Rattle.c_values.specs.declared.operators.BinaryOp.{BinaryOp}
 use Rattle.c_values.specs.Kind.{int, IsKind, is_kind, is_value, IsValue, converted, promoted, common}
-use Rattle.c_values.specs.Operations.{unary_kind, binary_kind, unary_value, binary_value, is_shift, is_comparison, truth_of}
+use Rattle.c_values.specs.Operations.{unary_kind, binary_kind, unary_value, binary_value, is_shift, is_comparison}
 use Rattle.c_values.proofs.Consequences.{promotions, common_kinds, unary_values_are_values, binary_values_are_values}
 use Rattle.c_values.proofs.Fitting.{and_left, and_right, and_both, IsValue-converted, IsValue-truth_of}
 use Rattle.c_values.proofs.Sums.{kind_of}
@@ -19,15 +19,14 @@ use Rattle.cfa.specs.declared.parts.VariablePlace.{VariablePlace}
 use Rattle.cfa.specs.declared.parts.VariablePlace.TheVariants as places
 use Rattle.cfa.specs.Kinds.{same_kind, same_sign}
 use Rattle.cfa.specs.Graph.{variable_fits}
-use Rattle.typed_trees.specs.declared.expression.TypedExpr.{TypedExpr, roll-TypedExpr}
+use Rattle.typed_trees.specs.declared.expression.TypedExpr.{TypedExpr}
 use Rattle.typed_trees.specs.declared.expression.TypedExprForm.{TypedExprForm, the_lemmas}
 use Rattle.typed_trees.specs.declared.expression.TypedExprForm.TheVariants as forms
-use Rattle.typed_trees.specs.declared.expression.TypedPlace.{TypedPlace}
 use Rattle.typed_trees.specs.declared.expression.TypedCall.{TypedCall}
-use Rattle.typed_trees.specs.Fitting.{Nameable, Fit, CallFit, span_fits, is_variable, is_integer, is_array, is_cell, is_lent, operands_meet, gives, indexed, expression_fit, expression_fits, place_fits, call_fit}
+use Rattle.typed_trees.specs.Fitting.{Nameable, Fit, span_fits, is_variable, is_integer, is_array, is_cell, is_lent, operands_meet, gives, expression_fit, expression_fits, place_fits, call_fit}
 use Rattle.expression_types.specs.declared.constants.Folded.{Folded}
 use Rattle.expression_types.specs.declared.constants.Folded.TheVariants.{Varying, Undefined, Value}
-use Rattle.expression_types.specs.Constants.{Part, varies, with_value, value_if, value_if_any, converted_folded, unary_folded, is_operation, operation_folded, binary_folded, truth_folded, both_folded, either_folded, choice_folded, part_of, folded}
+use Rattle.expression_types.specs.Constants.{Part, value_if, value_if_any, converted_folded, unary_folded, is_operation, operation_folded, binary_folded, truth_folded, both_folded, either_folded, choice_folded, part_of, folded}
 use Rattle.expression_types.specs.Kinds.{promotion, operand_kind, left_kind, right_kind, meeting}
 use Rattle.expression_types.specs.Expressions.{typed, converted_to, unary_of, binary_of, place_of, load_of, choice_of}
 use Rattle.typing_fits.proofs.Sound.{is_false}
@@ -326,7 +325,7 @@ module _ (n : Nameable) where
       is : place_fits n (place_of v (Some i)) ≡ (is_array n v && (expression_fit n i).fits)
       is = search (rules, the_lemmas)
 
--- ---- conversions
+  -- ---- conversions
 
   pub converted_fine : (kind : Kind) (a : TypedExpr) → IsKind kind → Fine n a → Fine n (converted_to kind a)
   converted_fine kind a k h = chosen (Fine n) (same_kind a.kind kind) a _ (λ t. h) (convert_fine n a.span h.place kind a k h)

@@ -1,9 +1,8 @@
 -- The functions of accepted units fit.
-use Rattle.std.proofs.Common.{◌≡◌, ℕ, zero, suc, ◌+◌, ◌<◌, ◌≤◌, Bool, true, false, not, List, [], ◌∷◌, ◌++◌, map, length, Option, Some, None, refl, sym, ap, subst, ◌∙◌, arith}
-use Rattle.std.specs.Prelude.{slice_get, IsTrue, ◌&&◌, ◌==◌, nat_le, cond}
-use Rattle.std.specs.Option.{is_some}
+use Rattle.std.proofs.Common.{◌≡◌, ℕ, suc, ◌+◌, ◌≤◌, Bool, true, false, List, [], ◌∷◌, length, Option, Some, None, refl, sym, ap, subst, ◌∙◌, arith}
+use Rattle.std.specs.Prelude.{slice_get, IsTrue, ◌&&◌, nat_le, cond}
 use Rattle.std.specs.List.{AllByRecursion, list_all, filter_map, cons_option}
-use Rattle.std.proofs.lemmas.Bool.{leb-true, le-leb}
+use Rattle.std.proofs.lemmas.Bool.{le-leb}
 use Rattle.std.proofs.lemmas.Bool.Decides.{Decides-eqb}
 use Rattle.fq_core.specs.declared.span.Span.{Span}
 use Rattle.c_values.specs.declared.kinds.Kind.{Kind}
@@ -12,25 +11,20 @@ use Rattle.c_values.proofs.Fitting.{and_left, and_right, and_both}
 use Rattle.c_parse.specs.declared.expr.Ident.{Ident}
 use Rattle.c_parse.specs.declared.unit.Body.{Body}
 use Rattle.c_parse.specs.declared.unit.Parameter.{Parameter}
-use Rattle.tree_contents.specs.Contents.{statement_passes, optional_passes, name_passes, parameter_passes, body_passes, result_passes}
+use Rattle.tree_contents.specs.Contents.{statement_passes, body_passes, result_passes}
 use Rattle.cfa.specs.declared.parts.Variable.{Variable}
-use Rattle.cfa.specs.declared.parts.VariablePlace.{VariablePlace}
-use Rattle.cfa.specs.declared.parts.VariablePlace.TheVariants as places
 use Rattle.cfa.specs.Graph.{variable_fits, result_kind_fits}
 use Rattle.cfa.specs.Rules.{is_length}
-use Rattle.typed_trees.specs.declared.statement.TypedStatement.{TypedStatement}
 use Rattle.typed_trees.specs.declared.unit.TypedFunction.{TypedFunction}
 use Rattle.typed_trees.specs.Fitting.{Nameable, word_kind, word_kinds, array_lengths, span_fits, is_variable, statement_fits}
 use Rattle.expression_types.specs.declared.faults.Found.{Found}
 use Rattle.expression_types.specs.declared.scopes.Bound.{Bound}
-use Rattle.expression_types.specs.declared.scopes.ParameterKind.{ParameterKind}
-use Rattle.expression_types.specs.Rule.{At, Done, Rule, behind, pure, ◌then◌, in_scope}
+use Rattle.expression_types.specs.Rule.{At, behind, pure, ◌then◌, in_scope}
 use Rattle.c_types.specs.declared.parameters.Parameters.{Parameters}
-use Rattle.c_types.specs.Declarations.{variable_of, bind_variable, length_at}
-use Rattle.c_types.specs.Statements.{statements_typing}
-use Rattle.c_types.specs.Functions.{name_of, name_span, parameter_place, cell_behind, lent_behind, named_parameter, parameter_rule, with_parameter, parameters_from, parameters_rule, taken, in_frame, too_large, framed, bind_parameters, in_function, body_rule, function_of}
+use Rattle.c_types.specs.Declarations.{variable_of, length_at}
+use Rattle.c_types.specs.Functions.{name_of, name_span, parameter_place, cell_behind, lent_behind, named_parameter, parameter_rule, parameters_from, parameters_rule, in_frame, too_large, framed, bind_parameters, in_function, body_rule, function_of}
 use Rattle.typing_laws.proofs.AlikeStatements.{same_locals}
-use Rattle.typing_fits.proofs.Sound.{is_false, left_empty, right_empty, all_test, NamesFit, Sound, Any, then_sound, pure_sound, scope_sound}
+use Rattle.typing_fits.proofs.Sound.{left_empty, right_empty, all_test, NamesFit, Sound, Any, then_sound, pure_sound, scope_sound}
 use Rattle.typing_fits.proofs.Expressions.{number_is, place_in, within}
 use Rattle.typing_fits.proofs.Statements.{AllFit}
 use Rattle.typing_fits.proofs.StatementRules.{bind_variable_sound, statements_sound}

@@ -1,9 +1,8 @@
 -- What a name stands for as a function stays as it is to the end of an accepted unit.
-use Rattle.std.proofs.Common.{◌≡◌, ℕ, zero, suc, ◌+◌, ◌<◌, ◌≤◌, Bool, true, false, not, List, [], ◌∷◌, ◌++◌, map, length, Option, Some, None, refl, sym, ap, subst, ◌∙◌, arith}
-use Rattle.std.specs.Prelude.{slice_get, IsTrue, ◌&&◌, ◌||◌, ◌==◌, cond}
+use Rattle.std.proofs.Common.{◌≡◌, ℕ, zero, suc, ◌<◌, Bool, true, false, not, List, [], ◌∷◌, ◌++◌, length, Option, Some, None, refl, sym, ap, subst, ◌∙◌, arith}
+use Rattle.std.specs.Prelude.{slice_get, IsTrue, ◌&&◌, ◌||◌, cond}
 use Rattle.std.specs.Option.{is_some}
 use Rattle.std.specs.Str.{bytes_eq}
-use Rattle.std.specs.List.{AllByRecursion}
 use Rattle.std.proofs.lemmas.List.{append-nil, append_assoc}
 use Rattle.std.proofs.lemmas.Slice.Eq.{bytes_eq-Decides}
 use Rattle.std.proofs.lemmas.Bool.Decides.{Decides-eqb}
@@ -30,15 +29,15 @@ use Rattle.expression_types.specs.declared.scopes.ParameterKind.{ParameterKind}
 use Rattle.expression_types.specs.declared.scopes.Signature.{Signature}
 use Rattle.expression_types.specs.declared.scopes.Meaning.{Meaning}
 use Rattle.expression_types.specs.declared.scopes.Meaning.TheVariants as meanings
-use Rattle.expression_types.specs.Rule.{At, Done, Rule, behind, pure, ◌then◌, fault, expect, look, here, local, bind, in_scope, each, alone_in}
+use Rattle.expression_types.specs.Rule.{At, Rule, behind, pure, ◌then◌, fault, expect, look, here, local, bind, in_scope, each, alone_in}
 use Rattle.expression_types.specs.Scopes.{last_place, or_first, bound_at, newest}
 use Rattle.expression_types.proofs.ScopeLaws.{placed}
 use Rattle.c_types.specs.declared.parameters.Parameters.{Parameters}
 use Rattle.c_types.specs.declared.program.Program.{Program}
-use Rattle.c_types.specs.Declarations.{same_level, unused, variable_of, bound_as, bind_variable, is_array_length, length_if, length_within, length_at, cells_of, is_list_for, first_value, first_values, begun_global, global_rule, globals_rule, enumerated, next_value, bound_constant, constant_rule, constants_from}
-use Rattle.c_types.specs.Functions.{taken, signature_of, same_optional, same_result, same_parameter, same_signature, agrees, may_declare, is_defined, was_defined, bound_function, declare, in_frame, framed, in_function, body_rule, function_of, defined_rule, parameters_rule, function_rule}
+use Rattle.c_types.specs.Declarations.{same_level, unused, variable_of, bound_as, bind_variable, is_array_length, length_if, length_within, length_at, cells_of, first_value, first_values, begun_global, global_rule, globals_rule, enumerated, bound_constant, constant_rule, constants_from}
+use Rattle.c_types.specs.Functions.{signature_of, same_optional, same_result, same_parameter, same_signature, agrees, may_declare, is_defined, bound_function, declare, framed, body_rule, defined_rule, parameters_rule, function_rule}
 use Rattle.c_types.specs.Units.{callee_of, item_rule, items_rule}
-use Rattle.typing_fits.proofs.Silent.{Silent, then_silent, pure_silent, fault_silent, expect_silent, look_silent, constant_silent}
+use Rattle.typing_fits.proofs.Silent.{Silent, then_silent, pure_silent, fault_silent, expect_silent, constant_silent}
 use Rattle.typing_fits.proofs.Sound.{is_false, some_fault, left_empty, right_empty, Any}
 use Rattle.typing_fits.proofs.Fine.{same_is}
 

@@ -1,19 +1,16 @@
 -- Rules that make what fits, where nothing is wrong and the frame has room: each name that is in scope fits, and so does
 -- what is made.
-use Rattle.std.proofs.Common.{◌≡◌, ℕ, zero, suc, ◌+◌, ◌<◌, ◌≤◌, Bool, true, false, List, [], ◌∷◌, ◌++◌, map, length, Option, Some, None, refl, sym, ap, subst, ◌∙◌, arith}
-use Rattle.std.specs.Prelude.{slice_get, IsTrue, ◌&&◌, nat_le}
+use Rattle.std.proofs.Common.{◌≡◌, ℕ, zero, suc, ◌+◌, ◌<◌, ◌≤◌, Bool, true, false, List, [], ◌∷◌, ◌++◌, map, length, Option, Some, None, refl, sym, subst, arith}
+use Rattle.std.specs.Prelude.{slice_get, IsTrue, nat_le}
 use Rattle.std.specs.List.{AllByRecursion, list_all}
 use Rattle.std.proofs.lemmas.Bool.{leb-true, le-leb}
 use Rattle.fq_core.specs.declared.span.Span.{Span}
-use Rattle.c_values.specs.declared.kinds.Kind.{Kind}
 use Rattle.c_values.specs.Kind.{int, IsKind, is_kind, IsValue}
 use Rattle.c_values.proofs.Fitting.{and_left, and_right, and_both}
 use Rattle.cfa.specs.declared.parts.InputFunction.{InputFunction}
-use Rattle.cfa.specs.declared.parts.Variable.{Variable}
 use Rattle.cfa.specs.declared.parts.VariablePlace.{VariablePlace}
 use Rattle.cfa.specs.declared.parts.VariablePlace.TheVariants as places
-use Rattle.cfa.specs.Graph.{cell_count, variable_fits, lent_fits, result_kind_fits}
-use Rattle.cfa.specs.Rules.{is_length}
+use Rattle.cfa.specs.Graph.{cell_count, variable_fits, result_kind_fits}
 use Rattle.typed_trees.specs.declared.expression.Callee.{Callee}
 use Rattle.typed_trees.specs.declared.expression.Callee.TheVariants as callees
 use Rattle.typed_trees.specs.declared.unit.TypedFunction.{TypedFunction}
@@ -25,7 +22,7 @@ use Rattle.expression_types.specs.declared.scopes.Signature.{Signature}
 use Rattle.expression_types.specs.declared.scopes.Meaning.{Meaning}
 use Rattle.expression_types.specs.declared.scopes.Meaning.TheVariants as meanings
 use Rattle.expression_types.specs.Rule.{At, Done, Rule, behind, pure, ◌then◌, fault, expect, look, is_label, is_case, here, temporary, local, bind, bind_label, bind_case, in_scope, in_switch, uncounted, each, alone_in}
-use Rattle.expression_types.specs.Scopes.{bound_at, newest}
+use Rattle.expression_types.specs.Scopes.{bound_at}
 use Rattle.c_types.specs.Functions.{taken}
 use Rattle.typing_fits.proofs.Silent.{Silent}
 

@@ -1,12 +1,12 @@
 -- The typed statements of accepted units fit.
-use Rattle.std.proofs.Common.{◌≡◌, ℕ, ◌+◌, ◌≤◌, Bool, true, false, not, List, [], ◌∷◌, ◌++◌, map, length, Option, Some, None, refl, sym, ap, subst, ◌∙◌, rules, arith}
-use Rattle.std.specs.Prelude.{IsTrue, ◌&&◌, IfSome, option_map, nat_le}
+use Rattle.std.proofs.Common.{◌≡◌, ℕ, ◌+◌, ◌≤◌, Bool, true, false, not, List, [], ◌∷◌, ◌++◌, map, length, Option, Some, None, refl, sym, subst, rules, arith}
+use Rattle.std.specs.Prelude.{IsTrue, ◌&&◌, IfSome, option_map}
 use Rattle.std.specs.List.{AllByRecursion, list_all}
 use Rattle.std.proofs.lemmas.Bool.{le-leb}
 use Rattle.fq_core.specs.declared.span.Span.{Span}
 use Rattle.c_values.specs.declared.kinds.Kind.{Kind}
 use Rattle.c_values.specs.declared.operators.BinaryOp.{BinaryOp}
-use Rattle.c_values.specs.Kind.{int, IsKind, is_kind, is_value, IsValue}
+use Rattle.c_values.specs.Kind.{int, IsKind, is_kind, is_value}
 use Rattle.c_values.proofs.Fitting.{and_left, and_right, and_both, IsValue-truth_of}
 use Rattle.c_parse.specs.declared.expr.ExprTree.{ExprTree}
 use Rattle.c_parse.specs.declared.expr.Ident.{Ident}
@@ -24,25 +24,24 @@ use Rattle.cfa.specs.declared.parts.Variable.{Variable}
 use Rattle.cfa.specs.declared.parts.VariablePlace.TheVariants as places
 use Rattle.cfa.specs.Graph.{cell_count, result_kind_fits}
 use Rattle.typed_trees.specs.declared.expression.TypedExpr.{TypedExpr}
-use Rattle.typed_trees.specs.declared.expression.TypedPlace.{TypedPlace, out-TypedPlace}
+use Rattle.typed_trees.specs.declared.expression.TypedPlace.{out-TypedPlace}
 use Rattle.typed_trees.specs.declared.expression.TypedExprForm.{the_lemmas as typed_lemmas}
 use Rattle.typed_trees.specs.declared.statement.TypedStatement.{TypedStatement}
-use Rattle.typed_trees.specs.declared.statement.TypedGroup.{TypedGroup}
 use Rattle.typed_trees.specs.declared.statement.TypedForm.{TypedForm}
 use Rattle.typed_trees.specs.declared.statement.TypedForm.TheVariants as forms
-use Rattle.typed_trees.specs.Fitting.{Nameable, span_fits, is_variable, place_fits, label_fits}
+use Rattle.typed_trees.specs.Fitting.{Nameable, is_variable, place_fits, label_fits}
 use Rattle.expression_types.specs.declared.scopes.Bound.{Bound}
 use Rattle.expression_types.specs.declared.scopes.Meaning.{Meaning}
 use Rattle.expression_types.specs.declared.scopes.Meaning.TheVariants as meanings
 use Rattle.expression_types.specs.Kinds.{promotion}
-use Rattle.expression_types.specs.Rule.{Rule, pure, ◌then◌, fault, expect, look, bind_label, bind_case, local, bind, in_scope, in_switch, each, alone_in}
-use Rattle.expression_types.specs.Expressions.{Piece, integer, piece, place_of, converted_to, call_rule, constant}
+use Rattle.expression_types.specs.Rule.{Rule, pure, each, alone_in}
+use Rattle.expression_types.specs.Expressions.{integer, piece, place_of, converted_to}
 use Rattle.c_types.specs.declared.around.Around.{Around}
 use Rattle.c_types.specs.Declarations.{same_level, unused, variable_of, bound_as, bind_variable, is_array_length, length_if, length_within, length_at, cells_of, is_list_for, value_for, values_for, begun, local_rule, locals_rule, statement_of}
 use Rattle.c_types.specs.Statements.{in_loop, in_cases, integer_if, integer_meant, integer_named, variable_at, place_rule, assigned, step_operator, one_at, Part, GroupPart, one_of, in_turn, single, alone, arm_rule, arms_rule, last_rule, first_rule, test_rule, next_rule, unused_label, fresh, case_valued, case_rule, cases_rule, group_of, group_rule, groups_rule, return_rule, call_statement, form_rule, form_of, group, part, statement_rule, statements_typing}
 use Rattle.typing_fits.proofs.Sound.{is_false, all_append, MeaningFits, FoundFits, Limits, Sound, Any, then_sound, pure_sound, fault_sound, expect_sound, look_sound, is_label_sound, is_case_sound, here_sound, temporary_sound, local_sound, bind_sound, bind_label_sound, bind_case_sound, scope_sound, switch_sound, alone_sound, each_sound, weaken}
 use Rattle.typing_fits.proofs.Fine.{Fine, promotion_is, constant_fine, integer_is, array_is, array_variable, variable_kind, whole_place, element_place, converted_fine, converted_kind, cell_is}
-use Rattle.typing_fits.proofs.Expressions.{number_is, place_in, TreePasses, within, ConstantIs, CallFine, array_sound, call_sound, tree_sound, expression_sound, constant_sound, IsSound}
+use Rattle.typing_fits.proofs.Expressions.{number_is, place_in, TreePasses, within, ConstantIs, array_sound, call_sound, tree_sound, expression_sound, constant_sound, IsSound}
 use Rattle.typing_fits.proofs.Statements.{Fits, AllFit, group_fits, PlaceFine, ArmFine, some_of, block_fits, empty_fits, break_fits, continue_fits, local_fits, array_fits, assigned_fits, call_fits, label_fits_in, while_fits, do_fits, if_fits, for_fits, switch_fits, return_fits, assert_fits, assume_fits, one_fits, group_is}
 
 -- ---- declarations, of any scope

@@ -1,12 +1,12 @@
 -- Typed statements that fit, form by form.
-use Rattle.std.proofs.Common.{◌≡◌, ℕ, Bool, true, false, List, [], ◌∷◌, ◌++◌, map, length, Option, Some, None, refl, sym, ap, subst, ◌∙◌, rules}
+use Rattle.std.proofs.Common.{◌≡◌, ℕ, Bool, true, false, List, [], ◌∷◌, map, Option, Some, None, refl, sym, subst, ◌∙◌, rules}
 use Rattle.std.specs.Prelude.{IsTrue, ◌&&◌, option_map, IfSome}
 use Rattle.std.specs.List.{AllByRecursion, list_all}
 use Rattle.fq_core.specs.declared.span.Span.{Span}
 use Rattle.c_values.specs.declared.kinds.Kind.{Kind}
 use Rattle.c_values.specs.declared.operators.BinaryOp.{BinaryOp}
 use Rattle.c_values.specs.Kind.{IsKind, is_kind}
-use Rattle.c_values.proofs.Fitting.{and_left, and_right, and_both}
+use Rattle.c_values.proofs.Fitting.{and_both}
 use Rattle.cfa.specs.declared.parts.Variable.{Variable}
 use Rattle.typed_trees.specs.declared.expression.TypedExpr.{TypedExpr}
 use Rattle.typed_trees.specs.declared.expression.TypedPlace.{TypedPlace, out-TypedPlace}
@@ -15,7 +15,7 @@ use Rattle.typed_trees.specs.declared.statement.TypedStatement.{TypedStatement}
 use Rattle.typed_trees.specs.declared.statement.TypedGroup.{TypedGroup, fold-TypedGroup}
 use Rattle.typed_trees.specs.declared.statement.TypedForm.{the_lemmas}
 use Rattle.typed_trees.specs.declared.statement.TypedForm.TheVariants as forms
-use Rattle.typed_trees.specs.Fitting.{Nameable, span_fits, is_integer, is_array, is_cell, operands_meet, expression_fit, expression_fits, option_fits, place_fits, call_fit, statement_if, operator_fits, label_fits, labels_fit, arms_fit, arm_fits, group_step, statement_form, statement_step, statement_fits}
+use Rattle.typed_trees.specs.Fitting.{Nameable, span_fits, is_integer, is_array, is_cell, operands_meet, expression_fit, expression_fits, option_fits, place_fits, call_fit, statement_if, label_fits, labels_fit, arms_fit, arm_fits, group_step, statement_form, statement_step, statement_fits}
 use Rattle.expression_types.specs.Kinds.{left_kind, right_kind}
 use Rattle.expression_types.specs.Expressions.{converted_to}
 use Rattle.c_types.specs.Declarations.{statement_of}
@@ -53,7 +53,6 @@ module _ (n : Nameable) where
   pub all_expressions : (es : List TypedExpr) → AllByRecursion (Fine n) es → IsTrue (list_all (expression_fits n) es)
   all_expressions [] h = refl
   all_expressions (e ∷ es) h = and_both (expression_fits n e) (list_all (expression_fits n) es) h.0.fits (all_expressions es h.1)
-
 
 module _ (n : Nameable) (span : Span) (s : IsTrue (span_fits n span)) where
   made : (form : Bool) (t : TypedStatement) → statement_fits n t ≡ (span_fits n span && form) → IsTrue form → Fits n t

@@ -1,6 +1,6 @@
 -- What typing makes of an accepted unit fits.
-use Rattle.std.proofs.Common.{◌≡◌, ℕ, zero, suc, ◌+◌, ◌<◌, ◌≤◌, Bool, true, false, not, List, [], ◌∷◌, ◌++◌, map, length, Option, Some, None, refl, sym, ap, subst, ◌∙◌, arith}
-use Rattle.std.specs.Prelude.{slice_get, IsTrue, ◌&&◌, ◌||◌, ◌==◌, nat_le, nat_lt, cond}
+use Rattle.std.proofs.Common.{◌≡◌, ℕ, suc, ◌+◌, ◌≤◌, Bool, true, false, List, [], ◌∷◌, ◌++◌, map, length, Option, Some, None, refl, sym, ap, subst, ◌∙◌, arith}
+use Rattle.std.specs.Prelude.{slice_get, IsTrue, ◌&&◌, ◌||◌, cond}
 use Rattle.std.specs.Option.{is_some}
 use Rattle.std.specs.Str.{bytes_eq}
 use Rattle.std.specs.List.{AllByRecursion, list_all, fold}
@@ -26,30 +26,27 @@ use Rattle.cfa.specs.declared.parts.Variable.{Variable}
 use Rattle.cfa.specs.declared.parts.VariablePlace.TheVariants as places
 use Rattle.cfa.specs.Graph.{cell_count, result_kind_fits}
 use Rattle.typed_trees.specs.declared.expression.Callee.{Callee}
-use Rattle.typed_trees.specs.declared.expression.Callee.TheVariants as callees
 use Rattle.typed_trees.specs.declared.unit.Global.{Global}
-use Rattle.typed_trees.specs.declared.unit.Typed.{Typed}
 use Rattle.typed_trees.specs.declared.unit.TypedFunction.{TypedFunction}
-use Rattle.typed_trees.specs.Fitting.{Nameable, is_variable, global_fits, function_fits, IsFitting}
+use Rattle.typed_trees.specs.Fitting.{Nameable, global_fits, function_fits, IsFitting}
 use Rattle.expression_types.specs.declared.scopes.Bound.{Bound}
 use Rattle.expression_types.specs.declared.scopes.ParameterKind.{ParameterKind}
 use Rattle.expression_types.specs.declared.scopes.Signature.{Signature}
 use Rattle.expression_types.specs.declared.scopes.Meaning.{Meaning}
 use Rattle.expression_types.specs.declared.scopes.Meaning.TheVariants as meanings
-use Rattle.expression_types.specs.Rule.{At, Done, Rule, behind, pure, ◌then◌, expect, local, bind, in_scope, each, alone_in}
-use Rattle.expression_types.specs.Expressions.{constant}
+use Rattle.expression_types.specs.Rule.{At, Done, behind, pure, ◌then◌, in_scope, alone_in}
 use Rattle.expression_types.specs.Scopes.{newest, has_name, name_place, next_place}
 use Rattle.c_types.specs.declared.parameters.Parameters.{Parameters}
 use Rattle.c_types.specs.declared.program.Inputs.{Inputs}
 use Rattle.c_types.specs.declared.program.Program.{Program}
 use Rattle.c_types.specs.declared.units.Parts.{Parts}
-use Rattle.c_types.specs.Declarations.{variable_of, cells_of, is_list_for, value_or_zero, first_value, first_values, begun_global, global_rule, globals_rule, enumerated, next_value, bound_constant, constant_rule, constants_from}
-use Rattle.c_types.specs.Functions.{taken, cell_behind, lent_behind, signature_of, was_defined, bound_function, declare, framed, body_rule, function_of, defined_rule, parameters_from, parameters_rule, function_rule}
-use Rattle.c_types.specs.Units.{with_name, with_definition, input_unless, with_prototype, with_input, definitions_of, inputs_among, inputs_of, no_inputs, program_of, input_callee, callee_or_input, callee_of, item_rule, items_rule, start, unit_done, faults_of, typed_of}
-use Rattle.typing_fits.proofs.Sound.{is_false, left_empty, right_empty, all_append, all_test, test_all, DefinedAs, InputAs, CalleeIs, SignatureFits, NamesFit, names_append, Limits, Sound, Any, then_sound, pure_sound, expect_sound, here_sound, local_sound, bind_sound, alone_sound, each_sound, weaken}
+use Rattle.c_types.specs.Declarations.{variable_of, cells_of, value_or_zero, first_value, first_values, begun_global, global_rule, globals_rule, enumerated, next_value, bound_constant, constant_rule, constants_from}
+use Rattle.c_types.specs.Functions.{taken, cell_behind, lent_behind, signature_of, was_defined, bound_function, declare, framed, body_rule, defined_rule, parameters_from, parameters_rule, function_rule}
+use Rattle.c_types.specs.Units.{with_name, with_definition, input_unless, with_prototype, with_input, definitions_of, inputs_of, no_inputs, program_of, callee_or_input, callee_of, item_rule, items_rule, start, unit_done, faults_of, typed_of}
+use Rattle.typing_fits.proofs.Sound.{is_false, left_empty, right_empty, all_append, all_test, test_all, DefinedAs, InputAs, CalleeIs, SignatureFits, NamesFit, names_append, Limits, Sound, Any, then_sound, pure_sound, expect_sound, here_sound, local_sound, bind_sound, alone_sound, each_sound}
 use Rattle.typing_fits.proofs.Expressions.{number_is, place_in, TreePasses, ConstantIs, constant_sound}
 use Rattle.typing_fits.proofs.StatementRules.{unused_sound, bind_variable_sound, length_at_sound, same_count}
-use Rattle.typing_fits.proofs.Known.{same_bytes, bytes_same, MeansLike, Means, KnownIs, Known, known_once, items_keep, item_keeps, function_keeps, defined_bound, declared_at, declares}
+use Rattle.typing_fits.proofs.Known.{same_bytes, bytes_same, Means, KnownIs, Known, known_once, items_keep, item_keeps, function_keeps, defined_bound, declared_at, declares}
 use Rattle.typing_fits.proofs.Functions.{Placed, KindsAre, result_is, parameters_placed, roomed, FileNames, function_fits_in, function_fit}
 use Rattle.typing_fits.proofs.Cells.{cells_in, items_take}
 
