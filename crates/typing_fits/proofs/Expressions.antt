@@ -4,7 +4,7 @@ use Rattle.std.proofs.lemmas.List.{map-append}
 use Rattle.std.specs.Prelude.{slice_get, IsTrue, ◌&&◌, ◌==◌, nat_lt}
 use Rattle.std.specs.List.{AllByRecursion, list_all, filter_map, cons_option}
 use Rattle.std.specs.Option.{is_some}
-use Rattle.std.proofs.lemmas.Bool.Decides.{nat_tests}
+use Rattle.std.proofs.lemmas.Bool.Decides.{Decides-eqb}
 use Rattle.std.proofs.lemmas.List.Elements.{filter_map-append}
 use Rattle.fq_core.specs.declared.span.Span.{Span}
 use Rattle.c_values.specs.declared.kinds.Kind.{Kind}
@@ -44,8 +44,8 @@ use Rattle.expression_types.specs.Kinds.{promotion}
 use Rattle.expression_types.specs.Rule.{Rule}
 use Rattle.expression_types.specs.Expressions.{Piece, converted_to, wanted, integer, variable_sort, meant, named, name_at, array_if, array_meant, array_named, array_at, callable, function_meant, function_named, function_at, nothing_given, word_given, array_given, joined, same_length, lent, argument_if, argument, arguments_from, callee_or, call_of, call_rule, called, form_rule, form_typing, piece, fitted, constant_of, constant}
 use Rattle.c_types.specs.Functions.{taken}
-use Rattle.typing_fits.proofs.Silent.{expression_silent}
-use Rattle.typing_fits.proofs.Sound.{is_false, DefinedAs, InputAs, CalleeIs, SignatureFits, MeaningFits, FoundFits, Limits, Sound, then_sound, pure_sound, fault_sound, expect_sound, look_sound, temporary_sound, uncounted_sound, roomier}
+use Rattle.typing_fits.proofs.Silent.{all_mapped, expression_silent}
+use Rattle.typing_fits.proofs.Sound.{is_false, StandsFrom, DefinedAs, InputAs, CalleeIs, SignatureFits, MeaningFits, FoundFits, Limits, Sound, then_sound, pure_sound, fault_sound, expect_sound, look_sound, temporary_sound, uncounted_sound, roomier}
 use Rattle.typing_fits.proofs.Fine.{Fine, ValueOf, kind_same, promotion_is, constant_fine, convert_fine, both_fine, either_fine, load_fine, call_fine, array_is, array_variable, variable_kind, whole_place, element_place, converted_fine, converted_kind, cell_is, operator_fine, operation_fine, alternative_fine}
 
 -- the numbers in a tree are values of their kinds, its places lie in files that are there, and its kinds are kinds
@@ -66,12 +66,6 @@ abbrev pub SortFits : Nameable → Sort → Type 0
 SortFits n (sorts.Value e) = Fine n e
 SortFits n (sorts.Array v) = IsTrue (is_array n v)
 SortFits n sorts.Other = Unit {0}
-
-equal_is : (a b : ℕ) → IsTrue (a == b) → a ≡ b
-equal_is a b h = grind (arith, nat_tests)
-
-is_equal : (a b : ℕ) → a ≡ b → IsTrue (a == b)
-is_equal a b e = grind (arith, nat_tests)
 
 -- ---- parameters and what is given for them
 
@@ -187,7 +181,7 @@ module _ (n : Nameable) (locals : ℕ) where
   unfolding callable
   callable_sound span count f h =
       then_sound (expect_sound 32 span (length f.parameters == count)) (λ u p. then_sound (expect_sound 39 span (is_some f.callee)) (λ v q.
-      pure_sound f (record { signature = h; count_is = equal_is (length f.parameters) count p; callee_is = q })))
+      pure_sound f (record { signature = h; count_is = (Decides-eqb (length f.parameters) count).0 p; callee_is = q })))
 
   function_meant_sound : (span : Span) (count : ℕ) (m : Meaning) → MeaningFits n m → Sound n Limit (Callable count) (function_meant span count m)
   function_meant_sound span count (meanings.Variable v) h = fault_sound 33 span _
@@ -216,14 +210,11 @@ module _ (n : Nameable) (locals : ℕ) where
       then_sound (integer_sound x h) (λ a f. pure_sound (word_given (converted_to p.kind a)) (word_given_fits n p (converted_to p.kind a) e (converted_fine n p.kind a k f) (converted_kind n p.kind a)))
   argument_if_sound x h p k (Some m) e = then_sound h (λ s f. lent_sound x.span p m e s f)
 
-  abbrev Behind : List ParameterKind → ℕ → List ParameterKind → Type 0
-  Behind all i rest = (j : ℕ) → slice_get all (i + j) ≡ slice_get rest j
-
   argument_sound : (o : Option ParameterKind) (p : ParameterKind) → o ≡ Some p → (x : Piece) → IsSound x → IsKind p.kind → Sound n Limit (GivenFits n (p ∷ [])) (argument o x)
   unfolding argument
   argument_sound o p e x h k = subst (λ q. Sound n Limit (GivenFits n (p ∷ [])) (argument q x)) (sym e) (argument_if_sound x h p k p.length refl)
 
-  arguments_sound : (i : ℕ) (xs : List Piece) (all rest : List ParameterKind) → Behind all i rest → length rest ≡ length xs → AllByRecursion (λ (p : ParameterKind). IsKind p.kind) rest
+  arguments_sound : (i : ℕ) (xs : List Piece) (all rest : List ParameterKind) → StandsFrom all i rest → length rest ≡ length xs → AllByRecursion (λ (p : ParameterKind). IsKind p.kind) rest
       → AllByRecursion IsSound xs → Sound n Limit (GivenFits n rest) (arguments_from i xs all)
   unfolding arguments_from
   arguments_sound i [] all [] b e ks hs = pure_sound nothing_given (record { words = refl; arrays = refl })
@@ -231,7 +222,7 @@ module _ (n : Nameable) (locals : ℕ) where
   arguments_sound i (x ∷ xs) all [] b e ks hs = absurd (omega arith)
   arguments_sound i (x ∷ xs) all (p ∷ rest) b e ks hs =
       let first : slice_get all i ≡ Some p = (let z : i ≡ i + 0 = omega arith in ap (slice_get all) z ∙ b 0) in
-      let others : Behind all (i + 1) rest = λ j. (let z : i + 1 + j ≡ i + suc j = omega arith in ap (slice_get all) z ∙ b (suc j)) in
+      let others : StandsFrom all (i + 1) rest = λ j. (let z : i + 1 + j ≡ i + suc j = omega arith in ap (slice_get all) z ∙ b (suc j)) in
       then_sound (argument_sound (slice_get all i) p first x hs.0 ks.0) (λ g f. then_sound (arguments_sound (i + 1) xs all rest others (omega arith) ks.1 hs.1) (λ h k. pure_sound (joined g h) (joined_fits n p rest g h f k)))
 
   -- a call fits, and gives what its function gives
@@ -395,17 +386,12 @@ module _ (n : Nameable) (locals : ℕ) where
       let both : IsTrue (place x.span && form_passes x.form) = subst IsTrue tests p in
       subst IsSound (sym is) (h x.span (and_left (place x.span) (form_passes x.form) both) (and_right (place x.span) (form_passes x.form) both))
 
-  module _ {S : Type 0} (f : S → ExprTree) (g : (q : S) → TreeSound (f q)) where
-    all_sound : (ys : List S) → AllByRecursion TreeSound (map f ys)
-    all_sound [] = tt
-    all_sound (y ∷ ys) = (g y, all_sound ys)
-
   pub tree_sound : (t : ExprTree) → TreeSound t
   tree_sound t = ind-ExprTree FormSound TreeSound (λ x. elim [
     | ExprForm-F.Number v kind ↦ λ e. subst (λ z. FormSound (roll-ExprForm z)) e (number_at v kind)
     | ExprForm-F.Name w ↦ λ e. subst (λ z. FormSound (roll-ExprForm z)) e (name_tree_at w)
     | ExprForm-F.Element w x ↦ λ e. subst (λ z. FormSound (roll-ExprForm z)) e (element_at w x.0 x.1)
-    | ExprForm-F.Call w xs ↦ λ e. subst (λ z. FormSound (roll-ExprForm z)) e (call_at w _ (all_sound (λ q. q.0) (λ q. q.1) xs))
+    | ExprForm-F.Call w xs ↦ λ e. subst (λ z. FormSound (roll-ExprForm z)) e (call_at w _ (all_mapped TreeSound (λ q. q.0) (λ q. q.1) xs))
     | ExprForm-F.Cast kind x ↦ λ e. subst (λ z. FormSound (roll-ExprForm z)) e (cast_at kind x.0 x.1)
     | ExprForm-F.Plus x ↦ λ e. subst (λ z. FormSound (roll-ExprForm z)) e (plus_at x.0 x.1)
     | ExprForm-F.Unary op x ↦ λ e. subst (λ z. FormSound (roll-ExprForm z)) e (unary_at op x.0 x.1)

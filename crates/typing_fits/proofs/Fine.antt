@@ -1,9 +1,9 @@
 -- Typed expressions that fit, form by form: each fits with its kind, and what it is as a constant is a value of its kind.
-use Rattle.std.proofs.Common.{◌≡◌, ℕ, ◌<◌, Bool, true, false, length, Option, Some, None, refl, sym, ap, subst, ◌∙◌, arith, rules}
+use Rattle.std.proofs.Common.{◌≡◌, ℕ, ◌<◌, Bool, true, false, length, Option, Some, None, refl, sym, ap, subst, ◌∙◌, rules}
 use Rattle.std.specs.Prelude.{IsTrue, ◌&&◌, ◌||◌, not, cond, ◌==◌}
 use Rattle.std.specs.Option.{is_none}
 use Rattle.std.proofs.lemmas.Bool.{lt-ltb}
-use Rattle.std.proofs.lemmas.Bool.Decides.{nat_tests}
+use Rattle.std.proofs.lemmas.Bool.Decides.{Decides-eqb}
 use Rattle.fq_core.specs.declared.span.Span.{Span}
 use Rattle.c_values.specs.declared.kinds.Kind.{Kind}
 use Rattle.c_values.specs.declared.operators.UnaryOp.{UnaryOp}
@@ -33,9 +33,6 @@ use Rattle.typing_fits.proofs.Sound.{is_false}
 
 -- ---- kinds
 
-same_width : (a b : ℕ) → IsTrue (a == b) → a ≡ b
-same_width a b h = grind (arith, nat_tests)
-
 signs_same : (a b : Bool) → IsTrue (same_sign a b) → a ≡ b
 signs_same true true h = refl
 signs_same true false h = absurd (is_false h)
@@ -44,19 +41,16 @@ signs_same false false h = refl
 
 pub same_is : (a b : Kind) → IsTrue (same_kind a b) → a ≡ b
 same_is a b h =
-    let e = same_width a.width b.width (and_left (a.width == b.width) (same_sign a.signed b.signed) h) in
+    let e = (Decides-eqb a.width b.width).0 (and_left (a.width == b.width) (same_sign a.signed b.signed) h) in
     let f = signs_same a.signed b.signed (and_right (a.width == b.width) (same_sign a.signed b.signed) h) in
     λ i. record { width = e i; signed = f i }
-
-equal_width : (n : ℕ) → IsTrue (n == n)
-equal_width n = grind (arith, nat_tests)
 
 equal_sign : (s : Bool) → IsTrue (same_sign s s)
 equal_sign true = refl
 equal_sign false = refl
 
 pub kind_same : (a b : Kind) → a ≡ b → IsTrue (same_kind a b)
-kind_same a b e = subst (λ k. IsTrue (same_kind a k)) e (and_both (a.width == a.width) (same_sign a.signed a.signed) (equal_width a.width) (equal_sign a.signed))
+kind_same a b e = subst (λ k. IsTrue (same_kind a k)) e (and_both (a.width == a.width) (same_sign a.signed a.signed) ((Decides-eqb a.width a.width).1 refl) (equal_sign a.signed))
 
 chosen : {X : Type 0} (P : X → Type 0) (t : Bool) (a b : X) → (IsTrue t → P a) → P b → P (cond t a b)
 chosen P true a b h k = h refl

@@ -24,7 +24,7 @@ use Rattle.c_types.specs.declared.parameters.Parameters.{Parameters}
 use Rattle.c_types.specs.Declarations.{variable_of, length_at}
 use Rattle.c_types.specs.Functions.{name_of, name_span, parameter_place, cell_behind, lent_behind, named_parameter, parameter_rule, parameters_from, parameters_rule, in_frame, too_large, framed, bind_parameters, in_function, body_rule, function_of}
 use Rattle.typing_laws.proofs.AlikeStatements.{same_locals}
-use Rattle.typing_fits.proofs.Sound.{left_empty, right_empty, all_test, NamesFit, Sound, Any, then_sound, pure_sound, scope_sound}
+use Rattle.typing_fits.proofs.Sound.{StandsFrom, left_empty, right_empty, all_test, NamesFit, Sound, Any, then_sound, pure_sound, scope_sound}
 use Rattle.typing_fits.proofs.Expressions.{number_is, place_in, within}
 use Rattle.typing_fits.proofs.Statements.{AllFit}
 use Rattle.typing_fits.proofs.StatementRules.{bind_variable_sound, statements_sound}
@@ -87,21 +87,18 @@ placed_count cell lent (v ∷ vs) end h = by v.length (placed_count (cell_behind
     by None e = omega (arith, e)
     by (Some n) e = e
 
-abbrev LentFrom : List ℕ → ℕ → List ℕ → Type 0
-LentFrom all i rest = (j : ℕ) → slice_get all (i + j) ≡ slice_get rest j
-
 module _ (n : Nameable) where
-  one_placed : (cell lent : ℕ) (o : Option ℕ) (rest : List ℕ) → cell_behind cell o ≤ n.room.cells → LentFrom n.room.arrays lent (cons_option o rest) → IsTrue (variable_fits n.room o (parameter_place cell lent o))
+  one_placed : (cell lent : ℕ) (o : Option ℕ) (rest : List ℕ) → cell_behind cell o ≤ n.room.cells → StandsFrom n.room.arrays lent (cons_option o rest) → IsTrue (variable_fits n.room o (parameter_place cell lent o))
   one_placed cell lent None rest h k = le-leb (cell + 1) n.room.cells h
   one_placed cell lent (Some m) rest h k =
       let e : lent ≡ lent + 0 = omega arith in
       subst (λ o. IsTrue (is_length o m)) (sym (ap (slice_get n.room.arrays) e ∙ k 0)) ((Decides-eqb m m).1 refl)
 
-  lent_more : (lent : ℕ) (o : Option ℕ) (rest : List ℕ) → LentFrom n.room.arrays lent (cons_option o rest) → LentFrom n.room.arrays (lent_behind lent o) rest
+  lent_more : (lent : ℕ) (o : Option ℕ) (rest : List ℕ) → StandsFrom n.room.arrays lent (cons_option o rest) → StandsFrom n.room.arrays (lent_behind lent o) rest
   lent_more lent None rest k j = k j
   lent_more lent (Some m) rest k j = (let e : lent + 1 + j ≡ lent + suc j = omega arith in ap (slice_get n.room.arrays) e ∙ k (suc j))
 
-  pub placed_fit : (cell lent : ℕ) (vs : List Variable) (end : ℕ) → Placed cell lent vs end → end ≤ n.room.cells → LentFrom n.room.arrays lent (filter_map length_of vs) → AllByRecursion (λ v. IsTrue (is_variable n v)) vs
+  pub placed_fit : (cell lent : ℕ) (vs : List Variable) (end : ℕ) → Placed cell lent vs end → end ≤ n.room.cells → StandsFrom n.room.arrays lent (filter_map length_of vs) → AllByRecursion (λ v. IsTrue (is_variable n v)) vs
   placed_fit cell lent [] end h l k = tt
   placed_fit cell lent (v ∷ vs) end h l k =
       let least = placed_least (cell_behind cell v.length) (lent_behind lent v.length) vs end h.2 in

@@ -23,6 +23,10 @@ use Rattle.expression_types.specs.Constants.{folded}
 use Rattle.expression_types.specs.Rule.{At, Rule, behind, pure, ◌then◌, fault, expect, look, temporary, uncounted}
 use Rattle.expression_types.specs.Expressions.{Piece, wanted, integer, named, name_at, array_if, array_meant, array_named, array_at, callable, function_meant, function_named, function_at, lent, argument_if, argument, arguments_from, call_rule, form_rule, form_typing, piece, fitted, constant_of, constant}
 
+pub all_mapped : {A B : Type 0} (P : B → Type 0) (f : A → B) → ((x : A) → P (f x)) → (xs : List A) → AllByRecursion P (map f xs)
+all_mapped P f h [] = tt
+all_mapped P f h (x ∷ xs) = (h x, all_mapped P f h xs)
+
 pub record Silent {A : Type 0} (m : Rule A) : Type 0 where
   pub bound : (at : At) → (m at).bound ≡ []
   pub locals : (at : At) → (m at).locals ≡ 0
@@ -230,17 +234,12 @@ tree_at x h = subst IsSilent (sym e) (h x.span)
     e : piece (roll-ExprTree x) ≡ record { span = x.span; sort = form_typing x.form x.span }
     e = search (rules, the_lemmas)
 
-module _ {S : Type 0} (f : S → ExprTree) (g : (q : S) → TreeSilent (f q)) where
-  all_silent : (ys : List S) → AllByRecursion TreeSilent (map f ys)
-  all_silent [] = tt
-  all_silent (y ∷ ys) = (g y, all_silent ys)
-
 tree_silent : (t : ExprTree) → TreeSilent t
 tree_silent t = ind-ExprTree FormSilent TreeSilent (λ x. elim [
   | ExprForm-F.Number v kind ↦ λ e. subst (λ z. FormSilent (roll-ExprForm z)) e (number_at v kind)
   | ExprForm-F.Name w ↦ λ e. subst (λ z. FormSilent (roll-ExprForm z)) e (name_tree_at w)
   | ExprForm-F.Element w x ↦ λ e. subst (λ z. FormSilent (roll-ExprForm z)) e (element_at w x.0 x.1)
-  | ExprForm-F.Call w xs ↦ λ e. subst (λ z. FormSilent (roll-ExprForm z)) e (call_at w _ (all_silent (λ q. q.0) (λ q. q.1) xs))
+  | ExprForm-F.Call w xs ↦ λ e. subst (λ z. FormSilent (roll-ExprForm z)) e (call_at w _ (all_mapped TreeSilent (λ q. q.0) (λ q. q.1) xs))
   | ExprForm-F.Cast kind x ↦ λ e. subst (λ z. FormSilent (roll-ExprForm z)) e (cast_at kind x.0 x.1)
   | ExprForm-F.Plus x ↦ λ e. subst (λ z. FormSilent (roll-ExprForm z)) e (plus_at x.0 x.1)
   | ExprForm-F.Unary op x ↦ λ e. subst (λ z. FormSilent (roll-ExprForm z)) e (unary_at op x.0 x.1)

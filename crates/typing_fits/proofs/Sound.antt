@@ -58,6 +58,10 @@ pub all_weaken : {A : Type 0} (P Q : A → Type 0) → ((x : A) → P x → Q x)
 all_weaken P Q f [] h = tt
 all_weaken P Q f (x ∷ xs) h = (f x h.0, all_weaken P Q f xs h.1)
 
+-- a list is the rest of another from a place on
+abbrev pub StandsFrom : {A : Type 0} → List A → ℕ → List A → Type 0
+StandsFrom all i rest = (j : ℕ) → slice_get all (i + j) ≡ slice_get rest j
+
 -- ---- what names stand for
 
 abbrev pub DefinedAs : Signature → Option TypedFunction → Type 0

@@ -39,7 +39,8 @@ use Rattle.expression_types.specs.Expressions.{integer, piece, place_of, convert
 use Rattle.c_types.specs.declared.around.Around.{Around}
 use Rattle.c_types.specs.Declarations.{same_level, unused, variable_of, bound_as, bind_variable, is_array_length, length_if, length_within, length_at, cells_of, is_list_for, value_for, values_for, begun, local_rule, locals_rule, statement_of}
 use Rattle.c_types.specs.Statements.{in_loop, in_cases, integer_if, integer_meant, integer_named, variable_at, place_rule, assigned, step_operator, one_at, Part, GroupPart, one_of, in_turn, single, alone, arm_rule, arms_rule, last_rule, first_rule, test_rule, next_rule, unused_label, fresh, case_valued, case_rule, cases_rule, group_of, group_rule, groups_rule, return_rule, call_statement, form_rule, form_of, group, part, statement_rule, statements_typing}
-use Rattle.typing_fits.proofs.Sound.{is_false, all_append, MeaningFits, FoundFits, Limits, Sound, Any, then_sound, pure_sound, fault_sound, expect_sound, look_sound, is_label_sound, is_case_sound, here_sound, temporary_sound, local_sound, bind_sound, bind_label_sound, bind_case_sound, scope_sound, switch_sound, alone_sound, each_sound, weaken}
+use Rattle.typing_fits.proofs.Sound.{is_false, test_all, all_append, MeaningFits, FoundFits, Limits, Sound, Any, then_sound, pure_sound, fault_sound, expect_sound, look_sound, is_label_sound, is_case_sound, here_sound, temporary_sound, local_sound, bind_sound, bind_label_sound, bind_case_sound, scope_sound, switch_sound, alone_sound, each_sound, weaken}
+use Rattle.typing_fits.proofs.Silent.{all_mapped}
 use Rattle.typing_fits.proofs.Fine.{Fine, promotion_is, constant_fine, integer_is, array_is, array_variable, variable_kind, whole_place, element_place, converted_fine, converted_kind, cell_is}
 use Rattle.typing_fits.proofs.Expressions.{number_is, place_in, TreePasses, within, ConstantIs, array_sound, call_sound, tree_sound, expression_sound, constant_sound, IsSound}
 use Rattle.typing_fits.proofs.Statements.{Fits, AllFit, group_fits, PlaceFine, ArmFine, some_of, block_fits, empty_fits, break_fits, continue_fits, local_fits, array_fits, assigned_fits, call_fits, label_fits_in, while_fits, do_fits, if_fits, for_fits, switch_fits, return_fits, assert_fits, assume_fits, one_fits, group_is}
@@ -125,13 +126,9 @@ module _ (n : Nameable) where
       then_sound (bind_variable_sound n Limit (variable_of d.name.name kind length (places.Local cell)) h) (λ v e.
       begun_sound span s d.name (variable_of d.name.name kind length (places.Local cell)) h length refl d.first (and_right (place d.name.span && optional_passes number place d.length) (initial_passes number place d.first) p)))))
 
-  test_list : {A : Type 0} (f : A → Bool) (xs : List A) → IsTrue (list_all f xs) → AllByRecursion (λ x. IsTrue (f x)) xs
-  test_list f [] h = tt
-  test_list f (x ∷ xs) h = (and_left (f x) (list_all f xs) h, test_list f xs (and_right (f x) (list_all f xs) h))
-
   locals_sound : (span : Span) → IsTrue (place span) → (kind : Kind) → IsKind kind → (ds : List Declarator) → IsTrue (list_all (declarator_passes number place) ds) → Sound n Limit (AllFit n) (locals_rule span kind ds)
   unfolding locals_rule
-  locals_sound span s kind k ds p = each_sound (λ d. alone_in (local_rule span kind d)) (λ d q. alone_sound (local_rule_sound span s kind k d q)) ds (test_list (declarator_passes number place) ds p)
+  locals_sound span s kind k ds p = each_sound (λ d. alone_in (local_rule span kind d)) (λ d q. alone_sound (local_rule_sound span s kind k d q)) ds (test_all (declarator_passes number place) ds p)
 
   -- ---- places
 
@@ -196,7 +193,7 @@ module _ (n : Nameable) where
   cases_sound kind k labels p =
       each_sound (λ c. alone_in (case_rule kind c.span c.value))
       (λ c q. alone_sound (case_sound kind k c.span (and_left (place c.span) (optional_passes number place c.value) q) c.value (and_right (place c.span) (optional_passes number place c.value) q)))
-      labels (test_list (label_passes number place) labels p)
+      labels (test_all (label_passes number place) labels p)
 
   -- ---- parts of statements
 
@@ -471,23 +468,12 @@ module _ (n : Nameable) where
       let s = and_left (place x.span) (form_passes x.form) both in
       subst PartFits (sym e) (record { span = s; rule = λ u k. h u k x.span s (and_right (place x.span) (form_passes x.form) both) })
 
-  module _ {S : Type 0} (f : S → Statement) (g : (q : S) → Made (f q)) where
-    all_made : (ys : List S) → AllByRecursion Made (map f ys)
-    all_made [] = tt
-    all_made (y ∷ ys) = (g y, all_made ys)
-
-    all_arms : (ys : List (ExprTree × S)) → AllByRecursion (λ (a : ExprTree × Statement). Made a.1) (map (λ (a : ExprTree × S). (a.0, f a.1)) ys)
-    all_arms [] = tt
-    all_arms (y ∷ ys) = (g y.1, all_arms ys)
-
-  module _ {S : Type 0} (f : S → Group) (g : (q : S) → GroupMade (f q)) where
-    all_groups : (ys : List S) → AllByRecursion GroupMade (map f ys)
-    all_groups [] = tt
-    all_groups (y ∷ ys) = (g y, all_groups ys)
+  all_arms : {S : Type 0} (f : S → Statement) → ((q : S) → Made (f q)) → (ys : List (ExprTree × S)) → AllByRecursion (λ (a : ExprTree × Statement). Made a.1) (map (λ (a : ExprTree × S). (a.0, f a.1)) ys)
+  all_arms f g = all_mapped (λ (a : ExprTree × Statement). Made a.1) (λ a. (a.0, f a.1)) (λ a. g a.1)
 
   statement_fit : (s : Statement) → Made s
   statement_fit s = ind-Statement FormFits GroupMade Made (λ x. elim [
-    | Form-F.Block ys ↦ λ e. subst (λ z. FormFits (roll-Form z)) e (block_at _ (all_made (λ q. q.0) (λ q. q.1) ys))
+    | Form-F.Block ys ↦ λ e. subst (λ z. FormFits (roll-Form z)) e (block_at _ (all_mapped Made (λ q. q.0) (λ q. q.1) ys))
     | Form-F.Empty ↦ λ e. subst (λ z. FormFits (roll-Form z)) e empty_at
     | Form-F.Local kind ds ↦ λ e. subst (λ z. FormFits (roll-Form z)) e (local_at kind ds)
     | Form-F.Assign p op t ↦ λ e. subst (λ z. FormFits (roll-Form z)) e (assign_at p op t)
@@ -502,14 +488,14 @@ module _ (n : Nameable) where
     | Form-F.For (Some o) test None b ↦ λ e. subst (λ z. FormFits (roll-Form z)) e (for_at (Some o.0) test None b.0 o.1 tt b.1)
     | Form-F.For None test (Some n) b ↦ λ e. subst (λ z. FormFits (roll-Form z)) e (for_at None test (Some n.0) b.0 tt n.1 b.1)
     | Form-F.For (Some o) test (Some n) b ↦ λ e. subst (λ z. FormFits (roll-Form z)) e (for_at (Some o.0) test (Some n.0) b.0 o.1 n.1 b.1)
-    | Form-F.Switch t gs ↦ λ e. subst (λ z. FormFits (roll-Form z)) e (switch_at t _ (all_groups (λ q. q.0) (λ q. q.1) gs))
+    | Form-F.Switch t gs ↦ λ e. subst (λ z. FormFits (roll-Form z)) e (switch_at t _ (all_mapped GroupMade (λ q. q.0) (λ q. q.1) gs))
     | Form-F.Break ↦ λ e. subst (λ z. FormFits (roll-Form z)) e break_at
     | Form-F.Continue ↦ λ e. subst (λ z. FormFits (roll-Form z)) e continue_at
     | Form-F.Return t ↦ λ e. subst (λ z. FormFits (roll-Form z)) e (return_at t)
     | Form-F.Assert t ↦ λ e. subst (λ z. FormFits (roll-Form z)) e (assert_at t)
     | Form-F.Assume t ↦ λ e. subst (λ z. FormFits (roll-Form z)) e (assume_at t)
-  ]) (λ x y e. subst (λ z. GroupMade (roll-Group z)) e (group_at (record { labels = y.labels; body = map (λ q. q.0) y.body }) (all_made (λ q. q.0) (λ q. q.1) y.body)))
+  ]) (λ x y e. subst (λ z. GroupMade (roll-Group z)) e (group_at (record { labels = y.labels; body = map (λ q. q.0) y.body }) (all_mapped Made (λ q. q.0) (λ q. q.1) y.body)))
       (λ x y e. subst (λ z. Made (roll-Statement z)) e (statement_at (record { span = y.span; form = y.form.0 }) y.form.1)) s
 
   pub statements_sound : (u : Around) → Surrounds u → (ss : List Statement) → IsTrue (list_all (statement_passes number place) ss) → Sound n Limit (AllFit n) (statements_typing u ss)
-  statements_sound u k ss p = each_sound (statement_rule u) (λ s q. (statement_fit s q).rule u k) ss (test_list (statement_passes number place) ss p)
+  statements_sound u k ss p = each_sound (statement_rule u) (λ s q. (statement_fit s q).rule u k) ss (test_all (statement_passes number place) ss p)
