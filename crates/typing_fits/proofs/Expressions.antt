@@ -21,7 +21,8 @@ use Rattle.cfa.specs.declared.parts.Variable.{Variable}
 use Rattle.cfa.specs.Each.{matched}
 use Rattle.cfa.specs.Graph.{result_kind_fits}
 use Rattle.cfa.specs.Kinds.{same_kind}
-use Rattle.cfa.specs.Rules.{is_length}
+use Rattle.cfa.specs.Rules.{is_length, place_fits as cell_fits}
+use Rattle.cfa.specs.declared.expr.CellPlace.TheVariants as cells
 use Rattle.typed_trees.specs.declared.expression.Callee.{Callee}
 use Rattle.typed_trees.specs.declared.expression.Callee.TheVariants as callees
 use Rattle.typed_trees.specs.declared.expression.TypedExpr.{TypedExpr}
@@ -46,7 +47,7 @@ use Rattle.expression_types.specs.Expressions.{Piece, converted_to, wanted, inte
 use Rattle.c_types.specs.Functions.{taken}
 use Rattle.typing_fits.proofs.Silent.{all_mapped, expression_silent}
 use Rattle.typing_fits.proofs.Sound.{is_false, StandsFrom, DefinedAs, InputAs, CalleeIs, SignatureFits, MeaningFits, FoundFits, Limits, Sound, then_sound, pure_sound, fault_sound, expect_sound, look_sound, temporary_sound, uncounted_sound, roomier}
-use Rattle.typing_fits.proofs.Fine.{Fine, ValueOf, kind_same, promotion_is, constant_fine, convert_fine, both_fine, either_fine, load_fine, call_fine, array_is, array_variable, variable_kind, whole_place, element_place, converted_fine, converted_kind, cell_is, operator_fine, operation_fine, alternative_fine}
+use Rattle.typing_fits.proofs.Fine.{Fine, ValueOf, kind_same, promotion_is, constant_fine, convert_fine, both_fine, either_fine, whole_fine, element_fine, call_fine, cell_at, frame_cell, array_is, array_variable, converted_fine, converted_kind, cell_is, operator_fine, operation_fine, alternative_fine}
 
 -- the numbers in a tree are values of their kinds, its places lie in files that are there, and its kinds are kinds
 abbrev pub place_in : ℕ → Span → Bool
@@ -136,7 +137,7 @@ module _ (n : Nameable) (locals : ℕ) where
   integer_sound x h = then_sound h (λ s p. wanted_sound x.span s p)
 
   whole_fits : (span : Span) → IsTrue (span_fits n span) → (v : Variable) → IsTrue (is_variable n v) → (length : Option ℕ) → v.length ≡ length → SortFits n (variable_sort span v length)
-  whole_fits span s v h None e = load_fine n span s v None (whole_place n v h e) (variable_kind n v h)
+  whole_fits span s v h None e = whole_fine n span s v h e
   whole_fits span s v h (Some m) e = array_is n v m h e
 
   meant_fits : (span : Span) → IsTrue (span_fits n span) → (m : Meaning) → MeaningFits n m → SortFits n (meant span m)
@@ -230,18 +231,21 @@ module _ (n : Nameable) (locals : ℕ) where
     pub fits : IsTrue (call_fit n c).fits
     pub result_is : (call_fit n c).result ≡ kind
     pub of_kind : IsTrue (result_kind_fits kind)
+    pub cell_lies : IsTrue (cell_fits n.room (cells.Local (cell_at c)))
 
   call_is : (callee : Callee) (given : Given) (cell : ℕ) (kind : Option Kind) → IsTrue (callee_fits n callee (map (expression_fit n) given.words) given.arrays).fits → (callee_fits n callee (map (expression_fit n) given.words) given.arrays).result ≡ kind
       → IsTrue (is_cell n cell) → IsTrue (result_kind_fits kind) → CallFine kind (roll-TypedCall (record { callee = callee; words = given.words; arrays = given.arrays; cell = cell }))
-  unfolding call_fit expression_fit
+  unfolding call_fit expression_fit cell_at
   call_is callee given cell kind h e c k =
       let call = roll-TypedCall (record { callee = callee; words = given.words; arrays = given.arrays; cell = cell }) in
       let fit = callee_fits n callee (map (expression_fit n) given.words) given.arrays in
       let is : call_fit n call ≡ in_cell n cell fit = search (rules, the_lemmas) in
+      let cell_is_there : cell_at call ≡ cell = search (rules, the_lemmas) in
       record {
         fits = subst (λ (f : CallFit). IsTrue f.fits) (sym is) (and_both fit.fits (is_cell n cell) h c);
         result_is = ap (λ (f : CallFit). f.result) is ∙ e;
         of_kind = k;
+        cell_lies = subst (λ (m : ℕ). IsTrue (cell_fits n.room (cells.Local m))) (sym cell_is_there) (frame_cell n.room cell c);
       }
 
   defined_given : (f : Signature) (given : Given) (o : Option TypedFunction) → DefinedAs f o → GivenFits n f.parameters given
@@ -281,7 +285,7 @@ module _ (n : Nameable) (locals : ℕ) where
 
   called_fits : (span : Span) → IsTrue (span_fits n span) → (kind : Option Kind) (c : TypedCall) → CallFine kind c → SortFits n (called span kind c)
   called_fits span s None c h = tt
-  called_fits span s (Some kind) c h = call_fine n span s kind c h.fits h.result_is h.of_kind
+  called_fits span s (Some kind) c h = call_fine n span s kind c h.fits h.cell_lies h.result_is h.of_kind
 
   -- ---- expressions
 
@@ -321,7 +325,7 @@ module _ (n : Nameable) (locals : ℕ) where
   unfolding form_typing piece tree_passes
   element_at w x h =
       form_is (ExprForm-F.Element w x) (form_rule (ExprForm-F.Element w (piece x))) (passes x) (search (rules, tree_lemmas)) (search (rules, tree_lemmas))
-      (λ span s p. then_sound (array_sound span w) (λ v a. then_sound (of x h p) (λ i f. pure_sound _ (load_fine n span s v (Some i) (element_place n v i a f) (variable_kind n v (array_variable n v a))))))
+      (λ span s p. then_sound (array_sound span w) (λ v a. then_sound (of x h p) (λ i f. pure_sound _ (element_fine n span s v i a f))))
 
   call_at : (w : List ℕ) (xs : List ExprTree) → AllByRecursion TreeSound xs → FormSound (roll-ExprForm (ExprForm-F.Call w xs))
   unfolding form_typing piece tree_passes

@@ -8,3 +8,5 @@ pub mod Known
 pub mod Cells
 pub mod Functions
 pub mod Units
+pub mod Untimed
+pub mod Scoped
