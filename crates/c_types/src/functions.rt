@@ -173,7 +173,7 @@ fn body(
 }
 
 // What a frame has of its own, set aside.
-#[derive(Debug, Drop)]
+#[derive(Drop)]
 struct Outer {
     labels: Names,
     cases: Cases,

@@ -12,14 +12,14 @@ use std::alloc::{AllocError, Global};
 use typed_trees::Callee;
 
 /// The functions that are declared and nowhere defined, take no parameters and give an integer.
-#[derive(Debug, Drop)]
+#[derive(Drop)]
 pub struct Inputs {
     pub names: Names,
     pub list: Vector<InputFunction>,
 }
 
 /// The functions that are called by number.
-#[derive(Debug, Drop)]
+#[derive(Drop)]
 pub struct Program {
     /// The names of those that are defined, in the order of the source.
     pub defined: Names,

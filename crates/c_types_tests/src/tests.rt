@@ -2,17 +2,20 @@
 mod printed;
 
 use c_lex::{SourceText, are_small, tokens};
-use c_parse::parse;
-use c_types::check;
+use c_parse::{Form, Item, Unit, parse};
+use c_types::{check, type_expression};
+use c_values::Kind;
+use cfa::{Scope, Variable, VariablePlace};
+use chains::Chain;
 use containers::Vector;
-use fq_core::{Fault, Name, Place};
-use printed::{show_function, show_name, show_variable};
+use fq_core::{Fault, Memory, Name, Place};
+use printed::{show_expr, show_function, show_name, show_variable};
 use std::alloc::Global;
 use std::fmt::Write;
 use std::test::Fail;
 use typed_trees::Typed;
 
-fn typed_of(alloc: Global, source: &str) -> Result<Typed, Fault> {
+fn unit_of(alloc: Global, source: &str) -> Result<Unit, Fault> {
     let name = Name::new(alloc, b"t.c")?;
     let bytes = Vector::from_vec(Vec::from_slice(alloc, source.as_bytes()).map_err(
         |_| Fault::Memory,
@@ -22,7 +25,11 @@ fn typed_of(alloc: Global, source: &str) -> Result<Typed, Fault> {
         return Err(Fault::Memory);
     }
     let tokens = tokens(alloc, &texts)?;
-    check(alloc, parse(alloc, &tokens)?)
+    parse(alloc, &tokens)
+}
+
+fn typed_of(alloc: Global, source: &str) -> Result<Typed, Fault> {
+    check(alloc, unit_of(alloc, source)?)
 }
 
 fn cause_of(fault: &Fault) -> (u16, u64) {
@@ -479,5 +486,95 @@ main_loop(n.l1,) 12 {for {local i.l2 0:i32;}<(i.l2:i32 n.l1:i32):i32 i.l2 + in i
         names.as_str(),
         "next_side is an input; next_side put take classify main_loop "
     );
+    Ok(())
+}
+
+// The variables that are in scope, the innermost first: a name, a kind, a length and a place.
+const IN_SCOPE: [(&str, u8, bool, Option<u32>, VariablePlace); 7] = [
+    ("u", 32, false, None, VariablePlace::Local(2)),
+    ("b", 8, false, Some(2), VariablePlace::Local(3)),
+    ("c", 8, true, None, VariablePlace::Local(1)),
+    ("a", 32, true, Some(3), VariablePlace::Lent(0)),
+    ("i", 64, true, None, VariablePlace::Global(5)),
+    ("u", 64, true, None, VariablePlace::Global(6)),
+    ("t", 32, true, Some(4), VariablePlace::Global(7)),
+];
+
+fn in_scope(alloc: Global) -> Result<Scope, Memory> {
+    let mut variables = Chain::new();
+    for (name, width, signed, length, place) in IN_SCOPE.iter().rev() {
+        let variable = Variable {
+            name: Name::new(alloc, name.as_bytes())?,
+            kind: Kind {
+                width: *width,
+                signed: *signed,
+            },
+            length: *length,
+            place: *place,
+        };
+        variables = Chain::with(alloc, variable, variables)?;
+    }
+    Ok(Scope { variables })
+}
+
+// What the expression of the one statement of the one function of a unit is in that scope.
+fn in_scope_of(alloc: Global, unit: &Unit) -> Result<String, Fail> {
+    let mut text = String::new(alloc);
+    let scope = in_scope(alloc)?;
+    if let Some(
+        Item::Function {
+            body: Some(body),
+            ..
+        },
+    ) = unit.items.as_slice().first()
+        && let Some(statement) = body.statements.as_slice().first()
+        && let Form::Assert(tree) = &statement.form
+    {
+        match type_expression(alloc, tree, &scope)? {
+            Some(e) => show_expr(&mut text, &e)?,
+            None => text.push_str("none")?,
+        }
+    }
+    Ok(text)
+}
+
+#[test]
+fn one_expression(rt: HostRuntime) -> Result<(), Fail> {
+    let rows = [
+        ("7", "7:i32"),
+        ("c", "l1:i8"),
+        ("u", "l2:u32"),
+        ("c + u", "+(to(l1:i8):u32 l2:u32):u32"),
+        ("u + i", "+(to(l2:u32):i64 g5:i64):i64"),
+        ("t[c]", "g7x4[l1:i8]:i32"),
+        ("a[t[0]]", "a0x3[g7x4[0:i32]:i32]:i32"),
+        ("b[1]", "l3x2[1:i32]:u8"),
+        ("-c", "-(to(l1:i8):i32):i32"),
+        ("!c", "!(l1:i8):i8"),
+        ("+c", "to(l1:i8):i32"),
+        ("(char) u", "to(l2:u32):i8"),
+        ("c << i", "<<(to(l1:i8):i32 g5:i64):i32"),
+        ("u == 1", "==(l2:u32 to(1:i32):u32):u32"),
+        ("1 / 0", "/(1:i32 0:i32):i32"),
+        ("t", "none"),
+        ("t + 1", "none"),
+        ("b[a]", "none"),
+        ("c[0]", "none"),
+        ("x", "none"),
+        ("x[0]", "none"),
+        ("u && c", "none"),
+        ("u || c", "none"),
+        ("c ? u : i", "none"),
+        ("f()", "none"),
+    ];
+    for (source, printed) in rows {
+        let whole = format!(in rt.alloc(); "void r(void) {{ assert({source}); }}")?;
+        let unit = unit_of(rt.alloc(), whole.as_str())?;
+        assert_eq!(rt;
+            in_scope_of(rt.alloc(), &unit)?.as_str(),
+            printed,
+            "{source}"
+        );
+    }
     Ok(())
 }

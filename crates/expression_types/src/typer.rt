@@ -23,7 +23,7 @@ pub struct Given {
 
 /// The names and labels that are there, the level of the innermost scope, the numbers of the next local's cell and of the
 /// next temporary, and the first fault so far.
-#[derive(Debug, Drop)]
+#[derive(Drop)]
 pub struct Typer {
     pub bound: Scopes,
     pub labels: Names,

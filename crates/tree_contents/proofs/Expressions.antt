@@ -4,6 +4,7 @@ use Rattle.std.specs.Prelude.{◌&&◌, IsTrue, map}
 use Rattle.std.specs.List.{list_all}
 use Rattle.fq_core.specs.declared.span.Span.{Span}
 use Rattle.c_values.specs.declared.kinds.Kind.{Kind}
+use Rattle.c_values.specs.Kind.{IsKind, is_kind}
 use Rattle.c_values.proofs.Fitting.{and_left, and_right, and_both}
 use Rattle.c_parse.specs.declared.expr.ExprForm.{the_lemmas as expr_lemmas}
 use Rattle.c_parse.specs.declared.expr.ExprForm.TheVariants as form
@@ -17,6 +18,7 @@ use Rattle.c_parse.specs.declared.sign.Terminal.{Terminal}
 use Rattle.c_parse.specs.Grammar.{Text, mark, name_token, number_token, place_of, Derives, DerivesChoice, DerivesArguments, a_plain, a_choice, a_number, a_name, an_element, a_bare_call, a_call, parens, a_cast, a_prefix, an_infix, the_last, one_more}
 use Rattle.c_parse.specs.Trees.{tree, prefixed, joined, prefix_mark, infix_mark}
 use Rattle.tree_contents.specs.Contents.{tree_passes}
+use Rattle.tree_contents.proofs.WrittenKinds.{words_kind}
 use Rattle.tree_contents.proofs.Tokens.{Good, good_left, good_right, good_tail, good_span, good_sign, good_place, some_behind}
 
 module _ (number : ℕ → Kind → Bool) (place : Span → Bool) where
@@ -53,9 +55,9 @@ module _ (number : ℕ → Kind → Bool) (place : Span → Bool) where
   unfolding tree_passes
   call_passes s w ts p h = made (place s && list_all (λ a. a) (map (tree_passes number place) ts)) _ (search (rules, expr_lemmas)) (and_both (place s) _ p (arguments_of ts h))
 
-  cast_passes : (s : Span) (kind : Kind) (t : ExprTree) → IsTrue (place s) → Passes t → Passes (tree s (form.Cast kind t))
+  cast_passes : (s : Span) (kind : Kind) (t : ExprTree) → IsTrue (place s) → IsKind kind → Passes t → Passes (tree s (form.Cast kind t))
   unfolding tree_passes
-  cast_passes s kind t p h = made (place s && tree_passes number place t) _ (search (rules, expr_lemmas)) (and_both (place s) (tree_passes number place t) p h)
+  cast_passes s kind t p k h = made (place s && (is_kind kind && tree_passes number place t)) _ (search (rules, expr_lemmas)) (and_both (place s) _ p (and_both (is_kind kind) (tree_passes number place t) k h))
 
   prefixed_passes : (s : Span) (op : Prefix) (t : ExprTree) → IsTrue (place s) → Passes t → Passes (tree s (prefixed op t))
   unfolding tree_passes
@@ -133,7 +135,7 @@ module _ (number : ℕ → Kind → Bool) (place : Span → Bool) where
     operand_passes (parens {ts = ts} p q d) h = choice_passes d (inner (mark marks.Open p) (mark marks.Close q) ts h)
     operand_passes (a_cast {p = p} {kind = kind} {type = type} {ts = ts} q w k d) h =
         let rest = good_tail number place (mark marks.Open p) (type ++ mark marks.Close q ∷ ts) h in
-        cast_passes p kind _ (good_span number place (mark marks.Open p) (type ++ mark marks.Close q ∷ ts) h) (operand_passes d (behind type (mark marks.Close q) ts rest))
+        cast_passes p kind _ (good_span number place (mark marks.Open p) (type ++ mark marks.Close q ∷ ts) h) (words_kind _ kind k) (operand_passes d (behind type (mark marks.Close q) ts rest))
     operand_passes (a_prefix {p = p} op {ts = ts} d) h =
         prefixed_passes p op _ (good_span number place (mark (prefix_mark op) p) ts h) (operand_passes d (good_tail number place (mark (prefix_mark op) p) ts h))
     operand_passes (an_infix op {xs = xs} {ys = ys} p k a b) h =

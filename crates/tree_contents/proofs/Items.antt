@@ -4,6 +4,7 @@ use Rattle.std.specs.Prelude.{◌&&◌, IsTrue}
 use Rattle.std.specs.List.{list_all}
 use Rattle.fq_core.specs.declared.span.Span.{Span}
 use Rattle.c_values.specs.declared.kinds.Kind.{Kind}
+use Rattle.c_values.specs.Kind.{is_kind}
 use Rattle.c_values.proofs.Fitting.{and_both}
 use Rattle.c_parse.specs.declared.expr.ExprTree.{ExprTree}
 use Rattle.c_parse.specs.declared.expr.Ident.{Ident}
@@ -26,10 +27,15 @@ use Rattle.c_parse.specs.Separated.{DerivesSeparated, the_only, the_only_with_co
 use Rattle.c_parse.specs.Statements.{DerivesPlace, a_place, DerivesSimple, an_assignment, a_step_after, a_step_before, a_bare_run, a_run, DerivesLocal, a_local, DerivesOptional, no_choice, some_choice, DerivesBegin, begins_not, begins_simple, begins_local, DerivesNext, no_next, a_next, DerivesLabel, a_case, a_default, DerivesLabels, last_label, more_labels, DerivesStatement, a_block, an_empty, a_simple, a_label, an_if, a_while, a_do, a_for, a_switch, a_break, a_continue, a_return, an_assert, an_assume, DerivesBody, no_more, local_then, statement_then, DerivesArms, an_arm, DerivesElse, no_else, an_else, else_if, DerivesGroups, no_group, a_group}
 use Rattle.c_parse.specs.StatementTrees.{group}
 use Rattle.c_parse.specs.Types.{kind_of}
-use Rattle.tree_contents.specs.Contents.{tree_passes, optional_passes, place_passes, initial_passes, declarator_passes, label_passes, statement_passes, group_passes, name_passes, parameter_passes, body_passes, constant_passes, item_passes}
+use Rattle.tree_contents.specs.Contents.{tree_passes, optional_passes, place_passes, initial_passes, declarator_passes, label_passes, statement_passes, group_passes, name_passes, parameter_passes, body_passes, result_passes, constant_passes, item_passes}
+use Rattle.tree_contents.proofs.WrittenKinds.{words_kind}
 use Rattle.tree_contents.proofs.Tokens.{Good, good_left, good_right, good_append, good_tail, good_span, good_place}
 use Rattle.tree_contents.proofs.Expressions.{choice_passes, arguments_pass, inner, behind, before}
-use Rattle.tree_contents.proofs.Statements.{ArmPasses, OptionalPasses, block_passes, empty_passes, break_passes, continue_passes, local_passes, assign_passes, step_passes, call_passes, labelled_passes, if_passes, while_passes, do_passes, for_passes, switch_passes, return_passes, assert_passes, assume_passes, group_is}
+use Rattle.tree_contents.proofs.Statements.{ArmPasses, ArmsPass, OptionalPasses, first_arm, block_passes, empty_passes, break_passes, continue_passes, local_passes, assign_passes, step_passes, call_passes, labelled_passes, if_passes, while_passes, do_passes, for_passes, switch_passes, return_passes, assert_passes, assume_passes, group_is}
+
+-- a type is a kind
+type_kind : {ts : List Terminal} {kind : Kind} → DerivesType kind ts → IsTrue (is_kind kind)
+type_kind (a_type {kind = kind} {words = words} d k) = words_kind words kind k
 
 -- a type has a word
 words_some : {ts : List Terminal} {kind : Kind} → DerivesType kind ts → ts ≢ []
@@ -112,7 +118,7 @@ module _ (number : ℕ → Kind → Bool) (place : Span → Bool) where
   local_is (a_local {kind = kind} {ds = ds} {consts = consts} {type = type} {ts = ts} c t d) h =
       let rest = right consts (type ++ ts) h in
       local_passes number place (place_of (consts ++ type)) kind ds
-      (good_place number place (consts ++ type) (append_some consts type (words_some t)) (good_append number place consts type (left consts (type ++ ts) h) (left type ts rest))) (declarators_pass d (right type ts rest))
+      (good_place number place (consts ++ type) (append_some consts type (words_some t)) (good_append number place consts type (left consts (type ++ ts) h) (left type ts rest))) (type_kind t) (declarators_pass d (right type ts rest))
 
   -- ---- statements
 
@@ -138,6 +144,9 @@ module _ (number : ℕ → Kind → Bool) (place : Span → Bool) where
   labels_pass (last_label {l = l} d) h = and_both (label_passes number place l) true (label_is d h) refl
   labels_pass (more_labels {l = l} {ls = ls} {ts = ts} {us = us} d ds) h = and_both (label_passes number place l) (list_all (label_passes number place) ls) (label_is d (left ts us h)) (labels_pass ds (right ts us h))
 
+  arms_some : {o : Bool} {arms : List (ExprTree × Statement)} {otherwise : Option Statement} {ts : List Terminal} → DerivesArms o arms otherwise ts → IsTrue (list_all (ArmPasses number place) arms) → ArmsPass number place arms
+  arms_some (an_arm {c = c} {s = s} {arms = arms} p q d b e f) h = first_arm number place (c, s) arms h
+
   mutual
     statement_is : {o : Bool} {s : Statement} {ts : List Terminal} → DerivesStatement o s ts → Fine ts → IsTrue (statement_passes number place s)
     statement_is (a_block {p = p} {ss = ss} {ts = ts} q d) h =
@@ -149,7 +158,7 @@ module _ (number : ℕ → Kind → Bool) (place : Span → Bool) where
         labelled_passes number place p w p s here here (statement_is d (tail (mark marks.Colon q) ts (tail (name_token w p) (mark marks.Colon q ∷ ts) h)))
     statement_is (an_if {p = p} {arms = arms} {otherwise = otherwise} {ts = ts} d) h =
         let rest = arms_are d (tail (mark marks.If p) ts h) in
-        if_passes number place p arms otherwise (span (mark marks.If p) ts h) rest.0 rest.1
+        if_passes number place p arms otherwise (span (mark marks.If p) ts h) (arms_some d rest.0) rest.1
     statement_is (a_while {p = p} {c = c} {s = s} {xs = xs} {ys = ys} q r d b) h =
         let rest = tail (mark marks.Open q) (xs ++ mark marks.Close r ∷ ys) (tail (mark marks.While p) (mark marks.Open q ∷ (xs ++ mark marks.Close r ∷ ys)) h) in
         while_passes number place p c s (span (mark marks.While p) (mark marks.Open q ∷ (xs ++ mark marks.Close r ∷ ys)) h) (choice_passes number place d (before number place xs (mark marks.Close r) ys rest)) (statement_is b (behind number place xs (mark marks.Close r) ys rest))
@@ -213,6 +222,10 @@ module _ (number : ℕ → Kind → Bool) (place : Span → Bool) where
   result_some (nothing_given p) e = cc
   result_some (a_kind d) e = words_some d e
 
+  result_kind : {o : Option Kind} {ts : List Terminal} → DerivesResult o ts → IsTrue (result_passes number place o)
+  result_kind (nothing_given p) = refl
+  result_kind (a_kind d) = type_kind d
+
   named_passes : {name : Option Ident} {length : Option ExprTree} {ts : List Terminal} → DerivesNamed name length ts → Fine ts → IsTrue (name_passes number place name) × IsTrue (optional_passes number place length)
   named_passes without_name h = (refl, refl)
   named_passes (with_name {w = w} {p = p} {ts = ts} b) h = (span (name_token w p) ts h, bracketed_passes b (tail (name_token w p) ts h))
@@ -222,8 +235,10 @@ module _ (number : ℕ → Kind → Bool) (place : Span → Bool) where
       let rest = right consts (type ++ ts) h in
       let at = good_place number place (consts ++ type) (append_some consts type (words_some t)) (good_append number place consts type (left consts (type ++ ts) h) (left type ts rest)) in
       let named = named_passes d (right type ts rest) in
-      and_both (place (place_of (consts ++ type)) && name_passes number place name) (optional_passes number place length)
-      (and_both (place (place_of (consts ++ type))) (name_passes number place name) at named.0) named.1
+      let before_kind = place (place_of (consts ++ type)) && name_passes number place name && optional_passes number place length in
+      and_both before_kind (is_kind kind)
+      (and_both (place (place_of (consts ++ type)) && name_passes number place name) (optional_passes number place length)
+      (and_both (place (place_of (consts ++ type))) (name_passes number place name) at named.0) named.1) (type_kind t)
 
   parameters_pass : {ps : List Parameter} {ts : List Terminal} → DerivesParameters ps ts → Fine ts → IsTrue (list_all (parameter_passes number place) ps)
   parameters_pass (no_parameter q) h = refl
@@ -248,13 +263,15 @@ module _ (number : ℕ → Kind → Bool) (place : Span → Bool) where
       let behind_type = right type named rest in
       let inside = tail (mark marks.Open q) (ts ++ us) (tail (name_token w p) (mark marks.Open q ∷ (ts ++ us)) behind_type) in
       let at = good_place number place (front ++ type) (append_some front type (result_some r)) (good_append number place front type (left front (type ++ named) h) (left type named rest)) in
-      and_both (place (place_of (front ++ type)) && place p && list_all (parameter_passes number place) ps) (body_passes number place body)
+      and_both (place (place_of (front ++ type)) && place p && list_all (parameter_passes number place) ps && body_passes number place body) (result_passes number place result)
+      (and_both (place (place_of (front ++ type)) && place p && list_all (parameter_passes number place) ps) (body_passes number place body)
       (and_both (place (place_of (front ++ type)) && place p) (list_all (parameter_passes number place) ps) (and_both (place (place_of (front ++ type))) (place p) at (span (name_token w p) (mark marks.Open q ∷ (ts ++ us)) behind_type)) (parameters_pass d (left ts us inside)))
-      (end_passes e (right ts us inside))
+      (end_passes e (right ts us inside))) (result_kind r)
   item_is (some_variables {kind = kind} {ds = ds} {before = front} {type = type} {ts = ts} b t d) h =
       let rest = right front (type ++ ts) h in
       let at = good_place number place (front ++ type) (append_some front type (words_some t)) (good_append number place front type (left front (type ++ ts) h) (left type ts rest)) in
-      and_both (place (place_of (front ++ type))) (list_all (declarator_passes number place) ds) at (declarators_pass d (right type ts rest))
+      and_both (place (place_of (front ++ type)) && list_all (declarator_passes number place) ds) (is_kind kind)
+      (and_both (place (place_of (front ++ type))) (list_all (declarator_passes number place) ds) at (declarators_pass d (right type ts rest))) (type_kind t)
   item_is (some_constants {cs = cs} {tag = tag} {ts = ts} p q r g d) h =
       let listed = mark marks.OpenBrace q ∷ (ts ++ mark marks.Semicolon r ∷ []) in
       let rest = tail (mark marks.OpenBrace q) (ts ++ mark marks.Semicolon r ∷ []) (right tag listed (tail (mark marks.Enum p) (tag ++ listed) h)) in

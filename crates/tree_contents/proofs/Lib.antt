@@ -1,3 +1,4 @@
+pub mod WrittenKinds
 pub mod Tokens
 pub mod Expressions
 pub mod Statements

@@ -5,6 +5,7 @@ use Rattle.std.specs.List.{list_all}
 use Rattle.fq_core.specs.declared.span.Span.{Span}
 use Rattle.c_values.specs.declared.kinds.Kind.{Kind}
 use Rattle.c_values.specs.declared.operators.BinaryOp.{BinaryOp}
+use Rattle.c_values.specs.Kind.{IsKind, is_kind}
 use Rattle.c_values.proofs.Fitting.{and_left, and_right, and_both}
 use Rattle.c_parse.specs.declared.expr.ExprTree.{ExprTree}
 use Rattle.c_parse.specs.declared.statement.CaseLabel.{CaseLabel}
@@ -16,7 +17,7 @@ use Rattle.c_parse.specs.declared.statement.PlaceTree.{PlaceTree}
 use Rattle.c_parse.specs.declared.statement.Statement.{Statement}
 use Rattle.c_parse.specs.Grammar.{Text}
 use Rattle.c_parse.specs.StatementTrees.{statement, ident, group}
-use Rattle.tree_contents.specs.Contents.{tree_passes, optional_passes, place_passes, declarator_passes, label_passes, arm_passes, if_there, statement_passes, group_passes}
+use Rattle.tree_contents.specs.Contents.{tree_passes, optional_passes, place_passes, declarator_passes, label_passes, arm_passes, arms_pass, if_there, statement_passes, group_passes}
 
 module _ (number : ℕ → Kind → Bool) (place : Span → Bool) where
   abbrev pub Passes : Statement → Type 0
@@ -42,6 +43,12 @@ module _ (number : ℕ → Kind → Bool) (place : Span → Bool) where
   mapped_arms [] h = refl
   mapped_arms (a ∷ arms) h = and_both (ArmPasses a) _ (and_left (ArmPasses a) (list_all ArmPasses arms) h) (mapped_arms arms (and_right (ArmPasses a) (list_all ArmPasses arms) h))
 
+  abbrev pub ArmsPass : List (ExprTree × Statement) → Type 0
+  ArmsPass arms = IsTrue (arms_pass number place (map (λ (arm : ExprTree × Statement). (arm.0, statement_passes number place arm.1)) arms))
+
+  pub first_arm : (arm : ExprTree × Statement) (arms : List (ExprTree × Statement)) → IsTrue (list_all ArmPasses (arm ∷ arms)) → ArmsPass (arm ∷ arms)
+  first_arm arm arms h = mapped_arms (arm ∷ arms) h
+
   pub block_passes : (s : Span) (ss : List Statement) → IsTrue (place s) → AllPass ss → Passes (statement s (form.Block ss))
   unfolding statement_passes
   block_passes s ss p h = made (place s && list_all (λ b. b) (map (statement_passes number place) ss)) _ (search (rules, form_lemmas)) (and_both (place s) _ p (mapped (statement_passes number place) ss h))
@@ -58,9 +65,9 @@ module _ (number : ℕ → Kind → Bool) (place : Span → Bool) where
   unfolding statement_passes
   continue_passes s p = made (place s && true) _ (search (rules, form_lemmas)) (and_both (place s) true p refl)
 
-  pub local_passes : (s : Span) (kind : Kind) (list : List Declarator) → IsTrue (place s) → IsTrue (list_all (declarator_passes number place) list) → Passes (statement s (form.Local kind list))
+  pub local_passes : (s : Span) (kind : Kind) (list : List Declarator) → IsTrue (place s) → IsKind kind → IsTrue (list_all (declarator_passes number place) list) → Passes (statement s (form.Local kind list))
   unfolding statement_passes
-  local_passes s kind list p h = made (place s && list_all (declarator_passes number place) list) _ (search (rules, form_lemmas)) (and_both (place s) _ p h)
+  local_passes s kind list p k h = made (place s && (is_kind kind && list_all (declarator_passes number place) list)) _ (search (rules, form_lemmas)) (and_both (place s) _ p (and_both (is_kind kind) _ k h))
 
   pub assign_passes : (s : Span) (to : PlaceTree) (op : Option BinaryOp) (value : ExprTree) → IsTrue (place s) → IsTrue (place_passes number place to) → IsTrue (tree_passes number place value) → Passes (statement s (form.Assign to op value))
   unfolding statement_passes
@@ -78,11 +85,11 @@ module _ (number : ℕ → Kind → Bool) (place : Span → Bool) where
   unfolding statement_passes
   labelled_passes s w at body p q h = made (place s && (place at && statement_passes number place body)) _ (search (rules, form_lemmas)) (and_both (place s) _ p (and_both (place at) _ q h))
 
-  pub if_passes : (s : Span) (arms : List (ExprTree × Statement)) (otherwise : Option Statement) → IsTrue (place s) → IsTrue (list_all ArmPasses arms) → IsTrue (OptionalPasses otherwise) → Passes (statement s (form.If arms otherwise))
+  pub if_passes : (s : Span) (arms : List (ExprTree × Statement)) (otherwise : Option Statement) → IsTrue (place s) → ArmsPass arms → IsTrue (OptionalPasses otherwise) → Passes (statement s (form.If arms otherwise))
   unfolding statement_passes
   if_passes s arms otherwise p h k =
-      made (place s && (list_all (arm_passes number place) (map (λ (arm : ExprTree × Statement). (arm.0, statement_passes number place arm.1)) arms) && OptionalPasses otherwise)) _ (search (rules, form_lemmas))
-      (and_both (place s) _ p (and_both _ (OptionalPasses otherwise) (mapped_arms arms h) k))
+      made (place s && (arms_pass number place (map (λ (arm : ExprTree × Statement). (arm.0, statement_passes number place arm.1)) arms) && OptionalPasses otherwise)) _ (search (rules, form_lemmas))
+      (and_both (place s) _ p (and_both _ (OptionalPasses otherwise) h k))
 
   pub while_passes : (s : Span) (test : ExprTree) (body : Statement) → IsTrue (place s) → IsTrue (tree_passes number place test) → Passes body → Passes (statement s (form.While test body))
   unfolding statement_passes

@@ -19,7 +19,6 @@ use Rattle.c_lex.specs.NumbersOfKinds.{HasValue, HaveValues}
 use Rattle.c_lex.specs.Places.{span_of}
 use Rattle.c_lex.proofs.NumbersLaws.{numbers}
 use Rattle.c_parse.specs.declared.sign.Mark.{Mark}
-use Rattle.c_parse.specs.declared.sign.Sign.{Sign}
 use Rattle.c_parse.specs.declared.sign.Sign.TheVariants as sign
 use Rattle.c_parse.specs.declared.sign.TypeWord.{TypeWord}
 use Rattle.c_parse.specs.Signs.{terminal_of, sign_of, word_sign, mark_sign, keyword_or_other, type_or_name, mark_or_foreign}
@@ -62,14 +61,6 @@ valued_sign kind.Word text place h = word_passes (λ n kind. is_value kind n) pl
 valued_sign (kind.Number n k) text place h = h
 valued_sign kind.Mark text place h = mark_passes (λ n kind. is_value kind n) place text
 valued_sign kind.Foreign text place h = refl
-
-free_sign : (s : Sign) (place : Span → Bool) → sign_passes (λ n kind. true) place s ≡ true
-free_sign (sign.Number n k) place = refl
-free_sign _ place = refl
-
-pub valued : (ts : List Token) → HaveValues ts → IsTrue (list_all (token_passes (λ n kind. is_value kind n) (λ place. true)) (map terminal_of ts))
-valued [] h = refl
-valued (t ∷ ts) h = and_both (token_passes (λ n kind. is_value kind n) (λ place. true) (terminal_of t)) _ (valued_sign t.kind t.text (λ place. true) h.0) (valued ts h.1)
 
 -- ---- files
 
@@ -124,15 +115,13 @@ texts_give {file = file} (accepts {us = us} {o = o} {ts = ts} x d) =
     after_gives file _ us o (lies_wider file (file + 1) file _ us (omega arith) (omega arith) (reads_give x.read))
     (wider (file + 1) (file + 1 + length ts) file _ o (omega arith) (omega arith) (texts_give d))
 
-below_by : (n : ℕ) (t : Token) → t.span.file < n → IsTrue (token_passes (λ n kind. true) (λ place. nat_lt place.file n) (terminal_of t))
-below_by n t h = and_both (nat_lt t.span.file n) _ (lt-ltb t.span.file n h) (free_sign (terminal_of t).sign (λ place. nat_lt place.file n))
-
-pub placed : (n : ℕ) (ts : List Token) → Lies 0 n ts → IsTrue (list_all (token_passes (λ n kind. true) (λ place. nat_lt place.file n)) (map terminal_of ts))
-placed n [] h = refl
-placed n (t ∷ ts) h = and_both (token_passes (λ n kind. true) (λ place. nat_lt place.file n) (terminal_of t)) _ (below_by n t h.1) (placed n ts h.2)
+held : (files : ℕ) (ts : List Token) → HaveValues ts → Lies 0 files ts → IsTrue (list_all (token_passes (λ n kind. is_value kind n) (λ place. nat_lt place.file files)) (map terminal_of ts))
+held files [] h k = refl
+held files (t ∷ ts) h k =
+    and_both (token_passes (λ n kind. is_value kind n) (λ place. nat_lt place.file files) (terminal_of t)) _
+    (and_both (nat_lt t.span.file files) _ (lt-ltb t.span.file files k.1) (valued_sign t.kind t.text (λ place. nat_lt place.file files) h.0)) (held files ts h.1 k.2)
 
 pub units_of_texts : UnitsOfTexts
-units_of_texts texts tokens items lexed derived = (
-  items_pass (λ n kind. is_value kind n) (λ place. true) derived (valued tokens (numbers texts tokens lexed)),
-  items_pass (λ n kind. true) (λ place. nat_lt place.file (length texts)) derived (placed (length texts) tokens (lies_wider 0 (0 + length texts) 0 (length texts) tokens (omega arith) (omega arith) (texts_give lexed.2))),
-)
+units_of_texts texts tokens items lexed derived =
+    let lie = lies_wider 0 (0 + length texts) 0 (length texts) tokens (omega arith) (omega arith) (texts_give lexed.2) in
+    items_pass (λ n kind. is_value kind n) (λ place. nat_lt place.file (length texts)) derived (held (length texts) tokens (numbers texts tokens lexed) lie)

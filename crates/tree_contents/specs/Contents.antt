@@ -1,10 +1,11 @@
--- The numbers and the places in trees. The tests are any: that numbers are values of their kinds, that places lie in the
--- files that are there, or that a place is that of one of some tokens.
-use Rattle.std.specs.Prelude.{ℕ, Bool, true, ◌&&◌, nat_lt, List, length, map, Option, Some, None, IsTrue}
+-- The numbers, the places and the kinds in trees. The tests of numbers and of places are any: that numbers are values of
+-- their kinds, that places lie in the files that are there, or that a place is that of one of some tokens. Beside them each
+-- kind that is written is a kind, and each `if` has an arm.
+use Rattle.std.specs.Prelude.{ℕ, Bool, true, false, ◌&&◌, nat_lt, List, [], ◌∷◌, length, map, Option, Some, None, IsTrue}
 use Rattle.std.specs.List.{list_all}
 use Rattle.fq_core.specs.declared.span.Span.{Span}
 use Rattle.c_values.specs.declared.kinds.Kind.{Kind}
-use Rattle.c_values.specs.Kind.{is_value}
+use Rattle.c_values.specs.Kind.{is_kind, is_value}
 use Rattle.c_lex.specs.declared.token.SourceText.{SourceText}
 use Rattle.c_lex.specs.declared.token.Token.{Token}
 use Rattle.c_lex.specs.Lexed.{Lexed}
@@ -47,7 +48,7 @@ module _ (number : ℕ → Kind → Bool) (place : Span → Bool) where
   form_step (ExprForm-F.Name w) = true
   form_step (ExprForm-F.Element w index) = index
   form_step (ExprForm-F.Call w arguments) = list_all (λ a. a) arguments
-  form_step (ExprForm-F.Cast kind operand) = operand
+  form_step (ExprForm-F.Cast kind operand) = is_kind kind && operand
   form_step (ExprForm-F.Plus operand) = operand
   form_step (ExprForm-F.Unary op operand) = operand
   form_step (ExprForm-F.Binary op left right) = left && right
@@ -81,6 +82,11 @@ module _ (number : ℕ → Kind → Bool) (place : Span → Bool) where
   abbrev pub arm_passes : ExprTree × Bool → Bool
   arm_passes arm = tree_passes arm.0 && arm.1
 
+  -- an `if` has an arm
+  abbrev pub arms_pass : List (ExprTree × Bool) → Bool
+  arms_pass [] = false
+  arms_pass (arm ∷ rest) = list_all arm_passes (arm ∷ rest)
+
   abbrev pub if_there : Option Bool → Bool
   if_there None = true
   if_there (Some b) = b
@@ -88,12 +94,12 @@ module _ (number : ℕ → Kind → Bool) (place : Span → Bool) where
   abbrev pub statement_step : Form-F Bool Bool Bool → Bool
   statement_step (Form-F.Block statements) = list_all (λ s. s) statements
   statement_step Form-F.Empty = true
-  statement_step (Form-F.Local kind list) = list_all declarator_passes list
+  statement_step (Form-F.Local kind list) = is_kind kind && list_all declarator_passes list
   statement_step (Form-F.Assign to operator value) = place_passes to && tree_passes value
   statement_step (Form-F.Step to up) = place_passes to
   statement_step (Form-F.Call name arguments) = place name.span && list_all tree_passes arguments
   statement_step (Form-F.Label name body) = place name.span && body
-  statement_step (Form-F.If arms otherwise) = list_all arm_passes arms && if_there otherwise
+  statement_step (Form-F.If arms otherwise) = arms_pass arms && if_there otherwise
   statement_step (Form-F.While test body) = tree_passes test && body
   statement_step (Form-F.Do body test) = body && tree_passes test
   statement_step (Form-F.For first test next body) = if_there first && optional_passes test && if_there next && body
@@ -120,29 +126,29 @@ module _ (number : ℕ → Kind → Bool) (place : Span → Bool) where
   name_passes (Some name) = place name.span
 
   abbrev pub parameter_passes : Parameter → Bool
-  parameter_passes p = place p.span && name_passes p.name && optional_passes p.length
+  parameter_passes p = place p.span && name_passes p.name && optional_passes p.length && is_kind p.kind
 
   abbrev pub body_passes : Option Body → Bool
   body_passes None = true
   body_passes (Some body) = list_all statement_passes body.statements && place body.close
 
+  abbrev pub result_passes : Option Kind → Bool
+  result_passes None = true
+  result_passes (Some kind) = is_kind kind
+
   abbrev pub constant_passes : Ident × Option ExprTree → Bool
   constant_passes c = place c.0.span && optional_passes c.1
 
   abbrev pub item_passes : Item → Bool
-  item_passes (item.Function span result name parameters body) = place span && place name.span && list_all parameter_passes parameters && body_passes body
-  item_passes (item.Variables span kind list) = place span && list_all declarator_passes list
+  item_passes (item.Function span result name parameters body) = place span && place name.span && list_all parameter_passes parameters && body_passes body && result_passes result
+  item_passes (item.Variables span kind list) = place span && list_all declarator_passes list && is_kind kind
   item_passes (item.Constants span list) = place span && list_all constant_passes list
 
 -- ---- what the layers above need
 
--- every number in the items is a value of its kind
-abbrev pub NumbersAreValues : List Item → Type 0
-NumbersAreValues items = IsTrue (list_all (item_passes (λ n kind. is_value kind n) (λ place. true)) items)
-
--- every place in the items lies in one of so many files
-abbrev pub PlacesLieIn : ℕ → List Item → Type 0
-PlacesLieIn files items = IsTrue (list_all (item_passes (λ n kind. true) (λ place. nat_lt place.file files)) items)
+-- every number in the items is a value of its kind, and every place lies in one of so many files
+abbrev pub ContentsFit : ℕ → List Item → Type 0
+ContentsFit files items = IsTrue (list_all (item_passes (λ n kind. is_value kind n) (λ place. nat_lt place.file files)) items)
 
 -- ---- the laws
 
@@ -161,4 +167,4 @@ ExpressionsHoldTheirTokens =
 abbrev pub UnitsOfTexts : Type 0
 UnitsOfTexts =
     (texts : List SourceText) (tokens : List Token) (items : List Item) → Lexed texts tokens → DerivesItems items (map terminal_of tokens) →
-    NumbersAreValues items × PlacesLieIn (length texts) items
+    ContentsFit (length texts) items

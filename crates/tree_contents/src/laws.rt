@@ -11,7 +11,7 @@ pub fn expressions_hold_their_tokens()
     ensures { ExpressionsHoldTheirTokens }
 {}
 
-/// The numbers of the units of texts are values of their kinds, and their places lie in these texts.
+/// The numbers of the units of texts are values of their kinds, and their places lie in these texts; kinds are kinds.
 pub fn units_of_texts()
     ensures { UnitsOfTexts }
 {}

@@ -1,7 +1,7 @@
 // Typed trees as texts: operators stand before their operands, each with the kind of its value, and each place with its
 // number, `g` for globals, `l` for cells of the frame and `a` for arrays that are lent.
 use c_values::{BinaryOp, Kind, UnaryOp};
-use cfa::{Variable, VariablePlace};
+use cfa::{ArrayPlace, CellPlace, Expr, Variable, VariablePlace};
 use fq_core::Name;
 use std::fmt::Write;
 use std::test::Fail;
@@ -61,15 +61,22 @@ pub fn show_variable(text: &mut String, variable: &Variable) -> Result<(), Fail>
     Ok(())
 }
 
+// An operator with one operand.
+fn sign_of(op: UnaryOp) -> &'static str {
+    match op {
+        UnaryOp::Neg => "-",
+        UnaryOp::Complement => "~",
+        UnaryOp::Not => "!",
+    }
+}
+
 // What stands before the operands of a form.
 fn show_head(text: &mut String, form: &TypedExprForm) -> Result<(), Fail> {
     match form {
         TypedExprForm::Constant(value) => write!(text, "{value}")?,
         TypedExprForm::Load(_) => {}
         TypedExprForm::Convert(_) => text.push_str("to")?,
-        TypedExprForm::Unary(UnaryOp::Neg, _) => text.push_str("-")?,
-        TypedExprForm::Unary(UnaryOp::Complement, _) => text.push_str("~")?,
-        TypedExprForm::Unary(UnaryOp::Not, _) => text.push_str("!")?,
+        TypedExprForm::Unary(op, _) => text.push_str(sign_of(*op))?,
         TypedExprForm::Binary(op, _, _) => text.push_str(mark_of(*op))?,
         TypedExprForm::Both { cell, .. } => write!(text, "&&@{cell}")?,
         TypedExprForm::Either { cell, .. } => write!(text, "||@{cell}")?,
@@ -320,4 +327,66 @@ pub fn show_function(text: &mut String, function: &TypedFunction) -> Result<(), 
     }
     write!(text, ") {} ", function.cells)?;
     show_list(text, function.body.as_slice())
+}
+
+// A cell of the store; an element with its array's place and length, and its index.
+#[cycle(show_expr)]
+fn show_cell(text: &mut String, place: &CellPlace) -> Result<(), Fail> {
+    match place {
+        CellPlace::Global(cell) => write!(text, "g{cell}")?,
+        CellPlace::Local(cell) => write!(text, "l{cell}")?,
+        CellPlace::Element {
+            array,
+            index,
+            length,
+        } => {
+            match array {
+                ArrayPlace::Global(first) => write!(text, "g{first}x{length}[")?,
+                ArrayPlace::Local(first) => write!(text, "l{first}x{length}[")?,
+                ArrayPlace::Lent(number) => write!(text, "a{number}x{length}[")?,
+            }
+            show_expr(text, index)?;
+            text.push_str("]")?;
+        }
+    }
+    Ok(())
+}
+
+/// An expression of the automaton: each operator with the kind in which it is done.
+#[cycle(show_expr)]
+pub fn show_expr(text: &mut String, e: &Expr) -> Result<(), Fail> {
+    let kind = match e {
+        Expr::Constant(value, kind) => {
+            write!(text, "{value}")?;
+            *kind
+        }
+        Expr::Load(place, kind) => {
+            show_cell(text, place)?;
+            *kind
+        }
+        Expr::Convert(a, kind) => {
+            text.push_str("to(")?;
+            show_expr(text, a)?;
+            text.push_str(")")?;
+            *kind
+        }
+        Expr::Unary(op, a, kind) => {
+            text.push_str(sign_of(*op))?;
+            text.push_str("(")?;
+            show_expr(text, a)?;
+            text.push_str(")")?;
+            *kind
+        }
+        Expr::Binary(op, a, b, kind) => {
+            text.push_str(mark_of(*op))?;
+            text.push_str("(")?;
+            show_expr(text, a)?;
+            text.push_str(" ")?;
+            show_expr(text, b)?;
+            text.push_str(")")?;
+            *kind
+        }
+    };
+    text.push_str(":")?;
+    show_kind(text, kind)
 }

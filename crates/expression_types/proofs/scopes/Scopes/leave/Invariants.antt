@@ -1,10 +1,8 @@
 use Rattle.std.proofs.Common.{◌≡◌, length, take, ◌-◌}
 use Rattle.expression_types.proofs.scopes.Scopes.leave.Given as goal
 
-abbrev pub invariant-loop-self : goal.invariant-loop-self
-invariant-loop-self l = record {
-  same : take l.mark l.self-inside.list ≡ take l.mark l.initial.self-inside.list;
-}
+abbrev pub invariant-names : goal.invariant-names
+invariant-names l = take l.mark l.self ≡ take l.mark l.initial.self
 
-abbrev pub decreases-loop-self : goal.decreases-loop-self
-decreases-loop-self l = length l.self-inside.list - l.mark
+abbrev pub decreases-names : goal.decreases-names
+decreases-names l = length l.self - l.mark

@@ -1,0 +1,12 @@
+pub mod Silent
+pub mod Sound
+pub mod Fine
+pub mod Expressions
+pub mod Statements
+pub mod StatementRules
+pub mod Known
+pub mod Cells
+pub mod Functions
+pub mod Units
+pub mod Untimed
+pub mod Scoped
