@@ -193,6 +193,11 @@ module _ (n : Nameable) where
   arms_fit [] = false
   arms_fit (arm ∷ rest) = list_all arm_fits (arm ∷ rest)
 
+  -- an array that is declared has at most 1,024 elements, by this profile, and begins as no more values (6.7.9p2)
+  abbrev pub begins_within : Option ℕ → ℕ → Bool
+  begins_within None count = false
+  begins_within (Some length) count = nat_le count length && nat_le length 1024
+
   abbrev pub group_step : TypedGroup-F Bool (Kind → Bool) Bool → Kind → Bool
   group_step g kind = labels_fit kind g.labels && list_all (λ fits. fits) g.body
 
@@ -200,7 +205,7 @@ module _ (n : Nameable) where
   statement_form (TypedForm-F.Block body) = list_all (λ fits. fits) body
   statement_form TypedForm-F.Empty = true
   statement_form (TypedForm-F.Local v first) = is_integer v && option_fits first
-  statement_form (TypedForm-F.LocalArray v list) = is_array v && list_all expression_fits list
+  statement_form (TypedForm-F.LocalArray v list) = is_array v && list_all expression_fits list && begins_within v.length (length list)
   statement_form (TypedForm-F.Assign p op e) = place_fits p && operator_fits op e && expression_fits e
   statement_form (TypedForm-F.Call c) = (call_fit c).fits
   statement_form (TypedForm-F.Label name body) = body
