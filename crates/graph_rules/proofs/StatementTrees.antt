@@ -1,6 +1,6 @@
 -- What the trees of statements make, where they fit: it leads on, and meets the rules.
-use Rattle.std.proofs.Common.{◌≡◌, ℕ, ◌+◌, ◌^◌, ◌<◌, ◌≤◌, Bool, true, List, [], ◌∷◌, map, length, Option, Some, None, refl, sym, subst, rules, arith}
-use Rattle.std.specs.Prelude.{IsTrue, IfSome, ◌&&◌, not, nat_le}
+use Rattle.std.proofs.Common.{◌≡◌, ℕ, ◌^◌, ◌<◌, ◌≤◌, Bool, true, List, [], ◌∷◌, map, length, Option, Some, None, refl, sym, subst, rules, arith}
+use Rattle.std.specs.Prelude.{IsTrue, IfSome, ◌&&◌, nat_le}
 use Rattle.std.specs.List.{AllByRecursion, list_all}
 use Rattle.std.specs.Option.{option_map}
 use Rattle.std.proofs.lemmas.Bool.{leb-true}
@@ -13,9 +13,6 @@ use Rattle.c_values.specs.declared.operators.BinaryOp.{BinaryOp}
 use Rattle.c_values.proofs.Fitting.{and_left, and_right, and_both}
 use Rattle.cfa.specs.declared.parts.Operation.TheVariants.{Assert, Assume}
 use Rattle.cfa.specs.declared.parts.Variable.{Variable}
-use Rattle.cfa.specs.Graph.{variable_fits, cell_count}
-use Rattle.cfa.specs.declared.parts.VariablePlace.TheVariants as variable
-use Rattle.cfa.specs.declared.parts.VariablePlace.{VariablePlace}
 use Rattle.typed_trees.specs.declared.expression.TypedCall.{TypedCall}
 use Rattle.typed_trees.specs.declared.expression.TypedExpr.{TypedExpr, ind-TypedExpr, roll-TypedExpr}
 use Rattle.typed_trees.specs.declared.expression.TypedExprForm.{TypedExprForm, the_lemmas as expression_lemmas}
@@ -25,7 +22,7 @@ use Rattle.typed_trees.specs.declared.statement.TypedForm.{TypedForm, fold-Typed
 use Rattle.typed_trees.specs.declared.statement.TypedForm.TheOpen.{TypedForm-F, TypedGroup-F, TypedStatement-F}
 use Rattle.typed_trees.specs.declared.statement.TypedGroup.{TypedGroup, fold-TypedGroup, roll-TypedGroup}
 use Rattle.typed_trees.specs.declared.statement.TypedStatement.{TypedStatement, ind-TypedStatement, roll-TypedStatement}
-use Rattle.typed_trees.specs.Fitting.{Nameable, Fit, CallFit, expression_fit, expression_fits, option_fits, place_fits, call_fit, operator_fits, operands_meet, arm_fits, arms_fit, statement_if, statement_fits, is_cell, is_variable, is_integer, is_array, is_lent, list_meets, span_fits, labels_fit}
+use Rattle.typed_trees.specs.Fitting.{Nameable, Fit, CallFit, expression_fit, expression_fits, option_fits, place_fits, call_fit, operator_fits, operands_meet, arm_fits, arms_fit, statement_if, statement_fits, is_cell, is_variable, is_integer, is_array, is_lent, begins_within, span_fits, labels_fit}
 use Rattle.typed_trees.specs.Fitting as fitting
 use Rattle.graph_of.specs.Edges.{Lowering, stated}
 use Rattle.graph_of.specs.Expressions.{Value, value_of, spot_of, calling_of}
@@ -33,7 +30,7 @@ use Rattle.graph_of.specs.Statements.{Piece, arms_row}
 use Rattle.graph_of.specs.Switch.{Group, switch_row}
 use Rattle.graph_of.specs.Table.{stating, tested, form_step, shape, group_of, piece}
 use Rattle.graph_rules.proofs.Settings.{Setting, plain_assert, plain_assume}
-use Rattle.graph_rules.proofs.Operands.{integer_variable, array_variable, variable_kind, variable_place}
+use Rattle.graph_rules.proofs.Operands.{integer_variable, array_variable, variable_kind}
 use Rattle.graph_rules.proofs.WaysFlows as ways_flows
 use Rattle.graph_rules.proofs.WaysRows as ways
 use Rattle.graph_rules.proofs.WaysSwitch as ways_switch
@@ -161,10 +158,12 @@ module _ (c : Setting) where
       record { declares = and_both (is_variable c.names v) true (integer_variable c.names v own) refl; ways = ways.local_is v (option_map value_of first) (value_ways first (and_right _ _ all)); sits = sits.local_is c v (option_map value_of first) own (value_sits first (and_right _ _ all)) })
 
   -- a list that fits is short
-  short_list : (length' : Option ℕ) (p : VariablePlace) (count : ℕ) → IsTrue (variable_fits c.names.room length' p) → IsTrue (not (is_lent p) && nat_le count (cell_count length')) → count ≤ 16384
-  short_list length' (variable.Global first) count h l = let own = leb-true (first + cell_count length') c.names.room.globals h in let le = leb-true count (cell_count length') l in let most = c.globals in omega arith
-  short_list length' (variable.Local first) count h l = let own = leb-true (first + cell_count length') c.names.room.cells h in let le = leb-true count (cell_count length') l in let most = c.cells in omega arith
-  short_list length' (variable.Lent parameter) count h l = absurd (cc)
+  short_list : (o : Option ℕ) (count : ℕ) → IsTrue (begins_within c.names o count) → count ≤ 1024
+  short_list None count h = absurd (cc)
+  short_list (Some own) count h =
+      let shorter = leb-true count own (and_left (nat_le count own) (nat_le own 1024) h) in
+      let most = leb-true own 1024 (and_right (nat_le count own) (nat_le own 1024) h) in
+      omega arith
 
   array_at : (v : Variable) (list : List TypedExpr) → FormHas (roll-TypedForm (TypedForm-F.LocalArray v list))
   unfolding shape form_fits
@@ -172,13 +171,13 @@ module _ (c : Setting) where
       (let e : shape (roll-TypedForm (TypedForm-F.LocalArray v list)) ≡ form_step (TypedForm-F.LocalArray v list) = search (rules, statement_lemmas) in e)
       (let e : form_fits c.names (roll-TypedForm (TypedForm-F.LocalArray v list)) ≡ fitting.statement_form c.names (TypedForm-F.LocalArray v list) = search (rules, statement_lemmas) in e)
       (λ f.
-      let all : IsTrue (is_array c.names v && list_meets v (length list) && list_all (expression_fits c.names) list) = f in
-      let most : IsTrue (is_array c.names v && list_meets v (length list)) = and_left _ _ all in
-      let own = and_left _ _ most in
-      let short : length list ≤ 16384 = short_list v.length v.place (length list) (variable_place c.names v (array_variable c.names v own)) (and_right _ _ most) in
+      let all : IsTrue (is_array c.names v && list_all (expression_fits c.names) list && begins_within c.names v.length (length list)) = f in
+      let front : IsTrue (is_array c.names v && list_all (expression_fits c.names) list) = and_left _ _ all in
+      let own = and_left _ _ front in
+      let short : length list ≤ 1024 = short_list v.length (length list) (and_right (is_array c.names v && list_all (expression_fits c.names) list) (begins_within c.names v.length (length list)) all) in
       let long = length-map list value_of in
       let few : length (map value_of list) ≤ 2 ^ 31 = omega arith in
-      let V = values_hold list (and_right _ _ all) in
+      let V = values_hold list (and_right _ _ front) in
       record { declares = and_both (is_variable c.names v) true (array_variable c.names v own) refl; ways = ways.array_is v (map value_of list) V.0; sits = sits.array_is c v (map value_of list) own few V.1 })
 
   operator_is : (op : Option (BinaryOp × Kind)) (x : TypedExpr) → IsTrue (operator_fits c.names op x) → sits.OperatorFits c op (expression_fit c.names x).kind

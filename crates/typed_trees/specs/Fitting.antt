@@ -59,10 +59,6 @@ is_lent (place.Global cell) = false
 is_lent (place.Local cell) = false
 is_lent (place.Lent parameter) = true
 
--- so many values for an array, which isn't lent: no more than it has elements (6.7.9p2)
-abbrev pub list_meets : Variable → ℕ → Bool
-list_meets v count = not (is_lent v.place) && nat_le count (cell_count v.length)
-
 -- the right operand is of the left one's kind; that of a shift has a kind of its own (6.5.7p3)
 abbrev pub operands_meet : BinaryOp → Kind → Kind → Bool
 operands_meet op left right = is_shift op || same_kind right left
@@ -197,6 +193,11 @@ module _ (n : Nameable) where
   arms_fit [] = false
   arms_fit (arm ∷ rest) = list_all arm_fits (arm ∷ rest)
 
+  -- an array that is declared has at most 1,024 elements, by this profile, and begins as no more values (6.7.9p2)
+  abbrev pub begins_within : Option ℕ → ℕ → Bool
+  begins_within None count = false
+  begins_within (Some length) count = nat_le count length && nat_le length 1024
+
   abbrev pub group_step : TypedGroup-F Bool (Kind → Bool) Bool → Kind → Bool
   group_step g kind = labels_fit kind g.labels && list_all (λ fits. fits) g.body
 
@@ -204,7 +205,7 @@ module _ (n : Nameable) where
   statement_form (TypedForm-F.Block body) = list_all (λ fits. fits) body
   statement_form TypedForm-F.Empty = true
   statement_form (TypedForm-F.Local v first) = is_integer v && option_fits first
-  statement_form (TypedForm-F.LocalArray v list) = is_array v && list_meets v (length list) && list_all expression_fits list
+  statement_form (TypedForm-F.LocalArray v list) = is_array v && list_all expression_fits list && begins_within v.length (length list)
   statement_form (TypedForm-F.Assign p op e) = place_fits p && operator_fits op e && expression_fits e
   statement_form (TypedForm-F.Call c) = (call_fit c).fits
   statement_form (TypedForm-F.Label name body) = body

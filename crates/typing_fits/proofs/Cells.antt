@@ -149,9 +149,12 @@ after_local cells g = record { run = λ at none. (g at.local).run _ none refl }
 
 -- ---- lengths
 
-abbrev LengthIs : Option ℕ → Type 0
+abbrev pub LengthIs : Option ℕ → Type 0
 LengthIs None = Unit {0}
-LengthIs (Some n) = 1 ≤ n
+LengthIs (Some n) = IsTrue (is_array_length n)
+
+pub some_length : (n : ℕ) → IsTrue (is_array_length n) → 1 ≤ n
+some_length n h = leb-true 1 n (and_left (nat_le 1 n) (nat_le n 1024) h)
 
 abbrev IsThere : Option ℕ → Type 0
 IsThere None = ⊥
@@ -169,16 +172,16 @@ constant_there kind t at none =
     let d = uncounted (integer (piece t)) at in
     value_there t.span (folded (fitted kind d.made)) (behind at d) (right_empty d.faults (constant_of t.span (folded (fitted kind d.made)) (behind at d)).faults none)
 
-length_if_known : (span : Span) (n : ℕ) (b : Bool) → (IsTrue b → 1 ≤ n) → (at : At) → (length_if span n b at).faults ≡ [] → LengthIs (length_if span n b at).made
+length_if_known : (span : Span) (n : ℕ) (b : Bool) → (IsTrue b → IsTrue (is_array_length n)) → (at : At) → (length_if span n b at).faults ≡ [] → LengthIs (length_if span n b at).made
 unfolding fault pure
 length_if_known span n true h at none = h refl
 length_if_known span n false h at none = absurd (some_fault _ none)
 
 within_known : (span : Span) (o : Option ℕ) → IsThere o → (at : At) → (length_within span o at).faults ≡ [] → LengthIs (length_within span o at).made
 within_known span None h at none = absurd h
-within_known span (Some n) h at none = length_if_known span n (is_array_length n) (λ t. leb-true 1 n (and_left (nat_le 1 n) (nat_le n 1024) t)) at none
+within_known span (Some n) h at none = length_if_known span n (is_array_length n) (λ t. t) at none
 
-length_known : (span : Span) (t : Option ExprTree) (at : At) → (length_at span t at).faults ≡ [] → LengthIs (length_at span t at).made
+pub length_known : (span : Span) (t : Option ExprTree) (at : At) → (length_at span t at).faults ≡ [] → LengthIs (length_at span t at).made
 unfolding length_at ◌then◌ pure
 length_known span None at none = tt
 length_known span (Some t) at none =
@@ -201,7 +204,7 @@ unfolding first_values each ◌then◌ pure
 values_length kind [] at = refl
 values_length kind (t ∷ ts) at = ap suc (values_length kind ts _)
 
-listed : (n count : ℕ) → 1 ≤ n → IsTrue (is_list_for n count) → count ≤ n
+pub listed : (n count : ℕ) → 1 ≤ n → IsTrue (is_list_for n count) → count ≤ n
 listed n count some h = grind (arith, nat_tests)
 
 begun_fills : (d : Ident) (kind : Kind) (o : Option ℕ) (first : Option Initial) → LengthIs o → Takes (Filled o) (begun_global d kind o first)
@@ -213,7 +216,7 @@ begun_fills d kind (Some n) (Some (initials.One t)) h = after_still {P = λ u. �
 begun_fills d kind (Some n) (Some (initials.List ts)) h =
     after_still {P = λ u. IsTrue (is_list_for n (length ts))} (quiet_still (expect_silent 34 d.span (is_list_for n (length ts)))) (λ at none. expected 34 d.span (is_list_for n (length ts)) at none) (λ u p.
     after_still {P = λ vs. length vs ≡ length ts} (quiet_still (firsts_silent kind ts)) (λ at none. values_length kind ts at) (λ vs q.
-    pure_takes _ (λ l. (zeros_fill n vs (let le = listed n (length ts) h p in omega arith), refl))))
+    pure_takes _ (λ l. (zeros_fill n vs (let le = listed n (length ts) (some_length n h) p in omega arith), refl))))
 
 -- ---- globals
 

@@ -253,5 +253,9 @@ unfolding each
 each_sound f h [] ps = pure_sound [] tt
 each_sound {Q = Q} f h (x ∷ xs) ps = then_sound (h x ps.0) (λ ys p. then_sound (each_sound f h xs ps.1) (λ zs q. pure_sound _ (all_append Q ys zs p q)))
 
+-- what is known of what a rule makes where nothing is wrong in it
+pub also_sound : {A : Type 0} {n : Nameable} {l : Limits} {P Q : A → Type 0} {m : Rule A} → Sound n l P m → ((at : At) → (m at).faults ≡ [] → Q (m at).made) → Sound n l (λ x. P x × Q x) m
+also_sound h q = record { run = λ at names none locals temporaries. (let d = h.run at names none locals temporaries in record { made = (d.made, q at none); bound = d.bound }) }
+
 pub weaken : {A : Type 0} {n : Nameable} {l : Limits} {P Q : A → Type 0} {m : Rule A} → ((x : A) → P x → Q x) → Sound n l P m → Sound n l Q m
 weaken f h = record { run = λ at names none locals temporaries. (let d = h.run at names none locals temporaries in record { made = f _ d.made; bound = d.bound }) }

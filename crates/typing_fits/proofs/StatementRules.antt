@@ -1,6 +1,6 @@
 -- The typed statements of accepted units fit.
-use Rattle.std.proofs.Common.{◌≡◌, ℕ, ◌+◌, ◌≤◌, Bool, true, false, not, List, [], ◌∷◌, ◌++◌, map, length, Option, Some, None, refl, sym, subst, rules, arith}
-use Rattle.std.specs.Prelude.{IsTrue, ◌&&◌, IfSome, option_map}
+use Rattle.std.proofs.Common.{suc, ◌≡◌, ℕ, ◌+◌, ◌≤◌, Bool, true, false, not, List, [], ◌∷◌, ◌++◌, map, length, Option, Some, None, refl, sym, ap, subst, rules, arith}
+use Rattle.std.specs.Prelude.{IsTrue, ◌&&◌, IfSome, option_map, nat_le}
 use Rattle.std.specs.List.{AllByRecursion, list_all}
 use Rattle.std.proofs.lemmas.Bool.{le-leb}
 use Rattle.fq_core.specs.declared.span.Span.{Span}
@@ -29,20 +29,21 @@ use Rattle.typed_trees.specs.declared.expression.TypedExprForm.{the_lemmas as ty
 use Rattle.typed_trees.specs.declared.statement.TypedStatement.{TypedStatement}
 use Rattle.typed_trees.specs.declared.statement.TypedForm.{TypedForm}
 use Rattle.typed_trees.specs.declared.statement.TypedForm.TheVariants as forms
-use Rattle.typed_trees.specs.Fitting.{Nameable, is_variable, place_fits, label_fits}
+use Rattle.typed_trees.specs.Fitting.{begins_within, Nameable, is_variable, place_fits, label_fits}
 use Rattle.expression_types.specs.declared.scopes.Bound.{Bound}
 use Rattle.expression_types.specs.declared.scopes.Meaning.{Meaning}
 use Rattle.expression_types.specs.declared.scopes.Meaning.TheVariants as meanings
 use Rattle.expression_types.specs.Kinds.{promotion}
-use Rattle.expression_types.specs.Rule.{Rule, pure, each, alone_in}
+use Rattle.expression_types.specs.Rule.{At, pure, ◌then◌, each, Rule, alone_in}
 use Rattle.expression_types.specs.Expressions.{integer, piece, place_of, converted_to}
 use Rattle.c_types.specs.declared.around.Around.{Around}
 use Rattle.c_types.specs.Declarations.{same_level, unused, variable_of, bound_as, bind_variable, is_array_length, length_if, length_within, length_at, cells_of, is_list_for, value_for, values_for, begun, local_rule, locals_rule, statement_of}
 use Rattle.c_types.specs.Statements.{in_loop, in_cases, integer_if, integer_meant, integer_named, variable_at, place_rule, assigned, step_operator, one_at, Part, GroupPart, one_of, in_turn, single, alone, arm_rule, arms_rule, last_rule, first_rule, test_rule, next_rule, unused_label, fresh, case_valued, case_rule, cases_rule, group_of, group_rule, groups_rule, return_rule, call_statement, form_rule, form_of, group, part, statement_rule, statements_typing}
-use Rattle.typing_fits.proofs.Sound.{is_false, test_all, all_append, MeaningFits, FoundFits, Limits, Sound, Any, then_sound, pure_sound, fault_sound, expect_sound, look_sound, is_label_sound, is_case_sound, here_sound, temporary_sound, local_sound, bind_sound, bind_label_sound, bind_case_sound, scope_sound, switch_sound, alone_sound, each_sound, weaken}
+use Rattle.typing_fits.proofs.Sound.{also_sound, is_false, test_all, all_append, MeaningFits, FoundFits, Limits, Sound, Any, then_sound, pure_sound, fault_sound, expect_sound, look_sound, is_label_sound, is_case_sound, here_sound, temporary_sound, local_sound, bind_sound, bind_label_sound, bind_case_sound, scope_sound, switch_sound, alone_sound, each_sound, weaken}
 use Rattle.typing_fits.proofs.Silent.{all_mapped}
 use Rattle.typing_fits.proofs.Fine.{Fine, promotion_is, constant_fine, integer_is, array_is, array_variable, variable_kind, whole_place, element_place, converted_fine, converted_kind, cell_is}
 use Rattle.typing_fits.proofs.Expressions.{number_is, place_in, TreePasses, within, ConstantIs, array_sound, call_sound, tree_sound, expression_sound, constant_sound, IsSound}
+use Rattle.typing_fits.proofs.Cells.{LengthIs, length_known, some_length, listed}
 use Rattle.typing_fits.proofs.Statements.{Fits, AllFit, group_fits, PlaceFine, ArmFine, some_of, block_fits, empty_fits, break_fits, continue_fits, local_fits, array_fits, assigned_fits, call_fits, label_fits_in, while_fits, do_fits, if_fits, for_fits, switch_fits, return_fits, assert_fits, assume_fits, one_fits, group_is}
 
 -- ---- declarations, of any scope
@@ -102,14 +103,24 @@ module _ (n : Nameable) where
   unfolding values_for
   values_sound kind k ts p = each_sound (λ t. alone_in (value_for kind t)) (λ t q. alone_sound (value_sound kind k t q)) ts (all_trees ts p)
 
-  begun_sound : (span : Span) → IsTrue (place span) → (d : Ident) (v : Variable) → IsTrue (is_variable n v) → (length : Option ℕ) → v.length ≡ length → (first : Option Initial) → IsTrue (initial_passes number place first) → Sound n Limit (Fits n) (begun span d v length first)
-  begun_sound span s d v h None e None p = pure_sound _ (local_fits n span s v None (integer_is n v h e) tt)
-  begun_sound span s d v h None e (Some (initials.One t)) p = then_sound (value_sound v.kind (variable_kind n v h) t p) (λ a f. pure_sound _ (local_fits n span s v (Some a) (integer_is n v h e) f))
-  begun_sound span s d v h None e (Some (initials.List ts)) p = then_sound (expect_sound 33 d.span false) (λ u f. absurd (is_false f))
-  begun_sound span s d v h (Some m) e None p = pure_sound _ (array_fits n span s v [] (array_is n v m h e) tt)
-  begun_sound span s d v h (Some m) e (Some (initials.One t)) p = then_sound (expect_sound 33 d.span false) (λ u f. absurd (is_false f))
-  begun_sound span s d v h (Some m) e (Some (initials.List ts)) p =
-      then_sound (expect_sound 34 d.span (is_list_for m (length ts))) (λ u f. then_sound (values_sound v.kind (variable_kind n v h) ts p) (λ list g. pure_sound _ (array_fits n span s v list (array_is n v m h e) g)))
+  values_count : (kind : Kind) (ts : List ExprTree) (at : At) → length (values_for kind ts at).made ≡ length ts
+  unfolding values_for each ◌then◌ pure
+  values_count kind [] at = refl
+  values_count kind (t ∷ ts) at = ap suc (values_count kind ts _)
+
+  -- an array begins as no more values than it has elements
+  begins : (v : Variable) (m count : ℕ) → v.length ≡ Some m → IsTrue (is_array_length m) → count ≤ m → IsTrue (begins_within n v.length count)
+  begins v m count e h l = subst (λ (o : Option ℕ). IsTrue (begins_within n o count)) (sym e) (and_both (nat_le count m) (nat_le m 1024) (le-leb count m l) (and_right (nat_le 1 m) (nat_le m 1024) h))
+
+  begun_sound : (span : Span) → IsTrue (place span) → (d : Ident) (v : Variable) → IsTrue (is_variable n v) → (length : Option ℕ) → v.length ≡ length → LengthIs length → (first : Option Initial) → IsTrue (initial_passes number place first) → Sound n Limit (Fits n) (begun span d v length first)
+  begun_sound span s d v h None e k None p = pure_sound _ (local_fits n span s v None (integer_is n v h e) tt)
+  begun_sound span s d v h None e k (Some (initials.One t)) p = then_sound (value_sound v.kind (variable_kind n v h) t p) (λ a f. pure_sound _ (local_fits n span s v (Some a) (integer_is n v h e) f))
+  begun_sound span s d v h None e k (Some (initials.List ts)) p = then_sound (expect_sound 33 d.span false) (λ u f. absurd (is_false f))
+  begun_sound span s d v h (Some m) e k None p = pure_sound _ (array_fits n span s v [] (array_is n v m h e) tt (begins v m 0 e k (omega arith)))
+  begun_sound span s d v h (Some m) e k (Some (initials.One t)) p = then_sound (expect_sound 33 d.span false) (λ u f. absurd (is_false f))
+  begun_sound span s d v h (Some m) e k (Some (initials.List ts)) p =
+      then_sound (expect_sound 34 d.span (is_list_for m (length ts))) (λ u f. then_sound {P = λ (list : List TypedExpr). AllByRecursion (Fine n) list × (length list ≡ length ts)} (also_sound (values_sound v.kind (variable_kind n v h) ts p) (λ at none. values_count v.kind ts at)) (λ list g.
+      pure_sound _ (array_fits n span s v list (array_is n v m h e) g.0 (begins v m (length list) e k (let le = listed m (length ts) (some_length m k) f in let same = g.1 in omega arith)))))
 
   local_variable : (w : List ℕ) (kind : Kind) → IsKind kind → (length : Option ℕ) (cell : ℕ) → cell + cells_of length ≤ n.room.cells → IsTrue (is_variable n (variable_of w kind length (places.Local cell)))
   local_variable w kind k length cell h =
@@ -120,11 +131,11 @@ module _ (n : Nameable) where
   local_rule_sound span s kind k d p =
       let front = and_left (place d.name.span && optional_passes number place d.length) (initial_passes number place d.first) p in
       then_sound (unused_sound n Limit d.name) (λ u a.
-      then_sound (length_at_sound n Limit d.name.span d.length (and_right (place d.name.span) (optional_passes number place d.length) front)) (λ length b.
+      then_sound {P = λ (o : Option ℕ). Unit {0} × LengthIs o} (also_sound (length_at_sound n Limit d.name.span d.length (and_right (place d.name.span) (optional_passes number place d.length) front)) (λ at none. length_known d.name.span d.length at none)) (λ length b.
       then_sound (local_sound (cells_of length)) (λ cell c.
       let h = local_variable d.name.name kind k length cell c in
       then_sound (bind_variable_sound n Limit (variable_of d.name.name kind length (places.Local cell)) h) (λ v e.
-      begun_sound span s d.name (variable_of d.name.name kind length (places.Local cell)) h length refl d.first (and_right (place d.name.span && optional_passes number place d.length) (initial_passes number place d.first) p)))))
+      begun_sound span s d.name (variable_of d.name.name kind length (places.Local cell)) h length refl b.1 d.first (and_right (place d.name.span && optional_passes number place d.length) (initial_passes number place d.first) p)))))
 
   locals_sound : (span : Span) → IsTrue (place span) → (kind : Kind) → IsKind kind → (ds : List Declarator) → IsTrue (list_all (declarator_passes number place) ds) → Sound n Limit (AllFit n) (locals_rule span kind ds)
   unfolding locals_rule

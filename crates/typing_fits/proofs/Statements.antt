@@ -1,5 +1,5 @@
 -- Typed statements that fit, form by form.
-use Rattle.std.proofs.Common.{◌≡◌, ℕ, Bool, true, false, List, [], ◌∷◌, map, Option, Some, None, refl, sym, subst, ◌∙◌, rules}
+use Rattle.std.proofs.Common.{◌≡◌, ℕ, Bool, true, false, List, [], ◌∷◌, map, Option, Some, None, refl, sym, subst, ◌∙◌, rules, length}
 use Rattle.std.specs.Prelude.{IsTrue, ◌&&◌, option_map, IfSome}
 use Rattle.std.specs.List.{AllByRecursion, list_all}
 use Rattle.fq_core.specs.declared.span.Span.{Span}
@@ -15,7 +15,7 @@ use Rattle.typed_trees.specs.declared.statement.TypedStatement.{TypedStatement}
 use Rattle.typed_trees.specs.declared.statement.TypedGroup.{TypedGroup, fold-TypedGroup}
 use Rattle.typed_trees.specs.declared.statement.TypedForm.{the_lemmas}
 use Rattle.typed_trees.specs.declared.statement.TypedForm.TheVariants as forms
-use Rattle.typed_trees.specs.Fitting.{Nameable, span_fits, is_integer, is_array, is_cell, operands_meet, expression_fit, expression_fits, option_fits, place_fits, call_fit, statement_if, label_fits, labels_fit, arms_fit, arm_fits, group_step, statement_form, statement_step, statement_fits}
+use Rattle.typed_trees.specs.Fitting.{begins_within, Nameable, span_fits, is_integer, is_array, is_cell, operands_meet, expression_fit, expression_fits, option_fits, place_fits, call_fit, statement_if, label_fits, labels_fit, arms_fit, arm_fits, group_step, statement_form, statement_step, statement_fits}
 use Rattle.expression_types.specs.Kinds.{left_kind, right_kind}
 use Rattle.expression_types.specs.Expressions.{converted_to}
 use Rattle.c_types.specs.Declarations.{statement_of}
@@ -79,9 +79,11 @@ module _ (n : Nameable) (span : Span) (s : IsTrue (span_fits n span)) where
   local_fits v None h k = made (is_integer n v && true) _ (search (rules, the_lemmas)) (and_both (is_integer n v) true h refl)
   local_fits v (Some e) h k = made (is_integer n v && expression_fits n e) _ (search (rules, the_lemmas)) (and_both (is_integer n v) (expression_fits n e) h k.fits)
 
-  pub array_fits : (v : Variable) (list : List TypedExpr) → IsTrue (is_array n v) → AllByRecursion (Fine n) list → Fits n (statement_of span (forms.LocalArray v list))
+  pub array_fits : (v : Variable) (list : List TypedExpr) → IsTrue (is_array n v) → AllByRecursion (Fine n) list → IsTrue (begins_within n v.length (length list)) → Fits n (statement_of span (forms.LocalArray v list))
   unfolding statement_fits
-  array_fits v list h k = made (is_array n v && list_all (expression_fits n) list) _ (search (rules, the_lemmas)) (and_both (is_array n v) _ h (all_expressions n list k))
+  array_fits v list h k l =
+      made (is_array n v && list_all (expression_fits n) list && begins_within n v.length (length list)) _ (search (rules, the_lemmas))
+      (and_both (is_array n v && list_all (expression_fits n) list) _ (and_both (is_array n v) _ h (all_expressions n list k)) l)
 
   pub assigned_fits : (to : TypedPlace) (op : Option BinaryOp) (a : TypedExpr) → PlaceFine n to → Fine n a → Fits n (statement_of span (assigned to op a))
   unfolding statement_fits
