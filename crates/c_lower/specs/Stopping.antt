@@ -1,0 +1,10 @@
+-- Why lowering stops.
+use Rattle.std.specs.Prelude.{◌<◌, length}
+use Rattle.graph_of.specs.declared.parts.Parts.{Parts}
+use Rattle.c_lower.specs.declared.stop.Stop.{Stop}
+use Rattle.c_lower.specs.declared.stop.Stop.TheVariants.{TooManyEdges, Memory}
+
+-- too many edges are told of parts that have more than 40,000
+abbrev pub IsStop : Stop → Parts → Type 0
+IsStop TooManyEdges m = 40000 < length m.edges
+IsStop Memory m = Unit {0}
