@@ -1,7 +1,6 @@
 -- What expressions make, form by form, as one addition to the parts after another.
-use Rattle.std.proofs.Common.{◌≡◌, ◌<◌, ◌≤◌, ℕ, ◌+◌, List, [], ◌∷◌, ◌++◌, map, length, get_or, drop, Bool, true, false, Option, Some, None, refl, sym, ap, subst, ◌∙◌, append_assoc, append-nil}
+use Rattle.std.proofs.Common.{◌≡◌, ◌<◌, ◌≤◌, ℕ, ◌+◌, List, [], ◌∷◌, ◌++◌, map, length, get_or, drop, false, Some, None, refl, sym, ap, subst, ◌∙◌, append_assoc, append-nil, rules}
 use Rattle.std.proofs.lemmas.List.{drop_all, drop_more}
-use Rattle.fq_core.specs.declared.span.Span.{Span}
 use Rattle.c_values.specs.Kind.{int}
 use Rattle.c_values.specs.declared.kinds.Kind.{Kind}
 use Rattle.c_values.specs.declared.operators.BinaryOp.{BinaryOp}
@@ -9,21 +8,24 @@ use Rattle.c_values.specs.declared.operators.UnaryOp.{UnaryOp}
 use Rattle.c_values.specs.declared.operators.UnaryOp.TheVariants as unary
 use Rattle.cfa.specs.declared.expr.CellPlace.TheVariants as place
 use Rattle.cfa.specs.declared.expr.Expr.TheVariants as expr
-use Rattle.typed_trees.specs.declared.expression.TypedCall.{TypedCall}
+use Rattle.typed_trees.specs.declared.expression.TypedCall.{TypedCall, out-TypedCall}
 use Rattle.typed_trees.specs.declared.expression.TypedExpr.{TypedExpr}
+use Rattle.typed_trees.specs.declared.expression.TypedExprForm.{the_lemmas}
 use Rattle.typed_trees.specs.declared.expression.TypedExprForm.TheVariants as forms
-use Rattle.typed_trees.specs.declared.expression.TypedPlace.{TypedPlace}
+use Rattle.typed_trees.specs.declared.expression.TypedPlace.{TypedPlace, out-TypedPlace}
 use Rattle.graph_of.specs.declared.parts.Around.{Around}
 use Rattle.graph_of.specs.declared.parts.Operand.{Operand}
 use Rattle.graph_of.specs.declared.parts.Parts.{Parts}
 use Rattle.graph_of.specs.declared.parts.Target.{Target}
 use Rattle.graph_of.specs.Builder.{Builder, Flow, node, after, made_by, give, ◌then◌, ending}
 use Rattle.graph_of.specs.Edges.{deciding, node_at, node_here, put, guards}
-use Rattle.graph_of.specs.Expressions.{Value, Calling, value_of, spot_of, calling_of, spot_cell, cell_of, element_of, words_in_order, call_edges, call_pure, truth_pure, choice_pure, part_row, convert_pure, both_cond, either_cond, other_cond}
+use Rattle.graph_of.specs.Expressions.{Value, Calling, value_of, spot_of, calling_of, spot_cell, cell_of, element_of, words_in_order, call_edges, call_pure, truth_pure, choice_pure, part_row, both_cond, either_cond, other_cond}
 use Rattle.graph_of.proofs.After.{after_at, after_numbered}
 use Rattle.c_lower.specs.Flows.{end_of, gives_of}
 use Rattle.c_lower.specs.Operands.{constant_operand, temporary_operand, loaded_operand, converted_operand, unary_operand, binary_operand}
 use Rattle.c_lower.proofs.FlowLaws.{give_made, give_end, give_gives, made_then, end_then, gives_then, made_gives, end_gives, gives_gives, made_ending}
+use Rattle.c_lower.specs.Stopping.{IsStop}
+use Rattle.c_lower.specs.declared.stop.Stop.{Stop}
 use Rattle.c_lower.proofs.Stops.{stop_grows}
 use Rattle.c_lower.proofs.ValueLaws.{own_span, calling_is, constant_is, load_is, convert_is, unary_is, binary_is, both_is, either_is, choice_is, call_is, no_index_is, index_is, splits, not_is, both_cond_is, either_cond_is, other_is}
 
@@ -50,13 +52,13 @@ module _ (u : Around) (a : ℕ) (m : Parts) (x : TypedExpr) where
   constant_gives n e = same_gives a m _ _ (constant_is u x n e) ∙ give_gives (constant_operand n x.kind) a m
 
   pub load_made : (p : TypedPlace) → x.form ≡ forms.Load p → after (made_by ((value_of x).pure u) a) m ≡ after (made_by (spot_cell (spot_of p) u) a) m
-  load_made p e = same_made a m _ _ (load_is u x p e) ∙ made_gives (spot_cell (spot_of p) u) (λ c. loaded_operand p.variable.name x.kind c) a m
+  load_made p e = same_made a m _ _ (load_is u x p e) ∙ made_gives (spot_cell (spot_of p) u) (λ c. loaded_operand (out-TypedPlace p).variable.name x.kind c) a m
 
   pub load_end : (p : TypedPlace) → x.form ≡ forms.Load p → end_of ((value_of x).pure u) a m ≡ end_of (spot_cell (spot_of p) u) a m
-  load_end p e = same_end a m _ _ (load_is u x p e) ∙ end_gives (spot_cell (spot_of p) u) (λ c. loaded_operand p.variable.name x.kind c) a m
+  load_end p e = same_end a m _ _ (load_is u x p e) ∙ end_gives (spot_cell (spot_of p) u) (λ c. loaded_operand (out-TypedPlace p).variable.name x.kind c) a m
 
-  pub load_gives : (p : TypedPlace) → x.form ≡ forms.Load p → gives_of ((value_of x).pure u) a m ≡ loaded_operand p.variable.name x.kind (gives_of (spot_cell (spot_of p) u) a m)
-  load_gives p e = same_gives a m _ _ (load_is u x p e) ∙ gives_gives (spot_cell (spot_of p) u) (λ c. loaded_operand p.variable.name x.kind c) a m
+  pub load_gives : (p : TypedPlace) → x.form ≡ forms.Load p → gives_of ((value_of x).pure u) a m ≡ loaded_operand (out-TypedPlace p).variable.name x.kind (gives_of (spot_cell (spot_of p) u) a m)
+  load_gives p e = same_gives a m _ _ (load_is u x p e) ∙ gives_gives (spot_cell (spot_of p) u) (λ c. loaded_operand (out-TypedPlace p).variable.name x.kind c) a m
 
   pub convert_made : (y : TypedExpr) → x.form ≡ forms.Convert y → after (made_by ((value_of x).pure u) a) m ≡ after (made_by ((value_of y).pure u) a) m
   convert_made y e = same_made a m _ _ (convert_is u x y e) ∙ made_gives ((value_of y).pure u) (λ v. converted_operand x.kind v) a m
@@ -90,6 +92,17 @@ module _ (u : Around) (a : ℕ) (m : Parts) (x : TypedExpr) where
       → gives_of ((value_of x).pure u) a m ≡ binary_operand op y.kind (gives_of ((value_of y).pure u) a m) (gives_of ((value_of z).pure u) (end_of ((value_of y).pure u) a m) (after (made_by ((value_of y).pure u) a) m))
   binary_gives op y z e = same_gives a m _ _ (binary_is u x op y z e)
       ∙ gives_then ((value_of y).pure u) (λ v. (value_of z).pure u then λ w. give (binary_operand op y.kind v w)) a m ∙ gives_gives ((value_of z).pure u) (λ w. binary_operand op y.kind (gives_of ((value_of y).pure u) a m) w) _ _
+
+  -- a value of two operands, from what its parts give
+  pub binary_result : (op : BinaryOp) (y z : TypedExpr) (kind : Kind) (m1 : Parts) (b : ℕ) (v w r : Operand) → x.form ≡ forms.Binary op y z → m1 ≡ after (made_by ((value_of y).pure u) a) m → b ≡ end_of ((value_of y).pure u) a m
+      → v ≡ gives_of ((value_of y).pure u) a m → w ≡ gives_of ((value_of z).pure u) b m1 → kind ≡ y.kind → r ≡ binary_operand op kind v w → r ≡ gives_of ((value_of x).pure u) a m
+  binary_result op y z kind m1 b v w r e h1 h2 h3 h4 h6 h5 =
+      h5 ∙ ap (λ k. binary_operand op k v w) h6 ∙ ap (λ k. binary_operand op y.kind k w) h3
+      ∙ ap (λ k. binary_operand op y.kind (gives_of ((value_of y).pure u) a m) k) (h4 ∙ ap (λ k. gives_of ((value_of z).pure u) k m1) h2 ∙ ap (λ k. gives_of ((value_of z).pure u) (end_of ((value_of y).pure u) a m) k) h1)
+      ∙ sym (binary_gives op y z e)
+
+  pub binary_stop : (op : BinaryOp) (y z : TypedExpr) (stop : Stop) → x.form ≡ forms.Binary op y z → IsStop stop (after (made_by ((value_of y).pure u) a) m) → IsStop stop (after (made_by ((value_of x).pure u) a) m)
+  binary_stop op y z stop e h = subst (λ p. IsStop stop p) (sym (binary_made op y z e)) (stop_grows stop _ _ h)
 
   pub both_made : (y z : TypedExpr) (cell : ℕ) → x.form ≡ forms.Both y z cell → after (made_by ((value_of x).pure u) a) m ≡ after (made_by (truth_pure (both_cond (value_of y) (value_of z)) cell x.kind u) a) m
   both_made y z cell e = same_made a m _ _ (both_is u x y z cell e)
@@ -161,23 +174,23 @@ pub ruleset value_laws = (
 -- ---- places
 
 module _ (u : Around) (a : ℕ) (m : Parts) (p : TypedPlace) where
-  pub no_index_made : p.index ≡ None → after (made_by (spot_cell (spot_of p) u) a) m ≡ m
-  no_index_made e = same_made a m _ _ (no_index_is u p e) ∙ give_made (record { place = cell_of p.variable.place; reads = [] }) a m
+  pub no_index_made : (out-TypedPlace p).index ≡ None → after (made_by (spot_cell (spot_of p) u) a) m ≡ m
+  no_index_made e = same_made a m _ _ (no_index_is u p e) ∙ give_made {A = Target} (record { place = cell_of (out-TypedPlace p).variable.place; reads = [] }) a m
 
-  pub no_index_end : p.index ≡ None → end_of (spot_cell (spot_of p) u) a m ≡ a
-  no_index_end e = same_end a m _ _ (no_index_is u p e) ∙ give_end (record { place = cell_of p.variable.place; reads = [] }) a m
+  pub no_index_end : (out-TypedPlace p).index ≡ None → end_of (spot_cell (spot_of p) u) a m ≡ a
+  no_index_end e = same_end a m _ _ (no_index_is u p e) ∙ give_end {A = Target} (record { place = cell_of (out-TypedPlace p).variable.place; reads = [] }) a m
 
-  pub no_index_gives : p.index ≡ None → gives_of (spot_cell (spot_of p) u) a m ≡ record { place = cell_of p.variable.place; reads = [] }
-  no_index_gives e = same_gives a m _ _ (no_index_is u p e) ∙ give_gives (record { place = cell_of p.variable.place; reads = [] }) a m
+  pub no_index_gives : (out-TypedPlace p).index ≡ None → gives_of (spot_cell (spot_of p) u) a m ≡ record { place = cell_of (out-TypedPlace p).variable.place; reads = [] }
+  no_index_gives e = same_gives a m _ _ (no_index_is u p e) ∙ give_gives {A = Target} (record { place = cell_of (out-TypedPlace p).variable.place; reads = [] }) a m
 
-  pub index_made : (i : TypedExpr) → p.index ≡ Some i → after (made_by (spot_cell (spot_of p) u) a) m ≡ after (made_by ((value_of i).pure u) a) m
-  index_made i e = same_made a m _ _ (index_is u p i e) ∙ made_gives ((value_of i).pure u) (λ (v : Operand). record { place = element_of p.variable v.value; reads = v.reads }) a m
+  pub index_made : (i : TypedExpr) → (out-TypedPlace p).index ≡ Some i → after (made_by (spot_cell (spot_of p) u) a) m ≡ after (made_by ((value_of i).pure u) a) m
+  index_made i e = same_made a m _ _ (index_is u p i e) ∙ made_gives {B = Target} ((value_of i).pure u) (λ (v : Operand). record { place = element_of (out-TypedPlace p).variable v.value; reads = v.reads }) a m
 
-  pub index_end : (i : TypedExpr) → p.index ≡ Some i → end_of (spot_cell (spot_of p) u) a m ≡ end_of ((value_of i).pure u) a m
-  index_end i e = same_end a m _ _ (index_is u p i e) ∙ end_gives ((value_of i).pure u) (λ (v : Operand). record { place = element_of p.variable v.value; reads = v.reads }) a m
+  pub index_end : (i : TypedExpr) → (out-TypedPlace p).index ≡ Some i → end_of (spot_cell (spot_of p) u) a m ≡ end_of ((value_of i).pure u) a m
+  index_end i e = same_end a m _ _ (index_is u p i e) ∙ end_gives {B = Target} ((value_of i).pure u) (λ (v : Operand). record { place = element_of (out-TypedPlace p).variable v.value; reads = v.reads }) a m
 
-  pub index_gives : (i : TypedExpr) → p.index ≡ Some i → gives_of (spot_cell (spot_of p) u) a m ≡ (let v = gives_of ((value_of i).pure u) a m in record { place = element_of p.variable v.value; reads = v.reads })
-  index_gives i e = same_gives a m _ _ (index_is u p i e) ∙ gives_gives ((value_of i).pure u) (λ (v : Operand). record { place = element_of p.variable v.value; reads = v.reads }) a m
+  pub index_gives : (i : TypedExpr) → (out-TypedPlace p).index ≡ Some i → gives_of (spot_cell (spot_of p) u) a m ≡ (let v = gives_of ((value_of i).pure u) a m in record { place = element_of (out-TypedPlace p).variable v.value; reads = v.reads })
+  index_gives i e = same_gives a m _ _ (index_is u p i e) ∙ gives_gives {B = Target} ((value_of i).pure u) (λ (v : Operand). record { place = element_of (out-TypedPlace p).variable v.value; reads = v.reads }) a m
 
 pub ruleset spot_laws = (no_index_made, no_index_end, no_index_gives, index_made, index_end, index_gives, stop_grows)
 
@@ -229,22 +242,24 @@ pub ruleset choice_laws = (choice_row_made, choice_row_end, choice_row_gives, st
 
 module _ (c : TypedCall) (kind : Kind) (u : Around) (a : ℕ) (m : Parts) where
   pub call_row_made : after (made_by (call_pure (calling_of c) kind u) a) m
-      ≡ (let ws = words_in_order (map value_of c.words) u in
+      ≡ (let d = out-TypedCall c in
+      let ws = words_in_order (map value_of d.words) u in
       let m1 = after (node_here u) m in
-      after (call_edges c.callee c.arrays u (gives_of ws a m1) (Some (place.Local c.cell)) (end_of ws a m1) (length m.nodes)) (after (made_by ws a) m1))
+      after (call_edges d.callee d.arrays u (gives_of ws a m1) (Some (place.Local d.cell)) (end_of ws a m1) (length m.nodes)) (after (made_by ws a) m1))
   call_row_made =
+      let d = out-TypedCall c in
       let n = length m.nodes in
-      let ws = words_in_order (map value_of c.words) u in
+      let ws = words_in_order (map value_of d.words) u in
       ap (λ (k : Calling). after (made_by (call_pure k kind u) a) m) (calling_is c)
-      ∙ after_at (made_by (call_pure (record { callee = c.callee; words = map value_of c.words; arrays = c.arrays; cell = c.cell }) kind u) a) m
-      (node_here u ∷ ending ws (λ vs b. call_edges c.callee c.arrays u vs (Some (place.Local c.cell)) b n) a ∷ []) refl
-      ∙ made_ending ws (λ vs b. call_edges c.callee c.arrays u vs (Some (place.Local c.cell)) b n) a (after (node_here u) m)
+      ∙ after_at (made_by (call_pure (record { callee = d.callee; words = map value_of d.words; arrays = d.arrays; cell = d.cell }) kind u) a) m
+      (node_here u ∷ ending ws (λ vs b. call_edges d.callee d.arrays u vs (Some (place.Local d.cell)) b n) a ∷ []) refl
+      ∙ made_ending ws (λ vs b. call_edges d.callee d.arrays u vs (Some (place.Local d.cell)) b n) a (after (node_here u) m)
 
   pub call_row_end : end_of (call_pure (calling_of c) kind u) a m ≡ length m.nodes
   unfolding end_of
   call_row_end = refl
 
-  pub call_row_gives : gives_of (call_pure (calling_of c) kind u) a m ≡ temporary_operand c.cell kind
+  pub call_row_gives : gives_of (call_pure (calling_of c) kind u) a m ≡ temporary_operand (out-TypedCall c).cell kind
   unfolding gives_of
   call_row_gives = ap (λ (k : Calling). temporary_operand k.cell kind) (calling_is c)
 
@@ -296,6 +311,16 @@ left_turn u all a0 m0 list i x a b m m' v values values' within is e1 e2 e3 e4 l
           ∙ ap (λ b'. values' ++ gives_of (words_in_order ys u) b' (after (made_by ((value_of x).pure u) a) m)) (sym e2) ∙ ap (λ k. values' ++ gives_of (words_in_order ys u) b k) (sym e1);
     }
 
+-- what is told of too many edges within a turn holds of the whole
+pub left_stop : (u : Around) (all : List Value) (a0 : ℕ) (m0 : Parts) (list : List TypedExpr) (i : ℕ) (x : TypedExpr) (a : ℕ) (m : Parts) (values : List Operand) (stop : Stop) → i < length list → x ≡ get_or list i x
+    → Left u all a0 m0 (map value_of (drop i list)) a m values → IsStop stop (after (made_by ((value_of x).pure u) a) m) → IsStop stop (after (made_by (words_in_order all u) a0) m0)
+left_stop u all a0 m0 list i x a m values stop within is l h =
+    let here : drop i list ≡ x ∷ drop (i + 1) list = subst (λ y. drop i list ≡ y ∷ drop (i + 1) list) (sym is) (drop_more list i x within) in
+    let ys = map value_of (drop (i + 1) list) in
+    let all' : map value_of (drop i list) ≡ value_of x ∷ ys = ap (map value_of) here in
+    let e : after (made_by (words_in_order all u) a0) m0 ≡ after (made_by (words_in_order ys u) (end_of ((value_of x).pure u) a m)) (after (made_by ((value_of x).pure u) a) m) = l.made ∙ ap (λ zs. after (made_by (words_in_order zs u) a) m) all' ∙ more_made u a m (value_of x) ys in
+    subst (λ p. IsStop stop p) (sym e) (stop_grows stop _ _ h)
+
 module _ (u : Around) (all : List Value) (a0 : ℕ) (m0 : Parts) (list : List TypedExpr) (i a : ℕ) (m : Parts) (values : List Operand) (end : length list ≤ i) (l : Left u all a0 m0 (map value_of (drop i list)) a m values) where
   none_left : map value_of (drop i list) ≡ []
   none_left = ap (map value_of) (drop_all i list end)
@@ -315,17 +340,37 @@ module _ (u : Around) (a t f : ℕ) (m : Parts) (x : TypedExpr) where
   pub not_law : (y : TypedExpr) → x.form ≡ forms.Unary unary.Not y → after ((value_of x).cond u a t f) m ≡ after ((value_of y).cond u a f t) m
   not_law y e = ap (λ (c : Around → ℕ → ℕ → ℕ → Builder). after (c u a t f) m) (not_is x y e)
 
+  pub not_result : (op : UnaryOp) (y : TypedExpr) → op ≡ unary.Not → x.form ≡ forms.Unary op y → after ((value_of x).cond u a t f) m ≡ after ((value_of y).cond u a f t) m
+  not_result op y h e = not_law y (e ∙ ap (λ o. forms.Unary o y) h)
+
   pub both_law : (y z : TypedExpr) (cell : ℕ) → x.form ≡ forms.Both y z cell → after ((value_of x).cond u a t f) m ≡ after (both_cond (value_of y) (value_of z) u a t f) m
   both_law y z cell e = ap (λ (c : Around → ℕ → ℕ → ℕ → Builder). after (c u a t f) m) (both_cond_is x y z cell e)
 
   pub either_law : (y z : TypedExpr) (cell : ℕ) → x.form ≡ forms.Either y z cell → after ((value_of x).cond u a t f) m ≡ after (either_cond (value_of y) (value_of z) u a t f) m
   either_law y z cell e = ap (λ (c : Around → ℕ → ℕ → ℕ → Builder). after (c u a t f) m) (either_cond_is x y z cell e)
 
-  pub other_law : splits x.form ≡ false → after ((value_of x).cond u a t f) m
-      ≡ (let p = (value_of x).pure u in let v = gives_of p a m in after (guards u x.span v.value v.reads (end_of p a m) t f) (after (made_by p a) m))
-  other_law e = ap (λ (c : Around → ℕ → ℕ → ℕ → Builder). after (c u a t f) m) (other_is x e) ∙ made_ending ((value_of x).pure u) (λ v n. guards u x.span v.value v.reads n t f) a m
+  pub other_law : splits x.form ≡ false → after ((value_of x).cond u a t f) m ≡ after (other_cond x.span (value_of x).pure u a t f) m
+  other_law e = ap (λ (c : Around → ℕ → ℕ → ℕ → Builder). after (c u a t f) m) (other_is x e)
 
-pub ruleset condition_laws = (not_law, both_law, either_law, other_law, stop_grows)
+  pub neg_law : (op : UnaryOp) (y : TypedExpr) → op ≡ unary.Neg → x.form ≡ forms.Unary op y → after ((value_of x).cond u a t f) m ≡ after (other_cond x.span (value_of x).pure u a t f) m
+  neg_law op y h e = other_law (ap splits (e ∙ ap (λ o. forms.Unary o y) h) ∙ k)
+    where
+      k : splits (forms.Unary unary.Neg y) ≡ false
+      k = search (rules, the_lemmas)
+
+  pub complement_law : (op : UnaryOp) (y : TypedExpr) → op ≡ unary.Complement → x.form ≡ forms.Unary op y → after ((value_of x).cond u a t f) m ≡ after (other_cond x.span (value_of x).pure u a t f) m
+  complement_law op y h e = other_law (ap splits (e ∙ ap (λ o. forms.Unary o y) h) ∙ k)
+    where
+      k : splits (forms.Unary unary.Complement y) ≡ false
+      k = search (rules, the_lemmas)
+
+  pub plain_law : after (other_cond x.span (value_of x).pure u a t f) m
+      ≡ (let p = (value_of x).pure u in let v = gives_of p a m in after (guards u x.span v.value v.reads (end_of p a m) t f) (after (made_by p a) m))
+  plain_law = made_ending ((value_of x).pure u) (λ v n. guards u x.span v.value v.reads n t f) a m
+
+pub ruleset plain_laws = (plain_law, stop_grows)
+
+pub ruleset condition_laws = (not_result, both_law, either_law, other_law, neg_law, complement_law, stop_grows)
 
 module _ (x y : TypedExpr) (u : Around) (a t f : ℕ) (m : Parts) where
   pub both_row_law : after (both_cond (value_of x) (value_of y) u a t f) m ≡ (let n = length m.nodes in after ((value_of y).cond u n t f) (after ((value_of x).cond u a n f) (after (node (node_at u y.span)) m)))

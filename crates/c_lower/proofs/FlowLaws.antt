@@ -1,12 +1,9 @@
 -- A flow and what goes on with it, as one addition to the parts after another.
-use Rattle.std.proofs.Common.{◌≡◌, ℕ, ◌+◌, List, [], ◌∷◌, length, refl, sym, ap, ◌∙◌, length-append, subst}
+use Rattle.std.proofs.Common.{◌≡◌, ℕ, ◌+◌, List, [], ◌∷◌, length, refl, sym, ◌∙◌, length-append}
 use Rattle.graph_of.specs.declared.parts.Parts.{Parts}
-use Rattle.graph_of.specs.Builder.{Builder, Flow, Flowed, after, made_by, give, ◌then◌, ending}
-use Rattle.graph_of.proofs.After.{after_at, then_made}
+use Rattle.graph_of.specs.Builder.{Builder, Flow, in_order, after, made_by, give, ◌then◌, ending}
+use Rattle.graph_of.proofs.After.{after_at, after_in_order, then_made}
 use Rattle.c_lower.specs.Flows.{end_of, gives_of}
-use Rattle.c_lower.specs.declared.stop.Stop.{Stop}
-use Rattle.c_lower.specs.Stopping.{IsStop}
-use Rattle.c_lower.proofs.Stops.{stop_grows}
 
 module _ {A : Type 0} (v : A) (a : ℕ) (m : Parts) where
   pub give_made : after (made_by (give v) a) m ≡ m
@@ -19,6 +16,9 @@ module _ {A : Type 0} (v : A) (a : ℕ) (m : Parts) where
   pub give_gives : gives_of (give v) a m ≡ v
   unfolding gives_of
   give_gives = refl
+
+pub after_cons : (b : Builder) (bs : List Builder) (m : Parts) → after (in_order (b ∷ bs)) m ≡ after (in_order bs) (after b m)
+after_cons b bs m = after_in_order (b ∷ bs) m ∙ sym (after_in_order bs (after b m))
 
 nodes_of : (b : Builder) (m : Parts) → length m.nodes + length (b (length m.nodes) (length m.edges) (length m.scopes)).nodes ≡ length (after b m).nodes
 unfolding after

@@ -1,5 +1,5 @@
 -- Parts that have too many edges.
-use Rattle.std.proofs.Common.{◌≡◌, ◌<◌, ◌≤◌, ℕ, ◌+◌, List, [], ◌∷◌, length, length-append, arith}
+use Rattle.std.proofs.Common.{◌≡◌, ◌+◌, [], ◌∷◌, length, length-append, arith}
 use Rattle.cfa.specs.declared.parts.Edge.{Edge}
 use Rattle.graph_of.specs.declared.parts.Parts.{Parts}
 use Rattle.graph_of.specs.Builder.{Builder, edge, after}
@@ -18,3 +18,9 @@ stop_grows TooManyEdges b m h = omega (arith, grows b m)
 stop_grows Memory b m h = tt
 
 pub ruleset stops = (edge-length, stop_grows)
+
+pub memory_stops : (s : Stop) (m : Parts) → s ≡ Memory → IsStop s m
+memory_stops TooManyEdges m e = absurd (cc)
+memory_stops Memory m e = tt
+
+pub ruleset stopping = (stop_grows, memory_stops)

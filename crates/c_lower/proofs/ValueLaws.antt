@@ -1,5 +1,5 @@
 -- What expressions are, form by form.
-use Rattle.std.proofs.Common.{◌≡◌, ℕ, List, [], ◌∷◌, map, Bool, true, false, Option, Some, None, refl, sym, ap, ◌∙◌, rules}
+use Rattle.std.proofs.Common.{◌≡◌, ℕ, map, Bool, true, false, Option, Some, None, refl, sym, ap, ◌∙◌, rules}
 use Rattle.std.specs.Option.{option_map}
 use Rattle.fq_core.specs.declared.span.Span.{Span}
 use Rattle.c_values.specs.declared.kinds.Kind.{Kind}
@@ -7,16 +7,16 @@ use Rattle.c_values.specs.declared.operators.BinaryOp.{BinaryOp}
 use Rattle.c_values.specs.declared.operators.UnaryOp.{UnaryOp}
 use Rattle.c_values.specs.declared.operators.UnaryOp.TheVariants as unary
 use Rattle.cfa.specs.declared.parts.Variable.{Variable}
-use Rattle.typed_trees.specs.declared.expression.TypedCall.{TypedCall}
+use Rattle.typed_trees.specs.declared.expression.TypedCall.{TypedCall, out-TypedCall}
 use Rattle.typed_trees.specs.declared.expression.TypedExpr.{TypedExpr}
-use Rattle.typed_trees.specs.declared.expression.TypedExprForm.{TypedExprForm, the_lemmas}
+use Rattle.typed_trees.specs.declared.expression.TypedExprForm.{TypedExprForm, out-TypedExprForm, map-TypedExprForm, the_lemmas}
 use Rattle.typed_trees.specs.declared.expression.TypedExprForm.TheVariants as forms
 use Rattle.typed_trees.specs.declared.expression.TypedExprForm.TheOpen.{TypedExprForm-F}
-use Rattle.typed_trees.specs.declared.expression.TypedPlace.{TypedPlace}
+use Rattle.typed_trees.specs.declared.expression.TypedPlace.{TypedPlace, out-TypedPlace}
 use Rattle.graph_of.specs.declared.parts.Around.{Around}
 use Rattle.graph_of.specs.declared.parts.Operand.{Operand}
-use Rattle.graph_of.specs.Builder.{Builder, Flow, give, ◌then◌}
-use Rattle.graph_of.specs.Expressions.{Value, Spot, Calling, Shaped, form_step, shape_of, value_of, spot_of, calling_of, spot_cell, spot_index, unary_value, unary_pure, binary_pure, convert_pure, load_pure, truth_pure, choice_pure, call_pure, both_cond, either_cond, not_cond, other_cond}
+use Rattle.graph_of.specs.Builder.{Flow, give, ◌then◌}
+use Rattle.graph_of.specs.Expressions.{Value, Spot, Calling, Shaped, form_step, shape_of, value_of, spot_of, calling_of, spot_cell, spot_index, unary_value, unary_pure, convert_pure, truth_pure, choice_pure, call_pure, both_cond, either_cond, not_cond, other_cond}
 use Rattle.c_lower.specs.Operands.{constant_operand, loaded_operand, unary_operand, binary_operand}
 
 -- an expression is what its form makes
@@ -36,14 +36,14 @@ own_kind x = ap (λ (v : Value). v.kind) (shaped x)
 pub own_span : (x : TypedExpr) → (value_of x).span ≡ x.span
 own_span x = ap (λ (v : Value). v.span) (shaped x)
 
-spot_is : (p : TypedPlace) → spot_of p ≡ record { variable = p.variable; index = option_map value_of p.index }
+spot_is : (p : TypedPlace) → spot_of p ≡ record { variable = (out-TypedPlace p).variable; index = option_map value_of (out-TypedPlace p).index }
 unfolding spot_of value_of
 spot_is p = search (rules, the_lemmas)
 
-pub own_variable : (p : TypedPlace) → (spot_of p).variable ≡ p.variable
+pub own_variable : (p : TypedPlace) → (spot_of p).variable ≡ (out-TypedPlace p).variable
 own_variable p = ap (λ (s : Spot). s.variable) (spot_is p)
 
-pub calling_is : (c : TypedCall) → calling_of c ≡ record { callee = c.callee; words = map value_of c.words; arrays = c.arrays; cell = c.cell }
+pub calling_is : (c : TypedCall) → calling_of c ≡ (let d = out-TypedCall c in record { callee = d.callee; words = map value_of d.words; arrays = d.arrays; cell = d.cell })
 unfolding calling_of value_of
 calling_is c = search (rules, the_lemmas)
 
@@ -89,7 +89,7 @@ module _ (u : Around) (x : TypedExpr) where
   pub constant_is : (n : ℕ) → x.form ≡ forms.Constant n → (value_of x).pure u ≡ give (constant_operand n x.kind)
   constant_is n e = ap (λ (p : Around → Flow Operand). p u) (pure_by x _ (form_step (TypedExprForm-F.Constant n)) e (constant_form n))
 
-  pub load_is : (p : TypedPlace) → x.form ≡ forms.Load p → (value_of x).pure u ≡ (spot_cell (spot_of p) u then λ c. give (loaded_operand p.variable.name x.kind c))
+  pub load_is : (p : TypedPlace) → x.form ≡ forms.Load p → (value_of x).pure u ≡ (spot_cell (spot_of p) u then λ c. give (loaded_operand (out-TypedPlace p).variable.name x.kind c))
   load_is p e =
       ap (λ (f : Around → Flow Operand). f u) (pure_by x _ (form_step (TypedExprForm-F.Load (spot_of p))) e (load_form p))
       ∙ ap (λ (v : Variable). spot_cell (spot_of p) u then λ c. give (loaded_operand v.name x.kind c)) (own_variable p)
@@ -128,20 +128,52 @@ module _ (u : Around) (x : TypedExpr) where
 -- ---- places
 
 module _ (u : Around) (p : TypedPlace) where
-  pub no_index_is : p.index ≡ None → spot_cell (spot_of p) u ≡ spot_index p.variable None u
-  no_index_is e = ap (λ (s : Spot). spot_cell s u) (spot_is p) ∙ ap (λ (o : Option TypedExpr). spot_index p.variable (option_map value_of o) u) e
+  pub no_index_is : (out-TypedPlace p).index ≡ None → spot_cell (spot_of p) u ≡ spot_index (out-TypedPlace p).variable None u
+  no_index_is e = ap (λ (s : Spot). spot_cell s u) (spot_is p) ∙ ap (λ (o : Option TypedExpr). spot_index (out-TypedPlace p).variable (option_map value_of o) u) e
 
-  pub index_is : (i : TypedExpr) → p.index ≡ Some i → spot_cell (spot_of p) u ≡ spot_index p.variable (Some (value_of i)) u
-  index_is i e = ap (λ (s : Spot). spot_cell s u) (spot_is p) ∙ ap (λ (o : Option TypedExpr). spot_index p.variable (option_map value_of o) u) e
+  pub index_is : (i : TypedExpr) → (out-TypedPlace p).index ≡ Some i → spot_cell (spot_of p) u ≡ spot_index (out-TypedPlace p).variable (Some (value_of i)) u
+  index_is i e = ap (λ (s : Spot). spot_cell s u) (spot_is p) ∙ ap (λ (o : Option TypedExpr). spot_index (out-TypedPlace p).variable (option_map value_of o) u) e
 
 -- ---- conditions
 
 -- what a condition takes apart
+abbrev pub splits_at : {A B C D : Type 0} → TypedExprForm-F A B C D → Bool
+splits_at (TypedExprForm-F.Constant n) = false
+splits_at (TypedExprForm-F.Load p) = false
+splits_at (TypedExprForm-F.Convert x) = false
+splits_at (TypedExprForm-F.Unary unary.Not x) = true
+splits_at (TypedExprForm-F.Unary unary.Neg x) = false
+splits_at (TypedExprForm-F.Unary unary.Complement x) = false
+splits_at (TypedExprForm-F.Binary op x y) = false
+splits_at (TypedExprForm-F.Both x y cell) = true
+splits_at (TypedExprForm-F.Either x y cell) = true
+splits_at (TypedExprForm-F.Choice c x y cell) = false
+splits_at (TypedExprForm-F.Call c) = false
+
 abbrev pub splits : TypedExprForm → Bool
-splits (forms.Unary unary.Not x) = true
-splits (forms.Both x y cell) = true
-splits (forms.Either x y cell) = true
-splits _ = false
+splits f = splits_at (out-TypedExprForm f)
+
+-- a form, by its layer
+layered : TypedExprForm-F TypedExprForm TypedCall TypedExpr TypedPlace → Shaped
+layered l = form_step (map-TypedExprForm TypedExprForm TypedCall TypedExpr TypedPlace Shaped Calling Value Spot shape_of calling_of value_of spot_of l)
+
+by_layer : (f : TypedExprForm) → shape_of f ≡ layered (out-TypedExprForm f)
+unfolding shape_of calling_of value_of spot_of layered
+by_layer f = search (rules, the_lemmas)
+
+layer_other : (span : Span) (kind : Kind) (l : TypedExprForm-F TypedExprForm TypedCall TypedExpr TypedPlace) → splits_at l ≡ false → (layered l span kind).cond ≡ other_cond span (layered l span kind).pure
+unfolding layered
+layer_other span kind (TypedExprForm-F.Constant n) h = refl
+layer_other span kind (TypedExprForm-F.Load p) h = refl
+layer_other span kind (TypedExprForm-F.Convert x) h = refl
+layer_other span kind (TypedExprForm-F.Unary unary.Not x) h = absurd (cc)
+layer_other span kind (TypedExprForm-F.Unary unary.Neg x) h = refl
+layer_other span kind (TypedExprForm-F.Unary unary.Complement x) h = refl
+layer_other span kind (TypedExprForm-F.Binary op x y) h = refl
+layer_other span kind (TypedExprForm-F.Both x y cell) h = absurd (cc)
+layer_other span kind (TypedExprForm-F.Either x y cell) h = absurd (cc)
+layer_other span kind (TypedExprForm-F.Choice c x y cell) h = refl
+layer_other span kind (TypedExprForm-F.Call c) h = refl
 
 module _ (x : TypedExpr) where
   pub not_is : (y : TypedExpr) → x.form ≡ forms.Unary unary.Not y → (value_of x).cond ≡ not_cond (value_of y)
@@ -155,20 +187,6 @@ module _ (x : TypedExpr) where
 
   -- any other
   pub other_is : splits x.form ≡ false → (value_of x).cond ≡ other_cond x.span (value_of x).pure
-  other_is h = ap (λ (v : Value). v.cond) (shaped x) ∙ by x.form h ∙ ap (other_cond x.span) (sym (ap (λ (v : Value). v.pure) (shaped x)))
-    where
-      at : (f : TypedExprForm) (made : Shaped) → shape_of f ≡ made → (made x.span x.kind).cond ≡ other_cond x.span (made x.span x.kind).pure → (shape_of f x.span x.kind).cond ≡ other_cond x.span (shape_of f x.span x.kind).pure
-      at f made e k = ap (λ (g : Shaped). (g x.span x.kind).cond) e ∙ k ∙ ap (λ (g : Shaped). other_cond x.span (g x.span x.kind).pure) (sym e)
-
-      by : (f : TypedExprForm) → splits f ≡ false → (shape_of f x.span x.kind).cond ≡ other_cond x.span (shape_of f x.span x.kind).pure
-      by (forms.Constant n) h = at _ _ (constant_form n) refl
-      by (forms.Load p) h = at _ _ (load_form p) refl
-      by (forms.Convert y) h = at _ _ (convert_form y) refl
-      by (forms.Unary unary.Not y) h = absurd (cc)
-      by (forms.Unary unary.Neg y) h = at _ _ (unary_form unary.Neg y) refl
-      by (forms.Unary unary.Complement y) h = at _ _ (unary_form unary.Complement y) refl
-      by (forms.Binary op y z) h = at _ _ (binary_form op y z) refl
-      by (forms.Both y z cell) h = absurd (cc)
-      by (forms.Either y z cell) h = absurd (cc)
-      by (forms.Choice c y z cell) h = at _ _ (choice_form c y z cell) refl
-      by (forms.Call c) h = at _ _ (call_form c) refl
+  other_is h =
+      ap (λ (v : Value). v.cond) (shaped x) ∙ ap (λ (g : Shaped). (g x.span x.kind).cond) (by_layer x.form) ∙ layer_other x.span x.kind (out-TypedExprForm x.form) h
+      ∙ ap (λ (g : Shaped). other_cond x.span (g x.span x.kind).pure) (sym (by_layer x.form)) ∙ ap (other_cond x.span) (sym (ap (λ (v : Value). v.pure) (shaped x)))

@@ -1,3 +1,5 @@
 pub mod Stopping
 pub mod Flows
 pub mod Operands
+pub mod Forms
+pub mod Cases

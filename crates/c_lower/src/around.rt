@@ -7,7 +7,7 @@ use fq_core::Span;
 use graph_of::Around;
 use std::alloc::AllocError;
 
-fn shared(scope: &Scope) -> Result<Scope, AllocError>
+pub(crate) fn shared(scope: &Scope) -> Result<Scope, AllocError>
     ensures { IfOk result (λ copy. copy ≡ scope.now) }
 {
     Ok(Scope {
@@ -15,7 +15,7 @@ fn shared(scope: &Scope) -> Result<Scope, AllocError>
     })
 }
 
-fn copied(around: &Around) -> Result<Around, AllocError>
+pub(crate) fn copied(around: &Around) -> Result<Around, AllocError>
     ensures { IfOk result (λ copy. copy ≡ around.now) }
 {
     Ok(Around {
