@@ -14,4 +14,4 @@ mod ValueTrees
 mod StatementTrees
 mod WaysWhole
 mod WholeSettings
-mod Whole
+pub mod Whole
