@@ -3,3 +3,4 @@ pub mod Flows
 pub mod Operands
 pub mod Forms
 pub mod Cases
+pub mod Refusal
