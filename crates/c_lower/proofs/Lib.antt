@@ -1,0 +1,14 @@
+pub mod Stops
+pub mod Lists
+pub mod EdgeLaws
+pub mod FlowLaws
+pub mod ValueLaws
+pub mod ExpressionLaws
+pub mod RowLaws
+pub mod ScopeLaws
+pub mod StatementLaws
+pub mod BlockLaws
+pub mod LoopLaws
+pub mod LabelLaws
+pub mod SwitchLaws
+pub mod UnitLaws

@@ -1,0 +1,7 @@
+use Rattle.std.proofs.Common.{◌≡◌, ◌+◌, map, drop}
+use Rattle.graph_of.specs.Switch.{default_from}
+use Rattle.graph_of.specs.Table.{group_of}
+use Rattle.c_lower.proofs.labels.default_from.Given as goal
+
+abbrev pub invariant-loop-i : goal.invariant-loop-i
+invariant-loop-i l = default_from l.g (map group_of l.groups) l.z ≡ default_from (l.g + l.i) (map group_of (drop l.i l.groups)) l.z
