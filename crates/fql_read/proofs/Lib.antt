@@ -7,3 +7,4 @@ pub mod QueryOutcome
 pub mod Steps
 pub mod TakesCovers
 pub mod TakesFilters
+pub mod UsableLaws

@@ -7,3 +7,4 @@ pub mod Reading
 pub mod ReadingQueries
 pub mod Spelled
 pub mod Tables
+pub mod Usable

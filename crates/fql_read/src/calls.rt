@@ -5,6 +5,7 @@ ghost use Rattle.fql_tokens.specs.Accepted.{IsUnlessMemory, refusal};
 ghost use Rattle.fql_read.specs.declared.query.Query.{Query};
 ghost use Rattle.fql_read.specs.Asks.{Asks, IsRefusedQuery};
 ghost use Rattle.fql_read.specs.ReadingQueries.{query_outcome};
+ghost use Rattle.fql_read.specs.Usable.{IsUsable};
 
 use crate::queries::limited_query;
 use crate::query::Query as QueryTree;
@@ -30,6 +31,8 @@ fn read(alloc: Global, text: &[u8]) -> Result<QueryTree, Fault>
 pub fn read_query(alloc: Global, text: &[u8]) -> Result<QueryTree, Fault>
     // What is answered is the query that the bytes ask for.
     ensures accepted { IfOk result (λ query. Asks text.now query) }
+    // Its numbers are in their ranges, its predicates listed once each, and its quotation marks don't nest.
+    ensures usable { IfOk result (λ query. IsUsable query) }
     // The query that the bytes ask for is answered, where there is one.
     ensures accepts { (query : Query) → Asks text.now query → IsUnlessMemory result (Ok query) }
     // A refusal has its cause.

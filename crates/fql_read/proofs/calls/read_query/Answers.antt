@@ -3,10 +3,15 @@ use Rattle.fql_tokens.specs.Accepted.{refusal}
 use Rattle.fql_tokens.proofs.OutcomeLaws.{ok-is, err-is, answer-is}
 use Rattle.fql_read.specs.ReadingQueries.{query_outcome}
 use Rattle.fql_read.proofs.QueryOutcome.{query_accepted, query_accepts, query_refused, query_refuses}
+use Rattle.fql_read.proofs.UsableLaws.{asks_usable}
 use Rattle.fql_read.proofs.calls.read_query.Goals as goal
 
 pub returns-clause-accepted : goal.returns-clause-accepted
 returns-clause-accepted c = ok-is c.read.result (query_outcome c.args.text.now) c.read.ensures (λ q e. query_accepted _ q e)
+
+pub returns-clause-usable : goal.returns-clause-usable
+returns-clause-usable c =
+    ok-is c.read.result (query_outcome c.args.text.now) c.read.ensures (λ q e. asks_usable _ q (query_accepted _ q e))
 
 pub returns-clause-accepts : goal.returns-clause-accepts
 returns-clause-accepts c = λ q a. answer-is c.read.result (query_outcome c.args.text.now) c.read.ensures (Ok q) (query_accepts _ q a)
