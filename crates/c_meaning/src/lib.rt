@@ -6,4 +6,14 @@
 #![tactic(auto)]
 
 mod evaluate;
+mod input;
+mod cells;
+mod state;
+mod step;
+mod stepped;
+mod words;
 mod store;
+
+pub use cfa::{Frame, State, Trap};
+pub use input::Input;
+pub use stepped::Stepped;

@@ -1,5 +1,5 @@
 use Rattle.std.proofs.Common.{◌∙◌}
-use Rattle.c_meaning.proofs.Words.{word_value, word_number}
+use Rattle.c_meaning.proofs.Patterns.{word_value, word_number}
 use Rattle.c_meaning.proofs.evaluate.fitted.Goals as goal
 
 pub convert-requires-clause-operand : goal.convert-requires-clause-operand
