@@ -89,11 +89,11 @@ pub record Running (parts : GraphParts) (s : State) : Type 0 where
   pub arrays : AllZip (λ start count. start + count ≤ (running_frame s).base) (running_frame s).arrays at.own.arrays
 
 -- the last owner is the node's function
-abbrev Owned : GraphParts → State → List ℕ → Node → Type 0
+abbrev pub Owned : GraphParts → State → List ℕ → Node → Type 0
 Owned parts s owners n = slice_get owners (length s.frames - 1) ≡ Some n.function
 
 -- the arrays that a frame is lent lie below it
-abbrev Lent : Frame → Function → Type 0
+abbrev pub Lent : Frame → Function → Type 0
 Lent frame f = AllZip (λ start count. start + count ≤ frame.base) frame.arrays f.arrays
 
 state_node : (parts : GraphParts) (s : State) → IsState parts s → s.node < length parts.nodes
