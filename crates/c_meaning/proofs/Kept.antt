@@ -16,10 +16,7 @@ use Rattle.cfa.specs.Graph.{IsGraph, IsNodeOf, callee_of}
 use Rattle.cfa.specs.States.{IsState, HasArrays, IsCallBetween, running_frame, cells_of, end_of, function_cells}
 use Rattle.cfa.proofs.Exits.{taken, given}
 use Rattle.c_meaning.proofs.Slices.{slice_get_front, slice_get_last, slice_get_push, slice_get_kept, slice_get_taken, take_take}
-use Rattle.c_meaning.proofs.StateLaws.{Owned, Lent, last_split, end_push, Running}
-
-abbrev Of : ℕ → Node → Type 0
-Of function n = n.function ≡ function
+use Rattle.c_meaning.proofs.StateLaws.{Of, Owned, end_push}
 
 -- ---- within a function
 

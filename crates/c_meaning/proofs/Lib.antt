@@ -1,6 +1,7 @@
 pub mod Calls
 pub mod Elements
 pub mod Kept
+pub mod Next
 pub mod Operands
 pub mod Patterns
 pub mod Slices

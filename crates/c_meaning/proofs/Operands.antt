@@ -16,10 +16,10 @@ use Rattle.cfa.specs.States.{IsState}
 use Rattle.cfa.proofs.Exits.{taken}
 use Rattle.c_meaning.specs.Places.{Leaves, room_in, storage_of}
 use Rattle.c_meaning.specs.Steps.{function_at}
-use Rattle.c_meaning.proofs.StateLaws.{Belongs, Running, running}
+use Rattle.c_meaning.proofs.StateLaws.{Of, Running, running}
 
 -- an operation that is no return leaves a node of its function
-leaves_own : (parts : GraphParts) (function source : ℕ) (op : Operation) → is_return op ≡ false → SourceFits parts function source op → IsNodeOf parts function source
+pub leaves_own : (parts : GraphParts) (function source : ℕ) (op : Operation) → is_return op ≡ false → SourceFits parts function source op → IsNodeOf parts function source
 leaves_own parts function source Skip r h = h
 leaves_own parts function source (Assign place value) r h = h
 leaves_own parts function source (Clear array count) r h = h
@@ -30,9 +30,6 @@ leaves_own parts function source (Answer input dest) r h = h
 leaves_own parts function source (Assert test) r h = h
 leaves_own parts function source (Assume test) r h = h
 
--- a node belongs to a function
-abbrev Of : ℕ → Node → Type 0
-Of function n = n.function ≡ function
 
 -- the edge that leaves a state's node is of the node's function
 pub edge_own : (parts : GraphParts) (s : State) (at : ℕ) (e : Edge) → IsGraph parts → (r : Running parts s) → Leaves parts s at e → e.function ≡ r.at.place.function

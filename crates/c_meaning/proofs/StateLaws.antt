@@ -88,6 +88,10 @@ pub record Running (parts : GraphParts) (s : State) : Type 0 where
   pub cells : length s.cells ≡ end_of parts below + at.own.cells
   pub arrays : AllZip (λ start count. start + count ≤ (running_frame s).base) (running_frame s).arrays at.own.arrays
 
+-- a node belongs to a function
+abbrev pub Of : ℕ → Node → Type 0
+Of function n = n.function ≡ function
+
 -- the last owner is the node's function
 abbrev pub Owned : GraphParts → State → List ℕ → Node → Type 0
 Owned parts s owners n = slice_get owners (length s.frames - 1) ≡ Some n.function

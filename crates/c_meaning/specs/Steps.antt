@@ -185,3 +185,11 @@ next_within parts input s (Some f) = if s.node == f.exit then left parts s f els
 -- leave a node where no graph has them, stands in for cases that no state of a graph has.
 unfoldable pub next : GraphParts → Input → State → Stepped
 next parts input s = next_within parts input s (function_at parts s.node)
+
+-- P of the state that the run goes on in, if it does
+abbrev pub IfMoved : Stepped → (State → Type 0) → Type 0
+IfMoved (Moved at to) P = P to
+IfMoved (Returned value) P = Unit {0}
+IfMoved (Trapped trap) P = Unit {0}
+IfMoved Blocked P = Unit {0}
+IfMoved TooDeep P = Unit {0}

@@ -2,12 +2,13 @@
 ghost use Rattle.std.specs.Prelude.{◌≡◌, ℕ, ◌+◌, ◌^◌, ◌<◌, ◌≤◌, false, length, map, Option, Some, IsTrue, IfOk, slice_get, slice_set};
 ghost use Rattle.std.specs.Option.{IsSomeAnd};
 ghost use Rattle.cfa.specs.declared.parts.Edge.{Edge};
-ghost use Rattle.cfa.specs.Graph.{call_fits, dest_fits, operands_fit};
+ghost use Rattle.cfa.specs.Graph.{IsExit, call_fits, dest_fits};
+ghost use Rattle.cfa.specs.Table.{outgoing_of};
 ghost use Rattle.cfa.specs.Rules.{array_fits, expr_fits, place_fits};
 ghost use Rattle.cfa.specs.States.{IsState, value_in};
 ghost use Rattle.c_values.specs.Kind.{IsKind};
 ghost use Rattle.c_meaning.specs.Places.{Leaves, dest_in, put_in, storage_of};
-ghost use Rattle.c_meaning.specs.Steps.{unless_trapped, unless_zero, cell_in, start_in, cleared, moved, put, answer_of, answered, called, call_of, operated, along};
+ghost use Rattle.c_meaning.specs.Steps.{unless_trapped, unless_zero, cell_in, start_in, cleared, moved, put, answer_of, answered, called, call_of, operated, along, picked, onward};
 
 use crate::cells::{first_cells, push_frame, with_value, with_zeros};
 use crate::evaluate::{cell_of, fitted, value_of};
@@ -348,4 +349,50 @@ fn along(
     ensures { IfOk result (λ stepped. stepped ≡ along graph.now input.now state at) }
 {
     operated(alloc, graph, input, state, at, edge_of(graph, at))
+}
+
+// Of two guards, that of truth first, the test's value picks one.
+fn picked(
+    alloc: Global,
+    graph: &Graph,
+    input: &Input,
+    state: State,
+    yes_at: u32,
+    no_at: u32,
+) -> Result<Stepped, AllocError>
+    requires state { IsState graph.now state }
+    requires more { state.taken + 1 < 2 ^ 64 }
+    requires yes_leaves { IsSomeAnd (slice_get graph.now.edges yes_at) (λ e. Leaves graph.now state yes_at e) }
+    requires no_leaves { IsSomeAnd (slice_get graph.now.edges no_at) (λ e. Leaves graph.now state no_at e) }
+    ensures { IfOk result (λ stepped. stepped ≡ picked graph.now input.now state yes_at no_at (slice_get graph.now.edges yes_at)) }
+{
+    graph.well_formed();
+    match &edge_of(graph, yes_at).operation {
+        Operation::Guard { test, .. } => match test_value(graph, &state, test) {
+            Ok(0) => along(alloc, graph, input, state, no_at),
+            Ok(_value) => along(alloc, graph, input, state, yes_at),
+            Err(trap) => Ok(Stepped::Trapped(trap)),
+        },
+        _ => Ok(Stepped::Blocked),
+    }
+}
+
+// Goes on from a node that is no exit.
+fn onward(
+    alloc: Global,
+    graph: &Graph,
+    input: &Input,
+    state: State,
+) -> Result<Stepped, AllocError>
+    requires state { IsState graph.now state }
+    requires more { state.taken + 1 < 2 ^ 64 }
+    requires inner { ¬ IsExit graph.now state.node }
+    ensures { IfOk result (λ stepped. stepped ≡ onward graph.now input.now state (outgoing_of graph.now state.node)) }
+{
+    graph.well_formed();
+    match graph.outgoing(state.node) {
+        [] => Ok(Stepped::Blocked),
+        [at] => along(alloc, graph, input, state, *at),
+        [yes_at, no_at, ..] => picked(alloc, graph, input, state, *yes_at, *no_at),
+    }
 }
