@@ -23,9 +23,10 @@ use Rattle.cfa.specs.declared.state.State.{State}
 use Rattle.cfa.specs.declared.state.Trap.{Trap}
 use Rattle.cfa.specs.declared.state.Trap.TheVariants as trap
 use Rattle.cfa.specs.Each.{matched}
-use Rattle.cfa.specs.Graph.{IsGraph, IsNodeOf, TargetFits, callee_of, operands_fit, call_fits, words_fit, arrays_fit, word_fits, is_return}
+use Rattle.cfa.specs.Graph.{IsGraph, IsNodeOf, TargetFits, callee_of, operands_fit, call_fits, words_fit, arrays_fit, word_fits, is_return, IsExit}
 use Rattle.cfa.specs.Rules.{Room, array_fits}
-use Rattle.cfa.specs.States.{IsState, HasArrays, IsCallBetween, cells_of, end_of, function_cells, running_frame}
+use Rattle.cfa.specs.Table.{outgoing_of}
+use Rattle.cfa.specs.States.{IsState, HasArrays, IsCallBetween, cells_of, end_of, function_cells, running_frame, value_in}
 use Rattle.cfa.specs.Values.{array_start, value_of}
 use Rattle.cfa.proofs.Exits.{taken, given}
 use Rattle.c_meaning.specs.declared.input.Input.{Input}
@@ -33,11 +34,12 @@ use Rattle.c_meaning.specs.declared.stepped.Stepped.{Stepped}
 use Rattle.c_meaning.specs.declared.stepped.Stepped.TheVariants.{Moved, Returned, Trapped, Blocked, TooDeep}
 use Rattle.c_meaning.specs.Places.{Leaves, storage_of}
 use Rattle.c_meaning.specs.Starts.{frame_cells}
-use Rattle.c_meaning.specs.Steps.{IfMoved, unless_trapped, unless_zero, value_before, values_of, values_in, start_in, moved, put, cleared, answer_of, answered, called_frame, called, call_of, operated}
+use Rattle.c_meaning.specs.Steps.{IfMoved, unless_trapped, unless_zero, cell_in, value_before, values_of, values_in, start_in, moved, put, cleared, answer_of, answered, called_frame, called, call_of, operated, along_edge, along, picked_by, picked, onward}
 use Rattle.c_meaning.specs.Storage.{Storage, HasRoom}
 use Rattle.c_meaning.proofs.Elements.{array_within}
 use Rattle.c_meaning.proofs.Kept.{moved_state, pushed_state}
 use Rattle.c_meaning.proofs.Operands.{leaves_own, operands_of}
+use Rattle.c_meaning.proofs.Outgoing.{outgoing_leaves}
 use Rattle.c_meaning.proofs.StateLaws.{Of, Owned, has_room}
 
 -- ---- lengths
@@ -164,7 +166,8 @@ module _ (parts : GraphParts) (input : Input) (s : State) (at : ℕ) (e : Edge) 
   pub operated_keeps : (op : Operation) → e.operation ≡ op → IfMoved (operated parts input s at e op) (IsState parts)
   operated_keeps Skip is = stays s.cells s.taken (ap callee_of is) refl
   operated_keeps (Assign place value) is =
-      unless_keeps (IsState parts) _ _ (λ cell c. unless_keeps (IsState parts) _ _ (λ v d. stays (slice_set s.cells cell v) s.taken (ap callee_of is) (length-set s.cells cell v)))
+      unless_keeps (IsState parts) (cell_in s place) (λ cell. unless_trapped (value_in s value) (λ v. moved at e s (slice_set s.cells cell v))) (λ cell c.
+      unless_keeps (IsState parts) (value_in s value) (λ v. moved at e s (slice_set s.cells cell v)) (λ v d. stays (slice_set s.cells cell v) s.taken (ap callee_of is) (length-set s.cells cell v)))
   operated_keeps (Clear array count) is =
       let within = array_within (storage_of parts s) array count (has_room parts s g h) (operands_of parts s at e (Clear array count) g h l is) in
       stays (cleared s.cells (start_in s array) count) s.taken (ap callee_of is) (length-cleared s.cells (start_in s array) count within)
@@ -173,6 +176,36 @@ module _ (parts : GraphParts) (input : Input) (s : State) (at : ℕ) (e : Edge) 
   operated_keeps (Return call dest) is = tt
   operated_keeps (Answer number dest) is = answer_keeps number dest (slice_get parts.inputs number) is
   operated_keeps (Assert test) is =
-      unless_keeps (IsState parts) _ _ (λ v c. zero_keeps (IsState parts) (Trapped trap.Assert) (moved at e s s.cells) v tt (stays s.cells s.taken (ap callee_of is) refl))
+      unless_keeps (IsState parts) (value_in s test) (unless_zero (Trapped trap.Assert) (moved at e s s.cells)) (λ v c. zero_keeps (IsState parts) (Trapped trap.Assert) (moved at e s s.cells) v tt (stays s.cells s.taken (ap callee_of is) refl))
   operated_keeps (Assume test) is =
-      unless_keeps (IsState parts) _ _ (λ v c. zero_keeps (IsState parts) Blocked (moved at e s s.cells) v tt (stays s.cells s.taken (ap callee_of is) refl))
+      unless_keeps (IsState parts) (value_in s test) (unless_zero Blocked (moved at e s s.cells)) (λ v c. zero_keeps (IsState parts) Blocked (moved at e s s.cells) v tt (stays s.cells s.taken (ap callee_of is) refl))
+
+-- ---- from a node
+
+module _ (parts : GraphParts) (input : Input) (s : State) (g : IsGraph parts) (h : IsState parts s) where
+  along_keeps : (at : ℕ) → IsSomeAnd (slice_get parts.edges at) (Leaves parts s at) → IfMoved (along parts input s at) (IsState parts)
+  along_keeps at there =
+      let e = taken (Leaves parts s at) (slice_get parts.edges at) there in
+      subst (λ o. IfMoved (along_edge parts input s at o) (IsState parts)) (sym e.1) (operated_keeps parts input s at e.0 g h e.2 e.0.operation refl)
+
+  zero_picks : (a b : Stepped) (v : ℕ) → IfMoved a (IsState parts) → IfMoved b (IsState parts) → IfMoved (if v == 0 then a else b) (IsState parts)
+  zero_picks a b v p q = zero_keeps (IsState parts) a b v p q
+
+  picked_keeps : (yes_at no_at : ℕ) (o : Option Edge) → IsSomeAnd (slice_get parts.edges yes_at) (Leaves parts s yes_at) → IsSomeAnd (slice_get parts.edges no_at) (Leaves parts s no_at) → IfMoved (picked parts input s yes_at no_at o) (IsState parts)
+  picked_keeps yes_at no_at None p q = tt
+  picked_keeps yes_at no_at (Some e) p q = by e.operation
+    where
+      by : (op : Operation) → IfMoved (picked_by parts input s yes_at no_at op) (IsState parts)
+      by (Guard test truth) =
+          unless_keeps (IsState parts) (value_in s test) (λ v. if v == 0 then along parts input s no_at else along parts input s yes_at) (λ v c. zero_picks (along parts input s no_at) (along parts input s yes_at) v (along_keeps no_at q) (along_keeps yes_at p))
+      by _ = tt
+
+  onward_keeps : (row : List ℕ) → ((j at : ℕ) → slice_get row j ≡ Some at → IsSomeAnd (slice_get parts.edges at) (Leaves parts s at)) → IfMoved (onward parts input s row) (IsState parts)
+  onward_keeps [] each = tt
+  onward_keeps (at ∷ []) each = along_keeps at (each 0 at refl)
+  onward_keeps (yes_at ∷ no_at ∷ rest) each =
+      picked_keeps yes_at no_at (slice_get parts.edges yes_at) (each 0 yes_at refl) (each 1 no_at refl)
+
+  -- going on from a node that is no exit keeps to states of the graph
+  pub inner_keeps : ¬ IsExit parts s.node → IfMoved (onward parts input s (outgoing_of parts s.node)) (IsState parts)
+  inner_keeps inner = onward_keeps (outgoing_of parts s.node) (λ j at e. outgoing_leaves parts s j at g inner e)

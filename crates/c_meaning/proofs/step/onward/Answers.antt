@@ -1,23 +1,20 @@
-use Rattle.std.proofs.Common.{rules, ◌≡◌, ℕ, ◌+◌, ◌^◌, ◌<◌, ◌≤◌, false, length, map, Option, Some, IsTrue, IfOk, slice_get, slice_set, ◌-◌, ◌*◌, ◌/◌, ◌%◌, Bool, true, nat_eq, nat_lt, List, [], ◌∷◌, ◌++◌, slice_index_or, bit_and, bit_or, Fits, w8, w32, w64, Bor, MutBor}
-use Rattle.std.specs.Option.{IsSomeAnd}
-use Rattle.cfa.specs.declared.parts.Edge.{Edge}
-use Rattle.cfa.specs.Graph.{IsExit, call_fits, dest_fits}
-use Rattle.cfa.specs.Table.{outgoing_of}
-use Rattle.cfa.specs.Rules.{array_fits, expr_fits, place_fits}
-use Rattle.cfa.specs.States.{IsState, value_in}
-use Rattle.c_values.specs.Kind.{IsKind}
-use Rattle.c_meaning.specs.Places.{Leaves, dest_in, put_in, storage_of}
-use Rattle.c_meaning.specs.Steps.{unless_trapped, unless_zero, cell_in, start_in, cleared, moved, put, answer_of, answered, called, call_of, operated, along, picked, onward}
+use Rattle.std.proofs.Common.{◌≡◌, Some, length, subst, arith}
+use Rattle.std.specs.Prelude.{slice_get, slice_index_or}
+use Rattle.std.proofs.lemmas.Option.{slice_get-get_or}
+use Rattle.c_meaning.proofs.Outgoing.{outgoing_leaves}
 use Rattle.c_meaning.proofs.step.onward.Goals as goal
 
--- src/step.rt:395:17
 pub along-requires-clause-leaves : goal.along-requires-clause-leaves
-along-requires-clause-leaves c = ?
+along-requires-clause-leaves c =
+    let row = c.outgoing.result.now in
+    outgoing_leaves c.args.graph.now c.args.state 0 (slice_index_or row 0 0) c.well_formed-2.ensures c.requires.inner (subst (λ r. slice_get r 0 ≡ Some (slice_index_or row 0 0)) c.outgoing.ensures (slice_get-get_or row 0 0 (omega arith)))
 
--- src/step.rt:396:32
 pub picked-requires-clause-yes_leaves : goal.picked-requires-clause-yes_leaves
-picked-requires-clause-yes_leaves c = ?
+picked-requires-clause-yes_leaves c =
+    let row = c.outgoing.result.now in
+    outgoing_leaves c.args.graph.now c.args.state 0 (slice_index_or row 0 0) c.well_formed-2.ensures c.requires.inner (subst (λ r. slice_get r 0 ≡ Some (slice_index_or row 0 0)) c.outgoing.ensures (slice_get-get_or row 0 0 (omega arith)))
 
--- src/step.rt:396:32
 pub picked-requires-clause-no_leaves : goal.picked-requires-clause-no_leaves
-picked-requires-clause-no_leaves c = ?
+picked-requires-clause-no_leaves c =
+    let row = c.outgoing.result.now in
+    outgoing_leaves c.args.graph.now c.args.state 1 (slice_index_or row 1 0) c.well_formed-2.ensures c.requires.inner (subst (λ r. slice_get r 1 ≡ Some (slice_index_or row 1 0)) c.outgoing.ensures (slice_get-get_or row 1 0 (omega arith)))
