@@ -41,6 +41,21 @@ moved_state parts s node own answers cells h here there same =
       arrays = h.arrays;
     }
 
+-- a state with other cells, as many
+pub with_cells : (parts : GraphParts) (s : State) (node : ℕ) (cells : List ℕ) → IsState parts (record s { node = node }) → length cells ≡ length s.cells → IsState parts (record s { node = node; cells = cells })
+with_cells parts s node cells h same = record {
+  owners = h.owners;
+  each_owner = h.each_owner;
+  some_frame = h.some_frame;
+  most_frames = h.most_frames;
+  first = h.first;
+  calls = h.calls;
+  node = h.node;
+  bases = h.bases;
+  cells = same ∙ h.cells;
+  arrays = h.arrays;
+}
+
 -- ---- into a function
 
 module _ (parts : GraphParts) (s : State) (h : IsState parts s) (callee : ℕ) (frame : Frame) where

@@ -1,12 +1,13 @@
 -- What comes next in a state of a graph is a state of it, where the run goes on.
 use Rattle.std.proofs.Common.{◌≡◌, ℕ, zero, suc, ◌+◌, ◌-◌, ◌<◌, ◌≤◌, Bool, true, false, List, [], ◌∷◌, ◌++◌, Option, Some, None, map, take, drop, length, refl, sym, ap, subst, ◌∙◌, arith, length-append, length-take, length-drop}
 use Rattle.std.specs.Prelude.{Result, Ok, Err, IsTrue, ◌==◌, ◌&&◌, if◌then◌else◌, nat_le, slice_get, slice_set, replicate}
-use Rattle.std.specs.Option.{IsSomeAnd, is_some}
-use Rattle.std.specs.List.{AllZip}
-use Rattle.std.proofs.lemmas.Bool.{leb-false}
+use Rattle.std.specs.Option.{IsSomeAnd, is_some, option_map}
+use Rattle.std.specs.List.{AllZip, list_all}
+use Rattle.std.proofs.lemmas.Bool.{eqb-false, eq-eqb, ne_eqb, leb-false}
 use Rattle.std.proofs.lemmas.List.{length-set, length-replicate}
 use Rattle.std.proofs.lemmas.Option.{slice_get_within, same_Some}
 use Rattle.c_values.specs.declared.kinds.Kind.{Kind}
+use Rattle.c_values.specs.Kind.{is_kind}
 use Rattle.c_values.proofs.Fitting.{and_left, and_right}
 use Rattle.cfa.specs.declared.expr.ArrayPlace.{ArrayPlace}
 use Rattle.cfa.specs.declared.expr.CellPlace.{CellPlace}
@@ -23,7 +24,7 @@ use Rattle.cfa.specs.declared.state.State.{State}
 use Rattle.cfa.specs.declared.state.Trap.{Trap}
 use Rattle.cfa.specs.declared.state.Trap.TheVariants as trap
 use Rattle.cfa.specs.Each.{matched}
-use Rattle.cfa.specs.Graph.{IsGraph, IsNodeOf, TargetFits, callee_of, operands_fit, call_fits, words_fit, arrays_fit, word_fits, is_return, IsExit}
+use Rattle.cfa.specs.Graph.{IsGraph, IsNodeOf, TargetFits, callee_of, operands_fit, call_fits, words_fit, arrays_fit, word_fits, is_return, result_kind_fits, IsExit}
 use Rattle.cfa.specs.Rules.{Room, array_fits}
 use Rattle.cfa.specs.Table.{outgoing_of}
 use Rattle.cfa.specs.States.{IsState, HasArrays, IsCallBetween, cells_of, end_of, function_cells, running_frame, value_in}
@@ -33,14 +34,15 @@ use Rattle.c_meaning.specs.declared.input.Input.{Input}
 use Rattle.c_meaning.specs.declared.stepped.Stepped.{Stepped}
 use Rattle.c_meaning.specs.declared.stepped.Stepped.TheVariants.{Moved, Returned, Trapped, Blocked, TooDeep}
 use Rattle.c_meaning.specs.Places.{Leaves, storage_of}
-use Rattle.c_meaning.specs.Starts.{frame_cells}
-use Rattle.c_meaning.specs.Steps.{IfMoved, unless_trapped, unless_zero, cell_in, value_before, values_of, values_in, start_in, moved, put, cleared, answer_of, answered, called_frame, called, call_of, operated, along_edge, along, picked_by, picked, onward}
+use Rattle.c_meaning.specs.Starts.{fitted, frame_cells}
+use Rattle.c_meaning.specs.Steps.{IfMoved, unless_trapped, unless_zero, cell_in, value_before, values_of, values_in, start_in, moved, put, cleared, answer_of, answered, called_frame, called, call_of, operated, along_edge, along, picked_by, picked, onward, popped, result_word, returned_by, returned_along, returned_from, left, function_at, next_within, next}
 use Rattle.c_meaning.specs.Storage.{Storage, HasRoom}
 use Rattle.c_meaning.proofs.Elements.{array_within}
-use Rattle.c_meaning.proofs.Kept.{moved_state, pushed_state}
+use Rattle.c_meaning.proofs.Kept.{moved_state, pushed_state, with_cells}
 use Rattle.c_meaning.proofs.Operands.{leaves_own, operands_of}
 use Rattle.c_meaning.proofs.Outgoing.{outgoing_leaves}
-use Rattle.c_meaning.proofs.StateLaws.{Of, Owned, has_room}
+use Rattle.c_meaning.proofs.Leaving.{Returns, returns_of, returned_state, inner_node}
+use Rattle.c_meaning.proofs.StateLaws.{Of, Owned, Running, running, has_room}
 
 -- ---- lengths
 
@@ -209,3 +211,53 @@ module _ (parts : GraphParts) (input : Input) (s : State) (g : IsGraph parts) (h
   -- going on from a node that is no exit keeps to states of the graph
   pub inner_keeps : ¬ IsExit parts s.node → IfMoved (onward parts input s (outgoing_of parts s.node)) (IsState parts)
   inner_keeps inner = onward_keeps (outgoing_of parts s.node) (λ j at e. outgoing_leaves parts s j at g inner e)
+
+-- ---- from an exit
+
+returned_keeps : (parts : GraphParts) (s : State) (g : IsGraph parts) (h : IsState parts s) (r : Returns parts s h) (op : Operation) → IfMoved (returned_by s (r.call + 1) r.edge op) (IsState parts)
+returned_keeps parts s g h r (Return call dest) =
+    put_keeps (IsState parts) (popped s) dest (result_word s) (moved (r.call + 1) r.edge (popped s)) (λ cells same. with_cells parts (popped s) r.edge.target cells (returned_state parts s g h r s.taken) same)
+returned_keeps parts s g h r _ = tt
+
+left_keeps : (parts : GraphParts) (s : State) (f : Function) → IsGraph parts → IsState parts s → IfMoved (left parts s f) (IsState parts)
+left_keeps parts s f g h = by (length s.frames == 1) refl
+  where
+    from : (r : Returns parts s h) → IfMoved (returned_from parts s (Some r.call)) (IsState parts)
+    from r = subst (λ o. IfMoved (returned_along s (r.call + 1) o) (IsState parts)) (sym r.edge_is) (returned_keeps parts s g h r r.edge.operation)
+    by : (b : Bool) → (length s.frames == 1) ≡ b → IfMoved (if b then Returned (option_map (λ kind. fitted kind (result_word s)) f.result) else returned_from parts s (running_frame s).call) (IsState parts)
+    by true e = tt
+    by false e =
+        let r = returns_of parts s g h (eqb-false (length s.frames) 1 e) in
+        subst (λ o. IfMoved (returned_from parts s o) (IsState parts)) (sym r.call_is) (from r)
+
+-- ---- by the node
+
+pub next_left : (parts : GraphParts) (input : Input) (s : State) (f : Function) → function_at parts s.node ≡ Some f → s.node ≡ f.exit → next parts input s ≡ left parts s f
+unfolding next
+next_left parts input s f own exit = rw (own, eq-eqb s.node f.exit exit) refl
+
+pub next_onward : (parts : GraphParts) (input : Input) (s : State) (f : Function) → function_at parts s.node ≡ Some f → (s.node ≡ f.exit → ⊥) → next parts input s ≡ onward parts input s (outgoing_of parts s.node)
+unfolding next
+next_onward parts input s f own apart = rw (own, ne_eqb s.node f.exit apart) refl
+
+-- the function of a node has a result of a kind, or none
+pub owner_kind : (parts : GraphParts) (s : State) (f : Function) → IsGraph parts → IsState parts s → function_at parts s.node ≡ Some f → IsTrue (result_kind_fits f.result)
+owner_kind parts s f g h own =
+    let r = running parts s g h in
+    let same : r.at.own ≡ f = same_Some r.at.own f (sym r.at.found ∙ own) in
+    subst (λ (q : Function). IsTrue (result_kind_fits q.result)) same (and_right (list_all is_kind r.at.own.parameters) (result_kind_fits r.at.own.result) (g.rest.functions r.at.place.function r.at.own r.at.own_is).signature)
+
+pub owner_inner : (parts : GraphParts) (s : State) (f : Function) → IsGraph parts → IsState parts s → function_at parts s.node ≡ Some f → (s.node ≡ f.exit → ⊥) → ¬ IsExit parts s.node
+owner_inner parts s f g h own apart =
+    let r = running parts s g h in inner_node parts s.node f g r.at (same_Some r.at.own f (sym r.at.found ∙ own)) apart
+
+-- what comes next keeps to states of the graph
+pub next_keeps : (parts : GraphParts) (input : Input) (s : State) → IsGraph parts → IsState parts s → IfMoved (next parts input s) (IsState parts)
+unfolding next
+next_keeps parts input s g h =
+    let r = running parts s g h in
+    subst (λ o. IfMoved (next_within parts input s o) (IsState parts)) (sym r.at.found) (by r r.at.own refl (s.node == r.at.own.exit) refl)
+  where
+    by : (r : Running parts s) (f : Function) → r.at.own ≡ f → (b : Bool) → (s.node == f.exit) ≡ b → IfMoved (if b then left parts s f else onward parts input s (outgoing_of parts s.node)) (IsState parts)
+    by r f own true e = left_keeps parts s f g h
+    by r f own false e = inner_keeps parts input s g h (inner_node parts s.node f g r.at own (eqb-false s.node f.exit e))

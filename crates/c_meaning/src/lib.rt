@@ -9,11 +9,13 @@ mod evaluate;
 mod input;
 mod cells;
 mod state;
-mod step;
+mod starting;
+mod stepping;
 mod stepped;
 mod words;
 mod store;
 
 pub use cfa::{Frame, State, Trap};
 pub use input::Input;
+pub use stepping::step;
 pub use stepped::Stepped;

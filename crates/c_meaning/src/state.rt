@@ -1,12 +1,12 @@
 // States of a graph, and their parts.
-ghost use Rattle.std.specs.Prelude.{◌≡◌, ◌<◌, length, Some, slice_get};
-ghost use Rattle.cfa.specs.States.{IsState};
+ghost use Rattle.std.specs.Prelude.{◌≡◌, ◌<◌, ◌≤◌, length, Some, slice_get};
+ghost use Rattle.cfa.specs.States.{IsState, running_frame};
 ghost use Rattle.c_meaning.specs.Places.{storage_of};
 ghost use Rattle.c_meaning.specs.Steps.{function_at};
 ghost use Rattle.c_meaning.specs.Storage.{HasRoom};
 
 use crate::store::Store;
-use cfa::{Edge, Function, Graph, InputFunction, State};
+use cfa::{Edge, Frame, Function, Graph, InputFunction, State};
 
 /// The edge of a number.
 pub(crate) fn edge_of(graph: &Graph, at: u32) -> &Edge
@@ -42,17 +42,24 @@ pub(crate) fn owner_of(graph: &Graph, node: u32) -> &Function
     &graph.functions()[own as usize]
 }
 
+/// The frame that runs.
+pub(crate) fn running_frame(state: &State) -> &Frame
+    requires { 1 ≤ length state.now.frames }
+    ensures { result.now ≡ running_frame state.now }
+{
+    let last = state.frames.len() - 1;
+    &state.frames[last]
+}
+
 fn storage_of<'a>(graph: &'a Graph, state: &'a State) -> Store<'a>
     requires { IsState graph.now state.now }
     ensures { result ≡ storage_of graph.now state.now }
 {
-    let function = owner_of(graph, state.node);
-    let last = state.frames.len() - 1;
     Store::new(
         &state.cells,
-        &state.frames[last],
+        running_frame(state),
         graph.globals().len(),
-        function,
+        owner_of(graph, state.node),
     )
 }
 

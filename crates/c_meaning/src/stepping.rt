@@ -1,19 +1,21 @@
 // The step from a state to the next.
-ghost use Rattle.std.specs.Prelude.{◌≡◌, ℕ, ◌+◌, ◌^◌, ◌<◌, ◌≤◌, false, length, map, Option, Some, IsTrue, IfOk, slice_get, slice_set};
-ghost use Rattle.std.specs.Option.{IsSomeAnd};
-ghost use Rattle.cfa.specs.declared.parts.Edge.{Edge};
-ghost use Rattle.cfa.specs.Graph.{IsExit, call_fits, dest_fits};
+ghost use Rattle.std.specs.Prelude.{◌≡◌, ◌+◌, ◌-◌, ◌^◌, ◌<◌, ◌≤◌, length, take, Some, IsTrue, IfOk, slice_get, slice_set};
+ghost use Rattle.std.specs.Option.{IsSomeAnd, option_map};
+ghost use Rattle.cfa.specs.Graph.{IsExit, call_fits, dest_fits, result_kind_fits};
 ghost use Rattle.cfa.specs.Table.{outgoing_of};
 ghost use Rattle.cfa.specs.Rules.{array_fits, expr_fits, place_fits};
-ghost use Rattle.cfa.specs.States.{IsState, value_in};
+ghost use Rattle.cfa.specs.States.{IsState, running_frame, value_in};
 ghost use Rattle.c_values.specs.Kind.{IsKind};
 ghost use Rattle.c_meaning.specs.Places.{Leaves, dest_in, put_in, storage_of};
-ghost use Rattle.c_meaning.specs.Steps.{unless_trapped, unless_zero, cell_in, start_in, cleared, moved, put, answer_of, answered, called, call_of, operated, along, picked, onward};
+ghost use Rattle.c_meaning.specs.Starts.{fitted};
+ghost use Rattle.c_meaning.specs.Steps.{unless_trapped, unless_zero, cell_in, start_in, cleared, moved, put, answer_of, answered, called, call_of, operated, along, picked, onward, popped, result_word, returned_from, left, next, IfMoved};
 
 use crate::cells::{first_cells, push_frame, with_value, with_zeros};
 use crate::evaluate::{cell_of, fitted, value_of};
 use crate::input::Input;
-use crate::state::{at_node, edge_of, function_of, input_function_of, store_of};
+use crate::state::{
+    at_node, edge_of, function_of, input_function_of, owner_of, running_frame, store_of,
+};
 use crate::stepped::Stepped;
 use crate::words::{starts_of, values_of};
 use c_values::Kind;
@@ -395,4 +397,158 @@ fn onward(
         [at] => along(alloc, graph, input, state, *at),
         [yes_at, no_at, ..] => picked(alloc, graph, input, state, *yes_at, *no_at),
     }
+}
+
+// All frames but the last.
+fn frames_below(frames: Vector<Frame>) -> Vector<Frame>
+    ensures { result ≡ take (length frames - 1) frames }
+{
+    let mut frames = frames.into_vec();
+    frames.truncate(frames.len().saturating_sub(1));
+    Vector::from_vec(frames)
+}
+
+// What the cell of the result holds.
+fn result_word(state: &State) -> u64
+    requires { 1 ≤ length state.now.frames }
+    ensures { result ≡ result_word state.now }
+{
+    let base = running_frame(state).base;
+    let cells = state.cells.as_slice();
+    cells.get(base as usize).copied().unwrap_or(0)
+}
+
+// The state without the frame that runs.
+fn popped(state: State) -> State
+    requires { 1 ≤ length state.frames }
+    ensures { result ≡ popped state }
+{
+    let base = running_frame(&state).base;
+    let State {
+        node,
+        frames,
+        cells,
+        taken,
+    } = state;
+    State {
+        node,
+        frames: frames_below(frames),
+        cells: first_cells(cells, base as usize),
+        taken,
+    }
+}
+
+// The frame that ran is removed, and its result is put where the return edge's place is.
+fn returned(
+    graph: &Graph,
+    state: State,
+    at: u32,
+    edge: &GraphEdge,
+    dest: &Option<CellPlace>,
+) -> Stepped
+    requires frames { 1 ≤ length state.frames }
+    requires below { IsState graph.now (record (popped state) { node = edge.now.target }) }
+    requires dest { IsTrue (dest_fits (storage_of graph.now (record (popped state) { node = edge.now.target })).room dest.now) }
+    ensures { result ≡ put (popped state) dest.now (result_word state) (moved at edge.now (popped state)) }
+{
+    let word = result_word(&state);
+    let below = at_node(popped(state), edge.target);
+    match cell_for(graph, &below, dest) {
+        Err(trap) => Stepped::Trapped(trap),
+        Ok(cell) => {
+            let answers = below.taken;
+            Stepped::Moved {
+                edge: at,
+                state: gone_with(below, edge, cell, word, answers),
+            }
+        }
+    }
+}
+
+// What a function gives, of its kind.
+fn given(state: &State, function: &Function) -> Option<u64>
+    requires frames { 1 ≤ length state.now.frames }
+    requires kind { IsTrue (result_kind_fits function.now.result) }
+    ensures { result ≡ option_map (λ kind. fitted kind (result_word state.now)) function.now.result }
+{
+    match function.result {
+        Some(kind) => Some(fitted(result_word(state), kind)),
+        None => None,
+    }
+}
+
+// Goes back to the caller, from a call.
+fn back(graph: &Graph, state: State, call: u32) -> Result<Stepped, AllocError>
+    requires state { IsState graph.now state }
+    requires many { length state.frames ≡ 1 → ⊥ }
+    requires from { (running_frame state).call ≡ Some call }
+    ensures { IfOk result (λ stepped. stepped ≡ returned_from graph.now state (Some call)) }
+{
+    graph.well_formed();
+    if call == u32::MAX {
+        return Err(AllocError);
+    }
+    let at = call + 1;
+    let edge = edge_of(graph, at);
+    match &edge.operation {
+        Operation::Return { dest, .. } => Ok(returned(graph, state, at, edge, dest)),
+        _ => Ok(Stepped::Blocked),
+    }
+}
+
+// Goes on from a function's exit: back to the caller, or the run has returned.
+fn left(graph: &Graph, state: State, function: &Function) -> Result<Stepped, AllocError>
+    requires state { IsState graph.now state }
+    requires kind { IsTrue (result_kind_fits function.now.result) }
+    ensures { IfOk result (λ stepped. stepped ≡ left graph.now state function.now) }
+{
+    if state.frames.len() == 1 {
+        return Ok(Stepped::Returned {
+            value: given(&state, function),
+        });
+    }
+    match running_frame(&state).call {
+        None => Ok(Stepped::Blocked),
+        Some(call) => back(graph, state, call),
+    }
+}
+
+// What comes next.
+fn next(
+    alloc: Global,
+    graph: &Graph,
+    input: &Input,
+    state: State,
+) -> Result<Stepped, AllocError>
+    requires state { IsState graph.now state }
+    requires more { state.taken + 1 < 2 ^ 64 }
+    ensures { IfOk result (λ stepped. stepped ≡ next graph.now input.now state) }
+{
+    graph.well_formed();
+    let function = owner_of(graph, state.node);
+    if state.node == function.exit {
+        left(graph, state, function)
+    } else {
+        onward(alloc, graph, input, state)
+    }
+}
+
+/// Goes from a state to what comes next: along one edge, or to the end of the run. The state is spent, also where memory
+/// is refused. A step that calls nothing takes no memory.
+///
+/// # Errors
+///
+/// Want of memory alone.
+pub fn step(graph: &Graph, input: &Input, state: State) -> Result<Stepped, Memory>
+    requires state { IsState graph.now state }
+    requires more { state.taken + 1 < 2 ^ 64 }
+    // It is what the rules of steps say.
+    ensures next { IfOk result (λ stepped. stepped ≡ next graph.now input.now state) }
+    // Where the run goes on, it is in a state of the graph.
+    ensures kept { IfOk result (λ stepped. IfMoved stepped (λ to. IsState graph.now to)) }
+{
+    graph.well_formed();
+    let alloc = state.cells.allocator();
+    let stepped = next(alloc, graph, input, state)?;
+    Ok(stepped)
 }

@@ -6,7 +6,7 @@ use Rattle.cfa.specs.declared.parts.Edge.{Edge}
 use Rattle.cfa.specs.Rules.{expr_fits}
 use Rattle.c_meaning.specs.Places.{Leaves}
 use Rattle.c_meaning.proofs.Operands.{operands_of}
-use Rattle.c_meaning.proofs.step.picked.Goals as goal
+use Rattle.c_meaning.proofs.stepping.picked.Goals as goal
 
 pub test_value-requires-clause-test : goal.test_value-requires-clause-test
 test_value-requires-clause-test c =

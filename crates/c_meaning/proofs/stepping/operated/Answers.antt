@@ -5,7 +5,7 @@ use Rattle.cfa.specs.Graph.{call_fits}
 use Rattle.cfa.specs.Rules.{place_fits}
 use Rattle.c_meaning.specs.Places.{storage_of}
 use Rattle.c_meaning.proofs.Operands.{operands_of, numbers_of}
-use Rattle.c_meaning.proofs.step.operated.Goals as goal
+use Rattle.c_meaning.proofs.stepping.operated.Goals as goal
 
 pub assigned-requires-clause-place : goal.assigned-requires-clause-place
 assigned-requires-clause-place c =

@@ -2,7 +2,7 @@ use Rattle.std.proofs.Common.{◌≡◌, Some, length, subst, arith}
 use Rattle.std.specs.Prelude.{slice_get, slice_index_or}
 use Rattle.std.proofs.lemmas.Option.{slice_get-get_or}
 use Rattle.c_meaning.proofs.Outgoing.{outgoing_leaves}
-use Rattle.c_meaning.proofs.step.onward.Goals as goal
+use Rattle.c_meaning.proofs.stepping.onward.Goals as goal
 
 pub along-requires-clause-leaves : goal.along-requires-clause-leaves
 along-requires-clause-leaves c =

@@ -4,7 +4,7 @@ use Rattle.cfa.specs.Values.{array_start}
 use Rattle.c_meaning.specs.Storage.{Storage}
 use Rattle.c_meaning.specs.Steps.{values_of}
 use Rattle.c_meaning.proofs.Calls.{call_word, call_array, call_made}
-use Rattle.c_meaning.proofs.step.call.Goals as goal
+use Rattle.c_meaning.proofs.stepping.call.Goals as goal
 
 pub starts_of-requires-clause-fits : goal.starts_of-requires-clause-fits
 starts_of-requires-clause-fits c =
