@@ -1,16 +1,14 @@
 -- Arrays and their elements lie within the cells.
-use Rattle.std.proofs.Common.{◌≡◌, ℕ, ◌+◌, ◌<◌, ◌≤◌, ◌^◌, Bool, true, false, List, Option, Some, None, length, get_or, refl, sym, ap, subst, ◌∙◌, arith, ⊎_elim}
-use Rattle.std.specs.Prelude.{Result, Ok, Err, IsTrue, IfOk, slice_get, if◌then◌else◌}
-use Rattle.std.specs.List.{AllZip}
+use Rattle.std.proofs.Common.{◌≡◌, ℕ, ◌+◌, ◌<◌, ◌≤◌, ◌^◌, true, false, List, Option, Some, None, length, get_or, refl, ap, arith, ⊎_elim}
+use Rattle.std.specs.Prelude.{Ok, Err, IsTrue, slice_get}
 use Rattle.std.proofs.lemmas.Bool.{cases_Bool, eqb-true, leb-true}
 use Rattle.std.proofs.lemmas.List.Elements.{AllZip-get_or, length_all_zip}
-use Rattle.std.proofs.lemmas.Option.{get_or_from_slice_get, slice_get_within, same_Some}
+use Rattle.std.proofs.lemmas.Option.{get_or_from_slice_get, slice_get_within}
 use Rattle.c_values.specs.declared.kinds.Kind.{Kind}
 use Rattle.c_values.specs.Kind.{IsValue}
 use Rattle.cfa.specs.declared.expr.ArrayPlace.{ArrayPlace}
 use Rattle.cfa.specs.declared.expr.ArrayPlace.TheVariants as array
 use Rattle.cfa.specs.declared.state.Frame.{Frame}
-use Rattle.cfa.specs.declared.state.Trap.{Trap}
 use Rattle.cfa.specs.declared.state.Trap.TheVariants as trap
 use Rattle.cfa.specs.Rules.{is_length, array_fits}
 use Rattle.cfa.specs.Values.{is_index, array_start, element_at}

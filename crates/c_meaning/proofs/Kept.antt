@@ -1,19 +1,15 @@
 -- States of a graph that a step leads to.
-use Rattle.std.proofs.Common.{◌≡◌, ℕ, ◌+◌, ◌-◌, ◌<◌, ◌≤◌, ◌⊎◌, inl, inr, Bool, List, [], ◌∷◌, ◌++◌, Option, Some, None, map, take, length, refl, sym, ap, subst, ◌∙◌, arith, ⊎_elim, length-append, length-take}
-use Rattle.std.specs.Prelude.{slice_get, IsTrue}
+use Rattle.std.proofs.Common.{◌≡◌, ℕ, ◌+◌, ◌-◌, ◌<◌, ◌≤◌, List, [], ◌∷◌, ◌++◌, Some, take, length, sym, ap, subst, ◌∙◌, arith, ⊎_elim, length-append, length-take}
+use Rattle.std.specs.Prelude.{slice_get}
 use Rattle.std.specs.Option.{IsSomeAnd, IsNone}
-use Rattle.std.specs.List.{AllZip}
 use Rattle.std.proofs.lemmas.List.{take-append-le, take_all}
-use Rattle.std.proofs.lemmas.Option.{slice_get_within, same_Some}
-use Rattle.cfa.specs.declared.parts.Edge.{Edge}
-use Rattle.cfa.specs.declared.parts.Function.{Function}
+use Rattle.std.proofs.lemmas.Option.{same_Some}
 use Rattle.cfa.specs.declared.parts.GraphParts.{GraphParts}
 use Rattle.cfa.specs.declared.parts.Node.{Node}
-use Rattle.cfa.specs.declared.parts.Operation.{Operation}
 use Rattle.cfa.specs.declared.state.Frame.{Frame}
 use Rattle.cfa.specs.declared.state.State.{State}
-use Rattle.cfa.specs.Graph.{IsGraph, IsNodeOf, callee_of}
-use Rattle.cfa.specs.States.{IsState, HasArrays, IsCallBetween, running_frame, cells_of, end_of, function_cells}
+use Rattle.cfa.specs.Graph.{IsNodeOf}
+use Rattle.cfa.specs.States.{IsState, HasArrays, IsCallBetween, running_frame, cells_of, end_of}
 use Rattle.cfa.proofs.Exits.{taken, given}
 use Rattle.c_meaning.proofs.Slices.{slice_get_front, slice_get_last, slice_get_push, slice_get_kept, slice_get_taken, take_take}
 use Rattle.c_meaning.proofs.StateLaws.{Of, Owned, end_push}
@@ -144,12 +140,12 @@ module _ (parts : GraphParts) (s : State) (h : IsState parts s) where
         most_frames = omega (arith, frames_long);
         first = rw (slice_get_kept fewer s.frames 0 (omega arith)) h.first;
         calls = λ k lower own f a b e.
-        h.calls k lower own f (slice_get_taken fewer h.owners k lower a).1 (slice_get_taken fewer h.owners (k + 1) own b).1 (slice_get_taken fewer s.frames (k + 1) f e).1;
+            h.calls k lower own f (slice_get_taken fewer h.owners k lower a).1 (slice_get_taken fewer h.owners (k + 1) own b).1 (slice_get_taken fewer s.frames (k + 1) f e).1;
         node = given (λ (p : Node). slice_get (take fewer h.owners) (length (take fewer s.frames) - 1) ≡ Some p.function) (slice_get parts.nodes node) z.0 z.1 (rw last (slice_get_kept fewer h.owners (length s.frames - 2) (omega arith) ∙ lower ∙ ap Some (sym z.2)));
         bases = λ k f e.
-        let t = slice_get_taken fewer s.frames k f e in
-        h.bases k f t.1 ∙ ap (end_of parts) (sym (take_take k fewer h.owners (omega (arith, t.0))));
+            let t = slice_get_taken fewer s.frames k f e in
+            h.bases k f t.1 ∙ ap (end_of parts) (sym (take_take k fewer h.owners (omega (arith, t.0))));
         cells = length-take (running_frame s).base s.cells ∙ (omega arith) ∙ h.bases fewer (running_frame s) frame_is;
         arrays = λ k own f a e.
-        h.arrays k own f (slice_get_taken fewer h.owners k own a).1 (slice_get_taken fewer s.frames k f e).1;
+            h.arrays k own f (slice_get_taken fewer h.owners k own a).1 (slice_get_taken fewer s.frames k f e).1;
       }

@@ -1,9 +1,7 @@
 -- Going back out of a function.
-use Rattle.std.proofs.Common.{◌≡◌, ℕ, ◌+◌, ◌-◌, ◌<◌, ◌≤◌, Bool, true, false, List, Option, Some, None, take, length, refl, sym, ap, subst, ◌∙◌, arith}
-use Rattle.std.specs.Prelude.{Result, Ok, Err, IsTrue, ◌==◌, if◌then◌else◌, slice_get, slice_set}
+use Rattle.std.proofs.Common.{◌≡◌, ℕ, ◌+◌, ◌-◌, ◌≤◌, Option, Some, length, sym, ap, subst, ◌∙◌, arith}
+use Rattle.std.specs.Prelude.{IsTrue, slice_get}
 use Rattle.std.specs.Option.{IsSomeAnd}
-use Rattle.std.proofs.lemmas.Bool.{eqb-false}
-use Rattle.std.proofs.lemmas.List.{length-set}
 use Rattle.std.proofs.lemmas.Option.{slice_get_within, same_Some}
 use Rattle.cfa.specs.declared.expr.CellPlace.{CellPlace}
 use Rattle.cfa.specs.declared.parts.Edge.{Edge}
@@ -13,14 +11,14 @@ use Rattle.cfa.specs.declared.parts.Node.{Node}
 use Rattle.cfa.specs.declared.parts.Operation.{Operation}
 use Rattle.cfa.specs.declared.parts.Operation.TheVariants.{Skip, Assign, Clear, Guard, Call, Return, Answer, Assert, Assume}
 use Rattle.cfa.specs.declared.state.State.{State}
-use Rattle.cfa.specs.Graph.{IsGraph, IsExit, IsNodeOf, PairFits, SourceFits, TargetFits, callee_of, returned_call, room_of, operands_fit, dest_fits}
+use Rattle.cfa.specs.Graph.{IsGraph, IsExit, IsNodeOf, PairFits, TargetFits, callee_of, returned_call, room_of, operands_fit, dest_fits}
 use Rattle.cfa.specs.States.{IsState, IsCallBetween, running_frame}
 use Rattle.cfa.proofs.Eaches.{element_at}
-use Rattle.cfa.proofs.Exits.{taken, given}
+use Rattle.cfa.proofs.Exits.{taken}
 use Rattle.c_meaning.specs.Places.{room_in, storage_of}
 use Rattle.c_meaning.specs.Steps.{function_at, popped}
 use Rattle.c_meaning.proofs.Kept.{popped_state}
-use Rattle.c_meaning.proofs.StateLaws.{Of, Owned, Running, running, Belongs, belongs}
+use Rattle.c_meaning.proofs.StateLaws.{Of, running, Belongs, belongs}
 
 -- ---- exits
 

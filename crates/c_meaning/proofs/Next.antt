@@ -1,12 +1,11 @@
 -- What comes next in a state of a graph is a state of it, where the run goes on.
-use Rattle.std.proofs.Common.{◌≡◌, ℕ, zero, suc, ◌+◌, ◌-◌, ◌<◌, ◌≤◌, Bool, true, false, List, [], ◌∷◌, ◌++◌, Option, Some, None, map, take, drop, length, refl, sym, ap, subst, ◌∙◌, arith, length-append, length-take, length-drop}
-use Rattle.std.specs.Prelude.{Result, Ok, Err, IsTrue, ◌==◌, ◌&&◌, if◌then◌else◌, nat_le, slice_get, slice_set, replicate}
-use Rattle.std.specs.Option.{IsSomeAnd, is_some, option_map}
+use Rattle.std.proofs.Common.{◌≡◌, ℕ, suc, ◌+◌, ◌-◌, ◌<◌, ◌≤◌, Bool, true, false, List, [], ◌∷◌, ◌++◌, Option, Some, None, map, take, drop, length, refl, sym, ap, subst, ◌∙◌, arith, length-append, length-take, length-drop}
+use Rattle.std.specs.Prelude.{Result, Ok, Err, IsTrue, ◌==◌, if◌then◌else◌, nat_le, slice_get, slice_set, replicate}
+use Rattle.std.specs.Option.{IsSomeAnd, option_map}
 use Rattle.std.specs.List.{AllZip, list_all}
 use Rattle.std.proofs.lemmas.Bool.{eqb-false, eq-eqb, ne_eqb, leb-false}
 use Rattle.std.proofs.lemmas.List.{length-set, length-replicate}
-use Rattle.std.proofs.lemmas.Option.{slice_get_within, same_Some}
-use Rattle.c_values.specs.declared.kinds.Kind.{Kind}
+use Rattle.std.proofs.lemmas.Option.{same_Some}
 use Rattle.c_values.specs.Kind.{is_kind}
 use Rattle.c_values.proofs.Fitting.{and_left, and_right}
 use Rattle.cfa.specs.declared.expr.ArrayPlace.{ArrayPlace}
@@ -24,15 +23,15 @@ use Rattle.cfa.specs.declared.state.State.{State}
 use Rattle.cfa.specs.declared.state.Trap.{Trap}
 use Rattle.cfa.specs.declared.state.Trap.TheVariants as trap
 use Rattle.cfa.specs.Each.{matched}
-use Rattle.cfa.specs.Graph.{IsGraph, IsNodeOf, TargetFits, callee_of, operands_fit, call_fits, words_fit, arrays_fit, word_fits, is_return, result_kind_fits, IsExit}
-use Rattle.cfa.specs.Rules.{Room, array_fits}
+use Rattle.cfa.specs.Graph.{IsGraph, IsNodeOf, TargetFits, callee_of, call_fits, words_fit, arrays_fit, word_fits, result_kind_fits, IsExit}
+use Rattle.cfa.specs.Rules.{array_fits}
 use Rattle.cfa.specs.Table.{outgoing_of}
-use Rattle.cfa.specs.States.{IsState, HasArrays, IsCallBetween, cells_of, end_of, function_cells, running_frame, value_in}
+use Rattle.cfa.specs.States.{IsState, function_cells, running_frame, value_in}
 use Rattle.cfa.specs.Values.{array_start, value_of}
 use Rattle.cfa.proofs.Exits.{taken, given}
 use Rattle.c_meaning.specs.declared.input.Input.{Input}
 use Rattle.c_meaning.specs.declared.stepped.Stepped.{Stepped}
-use Rattle.c_meaning.specs.declared.stepped.Stepped.TheVariants.{Moved, Returned, Trapped, Blocked, TooDeep}
+use Rattle.c_meaning.specs.declared.stepped.Stepped.TheVariants.{Returned, Trapped, Blocked, TooDeep}
 use Rattle.c_meaning.specs.Places.{Leaves, storage_of}
 use Rattle.c_meaning.specs.Starts.{fitted, frame_cells}
 use Rattle.c_meaning.specs.Steps.{IfMoved, unless_trapped, unless_zero, cell_in, value_before, values_of, values_in, start_in, moved, put, cleared, answer_of, answered, called_frame, called, call_of, operated, along_edge, along, picked_by, picked, onward, popped, result_word, returned_by, returned_along, returned_from, left, function_at, next_within, next}
@@ -68,7 +67,7 @@ values_length cells frame (word ∷ words) values e = at (value_of cells frame w
     at (Ok v) (Err t) values more e = absurd cc
     at (Ok v) (Ok vs) values more e = let is : v ∷ vs ≡ values = cc in ap length (sym is) ∙ ap suc (more vs refl)
 
-length-frame_cells : (f : Function) (words : List ℕ) → length words + 1 ≤ f.cells → length (frame_cells f words) ≡ f.cells
+pub length-frame_cells : (f : Function) (words : List ℕ) → length words + 1 ≤ f.cells → length (frame_cells f words) ≡ f.cells
 length-frame_cells f words h =
     let zeros : List ℕ = replicate (f.cells - (length words + 1)) 0 in
     let long : length zeros ≡ f.cells - (length words + 1) = length-replicate (f.cells - (length words + 1)) 0 in
@@ -155,6 +154,7 @@ module _ (parts : GraphParts) (input : Input) (s : State) (at : ℕ) (e : Edge) 
       few_or f own true b = tt
       few_or f own false b =
           unless_keeps (IsState parts) (values_in s words) _ (λ values done. called_keeps callee words arrays f values is own (leb-false 64 (length s.frames) b) done)
+
       by : (o : Option Function) → slice_get parts.functions callee ≡ o → IfMoved (call_of s at e words arrays o) (IsState parts)
       by None own = tt
       by (Some f) own = few_or f own (nat_le 64 (length s.frames)) refl
@@ -224,6 +224,7 @@ left_keeps parts s f g h = by (length s.frames == 1) refl
   where
     from : (r : Returns parts s h) → IfMoved (returned_from parts s (Some r.call)) (IsState parts)
     from r = subst (λ o. IfMoved (returned_along s (r.call + 1) o) (IsState parts)) (sym r.edge_is) (returned_keeps parts s g h r r.edge.operation)
+
     by : (b : Bool) → (length s.frames == 1) ≡ b → IfMoved (if b then Returned (option_map (λ kind. fitted kind (result_word s)) f.result) else returned_from parts s (running_frame s).call) (IsState parts)
     by true e = tt
     by false e =

@@ -1,7 +1,6 @@
 -- The operands of the edges that leave a state's node meet the rules where the state is.
-use Rattle.std.proofs.Common.{◌≡◌, ℕ, ◌<◌, Bool, false, Option, Some, None, length, refl, sym, ap, subst, ◌∙◌}
+use Rattle.std.proofs.Common.{◌≡◌, ℕ, false, sym, ap, subst, ◌∙◌}
 use Rattle.std.specs.Prelude.{IsTrue, slice_get}
-use Rattle.std.specs.Option.{IsSomeAnd}
 use Rattle.std.proofs.lemmas.Option.{same_Some}
 use Rattle.cfa.specs.declared.parts.Edge.{Edge}
 use Rattle.cfa.specs.declared.parts.Function.{Function}
@@ -10,8 +9,7 @@ use Rattle.cfa.specs.declared.parts.Node.{Node}
 use Rattle.cfa.specs.declared.parts.Operation.{Operation}
 use Rattle.cfa.specs.declared.parts.Operation.TheVariants.{Skip, Assign, Clear, Guard, Call, Return, Answer, Assert, Assume}
 use Rattle.cfa.specs.declared.state.State.{State}
-use Rattle.cfa.specs.Graph.{IsGraph, EdgeFits, IsNodeOf, SourceFits, TargetFits, NumbersFit, room_of, operands_fit, is_return}
-use Rattle.cfa.specs.Rules.{Room}
+use Rattle.cfa.specs.Graph.{IsGraph, IsNodeOf, SourceFits, NumbersFit, room_of, operands_fit, is_return}
 use Rattle.cfa.specs.States.{IsState}
 use Rattle.cfa.proofs.Exits.{taken}
 use Rattle.c_meaning.specs.Places.{Leaves, room_in, storage_of}
@@ -29,7 +27,6 @@ leaves_own parts function source (Return call dest) r h = absurd cc
 leaves_own parts function source (Answer input dest) r h = h
 leaves_own parts function source (Assert test) r h = h
 leaves_own parts function source (Assume test) r h = h
-
 
 -- the edge that leaves a state's node is of the node's function
 pub edge_own : (parts : GraphParts) (s : State) (at : ℕ) (e : Edge) → IsGraph parts → (r : Running parts s) → Leaves parts s at e → e.function ≡ r.at.place.function

@@ -1,7 +1,6 @@
 -- What the states of a graph have room for.
-use Rattle.std.proofs.Common.{◌≡◌, ℕ, suc, ◌+◌, ◌-◌, ◌*◌, ◌<◌, ◌≤◌, ◌^◌, Bool, true, false, List, [], ◌∷◌, ◌++◌, Option, Some, None, map, sum, take, length, get_or, refl, sym, ap, subst, ◌∙◌, arith, length-take}
-use Rattle.std.specs.Prelude.{slice_get, unwrap_or, IsTrue, option_and_then}
-use Rattle.std.specs.Option.{IsSomeAnd}
+use Rattle.std.proofs.Common.{◌≡◌, ℕ, ◌+◌, ◌-◌, ◌*◌, ◌<◌, ◌≤◌, ◌^◌, List, [], ◌∷◌, ◌++◌, Option, Some, None, map, sum, take, length, get_or, refl, sym, ap, subst, ◌∙◌, arith, length-take}
+use Rattle.std.specs.Prelude.{slice_get, unwrap_or}
 use Rattle.std.specs.List.{AllZip}
 use Rattle.std.proofs.lemmas.List.{take_more, take_all}
 use Rattle.std.proofs.lemmas.List.Sums.{sum-map, sum_by-cons, sum_by_push}
@@ -12,7 +11,7 @@ use Rattle.cfa.specs.declared.parts.Node.{Node}
 use Rattle.cfa.specs.declared.state.Frame.{Frame}
 use Rattle.cfa.specs.declared.state.State.{State}
 use Rattle.cfa.specs.Graph.{IsGraph, room_of}
-use Rattle.cfa.specs.States.{IsState, HasArrays, running_frame, cells_of, end_of, function_cells}
+use Rattle.cfa.specs.States.{IsState, running_frame, cells_of, end_of, function_cells}
 use Rattle.cfa.proofs.Eaches.{element_at}
 use Rattle.cfa.proofs.Exits.{taken}
 use Rattle.c_meaning.specs.Places.{room_in, storage_of}

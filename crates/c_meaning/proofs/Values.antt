@@ -1,17 +1,15 @@
 -- What expressions and places that meet the rules come to, by their forms.
-use Rattle.std.proofs.Common.{◌≡◌, ℕ, ◌+◌, ◌<◌, ◌≤◌, ◌^◌, Bool, true, false, List, Option, Some, None, length, refl, sym, ap, subst, ◌∙◌, arith, rules, pos}
-use Rattle.std.specs.Prelude.{Result, Ok, Err, IsTrue, IfOk, ◌&&◌, ◌==◌, slice_index, slice_get, ok_or, if◌then◌else◌}
+use Rattle.std.proofs.Common.{◌≡◌, ℕ, ◌+◌, Bool, true, false, List, Option, Some, None, refl, sym, ap, subst, ◌∙◌, rules, pos}
+use Rattle.std.specs.Prelude.{Result, Ok, Err, IsTrue, IfOk, ◌&&◌, ◌==◌, slice_index, ok_or, if◌then◌else◌}
 use Rattle.std.specs.Option.{is_some}
-use Rattle.std.specs.List.{AllZip}
-use Rattle.std.proofs.lemmas.Bool.{eqb-true, leb-true, ltb-true}
+use Rattle.std.proofs.lemmas.Bool.{eqb-true}
 use Rattle.c_values.specs.declared.kinds.Kind.{Kind}
 use Rattle.c_values.specs.declared.operators.BinaryOp.{BinaryOp}
 use Rattle.c_values.specs.declared.operators.UnaryOp.{UnaryOp}
-use Rattle.c_values.specs.Kind.{IsKind, IsValue, is_kind, is_value, converted, wrapped}
+use Rattle.c_values.specs.Kind.{IsKind, IsValue, is_kind, converted, wrapped}
 use Rattle.c_values.specs.Operations.{unary_kind, unary_value, binary_kind, binary_value, is_shift}
 use Rattle.c_values.proofs.Fitting.{and_left, and_right}
 use Rattle.cfa.specs.declared.expr.ArrayPlace.{ArrayPlace}
-use Rattle.cfa.specs.declared.expr.ArrayPlace.TheVariants as array
 use Rattle.cfa.specs.declared.expr.CellPlace.{CellPlace, the_lemmas}
 use Rattle.cfa.specs.declared.expr.CellPlace.TheVariants as place
 use Rattle.cfa.specs.declared.expr.Expr.{Expr}
@@ -19,8 +17,8 @@ use Rattle.cfa.specs.declared.expr.Expr.TheVariants as expr
 use Rattle.cfa.specs.declared.state.Frame.{Frame}
 use Rattle.cfa.specs.declared.state.Trap.{Trap}
 use Rattle.cfa.specs.Kinds.{same_kind, same_sign, kind_of}
-use Rattle.cfa.specs.Rules.{Room, has_kind, right_fits, kind_if, is_length, array_fits, checked_kind, expr_fits, place_fits}
-use Rattle.cfa.specs.Values.{Valued, after_value, array_start, element_at, valued, value_of, cell_of, operator_trap}
+use Rattle.cfa.specs.Rules.{Room, has_kind, right_fits, kind_if, array_fits, checked_kind, expr_fits, place_fits}
+use Rattle.cfa.specs.Values.{after_value, element_at, valued, value_of, cell_of, operator_trap}
 use Rattle.cfa.proofs.ExprKinds.{agrees}
 
 -- ---- options and kinds

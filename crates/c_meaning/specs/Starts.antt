@@ -1,5 +1,5 @@
 -- The state in which a run begins.
-use Rattle.std.specs.Prelude.{ℕ, ◌+◌, ◌-◌, List, [], ◌∷◌, ◌++◌, map, length, replicate, None, pos}
+use Rattle.std.specs.Prelude.{◌≡◌, ℕ, ◌+◌, ◌-◌, List, [], ◌∷◌, ◌++◌, map, length, replicate, None, pos}
 use Rattle.c_values.specs.declared.kinds.Kind.{Kind}
 use Rattle.c_values.specs.Kind.{wrapped}
 use Rattle.cfa.specs.declared.parts.Function.{Function}
@@ -16,6 +16,10 @@ abbrev pub fitted_words : List ℕ → List Kind → List ℕ
 fitted_words [] kinds = []
 fitted_words (word ∷ words) [] = []
 fitted_words (word ∷ words) (kind ∷ kinds) = fitted kind word ∷ fitted_words words kinds
+
+-- a run can start at a function that has no array parameters, with one word for each parameter
+abbrev pub CanStart : Function → List ℕ → Type 0
+CanStart f words = (length words ≡ length f.parameters) × (f.arrays ≡ [])
 
 -- the cells of a new frame: the result, the parameters that are integers, and zeros
 abbrev pub frame_cells : Function → List ℕ → List ℕ

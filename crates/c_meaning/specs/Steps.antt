@@ -1,5 +1,5 @@
 -- What comes next in a run.
-use Rattle.std.specs.Prelude.{ℕ, ◌+◌, ◌-◌, Bool, true, false, ◌==◌, nat_le, if◌then◌else◌, List, [], ◌∷◌, ◌++◌, map, take, drop, length, replicate, Option, Some, None, option_and_then, Result, Ok, Err, slice_get, slice_index, slice_set}
+use Rattle.std.specs.Prelude.{ℕ, ◌+◌, ◌-◌, ◌==◌, nat_le, if◌then◌else◌, List, [], ◌∷◌, ◌++◌, map, take, drop, length, replicate, Option, Some, None, option_and_then, Result, Ok, Err, slice_get, slice_index, slice_set}
 use Rattle.std.specs.Option.{option_map}
 use Rattle.c_values.specs.declared.kinds.Kind.{Kind}
 use Rattle.cfa.specs.declared.expr.ArrayPlace.{ArrayPlace}

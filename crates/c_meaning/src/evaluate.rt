@@ -7,9 +7,7 @@ ghost use Rattle.cfa.specs.Values.{after_value, element_at, cell_of, value_of, d
 ghost use Rattle.c_meaning.specs.Storage.{HasRoom};
 
 use crate::store::Store;
-use c_values::{
-    BinaryOp, Kind, UnaryOp, binary_value, convert, is_zero_divisor, unary_value,
-};
+use c_values::{BinaryOp, Kind, UnaryOp, binary_value, convert, is_zero_divisor, unary_value};
 use cfa::{ArrayPlace, CellPlace, Expr, Trap};
 
 /// What a kind has of a word of 64 bits.
@@ -149,13 +147,7 @@ pub(crate) fn cell_of(store: &Store<'_>, place: &CellPlace) -> Result<usize, Tra
             array,
             index,
             length,
-        } => element_at(
-            store,
-            *array,
-            *length,
-            value_of(store, index),
-            index.kind(),
-        ),
+        } => element_at(store, *array, *length, value_of(store, index), index.kind()),
     }
 }
 

@@ -5,17 +5,18 @@
 //! next, exactly; a step leads from states of the graph to states of the graph.
 #![tactic(auto)]
 
+mod cells;
 mod evaluate;
 mod input;
-mod cells;
-mod state;
 mod starting;
-mod stepping;
+mod state;
 mod stepped;
-mod words;
+mod stepping;
 mod store;
+mod words;
 
 pub use cfa::{Frame, State, Trap};
 pub use input::Input;
-pub use stepping::step;
+pub use starting::start;
 pub use stepped::Stepped;
+pub use stepping::step;

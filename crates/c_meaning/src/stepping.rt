@@ -20,8 +20,8 @@ use crate::stepped::Stepped;
 use crate::words::{starts_of, values_of};
 use c_values::Kind;
 use cfa::{
-    ArrayPlace, CellPlace, Edge as GraphEdge, Expr, Frame, Function, Graph, InputFunction, Operation,
-    State, Trap,
+    ArrayPlace, CellPlace, Edge as GraphEdge, Expr, Frame, Function, Graph, InputFunction,
+    Operation, State, Trap,
 };
 use containers::Vector;
 use fq_core::Memory;
@@ -173,13 +173,7 @@ fn cell_for(graph: &Graph, state: &State, dest: &Option<CellPlace>) -> Result<Op
 }
 
 // The state at an edge's target with a value in a cell, where there is one, and so many answers taken.
-fn gone_with(
-    state: State,
-    edge: &GraphEdge,
-    dest: Option<usize>,
-    value: u64,
-    answers: u64,
-) -> State
+fn gone_with(state: State, edge: &GraphEdge, dest: Option<usize>, value: u64, answers: u64) -> State
     ensures { result ≡ record { node = edge.now.target; frames = state.frames; cells = put_in state.cells dest value; taken = answers } }
 {
     let State {
@@ -380,12 +374,7 @@ fn picked(
 }
 
 // Goes on from a node that is no exit.
-fn onward(
-    alloc: Global,
-    graph: &Graph,
-    input: &Input,
-    state: State,
-) -> Result<Stepped, AllocError>
+fn onward(alloc: Global, graph: &Graph, input: &Input, state: State) -> Result<Stepped, AllocError>
     requires state { IsState graph.now state }
     requires more { state.taken + 1 < 2 ^ 64 }
     requires inner { ¬ IsExit graph.now state.node }
@@ -514,12 +503,7 @@ fn left(graph: &Graph, state: State, function: &Function) -> Result<Stepped, All
 }
 
 // What comes next.
-fn next(
-    alloc: Global,
-    graph: &Graph,
-    input: &Input,
-    state: State,
-) -> Result<Stepped, AllocError>
+fn next(alloc: Global, graph: &Graph, input: &Input, state: State) -> Result<Stepped, AllocError>
     requires state { IsState graph.now state }
     requires more { state.taken + 1 < 2 ^ 64 }
     ensures { IfOk result (λ stepped. stepped ≡ next graph.now input.now state) }

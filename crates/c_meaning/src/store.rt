@@ -22,7 +22,6 @@ impl<'a> Model for Store<'a> {
     ghost Value = { Storage };
 
     ghost view = { λ s. record { cells = s.cells.now; frame = s.frame.now; room = record { globals = s.globals; cells = s.function.now.cells; arrays = s.function.now.arrays } } };
-
 }
 
 impl<'a> Store<'a> {

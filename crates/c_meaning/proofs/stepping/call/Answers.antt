@@ -1,8 +1,4 @@
-use Rattle.std.proofs.Common.{arith, sym, ◌∙◌, map}
-use Rattle.std.specs.Prelude.{Ok}
-use Rattle.cfa.specs.Values.{array_start}
-use Rattle.c_meaning.specs.Storage.{Storage}
-use Rattle.c_meaning.specs.Steps.{values_of}
+use Rattle.std.proofs.Common.{arith, sym, ◌∙◌}
 use Rattle.c_meaning.proofs.Calls.{call_word, call_array, call_made}
 use Rattle.c_meaning.proofs.stepping.call.Goals as goal
 

@@ -1,9 +1,7 @@
 use Rattle.cfa.proofs.Exits.{taken}
 use Rattle.std.proofs.Common.{sym, ◌∙◌, subst}
-use Rattle.std.specs.Prelude.{IsTrue, slice_get}
+use Rattle.std.specs.Prelude.{slice_get}
 use Rattle.std.proofs.lemmas.Option.{same_Some}
-use Rattle.cfa.specs.declared.parts.Edge.{Edge}
-use Rattle.cfa.specs.Rules.{expr_fits}
 use Rattle.c_meaning.specs.Places.{Leaves}
 use Rattle.c_meaning.proofs.Operands.{operands_of}
 use Rattle.c_meaning.proofs.stepping.picked.Goals as goal
