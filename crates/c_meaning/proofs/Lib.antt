@@ -1,0 +1,12 @@
+pub mod Begun
+pub mod Calls
+pub mod Elements
+pub mod Kept
+pub mod Leaving
+pub mod Next
+pub mod Operands
+pub mod Outgoing
+pub mod Patterns
+pub mod Slices
+pub mod StateLaws
+pub mod Values

@@ -1,0 +1,22 @@
+//! The meaning of a control flow automaton: the state in which a run begins, and the step from each state to the next.
+//!
+//! It stands on `cfa` for automata, states and values, and on `c_values` for the arithmetic of C. The layers above use
+//! the contracts of `start` and `step`: the state that `specs/Starts.antt` says, and what `specs/Steps.antt` says comes
+//! next, exactly; a step leads from states of the graph to states of the graph.
+#![tactic(auto)]
+
+mod cells;
+mod evaluate;
+mod input;
+mod starting;
+mod state;
+mod stepped;
+mod stepping;
+mod store;
+mod words;
+
+pub use cfa::{Frame, State, Trap};
+pub use input::Input;
+pub use starting::start;
+pub use stepped::Stepped;
+pub use stepping::step;

@@ -1,0 +1,17 @@
+// What comes next.
+use cfa::{State, Trap};
+
+/// What comes next in a state.
+#[derive(Debug, Drop)]
+pub enum Stepped {
+    /// The run takes an edge, by its number, and goes on in a state.
+    Moved { edge: u32, state: State },
+    /// The run has returned, with a value of the entry's kind where it gives one.
+    Returned { value: Option<u64> },
+    /// A trap ends the run.
+    Trapped(Trap),
+    /// An assumption doesn't hold.
+    Blocked,
+    /// A call would make more than 64 frames.
+    TooDeep,
+}
