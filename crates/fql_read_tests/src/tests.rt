@@ -57,8 +57,14 @@ fn trees_of_filters(rt: HostRuntime) -> Result<(), Fail> {
         ("cover @DEF(in)+@USE(ID)", "(7:DEF in + 16:USE ID)"),
         ("cover @LABEL(L)+@CALL(g)", "(7:LABEL L + 17:CALL g)"),
         ("cover @Entry(g)+@EXIT(g)", "(7:ENTRY g + 17:EXIT g)"),
-        ("cover @BASICBLOCKENTRY+@CONDITIONEDGE", "(7:BLOCK + 24:GUARD)"),
-        ("cover @CONDITIONGRAPH+@DECISIONEDGE", "(7:DECISION + 23:OUTCOME)"),
+        (
+            "cover @BASICBLOCKENTRY+@CONDITIONEDGE",
+            "(7:BLOCK + 24:GUARD)",
+        ),
+        (
+            "cover @CONDITIONGRAPH+@DECISIONEDGE",
+            "(7:DECISION + 23:OUTCOME)",
+        ),
         ("cover @STMTTYPE(if , While,EMPTY)", "7:TYPES 0 2 13"),
         ("cover NOT(COMPLEMENT(ID))", "7:NOT(11:COMPLEMENT(22:ID))"),
         ("cover UNION(ID,ID)", "7:UNION(13:ID,16:ID)"),
@@ -110,10 +116,7 @@ fn trees_of_clauses(rt: HostRuntime) -> Result<(), Fail> {
             "cover @LINE(7) passing ^NOT(@CALL(g))*$",
             "7:LINE 7 | ^25:NOT(29:CALL g) x0..@38$",
         ),
-        (
-            "cover {a} passing {b}+{a}",
-            "p0 | (p1 + p0); a; b",
-        ),
+        ("cover {a} passing {b}+{a}", "p0 | (p1 + p0); a; b"),
     ];
     for (query, tree) in rows {
         assert_eq!(rt; reading(rt.alloc(), query)?.as_str(), tree, "{query}");
@@ -161,7 +164,11 @@ fn refusals(rt: HostRuntime) {
         ("(\n)\n#", 60, 5),
     ];
     for (query, code, number) in rows {
-        assert_eq!(rt; refused(rt.alloc(), query.as_bytes()), (code, number), "{query}");
+        assert_eq!(rt;
+            refused(rt.alloc(), query.as_bytes()),
+            (code, number),
+            "{query}"
+        );
     }
 }
 
@@ -218,6 +225,9 @@ fn tokens_have_their_columns(rt: HostRuntime) -> Result<(), Fail> {
             columns.push(token.column)?;
         }
     }
-    assert_eq!(rt; columns.as_slice(), [1, 6, 12, 13, 15, 16, 18, 20].as_slice());
+    assert_eq!(rt;
+        columns.as_slice(),
+        [1, 6, 12, 13, 15, 16, 18, 20].as_slice()
+    );
     Ok(())
 }
