@@ -124,6 +124,34 @@ fn trees_of_clauses(rt: HostRuntime) -> Result<(), Fail> {
     Ok(())
 }
 
+// How many predicates a query lists, and whether each has these bytes.
+fn predicates(alloc: Global, query: &[u8], bytes: &[u8]) -> (usize, bool) {
+    match read_query(alloc, query) {
+        Ok(query) => {
+            let all = query.predicates.iter().all(|text| text.bytes() == bytes);
+            (query.predicates.len(), all)
+        }
+        Err(_fault) => (0, false),
+    }
+}
+
+#[test]
+fn predicates_have_each_other_byte(rt: HostRuntime) -> Result<(), Fail> {
+    let alloc = rt.alloc();
+    let mut bytes = Vec::new(alloc);
+    for byte in 0..=255u8 {
+        if byte != b'{' && byte != b'}' && byte != b'"' {
+            bytes.push(byte)?;
+        }
+    }
+    let mut query = Vec::from_slice(alloc, b"cover {")?;
+    query.extend_from_slice(&bytes)?;
+    query.push(b'}')?;
+    assert_eq!(rt; bytes.len(), 253);
+    assert_eq!(rt; predicates(alloc, &query, &bytes), (1, true));
+    Ok(())
+}
+
 #[test]
 fn refusals(rt: HostRuntime) {
     let rows = [
