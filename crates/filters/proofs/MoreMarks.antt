@@ -1,9 +1,8 @@
 -- One more mark, and one more number.
-use Rattle.std.proofs.Common.{◌≡◌, ◌≢◌, ℕ, zero, suc, ◌+◌, ◌≤◌, ◌<◌, ◌⊎◌, ◌||◌, ◌==◌, Bool, true, false, List, [], ◌∷◌, ◌++◌, length, get_or, set, take, inl, inr, refl, sym, ◌∙◌, ap, arith, eq-eqb, get_or-set_same, get_or-set_other, length-append}
+use Rattle.std.proofs.Common.{◌≡◌, ℕ, ◌+◌, ◌≤◌, ◌<◌, ◌||◌, ◌==◌, Bool, true, false, List, [], ◌∷◌, ◌++◌, length, get_or, set, take, inl, inr, refl, sym, ◌∙◌, ap, arith, eq-eqb, get_or-set_same, get_or-set_other, length-append}
 use Rattle.std.proofs.lemmas.Bool.{cases_lt, cases_eq, ne_eqb, or_right, both_ways}
 use Rattle.std.proofs.lemmas.List.{get_or_push}
 use Rattle.std.proofs.lemmas.List.Folds.{list_any_more, list_any_at, list_any-append}
-use Rattle.std.specs.List.{list_any}
 use Rattle.std.specs.List.Sorted.{IsStrictlyIncreasing}
 use lib.ListN.{get_or-append}
 use Rattle.filters.specs.Parts.{is_among}

@@ -1,4 +1,4 @@
-use Rattle.std.proofs.Common.{◌≡◌, ◌<◌, length, get_or, ℕ, false}
+use Rattle.std.proofs.Common.{◌≡◌, length, get_or, ℕ, false}
 use Rattle.filters.proofs.marks.none_marked.Given as goal
 
 abbrev pub invariant-loop : goal.invariant-loop
