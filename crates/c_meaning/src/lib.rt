@@ -2,7 +2,8 @@
 //!
 //! It stands on `cfa` for automata, states and values, and on `c_values` for the arithmetic of C. The layers above use
 //! the contracts of `start` and `step`: the state that `specs/Starts.antt` says, and what `specs/Steps.antt` says comes
-//! next, exactly; a step leads from states of the graph to states of the graph.
+//! next, exactly; a step leads from states of the graph to states of the graph. `value_in` and `answer_of` give the
+//! value of an expression in a state and that of an answer, as a step uses them.
 #![tactic(auto)]
 
 mod cells;
@@ -10,6 +11,7 @@ mod evaluate;
 mod input;
 mod starting;
 mod state;
+mod state_values;
 mod stepped;
 mod stepping;
 mod store;
@@ -18,5 +20,6 @@ mod words;
 pub use cfa::{Frame, State, Trap};
 pub use input::Input;
 pub use starting::start;
+pub use state_values::{answer_of, value_in};
 pub use stepped::Stepped;
 pub use stepping::step;

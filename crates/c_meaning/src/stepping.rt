@@ -16,6 +16,7 @@ use crate::input::Input;
 use crate::state::{
     at_node, edge_of, function_of, input_function_of, owner_of, running_frame, store_of,
 };
+use crate::state_values::{answer_of, value_in};
 use crate::stepped::Stepped;
 use crate::words::{starts_of, values_of};
 use c_values::Kind;
@@ -115,15 +116,6 @@ fn array_cleared(
     }
 }
 
-// The value of a test.
-fn test_value(graph: &Graph, state: &State, test: &Expr) -> Result<u64, Trap>
-    requires state { IsState graph.now state.now }
-    requires test { IsTrue (expr_fits (storage_of graph.now state.now).room test.now) }
-    ensures { result ≡ value_in state.now test.now }
-{
-    value_of(&store_of(graph, state), test)
-}
-
 // A test that is 0 ends the run.
 fn tested(
     graph: &Graph,
@@ -137,24 +129,11 @@ fn tested(
     requires test { IsTrue (expr_fits (storage_of graph.now state).room test.now) }
     ensures { result ≡ unless_trapped (value_in state test.now) (unless_zero stopped (moved at edge.now state state.cells)) }
 {
-    match test_value(graph, &state, test) {
+    match value_in(graph, &state, test) {
         Ok(0) => stopped,
         Ok(_value) => go(state, at, edge),
         Err(trap) => Stepped::Trapped(trap),
     }
-}
-
-// The answer of an input function, by its number.
-fn answer_of(input: &Input, number: u64, kind: Kind) -> u64
-    requires { IsKind kind }
-    ensures { result ≡ answer_of input.now kind number }
-{
-    let answers = input.answers.as_slice();
-    let word = match usize::try_from(number) {
-        Ok(number) => answers.get(number).copied().unwrap_or(0),
-        Err(_large) => 0,
-    };
-    fitted(word, kind)
 }
 
 // The cells with a value in a place, where there is one, or the trap of its index.
@@ -364,7 +343,7 @@ fn picked(
 {
     graph.well_formed();
     match &edge_of(graph, yes_at).operation {
-        Operation::Guard { test, .. } => match test_value(graph, &state, test) {
+        Operation::Guard { test, .. } => match value_in(graph, &state, test) {
             Ok(0) => along(alloc, graph, input, state, no_at),
             Ok(_value) => along(alloc, graph, input, state, yes_at),
             Err(trap) => Ok(Stepped::Trapped(trap)),

@@ -6,8 +6,8 @@ use Rattle.c_meaning.specs.Places.{Leaves}
 use Rattle.c_meaning.proofs.Operands.{operands_of}
 use Rattle.c_meaning.proofs.stepping.picked.Goals as goal
 
-pub test_value-requires-clause-test : goal.test_value-requires-clause-test
-test_value-requires-clause-test c =
+pub value_in-requires-clause-fits : goal.value_in-requires-clause-fits
+value_in-requires-clause-fits c =
     let l = taken (Leaves c.args.graph.now c.args.state c.args.yes_at) (slice_get c.args.graph.now.edges c.args.yes_at) c.requires.yes_leaves in
     let same = same_Some l.0 c.edge_of.result.now (sym l.1 ∙ c.edge_of.ensures) in
     let leaves : Leaves c.args.graph.now c.args.state c.args.yes_at c.edge_of.result.now = subst (Leaves c.args.graph.now c.args.state c.args.yes_at) same l.2 in

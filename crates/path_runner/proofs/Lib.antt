@@ -1,0 +1,4 @@
+pub mod Bits
+pub mod Lengths
+pub mod Taken
+pub mod Walk
