@@ -13,6 +13,7 @@ use printed::{show_expr, show_function, show_name, show_variable};
 use std::alloc::Global;
 use std::fmt::Write;
 use std::test::Fail;
+use test_sources::triangles;
 use typed_trees::Typed;
 
 fn unit_of(alloc: Global, source: &str) -> Result<Unit, Fault> {
@@ -388,74 +389,11 @@ fn limits(rt: HostRuntime) -> Result<(), Fail> {
     Ok(())
 }
 
-// A classifier of triangles, with headers, macros, a ring buffer and an input function.
-const TRIANGLES: &str = "#include <stdint.h>
-#include <assert.h>
-
-#define SIZE 4
-#define BAD 0
-
-enum { SCALENE = 1, ISOSCELES, EQUILATERAL };
-
-int next_side(void);
-
-static uint8_t ring[SIZE];
-static unsigned head;
-static unsigned count;
-
-/* Store one side, dropping it when the ring is full. */
-static int put(uint8_t v) {
-  if (count == SIZE) {
-    return 0;
-  }
-  ring[(head + count) % SIZE] = v;
-  count++;
-  return 1;
-}
-
-static uint8_t take(void) {
-  assert(count > 0);
-  uint8_t v = ring[head];
-  head = (head + 1) % SIZE;
-  count--;
-  return v;
-}
-
-int classify(int a, int b, int c) {
-  if (a <= 0 || b <= 0 || c <= 0) {
-    return BAD;
-  }
-  if (a + b <= c || b + c <= a || a + c <= b) {
-    return BAD;
-  }
-  if (a == b && b == c) {
-    return EQUILATERAL;
-  }
-  if (a == b || b == c || a == c) {
-    return ISOSCELES;
-  }
-  return SCALENE;
-}
-
-int main_loop(int n) {
-  for (int i = 0; i < n; i++) {
-    put((uint8_t) next_side());
-  }
-  if (count < 3) {
-    return BAD;
-  }
-  int a = take();
-  int b = take();
-  int c = take();
-  return classify(a, b, c);
-}
-";
-
 #[test]
 fn a_module(rt: HostRuntime) -> Result<(), Fail> {
     let mut text = String::new(rt.alloc());
     let mut names = String::new(rt.alloc());
-    match typed_of(rt.alloc(), TRIANGLES) {
+    match typed_of(rt.alloc(), triangles()) {
         Ok(typed) => {
             for function in typed.functions.iter() {
                 show_function(&mut text, function)?;
