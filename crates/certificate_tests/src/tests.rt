@@ -312,3 +312,31 @@ fn a_long_chain(rt: HostRuntime) -> Result<(), Fail> {
     assert_eq!(rt; answer_of(&rt, rt.alloc(), text.as_bytes()), YES);
     Ok(())
 }
+
+// The worked certificate over variables 5 and 2^30, with another second line.
+fn with_gaps(alloc: Global, second: &str) -> Result<String, Fail> {
+    let mut text = String::new(alloc);
+    text.push_str("fshell certificate 1\np cnf 1073741824 4\n5 1073741824 0\n-5 1073741824 0\n")?;
+    text.push_str("5 -1073741824 0\n-5 -1073741824 0\nderivation 3\n1073741824 0 1 2 5 0\n")?;
+    text.push_str(second)?;
+    text.push_str("\n0 5 6 1073741824 0\n")?;
+    Ok(text)
+}
+
+#[test]
+fn variables_with_great_gaps(rt: HostRuntime) -> Result<(), Fail> {
+    let alloc = rt.alloc();
+    for (second, want) in [
+        ("-1073741824 0 3 4 5 0", YES),
+        ("-1073741824 0 4 3 -5 0", YES),
+        ("-1073741824 0 3 4 -5 0", bad_step(2)),
+        ("-1073741824 0 3 4 6 0", bad_step(2)),
+        ("-1073741823 0 3 4 5 0", bad_step(2)),
+        ("5 -1073741824 0 3 4 5 0", bad_step(2)),
+        ("1073741824 0 3 4 5 0", bad_step(2)),
+    ] {
+        let text = with_gaps(alloc, second)?;
+        assert_eq!(rt; answer_of(&rt, alloc, text.as_bytes()), want, "{second}");
+    }
+    Ok(())
+}

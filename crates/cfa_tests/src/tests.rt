@@ -3,12 +3,10 @@ use std::alloc::Global;
 
 mod broken_edges;
 mod broken_parts;
-mod draft;
-mod worked;
 
 use broken_edges::Fault;
-use draft::{Change, Draft, long_parts};
-use worked::{ARRAY, BRANCH, CALL, LOOP, RECURSION};
+use test_graphs::draft::{Change, Draft, long_parts};
+use test_graphs::worked::{ARRAY, BRANCH, CALL, LOOP, RECURSION};
 
 fn graph_of(alloc: Global, draft: &Draft) -> Option<Graph> {
     match Graph::new(alloc, draft.parts(alloc, Change::Nothing, Change::Nothing)) {

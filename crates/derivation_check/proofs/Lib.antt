@@ -1,4 +1,5 @@
 pub mod LineLaws
 pub mod MarksLaws
 pub mod NumbersLaws
+pub mod PlacesLaws
 pub mod StepLaws

@@ -22,7 +22,7 @@ and_right : (a b : Bool) → (a && b) ≡ true → b ≡ true
 and_right true b e = e
 and_right false b e = absurd cc
 
-or_right : (a b : Bool) → b ≡ true → (a || b) ≡ true
+pub or_right : (a b : Bool) → b ≡ true → (a || b) ≡ true
 or_right true b e = refl
 or_right false b e = e
 
@@ -45,7 +45,7 @@ any_in p (y ∷ ys) x e f = by_test (int_eq y x) refl e (λ rest. any_in p ys x 
 own_literal : (x : ℤ) (xs : List ℤ) → has_literal (x ∷ xs) x ≡ true
 own_literal x xs = rw (equal_literal x x refl) refl
 
-all_from : (p : ℤ → Bool) (xs : List ℤ) → ((x : ℤ) → has_literal xs x ≡ true → p x ≡ true) → list_all p xs ≡ true
+pub all_from : (p : ℤ → Bool) (xs : List ℤ) → ((x : ℤ) → has_literal xs x ≡ true → p x ≡ true) → list_all p xs ≡ true
 all_from p [] each = refl
 all_from p (y ∷ ys) each =
     rw (each y (own_literal y ys)) (all_from p ys (λ x e. each x (or_right (int_eq y x) (has_literal ys x) e)))

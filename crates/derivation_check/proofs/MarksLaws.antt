@@ -1,13 +1,17 @@
 -- What the proofs about marks share.
-use Rattle.std.proofs.Common.{◌≡◌, ℕ, ◌+◌, ◌<◌, ◌≤◌, Bool, true, false, ◌||◌, List, length, get_or, take, set, refl, sym, ◌∙◌, ap, cond}
-use Rattle.std.specs.Prelude.{ℤ, pos, not, ◌&&◌}
+use Rattle.std.proofs.Common.{◌≡◌, ℕ, ◌+◌, ◌<◌, ◌≤◌, Bool, true, false, ◌||◌, List, length, get_or, take, set, refl, sym, ◌∙◌, ap, cond, Option, None, Some}
+use Rattle.std.specs.Prelude.{ℤ, pos, not, ◌&&◌, nat_lt, IsTrue}
 use Rattle.std.specs.Ordering.{int_eq}
-use Rattle.std.proofs.lemmas.Bool.Decides.{Decides-int_eq}
-use Rattle.std.proofs.lemmas.List.{get_or-set_same, get_or-set_other, get_or_past}
+use Rattle.std.proofs.lemmas.Bool.Decides.{Decides-int_eq, Decides-ltb}
+use Rattle.std.proofs.lemmas.List.{get_or-set_same, get_or-set_other}
 use Rattle.std.proofs.lemmas.List.Folds.{list_any_more}
-use Rattle.cnf.specs.Clauses.{literal_key, has_literal}
-use Rattle.cnf.proofs.ClauseLaws.{same_key, same_test}
-use Rattle.derivation_check.specs.Marks.{marked}
+use Rattle.std.specs.Option.{option_map_or}
+use Rattle.cnf.specs.Clauses.{has_literal}
+use Rattle.cnf.proofs.ClauseLaws.{same_test}
+use Rattle.derivation_check.specs.declared.places.Places.{Places}
+use Rattle.derivation_check.specs.Places.{place_of}
+use Rattle.derivation_check.specs.Marks.{has_place, marked}
+use Rattle.derivation_check.proofs.PlacesLaws.{one_place}
 
 pub int_eq-sym : (x y : ℤ) → int_eq x y ≡ int_eq y x
 int_eq-sym x y =
@@ -16,21 +20,25 @@ int_eq-sym x y =
     (λ e. (Decides-int_eq x y).1 (sym ((Decides-int_eq y x).0 e)))
 
 -- the mark of a literal is written
-marked-set : (marks : List Bool) (literal x : ℤ) (b : Bool) → literal_key literal < length marks
-    → marked (set marks (literal_key literal) b) x ≡ cond (int_eq literal x) b (marked marks x)
-marked-set marks literal x b h = by_test (int_eq literal x) refl
+marked-set : (places : Places) (marks : List Bool) (literal x : ℤ) (i : ℕ) (b : Bool) → place_of places literal ≡ Some i → i < length marks
+    → marked places (set marks i b) x ≡ cond (int_eq literal x) b (marked places marks x)
+marked-set places marks literal x i b at h = by_test (int_eq literal x) refl (place_of places x) refl
   where
-    by_test : (t : Bool) → int_eq literal x ≡ t → marked (set marks (literal_key literal) b) x ≡ cond t b (marked marks x)
-    by_test true e =
+    by_test : (t : Bool) → int_eq literal x ≡ t → (p : Option ℕ) → place_of places x ≡ p
+        → option_map_or (λ j. get_or (set marks i b) j false) p false ≡ cond t b (option_map_or (λ j. get_or marks j false) p false)
+    by_test true e None f = let same : literal ≡ x = (Decides-int_eq literal x).0 e in let no : Some i ≡ None = sym at ∙ ap (place_of places) same ∙ f in absurd cc
+    by_test true e (Some j) f =
         let same : literal ≡ x = (Decides-int_eq literal x).0 e in
-        rw (← same) (get_or-set_same marks (literal_key literal) b false h)
-    by_test false e =
-        get_or-set_other marks (literal_key literal) (literal_key x) b false
-        (λ k. let no : true ≡ false = sym ((Decides-int_eq literal x).1 (sym (same_key x literal k))) ∙ e in absurd cc)
+        let here : i ≡ j = let is : Some i ≡ Some j = sym at ∙ ap (place_of places) same ∙ f in cc in
+        rw (← here) (get_or-set_same marks i b false h)
+    by_test false e None f = refl
+    by_test false e (Some j) f =
+        get_or-set_other marks i j b false
+        (λ k. let one : literal ≡ x = one_place places literal x i at (f ∙ ap Some k) in let no : true ≡ false = sym ((Decides-int_eq literal x).1 one) ∙ e in absurd cc)
 
-pub marked-mark : (marks : List Bool) (literal x : ℤ) → literal_key literal < length marks
-    → marked (set marks (literal_key literal) true) x ≡ (marked marks x || int_eq literal x)
-marked-mark marks literal x h = marked-set marks literal x true h ∙ by_test (int_eq literal x) (marked marks x)
+pub marked-mark : (places : Places) (marks : List Bool) (literal x : ℤ) (i : ℕ) → place_of places literal ≡ Some i → i < length marks
+    → marked places (set marks i true) x ≡ (marked places marks x || int_eq literal x)
+marked-mark places marks literal x i at h = marked-set places marks literal x i true at h ∙ by_test (int_eq literal x) (marked places marks x)
   where
     by_test : (t m : Bool) → cond t true m ≡ (m || t)
     by_test true true = refl
@@ -38,9 +46,10 @@ marked-mark marks literal x h = marked-set marks literal x true h ∙ by_test (i
     by_test false true = refl
     by_test false false = refl
 
-pub marked-unmark : (marks : List Bool) (literal x : ℤ) → literal_key literal < length marks
-    → marked (set marks (literal_key literal) false) x ≡ (marked marks x && not (int_eq x literal))
-marked-unmark marks literal x h = marked-set marks literal x false h ∙ rw (int_eq-sym x literal) (by_test (int_eq literal x) (marked marks x))
+pub marked-unmark : (places : Places) (marks : List Bool) (literal x : ℤ) (i : ℕ) → place_of places literal ≡ Some i → i < length marks
+    → marked places (set marks i false) x ≡ (marked places marks x && not (int_eq x literal))
+marked-unmark places marks literal x i at h =
+    marked-set places marks literal x i false at h ∙ rw (int_eq-sym x literal) (by_test (int_eq literal x) (marked places marks x))
   where
     by_test : (t m : Bool) → cond t false m ≡ (m && not t)
     by_test true true = refl
@@ -48,19 +57,33 @@ marked-unmark marks literal x h = marked-set marks literal x false h ∙ rw (int
     by_test false true = refl
     by_test false false = refl
 
--- a literal without a place isn't marked
-pub marked_past : (marks : List Bool) (literal x : ℤ) → length marks ≤ literal_key literal → marked marks x ≡ (marked marks x && not (int_eq x literal))
-marked_past marks literal x h = by_test (int_eq x literal) refl (marked marks x) refl
+-- a literal without a mark isn't marked
+pub marked-other : (places : Places) (marks : List Bool) (literal x : ℤ) → marked places marks literal ≡ false
+    → marked places marks x ≡ (marked places marks x && not (int_eq x literal))
+marked-other places marks literal x none = by_test (int_eq x literal) refl (marked places marks x) refl
   where
-    by_test : (t : Bool) → int_eq x literal ≡ t → (m : Bool) → marked marks x ≡ m → m ≡ (m && not t)
+    by_test : (t : Bool) → int_eq x literal ≡ t → (m : Bool) → marked places marks x ≡ m → m ≡ (m && not t)
     by_test false e true f = refl
     by_test false e false f = refl
     by_test true e false f = refl
     by_test true e true f =
         let same : x ≡ literal = (Decides-int_eq x literal).0 e in
-        let none : marked marks literal ≡ false = get_or_past marks (literal_key literal) false h in
-        let no : true ≡ false = sym f ∙ ap (marked marks) same ∙ none in
+        let no : true ≡ false = sym f ∙ ap (marked places marks) same ∙ none in
         absurd cc
+
+-- where a literal that has a place stands
+pub place_fits : (places : Places) (size : ℕ) (literal : ℤ) (i : ℕ) → place_of places literal ≡ Some i → IsTrue (has_place places size literal) → i < size
+place_fits places size literal i at has =
+    let test : nat_lt i size ≡ true = rw at at has in
+    (Decides-ltb i size).0 test
+
+-- a table without marks marks nothing
+pub clear_marks : (places : Places) (marks : List Bool) → ((k : ℕ) → get_or marks k false ≡ false) → (x : ℤ) → marked places marks x ≡ false
+clear_marks places marks none x = by_place (place_of places x)
+  where
+    by_place : (p : Option ℕ) → option_map_or (λ j. get_or marks j false) p false ≡ false
+    by_place None = refl
+    by_place (Some j) = none j
 
 -- ---- literals that are marked in turn
 
@@ -68,13 +91,13 @@ pub has_literal-more : (literals : List ℤ) (i : ℕ) (x : ℤ) → i < length 
     → has_literal (take (i + 1) literals) x ≡ (has_literal (take i literals) x || int_eq (get_or literals i (pos 0)) x)
 has_literal-more literals i x h = list_any_more (λ y. int_eq y x) literals i (pos 0) h
 
-pub others_more : (old now new : List Bool) (literals : List ℤ) (i : ℕ) (skipped : ℤ) → i < length literals
-    → ((x : ℤ) → marked now x ≡ (marked old x || (has_literal (take i literals) x && not (int_eq x skipped))))
-    → ((x : ℤ) → marked new x ≡ (marked now x || (int_eq (get_or literals i (pos 0)) x && not (int_eq x skipped))))
-    → (x : ℤ) → marked new x ≡ (marked old x || (has_literal (take (i + 1) literals) x && not (int_eq x skipped)))
-others_more old now new literals i skipped h before step x =
+pub others_more : (places : Places) (old now new : List Bool) (literals : List ℤ) (i : ℕ) (skipped : ℤ) → i < length literals
+    → ((x : ℤ) → marked places now x ≡ (marked places old x || (has_literal (take i literals) x && not (int_eq x skipped))))
+    → ((x : ℤ) → marked places new x ≡ (marked places now x || (int_eq (get_or literals i (pos 0)) x && not (int_eq x skipped))))
+    → (x : ℤ) → marked places new x ≡ (marked places old x || (has_literal (take (i + 1) literals) x && not (int_eq x skipped)))
+others_more places old now new literals i skipped h before step x =
     rw (step x, before x, has_literal-more literals i x h)
-    (regroup (marked old x) (has_literal (take i literals) x) (int_eq (get_or literals i (pos 0)) x) (not (int_eq x skipped)))
+    (regroup (marked places old x) (has_literal (take i literals) x) (int_eq (get_or literals i (pos 0)) x) (not (int_eq x skipped)))
   where
     regroup : (a b c n : Bool) → ((a || (b && n)) || (c && n)) ≡ (a || ((b || c) && n))
     regroup true b c n = refl

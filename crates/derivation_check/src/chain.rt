@@ -8,24 +8,26 @@ ghost use Rattle.derivation_check.specs.Marks.{HasPlaces, IsClear, has_places, m
 
 use crate::marks::{is_marked, mark_all, mark_others, unmark};
 use crate::numbers::clause_before;
+use crate::places::Places;
 use cnf::{Clause, Derivation, DerivationLine, Formula, is_literal, negation};
 
 /// Marks the clause that a line's chain gives. False where the chain doesn't exist.
 pub(crate) fn mark_chain(
+    places: &Places,
     marks: &mut [bool],
     formula: &Formula,
     derivation: &Derivation,
     before: usize,
     line: &DerivationLine,
 ) -> bool
-    requires clear { IsClear marks.old }
-    requires places { HasPlaces (length marks.old) formula.now derivation.now }
-    ensures { chain_of (clauses_before formula.now derivation.now before) line.now ≡ (if result then Some (marked marks.new) else None) }
+    requires clear { IsClear places.now marks.old }
+    requires places { HasPlaces places.now (length marks.old) formula.now derivation.now }
+    ensures { chain_of (clauses_before formula.now derivation.now before) line.now ≡ (if result then Some (marked places.now marks.new) else None) }
 {
     match clause_before(formula, derivation, before, line.first) {
         Some(first) => {
-            mark_all(marks, first.literals());
-            mark_steps(marks, formula, derivation, before, &line.steps)
+            mark_all(places, marks, first.literals());
+            mark_steps(places, marks, formula, derivation, before, &line.steps)
         }
         None => false,
     }
@@ -33,18 +35,19 @@ pub(crate) fn mark_chain(
 
 // Resolves in turn. False where a resolvent doesn't exist.
 fn mark_steps(
+    places: &Places,
     marks: &mut [bool],
     formula: &Formula,
     derivation: &Derivation,
     before: usize,
     steps: &[(u32, i32)],
 ) -> bool
-    requires { HasPlaces (length marks.old) formula.now derivation.now }
-    ensures { resolved (clauses_before formula.now derivation.now before) (marked marks.old) steps.now
-        ≡ (if result then Some (marked marks.new) else None) }
+    requires { HasPlaces places.now (length marks.old) formula.now derivation.now }
+    ensures { resolved (clauses_before formula.now derivation.now before) (marked places.now marks.old) steps.now
+        ≡ (if result then Some (marked places.now marks.new) else None) }
 {
     for step in steps {
-        if !mark_step(marks, formula, derivation, before, step.0, step.1) {
+        if !mark_step(places, marks, formula, derivation, before, step.0, step.1) {
             return false;
         }
     }
@@ -53,6 +56,7 @@ fn mark_steps(
 
 // One step.
 fn mark_step(
+    places: &Places,
     marks: &mut [bool],
     formula: &Formula,
     derivation: &Derivation,
@@ -60,31 +64,31 @@ fn mark_step(
     antecedent: u32,
     pivot: i32,
 ) -> bool
-    requires { HasPlaces (length marks.old) formula.now derivation.now }
+    requires { HasPlaces places.now (length marks.old) formula.now derivation.now }
     ensures { (rest : List (ℕ × ℤ)) →
-        resolved (clauses_before formula.now derivation.now before) (marked marks.old) ((antecedent, pivot) ∷ rest)
-        ≡ (if result then resolved (clauses_before formula.now derivation.now before) (marked marks.new) rest else None) }
+        resolved (clauses_before formula.now derivation.now before) (marked places.now marks.old) ((antecedent, pivot) ∷ rest)
+        ≡ (if result then resolved (clauses_before formula.now derivation.now before) (marked places.now marks.new) rest else None) }
 {
     match clause_before(formula, derivation, before, antecedent) {
-        Some(antecedent) => resolve_marked(marks, pivot, antecedent),
+        Some(antecedent) => resolve_marked(places, marks, pivot, antecedent),
         None => false,
     }
 }
 
 // Resolves the marked clause with an antecedent. False where they have no resolvent.
-fn resolve_marked(marks: &mut [bool], pivot: i32, antecedent: &Clause) -> bool
-    requires { IsTrue (has_places (length marks.old) antecedent.now) }
-    ensures value { result ≡ can_resolve (marked marks.old) pivot (has_literal antecedent.now) }
+fn resolve_marked(places: &Places, marks: &mut [bool], pivot: i32, antecedent: &Clause) -> bool
+    requires { IsTrue (has_places places.now (length marks.old) antecedent.now) }
+    ensures value { result ≡ can_resolve (marked places.now marks.old) pivot (has_literal antecedent.now) }
     ensures marks { OnTrue result
-        ((x : ℤ) → marked marks.new x ≡ resolvent (marked marks.old) pivot (has_literal antecedent.now) x) }
+        ((x : ℤ) → marked places.now marks.new x ≡ resolvent (marked places.now marks.old) pivot (has_literal antecedent.now) x) }
 {
     let literals = antecedent.literals();
     if !is_literal(pivot) {
         return false;
     }
-    if !is_marked(marks, pivot) {
+    if !is_marked(places, marks, pivot) {
         return false;
     }
-    unmark(marks, pivot);
-    mark_others(marks, literals, negation(pivot))
+    unmark(places, marks, pivot);
+    mark_others(places, marks, literals, negation(pivot))
 }

@@ -1,12 +1,13 @@
 // The checker.
 ghost use Rattle.std.specs.Prelude.{◌≡◌, ◌<◌, ◌^◌, ◌-◌, ◌↔◌, IsTrue, IfOk, length};
 ghost use Rattle.cnf.specs.Checks.{EndsEmpty};
-ghost use Rattle.derivation_check.specs.Marks.{HasPlaces, IsClear};
+ghost use Rattle.derivation_check.specs.Marks.{HasPlaces};
 ghost use Rattle.derivation_check.specs.Verdicts.{IsVerdict};
 
 use crate::line::is_right;
 use crate::marks::clear;
-use crate::table::table_size;
+use crate::places::Places;
+use crate::table::places_for;
 use crate::verdict::Verdict;
 use cnf::{Derivation, Formula};
 use fq_core::Memory;
@@ -18,6 +19,7 @@ use std::marker::Model;
 pub struct Checker<'a> {
     formula: &'a Formula,
     derivation: &'a Derivation,
+    places: Places,
     marks: Vec<bool>,
 }
 
@@ -31,11 +33,12 @@ impl<'a> Model for Checker<'a> {
     ghost view = { λ c. record { formula = c.formula.now; derivation = c.derivation.now } };
 
     ghost invariant = { λ c.
-        HasPlaces (length c.marks.items) c.formula.now c.derivation.now × (length c.derivation.now.lines < 2 ^ 32) };
+        HasPlaces c.places (length c.marks.items) c.formula.now c.derivation.now × (length c.derivation.now.lines < 2 ^ 32) };
 }
 
 impl<'a> Checker<'a> {
-    /// Takes the memory: a mark for each literal of each variable up to the greatest one that occurs.
+    /// Takes the memory: a table of marks, which is at most a small multiple of what is checked, whatever the numbers of
+    /// its variables.
     pub fn prepare(
         alloc: Global,
         formula: &'a Formula,
@@ -44,31 +47,39 @@ impl<'a> Checker<'a> {
         requires { length derivation.now.lines < 2 ^ 32 }
         ensures { IfOk result (λ checker. checker ≡ record { formula = formula.now; derivation = derivation.now }) }
     {
-        let marks = vec![in alloc; false; table_size(formula, derivation)]?;
+        let (places, size) = places_for(alloc, formula, derivation)?;
+        let marks = vec![in alloc; false; size]?;
         Ok(Checker {
             formula,
             derivation,
+            places,
             marks,
         })
     }
 
-    /// The verdict on the derivation. It takes no memory, and time linear in the clauses that are resolved.
+    /// The verdict on the derivation. It takes no memory, and time linear in the clauses that are resolved, with a binary
+    /// search for each literal where the variables are numbered with great gaps.
     pub fn check(&mut self) -> Verdict
         ensures verdict { IsVerdict self.old.formula self.old.derivation result }
         ensures same { self.new ≡ self.old }
     {
-        verdict_of(&mut self.marks, self.formula, self.derivation)
+        verdict_of(&self.places, &mut self.marks, self.formula, self.derivation)
     }
 }
 
-fn verdict_of(marks: &mut [bool], formula: &Formula, derivation: &Derivation) -> Verdict
-    requires places { HasPlaces (length marks.old) formula.now derivation.now }
+fn verdict_of(
+    places: &Places,
+    marks: &mut [bool],
+    formula: &Formula,
+    derivation: &Derivation,
+) -> Verdict
+    requires places { HasPlaces places.now (length marks.old) formula.now derivation.now }
     requires lines { length derivation.now.lines < 2 ^ 32 }
     ensures { IsVerdict formula.now derivation.now result }
 {
     clear(marks);
     for (at, line) in derivation.lines.iter().enumerate() {
-        if !is_right(marks, formula, derivation, at, line) {
+        if !is_right(places, marks, formula, derivation, at, line) {
             return Verdict::BadStep {
                 line: at as u32 + 1,
             };

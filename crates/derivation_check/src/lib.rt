@@ -5,14 +5,17 @@
 //! where the derivation checks, and else names the first line that isn't right, or says that no empty clause ends it.
 //!
 //! The clause so far of a chain is kept as marks on a table of literals, so that a step costs as much as reading its
-//! antecedent.
+//! antecedent. Each literal stands at its key in the table, or, where variables are numbered with great gaps, where a
+//! binary search finds it among those that occur.
 #![tactic(auto)]
 
 mod chain;
 mod checker;
 mod line;
+mod listing;
 mod marks;
 mod numbers;
+mod places;
 mod table;
 mod verdict;
 

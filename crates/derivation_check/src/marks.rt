@@ -1,15 +1,15 @@
 // Sets of literals as tables of marks.
-ghost use Rattle.std.specs.Prelude.{◌≡◌, ◌<◌, ℤ, not, ◌&&◌, ◌||◌, IsTrue, length};
+ghost use Rattle.std.specs.Prelude.{◌≡◌, ℕ, ℤ, false, not, ◌&&◌, ◌||◌, IsTrue, length, slice_index_or};
 ghost use Rattle.std.specs.List.{list_all, list_any};
 ghost use Rattle.std.specs.Ordering.{int_eq};
-ghost use Rattle.cnf.specs.Clauses.{literal_key as key_of, has_literal};
-ghost use Rattle.derivation_check.specs.Marks.{IsClear, has_places, marked};
+ghost use Rattle.cnf.specs.Clauses.{has_literal};
+ghost use Rattle.derivation_check.specs.Marks.{has_place, has_places, marked};
 
-use cnf::literal_key;
+use crate::places::{Places, place};
 
 /// Takes all marks away.
 pub(crate) fn clear(marks: &mut [bool])
-    ensures { IsClear marks.new }
+    ensures { (k : ℕ) → slice_index_or marks.new k false ≡ false }
 {
     for mark in marks.iter_mut() {
         *mark = false;
@@ -17,76 +17,90 @@ pub(crate) fn clear(marks: &mut [bool])
 }
 
 /// Whether a literal is marked.
-pub(crate) fn is_marked(marks: &[bool], literal: i32) -> bool
-    ensures { result ≡ marked marks.now literal }
+pub(crate) fn is_marked(places: &Places, marks: &[bool], literal: i32) -> bool
+    ensures { result ≡ marked places.now marks.now literal }
 {
-    let key = literal_key(literal);
-    key < marks.len() && marks[key]
+    match place(places, literal) {
+        Some(place) => place < marks.len() && marks[place],
+        None => false,
+    }
 }
 
 /// Whether all these literals are marked.
-pub(crate) fn all_marked(marks: &[bool], literals: &[i32]) -> bool
-    ensures { result ≡ list_all (marked marks.now) literals.now }
+pub(crate) fn all_marked(places: &Places, marks: &[bool], literals: &[i32]) -> bool
+    ensures { result ≡ list_all (marked places.now marks.now) literals.now }
 {
-    literals.iter().all(|literal| is_marked(marks, *literal))
+    literals
+        .iter()
+        .all(|literal| is_marked(places, marks, *literal))
 }
 
 /// Whether one of these literals is marked.
-pub(crate) fn any_marked(marks: &[bool], literals: &[i32]) -> bool
-    ensures { result ≡ list_any (marked marks.now) literals.now }
+pub(crate) fn any_marked(places: &Places, marks: &[bool], literals: &[i32]) -> bool
+    ensures { result ≡ list_any (marked places.now marks.now) literals.now }
 {
-    literals.iter().any(|literal| is_marked(marks, *literal))
+    literals
+        .iter()
+        .any(|literal| is_marked(places, marks, *literal))
 }
 
-fn mark(marks: &mut [bool], literal: i32)
-    requires { key_of literal < length marks.old }
-    ensures { (x : ℤ) → marked marks.new x ≡ (marked marks.old x || int_eq literal x) }
+fn mark(places: &Places, marks: &mut [bool], literal: i32)
+    requires { IsTrue (has_place places.now (length marks.old) literal) }
+    ensures { (x : ℤ) → marked places.now marks.new x ≡ (marked places.now marks.old x || int_eq literal x) }
 {
-    marks[literal_key(literal)] = true;
+    if let Some(place) = place(places, literal) {
+        marks[place] = true;
+    }
 }
 
 /// Takes the mark of a literal away.
-pub(crate) fn unmark(marks: &mut [bool], literal: i32)
-    ensures { (x : ℤ) → marked marks.new x ≡ (marked marks.old x && not (int_eq x literal)) }
+pub(crate) fn unmark(places: &Places, marks: &mut [bool], literal: i32)
+    ensures { (x : ℤ) → marked places.now marks.new x ≡ (marked places.now marks.old x && not (int_eq x literal)) }
 {
-    let key = literal_key(literal);
-    if key < marks.len() {
-        marks[key] = false;
+    if let Some(place) = place(places, literal)
+        && place < marks.len()
+    {
+        marks[place] = false;
     }
 }
 
 /// Marks literals.
-pub(crate) fn mark_all(marks: &mut [bool], literals: &[i32])
-    requires { IsTrue (has_places (length marks.old) literals.now) }
-    ensures { (x : ℤ) → marked marks.new x ≡ (marked marks.old x || has_literal literals.now x) }
+pub(crate) fn mark_all(places: &Places, marks: &mut [bool], literals: &[i32])
+    requires { IsTrue (has_places places.now (length marks.old) literals.now) }
+    ensures { (x : ℤ) → marked places.now marks.new x ≡ (marked places.now marks.old x || has_literal literals.now x) }
 {
     for literal in literals {
-        mark(marks, *literal);
+        mark(places, marks, *literal);
     }
 }
 
 // Marks a literal, unless it is one that is skipped, and answers whether it is.
-fn mark_other(marks: &mut [bool], literal: i32, skipped: i32) -> bool
-    requires { key_of literal < length marks.old }
+fn mark_other(places: &Places, marks: &mut [bool], literal: i32, skipped: i32) -> bool
+    requires { IsTrue (has_place places.now (length marks.old) literal) }
     ensures found { result ≡ int_eq literal skipped }
-    ensures marks { (x : ℤ) → marked marks.new x ≡ (marked marks.old x || (int_eq literal x && not (int_eq x skipped))) }
+    ensures marks { (x : ℤ) → marked places.now marks.new x ≡ (marked places.now marks.old x || (int_eq literal x && not (int_eq x skipped))) }
 {
     if literal == skipped {
         return true;
     }
-    mark(marks, literal);
+    mark(places, marks, literal);
     false
 }
 
 /// Marks all literals but one, and answers whether that one is among them.
-pub(crate) fn mark_others(marks: &mut [bool], literals: &[i32], skipped: i32) -> bool
-    requires { IsTrue (has_places (length marks.old) literals.now) }
+pub(crate) fn mark_others(
+    places: &Places,
+    marks: &mut [bool],
+    literals: &[i32],
+    skipped: i32,
+) -> bool
+    requires { IsTrue (has_places places.now (length marks.old) literals.now) }
     ensures found { result ≡ has_literal literals.now skipped }
-    ensures marks { (x : ℤ) → marked marks.new x ≡ (marked marks.old x || (has_literal literals.now x && not (int_eq x skipped))) }
+    ensures marks { (x : ℤ) → marked places.now marks.new x ≡ (marked places.now marks.old x || (has_literal literals.now x && not (int_eq x skipped))) }
 {
     let mut found = false;
     for literal in literals {
-        if mark_other(marks, *literal, skipped) {
+        if mark_other(places, marks, *literal, skipped) {
             found = true;
         }
     }
@@ -94,10 +108,10 @@ pub(crate) fn mark_others(marks: &mut [bool], literals: &[i32], skipped: i32) ->
 }
 
 /// Takes the marks of literals away.
-pub(crate) fn unmark_all(marks: &mut [bool], literals: &[i32])
-    ensures { (x : ℤ) → marked marks.new x ≡ (marked marks.old x && not (has_literal literals.now x)) }
+pub(crate) fn unmark_all(places: &Places, marks: &mut [bool], literals: &[i32])
+    ensures { (x : ℤ) → marked places.now marks.new x ≡ (marked places.now marks.old x && not (has_literal literals.now x)) }
 {
     for literal in literals {
-        unmark(marks, *literal);
+        unmark(places, marks, *literal);
     }
 }

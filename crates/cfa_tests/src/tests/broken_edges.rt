@@ -1,7 +1,7 @@
 // Graphs with one fault in an edge each, made of the worked graphs.
-use super::draft::{Change, Part, Row, Seen, Shape, Step, Word};
 use c_values::Kind;
 use cfa::*;
+use test_graphs::draft::{Change, Part, Row, Seen, Shape, Step, Word};
 
 /// What is broken, the change of the edges and of the other parts, and the edge that is named, or none where no edge is
 /// at fault.

@@ -1,8 +1,8 @@
 // Graphs with one fault in another part each, made of the worked graphs.
 use super::broken_edges::Fault;
-use super::draft::{Change, NO_KIND, Part, Row, Seen, Shape, Step, Word};
 use c_values::Kind;
 use cfa::*;
+use test_graphs::draft::{Change, NO_KIND, Part, Row, Seen, Shape, Step, Word};
 
 /// Faults in the graph `CALL`.
 pub static NODES_AND_FUNCTIONS: [Fault; 9] = [

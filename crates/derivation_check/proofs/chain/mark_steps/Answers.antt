@@ -11,4 +11,4 @@ returns-then-not-mark_step c =
     let fits : SFits w32 (get_or c.args.steps.now c.loop-step.step-index (0, pos 0)).1 = search rules in
     let refused = simp to_z-of_z at c.if-not-mark_step.ensures in
     sym c.loop-step.invariant
-    ∙ step_refused (clauses_before c.args.formula.now c.args.derivation.now c.args.before) (marked c.loop-step.marks) _ _ c.loop-step-test.true refused
+    ∙ step_refused (clauses_before c.args.formula.now c.args.derivation.now c.args.before) (marked c.args.places.now c.loop-step.marks) _ _ c.loop-step-test.true refused

@@ -5,5 +5,5 @@ use Rattle.derivation_check.proofs.chain.mark_steps.Given as goal
 
 abbrev pub invariant-loop-step : goal.invariant-loop-step
 invariant-loop-step l =
-    resolved (clauses_before l.formula l.derivation l.before) (marked l.marks) (drop l.step-index l.steps)
-    ≡ resolved (clauses_before l.formula l.derivation l.before) (marked l.initial.marks) l.steps
+    resolved (clauses_before l.formula l.derivation l.before) (marked l.places l.marks) (drop l.step-index l.steps)
+    ≡ resolved (clauses_before l.formula l.derivation l.before) (marked l.places l.initial.marks) l.steps

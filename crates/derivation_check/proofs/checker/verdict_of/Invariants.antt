@@ -5,6 +5,6 @@ use Rattle.derivation_check.proofs.checker.verdict_of.Given as goal
 
 abbrev pub invariant-loop-at : goal.invariant-loop-at
 invariant-loop-at l = record {
-  clear : IsClear l.marks;
+  clear : IsClear l.places l.marks;
   right : (k : ℕ) → k < l.at → IsRightAt l.formula l.derivation k;
 }

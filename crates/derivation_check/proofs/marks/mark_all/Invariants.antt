@@ -6,4 +6,4 @@ use Rattle.derivation_check.proofs.marks.mark_all.Given as goal
 
 abbrev pub invariant-loop-literal : goal.invariant-loop-literal
 invariant-loop-literal l =
-    (x : ℤ) → marked l.marks x ≡ (marked l.initial.marks x || has_literal (take l.literal-index l.literals) x)
+    (x : ℤ) → marked l.places l.marks x ≡ (marked l.places l.initial.marks x || has_literal (take l.literal-index l.literals) x)

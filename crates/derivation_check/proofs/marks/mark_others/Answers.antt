@@ -19,5 +19,5 @@ loop-literal-preserved c =
         | then-mark_other w ↦ rw w.found-is (simp to_z-of_z (found_here _ _ _ _ _ h is found_before w.if-mark_other.true))
         | else-mark_other w ↦ rw w.found-is (simp to_z-of_z (not_found_here _ _ _ _ _ h is found_before w.if-mark_other.false))
       ];
-      marks = simp to_z-of_z (others_more _ _ _ _ _ _ h before step);
+      marks = simp to_z-of_z (others_more _ _ _ _ _ _ _ h before step);
     }

@@ -8,5 +8,5 @@ use Rattle.derivation_check.proofs.marks.mark_others.Given as goal
 abbrev pub invariant-loop-literal : goal.invariant-loop-literal
 invariant-loop-literal l = record {
   found : l.found ≡ has_literal (take l.literal-index l.literals) l.skipped;
-  marks : (x : ℤ) → marked l.marks x ≡ (marked l.initial.marks x || (has_literal (take l.literal-index l.literals) x && not (int_eq x l.skipped)));
+  marks : (x : ℤ) → marked l.places l.marks x ≡ (marked l.places l.initial.marks x || (has_literal (take l.literal-index l.literals) x && not (int_eq x l.skipped)));
 }

@@ -1,5 +1,5 @@
 // Graphs of small programs, written out by hand.
-use super::draft::{Draft, Part, Row, Seen, Shape, Step, Word};
+use crate::draft::{Draft, Part, Row, Seen, Shape, Step, Word};
 use c_values::Kind;
 use cfa::*;
 
