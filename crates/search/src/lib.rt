@@ -3,6 +3,7 @@
 //! It stands on `cnf`. The layers above use that `shown` appends what it is given, and after want of memory nothing.
 #![tactic(auto)]
 
+pub mod laws;
 mod moves;
 mod watch;
 
