@@ -1,3 +1,4 @@
 pub mod ChecksLaws
 pub mod ClauseLaws
 pub mod ResolutionLaws
+pub mod NumbersLaws

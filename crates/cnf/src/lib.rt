@@ -11,6 +11,7 @@ mod dimacs_text;
 mod formula;
 mod laws;
 mod literal;
+mod numbers;
 mod resolution;
 
 pub use clause::Clause;
@@ -19,4 +20,5 @@ pub use dimacs_text::{dimacs, push_clause, push_dimacs, push_number};
 pub use formula::Formula;
 pub use laws::{checked_formulas_have_no_model, one_clause_per_set};
 pub use literal::{are_literals, is_literal, literal_key, negation};
+pub use numbers::clause_before;
 pub use resolution::{can_resolve, resolve};

@@ -1,4 +1,4 @@
--- Clauses by their numbers, and the places that they have in a table.
+-- The places that numbered clauses have in a table.
 use Rattle.std.proofs.Common.{◌≡◌, ℕ, zero, suc, ◌+◌, ◌-◌, ◌<◌, ◌≤◌, Bool, true, false, List, [], ◌∷◌, ◌++◌, length, get_or, max, take, map, refl, sym, ◌∙◌, ap, arith, None, Some}
 use Rattle.std.specs.Prelude.{ℤ, ◌&&◌, nat_lt, slice_get}
 use Rattle.std.specs.List.{list_all}
@@ -12,32 +12,12 @@ use Rattle.cnf.specs.declared.derivation.DerivationLine.{DerivationLine}
 use Rattle.cnf.specs.Checks.{numbered, clauses_before}
 use Rattle.cnf.specs.Clauses.{literal_key, RisesFrom}
 use Rattle.cnf.proofs.ChecksLaws.{all_at}
-use Rattle.derivation_check.specs.declared.places.Places.{Places}
-use Rattle.derivation_check.specs.declared.places.Places.TheVariants.{ByKey}
-use Rattle.derivation_check.specs.Marks.{has_places, HasPlaces}
+use Rattle.literal_marks.specs.declared.places.Places.{Places}
+use Rattle.literal_marks.specs.declared.places.Places.TheVariants.{ByKey}
+use Rattle.literal_marks.specs.Marks.{has_places}
+use Rattle.derivation_check.specs.Marks.{HasPlaces}
 
 -- ---- lists
-
-pub slice_get_front : {X : Type 0} (xs ys : List X) (i : ℕ) → i < length xs → slice_get (xs ++ ys) i ≡ slice_get xs i
-slice_get_front [] ys i h = absurd (omega arith)
-slice_get_front (x ∷ xs) ys zero h = refl
-slice_get_front (x ∷ xs) ys (suc i) h = slice_get_front xs ys i (omega arith)
-
-pub slice_get_back : {X : Type 0} (xs ys : List X) (i : ℕ) → slice_get (xs ++ ys) (length xs + i) ≡ slice_get ys i
-slice_get_back [] ys i = let e : 0 + i ≡ i = omega arith in rw e refl
-slice_get_back (x ∷ xs) ys i = let e : suc (length xs) + i ≡ suc (length xs + i) = omega arith in rw e (slice_get_back xs ys i)
-
-slice_get_taken : {X : Type 0} (xs : List X) (n i : ℕ) → i < n → slice_get (take n xs) i ≡ slice_get xs i
-slice_get_taken xs zero i h = absurd (omega arith)
-slice_get_taken [] (suc n) i h = refl
-slice_get_taken (x ∷ xs) (suc n) zero h = refl
-slice_get_taken (x ∷ xs) (suc n) (suc i) h = slice_get_taken xs n i (omega arith)
-
-slice_get_beyond : {X : Type 0} (xs : List X) (n i : ℕ) → n ≤ i → slice_get (take n xs) i ≡ None
-slice_get_beyond xs zero i h = refl
-slice_get_beyond [] (suc n) i h = refl
-slice_get_beyond (x ∷ xs) (suc n) zero h = absurd (omega arith)
-slice_get_beyond (x ∷ xs) (suc n) (suc i) h = slice_get_beyond xs n i (omega arith)
 
 all_taken : {X : Type 0} (p : X → Bool) (xs : List X) (n : ℕ) → list_all p xs ≡ true → list_all p (take n xs) ≡ true
 all_taken p xs zero h = refl
@@ -55,29 +35,6 @@ all_weaker p q (x ∷ xs) f h = by_test (p x) refl h (all_weaker p q xs f)
     by_test : (b : Bool) → p x ≡ b → (b && list_all p xs) ≡ true → (list_all p xs ≡ true → list_all q xs ≡ true) → (q x && list_all q xs) ≡ true
     by_test true e g rest = rw (f x e) (rest g)
     by_test false e g rest = absurd cc
-
--- ---- numbers
-
--- the clauses of the first lines stand after those of the formula
-pub numbered_line : (clauses : List (List ℤ)) (lines : List DerivationLine) (before number : ℕ) → length clauses < number → number - 1 - length clauses < before
-    → numbered (clauses ++ map (λ line. line.clause) (take before lines)) number ≡ option_map (λ line. line.clause) (slice_get lines (number - 1 - length clauses))
-numbered_line clauses lines before zero h s = absurd (omega arith)
-numbered_line clauses lines before (suc n) h s =
-    let at : n ≡ length clauses + (suc n - 1 - length clauses) = omega arith in
-    ap (slice_get (clauses ++ map (λ line. line.clause) (take before lines))) at
-    ∙ slice_get_back clauses (map (λ line. line.clause) (take before lines)) (suc n - 1 - length clauses)
-    ∙ slice_get-map (λ line. line.clause) (take before lines) (suc n - 1 - length clauses)
-    ∙ ap (option_map (λ line. line.clause)) (slice_get_taken lines before (suc n - 1 - length clauses) s)
-
-pub numbered_past : (clauses : List (List ℤ)) (lines : List DerivationLine) (before number : ℕ) → length clauses < number → before ≤ number - 1 - length clauses
-    → None ≡ numbered (clauses ++ map (λ line. line.clause) (take before lines)) number
-numbered_past clauses lines before zero h s = absurd (omega arith)
-numbered_past clauses lines before (suc n) h s =
-    let at : n ≡ length clauses + (suc n - 1 - length clauses) = omega arith in
-    sym (ap (slice_get (clauses ++ map (λ line. line.clause) (take before lines))) at
-    ∙ slice_get_back clauses (map (λ line. line.clause) (take before lines)) (suc n - 1 - length clauses)
-    ∙ slice_get-map (λ line. line.clause) (take before lines) (suc n - 1 - length clauses)
-    ∙ ap (option_map (λ line. line.clause)) (slice_get_beyond lines before (suc n - 1 - length clauses) s))
 
 -- ---- places
 

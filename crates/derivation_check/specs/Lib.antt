@@ -1,4 +1,3 @@
 pub mod Marks
-pub mod Places
 pub mod Tasks
 pub mod Verdicts

@@ -1,15 +1,11 @@
 // A line's chain of resolutions, on marks.
-ghost use Rattle.std.specs.Prelude.{◌≡◌, ◌∷◌, ℕ, ℤ, List, IsTrue, Some, None, if◌then◌else◌, length};
-ghost use Rattle.std.specs.Bool.{OnTrue};
+ghost use Rattle.std.specs.Prelude.{◌≡◌, ◌∷◌, ℕ, ℤ, List, Some, None, if◌then◌else◌, length};
 ghost use Rattle.cnf.specs.Checks.{chain_of, clauses_before, resolved};
-ghost use Rattle.cnf.specs.Clauses.{has_literal};
-ghost use Rattle.cnf.specs.Resolution.{can_resolve, resolvent};
-ghost use Rattle.derivation_check.specs.Marks.{HasPlaces, IsClear, has_places, marked};
+ghost use Rattle.literal_marks.specs.Marks.{IsClear, marked};
+ghost use Rattle.derivation_check.specs.Marks.{HasPlaces};
 
-use crate::marks::{is_marked, mark_all, mark_others, unmark};
-use crate::numbers::clause_before;
-use crate::places::Places;
-use cnf::{Clause, Derivation, DerivationLine, Formula, is_literal, negation};
+use cnf::{Derivation, DerivationLine, Formula, clause_before};
+use literal_marks::{Places, mark_all, resolve_marked};
 
 /// Marks the clause that a line's chain gives. False where the chain doesn't exist.
 pub(crate) fn mark_chain(
@@ -73,22 +69,4 @@ fn mark_step(
         Some(antecedent) => resolve_marked(places, marks, pivot, antecedent),
         None => false,
     }
-}
-
-// Resolves the marked clause with an antecedent. False where they have no resolvent.
-fn resolve_marked(places: &Places, marks: &mut [bool], pivot: i32, antecedent: &Clause) -> bool
-    requires { IsTrue (has_places places.now (length marks.old) antecedent.now) }
-    ensures value { result ≡ can_resolve (marked places.now marks.old) pivot (has_literal antecedent.now) }
-    ensures marks { OnTrue result
-        ((x : ℤ) → marked places.now marks.new x ≡ resolvent (marked places.now marks.old) pivot (has_literal antecedent.now) x) }
-{
-    let literals = antecedent.literals();
-    if !is_literal(pivot) {
-        return false;
-    }
-    if !is_marked(places, marks, pivot) {
-        return false;
-    }
-    unmark(places, marks, pivot);
-    mark_others(places, marks, literals, negation(pivot))
 }

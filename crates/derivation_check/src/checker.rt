@@ -5,12 +5,11 @@ ghost use Rattle.derivation_check.specs.Marks.{HasPlaces};
 ghost use Rattle.derivation_check.specs.Verdicts.{IsVerdict};
 
 use crate::line::is_right;
-use crate::marks::clear;
-use crate::places::Places;
 use crate::table::places_for;
 use crate::verdict::Verdict;
 use cnf::{Derivation, Formula};
 use fq_core::Memory;
+use literal_marks::{Places, clear};
 use std::alloc::Global;
 use std::marker::Model;
 

@@ -1,6 +1,6 @@
 //! A checker of derivations by resolution.
 //!
-//! It stands on `cnf`, which says when a derivation checks over a formula, and shows that then no assignment
+//! It stands on `literal_marks` for sets of literals, and on `cnf`, which says when a derivation checks over a formula, and shows that then no assignment
 //! satisfies the formula. `Checker::prepare` takes all memory, and `Checker::check` none: its answer is Yes exactly
 //! where the derivation checks, and else names the first line that isn't right, or says that no empty clause ends it.
 //!
@@ -13,9 +13,6 @@ mod chain;
 mod checker;
 mod line;
 mod listing;
-mod marks;
-mod numbers;
-mod places;
 mod table;
 mod verdict;
 

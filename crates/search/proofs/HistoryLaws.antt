@@ -9,8 +9,10 @@ use Rattle.cnf.specs.declared.formula.Formula.{Formula}
 use Rattle.search.specs.declared.moves.Move.{Move}
 use Rattle.search.specs.declared.moves.Move.TheVariants.{Propagate, Decide, Jump}
 use Rattle.search.specs.Laws.{HistoriesEnd, IsFormula, TrailsRise, is_over, number_of}
-use Rattle.search.specs.Machine.{Entry, State, Moves, Runs, Propagates, Jumps, clauses_of, first_state, is_open, with_entry}
-use Rattle.search.proofs.KeptLaws.{IsTrail, and_left, and_right, has_over, is_over-from, is_over-tells, line_over, numbered_over, places, trail_more, trail_short, trail_taken, unit_is}
+use Rattle.search.specs.declared.trail.Entry.{Entry}
+use Rattle.search.specs.Trails.{IsTrail, places}
+use Rattle.search.specs.Machine.{is_true, State, Moves, Runs, Propagates, Jumps, clauses_of, first_state, is_open, with_entry}
+use Rattle.search.proofs.KeptLaws.{and_left, and_right, has_over, is_over-from, is_over-tells, line_over, numbered_over, trail_more, trail_short, trail_taken, unit_is}
 use Rattle.search.proofs.TrailLaws.{below_power, rises_by_cut, rises_by_entry}
 
 -- the trail has distinct ones of the variables, and all clauses are over them
@@ -35,7 +37,7 @@ pub record Onward (formula : Formula) (s t : State) : Type 0 where
   pub rises : number_of formula.variables s.trail < number_of formula.variables t.trail
 
 -- one more entry, and the same clauses
-by_entry : (formula : Formula) (s t : State) (x : ℤ) (reason : Option ℕ) → Kept formula s → is_over formula.variables x ≡ true → is_open s.trail x ≡ true
+by_entry : (formula : Formula) (s t : State) (x : ℤ) (reason : Option ℕ) → Kept formula s → is_over formula.variables x ≡ true → is_open (is_true s.trail) x ≡ true
     → t ≡ record { trail = with_entry s.trail x reason; learned = s.learned } → Onward formula s t
 by_entry formula s t x reason k over free is =
     let longer : IsTrail formula.variables (with_entry s.trail x reason) = trail_more formula.variables s.trail x reason (is_over-tells formula.variables x over) free k.trail in

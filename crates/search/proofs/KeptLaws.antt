@@ -15,7 +15,9 @@ use Rattle.cnf.specs.Resolution.{can_resolve, resolvent}
 use Rattle.cnf.proofs.ChecksLaws.{all_at}
 use Rattle.cnf.proofs.ClauseLaws.{same_literal, equal_literal}
 use Rattle.search.specs.Laws.{is_over}
-use Rattle.search.specs.Machine.{Entry, IsOver, is_false, is_open, is_true, lone_open, remaining, unit_of, with_entry}
+use Rattle.search.specs.declared.trail.Entry.{Entry}
+use Rattle.search.specs.Trails.{IsTrail, are_over, place, places}
+use Rattle.search.specs.Machine.{IsOver, is_open, is_true, lone_open, remaining, unit_of, with_entry}
 
 -- ---- tests
 
@@ -43,12 +45,6 @@ is_over-tells n x e =
     let high : literal_key x < 2 * n + 2 = (Decides-ltb (literal_key x) (2 * n + 2)).0 (and_right _ _ e) in
     (omega arith, omega arith)
 
--- a literal's variable, from 0
-abbrev pub place : ℤ → ℕ
-place (pos zero) = 0
-place (pos (suc n)) = n
-place (negsuc n) = n
-
 place_below : (n : ℕ) (x : ℤ) → IsOver n x → place x < n
 place_below n (pos zero) h = absurd (omega (arith, h.0))
 place_below n (pos (suc k)) h = omega (arith, h.1)
@@ -64,14 +60,8 @@ one_variable n (negsuc a) (negsuc b) h g e = inl (ap negsuc e)
 
 -- ---- trails
 
-abbrev pub places : List Entry → List ℕ
-places trail = map (λ e. place e.literal) trail
-
-abbrev pub are_over : ℕ → List Entry → Bool
-are_over n trail = list_all (λ e. is_over n e.literal) trail
-
 -- an open literal's variable isn't on the trail
-open_place : (n : ℕ) (trail : List Entry) (x : ℤ) → IsOver n x → are_over n trail ≡ true → is_true trail x ≡ false → is_false trail x ≡ false
+open_place : (n : ℕ) (trail : List Entry) (x : ℤ) → IsOver n x → are_over n trail ≡ true → is_true trail x ≡ false → is_true trail (neg_ℤ x) ≡ false
     → AllByRecursion (λ p. eqb p (place x) ≡ false) (places trail)
 open_place n [] x h all t f = tt
 open_place n (e ∷ trail) x h all t f =
@@ -127,12 +117,7 @@ places-append : (trail : List Entry) (e : Entry) → places (trail ++ e ∷ []) 
 places-append [] e = refl
 places-append (f ∷ trail) e = ap (λ xs. place f.literal ∷ xs) (places-append trail e)
 
--- a trail of distinct ones of so many variables
-pub record IsTrail (n : ℕ) (trail : List Entry) : Type 0 where
-  pub over : are_over n trail ≡ true
-  pub distinct : IsDistinct eqb (places trail)
-
-pub trail_more : (n : ℕ) (trail : List Entry) (x : ℤ) (reason : Option ℕ) → IsOver n x → is_open trail x ≡ true → IsTrail n trail → IsTrail n (with_entry trail x reason)
+pub trail_more : (n : ℕ) (trail : List Entry) (x : ℤ) (reason : Option ℕ) → IsOver n x → is_open (is_true trail) x ≡ true → IsTrail n trail → IsTrail n (with_entry trail x reason)
 trail_more n trail x reason h o is =
     let free = neither _ _ o in
     record {
@@ -166,7 +151,7 @@ trail_short n trail is =
 
 -- ---- units
 
-has_filtered : (p : ℤ → Bool) (xs : List ℤ) (x : ℤ) → has_literal (filter p xs) x ≡ true → has_literal xs x ≡ true
+pub has_filtered : (p : ℤ → Bool) (xs : List ℤ) (x : ℤ) → has_literal (filter p xs) x ≡ true → has_literal xs x ≡ true
 has_filtered p [] x h = h
 has_filtered p (y ∷ ys) x h = by_test (p y) h (has_filtered p ys x)
   where
@@ -183,20 +168,20 @@ has_filtered p (y ∷ ys) x h = by_test (p y) h (has_filtered p ys x)
         later true q = refl
         later false q = q
 
-lone : (trail : List Entry) (xs : List ℤ) (x : ℤ) → lone_open trail xs ≡ Some x → (xs ≡ x ∷ []) × (is_open trail x ≡ true)
+lone : (trail : List Entry) (xs : List ℤ) (x : ℤ) → lone_open (is_true trail) xs ≡ Some x → (xs ≡ x ∷ []) × (is_open (is_true trail) x ≡ true)
 lone trail [] x e = absurd cc
-lone trail (y ∷ []) x e = by_test (is_open trail y) refl e
+lone trail (y ∷ []) x e = by_test (is_open (is_true trail) y) refl e
   where
-    by_test : (b : Bool) → is_open trail y ≡ b → (if b then Some y else None) ≡ Some x → (y ∷ [] ≡ x ∷ []) × (is_open trail x ≡ true)
+    by_test : (b : Bool) → is_open (is_true trail) y ≡ b → (if b then Some y else None) ≡ Some x → (y ∷ [] ≡ x ∷ []) × (is_open (is_true trail) x ≡ true)
     by_test true f g = let same : y ≡ x = cc in (ap (λ z. z ∷ []) same, rw (← same) f)
     by_test false f g = absurd cc
 lone trail (y ∷ z ∷ more) x e = absurd cc
 
 -- the one open literal of a clause is in it, and open
-pub unit_is : (trail : List Entry) (clause : List ℤ) (x : ℤ) → unit_of trail clause ≡ Some x → (has_literal clause x ≡ true) × (is_open trail x ≡ true)
+pub unit_is : (trail : List Entry) (clause : List ℤ) (x : ℤ) → unit_of (is_true trail) clause ≡ Some x → (has_literal clause x ≡ true) × (is_open (is_true trail) x ≡ true)
 unit_is trail clause x e =
-    let found = lone trail (remaining trail clause) x e in
-    (has_filtered (λ y. not (is_false trail y)) clause x (rw (found.0, equal_literal x x refl) refl), found.1)
+    let found = lone trail (remaining (is_true trail) clause) x e in
+    (has_filtered (λ y. not (is_true trail (neg_ℤ y))) clause x (rw (found.0, equal_literal x x refl) refl), found.1)
 
 -- ---- clauses over so many variables
 

@@ -1,3 +1,7 @@
+pub mod BackLaws
 pub mod HistoryLaws
 pub mod KeptLaws
+pub mod LessonLaws
+pub mod ScanLaws
+pub mod StatusLaws
 pub mod TrailLaws

@@ -2,7 +2,7 @@
 use Rattle.std.proofs.Common.{◌≡◌, ℕ, zero, suc, ◌*◌, ◌^◌, ◌<◌, ◌≤◌, List, [], ◌∷◌, ◌++◌, length, take, refl, ◌∙◌, ap, arith, Option, None, Some}
 use Rattle.std.proofs.Math.Nat.{pow-suc}
 use Rattle.std.specs.Prelude.{slice_get}
-use Rattle.search.specs.Machine.{Entry}
+use Rattle.search.specs.declared.trail.Entry.{Entry}
 use Rattle.search.specs.Laws.{digit, number_of}
 
 triple : (n : ℕ) → 3 ^ suc n ≡ 3 ^ n * 3

@@ -5,7 +5,8 @@ use Rattle.std.specs.Option.{is_some}
 use Rattle.cnf.specs.declared.formula.Formula.{Formula}
 use Rattle.cnf.specs.Clauses.{literal_key}
 use Rattle.search.specs.declared.moves.Move.{Move}
-use Rattle.search.specs.Machine.{Entry, State, Moves, Runs, first_state}
+use Rattle.search.specs.declared.trail.Entry.{Entry}
+use Rattle.search.specs.Machine.{State, Moves, Runs, first_state}
 
 -- each literal of the formula is one of its variables 1 to their number
 abbrev pub is_over : ℕ → ℤ → Bool

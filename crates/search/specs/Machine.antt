@@ -8,15 +8,11 @@ use Rattle.cnf.specs.declared.derivation.DerivationLine.{DerivationLine}
 use Rattle.cnf.specs.declared.formula.Formula.{Formula}
 use Rattle.cnf.specs.Clauses.{literal_key}
 use Rattle.cnf.specs.Checks.{IsRight, numbered}
+use Rattle.search.specs.declared.trail.Entry.{Entry}
 use Rattle.search.specs.declared.moves.Move.{Move}
 use Rattle.search.specs.declared.moves.Move.TheVariants.{Propagate, Decide, Jump}
 
 -- ---- states
-
--- a literal on the trail, and the number of the clause that implied it, or none where it was decided
-pub record Entry : Type 0 where
-  pub literal : ℤ
-  pub reason : Option ℕ
 
 -- the trail, the oldest entry first, and the learned lines
 pub record State : Type 0 where
@@ -30,33 +26,32 @@ first_state = record { trail = []; learned = [] }
 abbrev pub clauses_of : Formula → State → List (List ℤ)
 clauses_of formula s = formula.clauses ++ map (λ line. line.clause) s.learned
 
--- ---- literals and clauses by a trail
+-- ---- literals and clauses, by the set of the literals that are true
 
+-- the literals that stand on a trail
 abbrev pub is_true : List Entry → ℤ → Bool
 is_true trail x = list_any (λ e. int_eq e.literal x) trail
 
-abbrev pub is_false : List Entry → ℤ → Bool
-is_false trail x = is_true trail (neg_ℤ x)
-
-abbrev pub is_open : List Entry → ℤ → Bool
-is_open trail x = not (is_true trail x || is_false trail x)
+-- neither a literal nor its negation is true
+abbrev pub is_open : (ℤ → Bool) → ℤ → Bool
+is_open true_literals x = not (true_literals x || true_literals (neg_ℤ x))
 
 -- all literals of a clause are false
-abbrev pub is_conflict : List Entry → List ℤ → Bool
-is_conflict trail clause = list_all (is_false trail) clause
+abbrev pub is_conflict : (ℤ → Bool) → List ℤ → Bool
+is_conflict true_literals clause = list_all (λ x. true_literals (neg_ℤ x)) clause
 
 -- its literals that aren't false
-abbrev pub remaining : List Entry → List ℤ → List ℤ
-remaining trail clause = filter (λ x. not (is_false trail x)) clause
+abbrev pub remaining : (ℤ → Bool) → List ℤ → List ℤ
+remaining true_literals clause = filter (λ x. not (true_literals (neg_ℤ x))) clause
 
-abbrev pub lone_open : List Entry → List ℤ → Option ℤ
-lone_open trail [] = None
-lone_open trail (x ∷ []) = if is_open trail x then Some x else None
-lone_open trail (x ∷ y ∷ more) = None
+abbrev pub lone_open : (ℤ → Bool) → List ℤ → Option ℤ
+lone_open true_literals [] = None
+lone_open true_literals (x ∷ []) = if is_open true_literals x then Some x else None
+lone_open true_literals (x ∷ y ∷ more) = None
 
 -- its one open literal, where all its others are false
-abbrev pub unit_of : List Entry → List ℤ → Option ℤ
-unit_of trail clause = lone_open trail (remaining trail clause)
+abbrev pub unit_of : (ℤ → Bool) → List ℤ → Option ℤ
+unit_of true_literals clause = lone_open true_literals (remaining true_literals clause)
 
 -- ---- moves
 
@@ -73,15 +68,15 @@ pub record Propagates (formula : Formula) (s : State) (number : ℕ) (t : State)
   pub clause : List ℤ
   pub literal : ℤ
   pub named : numbered (clauses_of formula s) number ≡ Some clause
-  pub unit : unit_of s.trail clause ≡ Some literal
+  pub unit : unit_of (is_true s.trail) clause ≡ Some literal
   pub gives : t ≡ record { trail = with_entry s.trail literal (Some number); learned = s.learned }
 
 -- where no clause is false, and none would propagate, an open literal is put on the trail
 pub record Decides (formula : Formula) (s : State) (literal : ℤ) (t : State) : Type 0 where
-  pub no_conflict : list_any (is_conflict s.trail) (clauses_of formula s) ≡ false
-  pub no_unit : list_any (λ clause. is_some (unit_of s.trail clause)) (clauses_of formula s) ≡ false
+  pub no_conflict : list_any (is_conflict (is_true s.trail)) (clauses_of formula s) ≡ false
+  pub no_unit : list_any (λ clause. is_some (unit_of (is_true s.trail) clause)) (clauses_of formula s) ≡ false
   pub over : IsOver formula.variables literal
-  pub still_open : is_open s.trail literal ≡ true
+  pub still_open : is_open (is_true s.trail) literal ≡ true
   pub gives : t ≡ record { trail = with_entry s.trail literal None; learned = s.learned }
 
 abbrev pub is_reason : Option ℕ → ℕ → Bool
@@ -97,11 +92,11 @@ is_implied_by trail number x = list_any (λ e. (int_eq e.literal x || int_eq e.l
 -- false. The line is learned, and that literal is put on the trail.
 pub record Jumps (formula : Formula) (s : State) (line : DerivationLine) (cut : ℕ) (t : State) : Type 0 where
   pub literal : ℤ
-  pub conflict : IsSomeAnd (numbered (clauses_of formula s) line.first) (λ clause. is_conflict s.trail clause ≡ true)
+  pub conflict : IsSomeAnd (numbered (clauses_of formula s) line.first) (λ clause. is_conflict (is_true s.trail) clause ≡ true)
   pub right : IsRight (clauses_of formula s) line
   pub reasons : list_all (λ step. is_implied_by s.trail step.0 step.1) line.steps ≡ true
   pub decided : IsSomeAnd (slice_get s.trail cut) (λ e. e.reason ≡ None)
-  pub unit : unit_of (take cut s.trail) line.clause ≡ Some literal
+  pub unit : unit_of (is_true (take cut s.trail)) line.clause ≡ Some literal
   pub gives : t ≡ record {
     trail = with_entry (take cut s.trail) literal (Some (length (clauses_of formula s) + 1));
     learned = s.learned ++ line ∷ [];
@@ -122,12 +117,12 @@ Runs formula s (move ∷ moves) t = (next : State) × Moves formula s move next 
 
 -- no clause is false, and all variables stand on the trail
 pub record EndsAsModel (formula : Formula) (s : State) : Type 0 where
-  pub no_conflict : list_any (is_conflict s.trail) (clauses_of formula s) ≡ false
-  pub all : (x : ℤ) → IsOver formula.variables x → is_open s.trail x ≡ false
+  pub no_conflict : list_any (is_conflict (is_true s.trail)) (clauses_of formula s) ≡ false
+  pub all : (x : ℤ) → IsOver formula.variables x → is_open (is_true s.trail) x ≡ false
 
 -- a clause is false, and nothing on the trail was decided
 pub record EndsRefuted (formula : Formula) (s : State) : Type 0 where
-  pub conflict : list_any (is_conflict s.trail) (clauses_of formula s) ≡ true
+  pub conflict : list_any (is_conflict (is_true s.trail)) (clauses_of formula s) ≡ true
   pub none_decided : list_all (λ e. is_some e.reason) s.trail ≡ true
 
 abbrev pub IsFinished : Formula → State → Type 0

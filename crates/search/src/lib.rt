@@ -3,8 +3,13 @@
 //! It stands on `cnf`. The layers above use that `shown` appends what it is given, and after want of memory nothing.
 #![tactic(auto)]
 
+mod choice;
+mod conflict;
 pub mod laws;
 mod moves;
+mod scan;
+mod status;
+mod trail;
 mod watch;
 
 pub use moves::{History, Move};

@@ -1,7 +1,7 @@
 use Rattle.std.proofs.Common.{◌≡◌, true, take}
 use Rattle.std.specs.List.{list_all}
-use Rattle.derivation_check.specs.Marks.{has_places}
-use Rattle.derivation_check.specs.declared.places.Places.TheVariants.{ByKey}
+use Rattle.literal_marks.specs.Marks.{has_places}
+use Rattle.literal_marks.specs.declared.places.Places.TheVariants.{ByKey}
 use Rattle.derivation_check.proofs.table.size_for_clauses.Given as goal
 
 abbrev pub invariant-loop-clause : goal.invariant-loop-clause

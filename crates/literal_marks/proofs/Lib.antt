@@ -1,0 +1,3 @@
+pub mod MarksLaws
+pub mod PivotLaws
+pub mod PlacesLaws

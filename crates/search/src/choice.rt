@@ -1,0 +1,40 @@
+// Open variables, and models.
+ghost use Rattle.std.specs.Prelude.{◌≡◌, ◌≤◌, ◌<◌, ◌-◌, ◌^◌, ℕ, ℤ, pos, true, false, IfNone, IfOk, IfSome, length, slice_index_or};
+ghost use Rattle.literal_marks.specs.Marks.{marked};
+ghost use Rattle.literal_marks.specs.declared.places.Places.TheVariants.{ByKey};
+ghost use Rattle.search.specs.Machine.{IsOver, is_open};
+
+use fq_core::Memory;
+use literal_marks::{Places, is_marked};
+use std::alloc::Global;
+
+/// The negative literal of the lowest open variable of so many.
+pub(crate) fn lowest_open(values: &[bool], variables: u32) -> Option<i32>
+    requires { variables ≤ 2 ^ 30 }
+    ensures some { IfSome result (λ x. IsOver variables x × (is_open (marked ByKey values.now) x ≡ true)) }
+    ensures none { IfNone result ((x : ℤ) → IsOver variables x → is_open (marked ByKey values.now) x ≡ false) }
+{
+    for place in 0..variables {
+        let variable = place as i32 + 1;
+        let is_known = is_marked(&Places::ByKey, values, variable)
+            || is_marked(&Places::ByKey, values, -variable);
+        if !is_known {
+            return Some(-variable);
+        }
+    }
+    None
+}
+
+/// The value of each of so many variables.
+pub(crate) fn model(alloc: Global, values: &[bool], variables: u32) -> Result<Vec<bool>, Memory>
+    requires { variables ≤ 2 ^ 30 }
+    ensures length { IfOk result (λ model. length model.items ≡ variables) }
+    ensures values { IfOk result (λ model. (v : ℕ) → 0 < v → v ≤ variables →
+        slice_index_or model.items (v - 1) false ≡ marked ByKey values.now (pos v)) }
+{
+    let mut model = Vec::new(alloc);
+    for place in 0..variables {
+        model.push(is_marked(&Places::ByKey, values, place as i32 + 1))?;
+    }
+    Ok(model)
+}
