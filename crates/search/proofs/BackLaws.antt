@@ -1,28 +1,27 @@
 -- Going back along a trail from a conflict.
-use Rattle.std.proofs.Common.{◌≡◌, ◌⊎◌, ℕ, zero, suc, ◌+◌, ◌*◌, ◌<◌, ◌≤◌, ◌^◌, Bool, true, false, ◌||◌, eqb, List, [], ◌∷◌, ◌++◌, length, take, get_or, refl, sym, ◌∙◌, ap, arith, Option, None, Some, Decides}
+use Rattle.std.proofs.Common.{◌≡◌, ◌⊎◌, ℕ, zero, suc, ◌+◌, ◌*◌, ◌<◌, ◌≤◌, ◌^◌, Bool, true, false, ◌||◌, eqb, List, [], ◌∷◌, ◌++◌, length, take, get_or, refl, sym, ◌∙◌, ap, arith, Option, None, Some}
 use mathlib.Core.Logic.{inl, inr}
-use Rattle.std.specs.Prelude.{ℤ, pos, negsuc, neg_ℤ, not, ◌&&◌, nat_lt, slice_get, option_and_then, filter, All, IsSomeAnd, IsTrue, if◌then◌else◌}
+use Rattle.std.specs.Prelude.{ℤ, pos, negsuc, neg_ℤ, not, ◌&&◌, nat_lt, slice_get, option_and_then, IsSomeAnd, IsTrue, if◌then◌else◌}
 use Rattle.std.specs.Option.{option_or}
-use Rattle.std.specs.List.{AllByRecursion, IsDistinct, list_all, list_any}
+use Rattle.std.specs.List.{AllByRecursion, IsDistinct, list_all}
 use Rattle.std.specs.Ordering.{int_eq}
 use Rattle.std.proofs.lemmas.Bool.Decides.{Decides-eqb, Decides-ltb}
-use Rattle.std.proofs.lemmas.List.{take_all, take_more}
+use Rattle.std.proofs.lemmas.List.{take_more}
 use Rattle.std.proofs.lemmas.List.Folds.{list_all-append, list_any-append}
 use Rattle.std.proofs.lemmas.Map.Keys.{IsDistinct-head, IsDistinct-tail}
 use Rattle.cnf.specs.Checks.{numbered, resolved}
-use Rattle.cnf.specs.Clauses.{IsClause, IsLiteral, RisesFrom, has_literal, literal_key}
+use Rattle.cnf.specs.Clauses.{IsLiteral, has_literal, literal_key}
 use Rattle.cnf.specs.Resolution.{can_resolve, resolvent}
-use Rattle.cnf.proofs.ClauseLaws.{same_literal, equal_literal, literal_in_clause}
-use Rattle.literal_marks.specs.Marks.{has_place, has_places}
+use Rattle.cnf.proofs.ClauseLaws.{same_literal, equal_literal}
+use Rattle.literal_marks.specs.Marks.{has_places}
 use Rattle.literal_marks.specs.declared.places.Places.TheVariants.{ByKey}
 use Rattle.search.specs.declared.trail.Entry.{Entry}
 use Rattle.search.specs.Laws.{is_over}
 use Rattle.search.specs.Lessons.{IsBack, IsCut, reach}
-use Rattle.search.specs.Machine.{IsOver, is_conflict, is_implied_by, is_open, is_reason, is_true, remaining, unit_of}
+use Rattle.search.specs.Machine.{IsOver, is_implied_by, is_reason, is_true}
 use Rattle.search.specs.Sound.{Implies}
 use Rattle.search.specs.Trails.{IsTrail, are_over, place, places}
-use Rattle.search.proofs.KeptLaws.{and_left, and_right, is_over-from, is_over-tells}
-use Rattle.search.proofs.StatusLaws.{conflict_empties}
+use Rattle.search.proofs.KeptLaws.{and_left, and_right, is_over-tells}
 
 -- ---- literals
 
@@ -256,8 +255,8 @@ module _ (clauses : List (List ℤ)) (trail : List Entry) (first : List ℤ) whe
       → IsBack clauses trail first (p + 1) set steps cut → IsBack clauses trail first p next (steps ++ (number, neg_ℤ e.literal) ∷ []) cut
   back_implied p e number clause set next steps cut at own r named implies distinct is b = record {
     chain =
-    resolved_more clauses (has_literal first) steps (number, neg_ℤ e.literal) clause set named able b.chain
-    ∙ ap Some (sym (λ i x. is x i));
+        resolved_more clauses (has_literal first) steps (number, neg_ℤ e.literal) clause set named able b.chain
+        ∙ ap Some (sym (λ i x. is x i));
     reasons = list_all-append (λ (step : ℕ × ℤ). is_implied_by trail step.0 step.1) steps _ ∙ rw (b.reasons, told) refl;
     falses = λ y h. by_side y (sides (set y) (not (int_eq y (neg_ℤ e.literal))) (has_literal clause y) (not (int_eq y (neg_ℤ (neg_ℤ e.literal)))) (sym (is y) ∙ h));
     latest = kept cut b.latest;
@@ -316,7 +315,7 @@ module _ (clauses : List (List ℤ)) (trail : List Entry) (first : List ℤ) whe
   pub back_by_reason : (n p : ℕ) (e : Entry) (number : ℕ) (set next : ℤ → Bool) (steps : List (ℕ × ℤ)) (cut : Option ℕ) → IsTrail n trail → slice_get trail p ≡ Some e
       → set (neg_ℤ e.literal) ≡ true → e.reason ≡ Some number → IsSomeAnd (numbered clauses number) (Implies (take p trail) e.literal)
       → ((clause : List ℤ) → numbered clauses number ≡ Some clause → can_resolve set (neg_ℤ e.literal) (has_literal clause) ≡ true
-          → (x : ℤ) → next x ≡ resolvent set (neg_ℤ e.literal) (has_literal clause) x)
+      → (x : ℤ) → next x ≡ resolvent set (neg_ℤ e.literal) (has_literal clause) x)
       → IsBack clauses trail first (p + 1) set steps cut → IsBack clauses trail first p next (steps ++ (number, neg_ℤ e.literal) ∷ []) cut
   back_by_reason n p e number set next steps cut is at own r told gives b = by_clause (numbered clauses number) refl told
     where

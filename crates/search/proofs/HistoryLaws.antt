@@ -20,7 +20,7 @@ pub record Kept (formula : Formula) (s : State) : Type 0 where
   pub trail : IsTrail formula.variables s.trail
   pub clauses : list_all (list_all (is_over formula.variables)) (clauses_of formula s) ≡ true
 
-no_places : IsDistinct eqb (places [])
+pub no_places : IsDistinct eqb (places [])
 unfolding IsDistinct
 no_places = search rules
 

@@ -1,5 +1,5 @@
 -- What each state that a history leads to keeps.
-use Rattle.std.proofs.Common.{◌≡◌, ◌⊎◌, ℕ, zero, suc, ◌+◌, ◌*◌, ◌<◌, ◌≤◌, Bool, true, false, ◌||◌, eqb, List, [], ◌∷◌, ◌++◌, length, take, map, refl, sym, ◌∙◌, ap, arith, Option, None, Some}
+use Rattle.std.proofs.Common.{◌≡◌, ◌⊎◌, ℕ, zero, suc, ◌+◌, ◌*◌, ◌<◌, ◌≤◌, Bool, true, false, ◌||◌, eqb, List, [], ◌∷◌, ◌++◌, length, take, refl, sym, ◌∙◌, ap, arith, Option, None, Some}
 use mathlib.Core.Logic.{inl, inr}
 use Rattle.std.specs.Prelude.{ℤ, pos, negsuc, neg_ℤ, not, ◌&&◌, option_and_then, filter, IsSomeAnd, if◌then◌else◌}
 use Rattle.std.specs.List.{AllByRecursion, IsDistinct, list_all, list_any}
@@ -168,7 +168,7 @@ has_filtered p (y ∷ ys) x h = by_test (p y) h (has_filtered p ys x)
         later true q = refl
         later false q = q
 
-lone : (trail : List Entry) (xs : List ℤ) (x : ℤ) → lone_open (is_true trail) xs ≡ Some x → (xs ≡ x ∷ []) × (is_open (is_true trail) x ≡ true)
+pub lone : (trail : List Entry) (xs : List ℤ) (x : ℤ) → lone_open (is_true trail) xs ≡ Some x → (xs ≡ x ∷ []) × (is_open (is_true trail) x ≡ true)
 lone trail [] x e = absurd cc
 lone trail (y ∷ []) x e = by_test (is_open (is_true trail) y) refl e
   where

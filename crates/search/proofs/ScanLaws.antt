@@ -1,5 +1,5 @@
 -- What the clauses so far are.
-use Rattle.std.proofs.Common.{◌≡◌, ℕ, zero, suc, ◌+◌, ◌-◌, ◌<◌, ◌≤◌, Bool, true, false, ◌||◌, List, [], ◌∷◌, ◌++◌, length, take, get_or, map, refl, sym, ◌∙◌, ap, add-one, arith, Option, None, Some}
+use Rattle.std.proofs.Common.{◌≡◌, ℕ, zero, suc, ◌+◌, ◌<◌, ◌≤◌, Bool, false, List, [], ◌∷◌, length, take, get_or, refl, ◌∙◌, ap, add-one, arith, None, Some}
 use Rattle.std.specs.Prelude.{ℤ, IsSomeAnd, slice_get}
 use Rattle.std.specs.List.{list_any}
 use Rattle.std.specs.Option.{is_some}
@@ -12,10 +12,8 @@ use Rattle.cnf.specs.Checks.{clauses_before, numbered}
 use Rattle.cnf.specs.Clauses.{IsLiteral}
 use Rattle.search.specs.declared.scan.Scan.{Scan}
 use Rattle.search.specs.declared.scan.Scan.TheVariants as scan
-use Rattle.search.specs.declared.status.Status.{Status}
-use Rattle.search.specs.declared.status.Status.TheVariants as status
 use Rattle.search.specs.Machine.{is_conflict, unit_of}
-use Rattle.search.specs.Statuses.{IsScan, IsStatus, some_conflict, some_unit}
+use Rattle.search.specs.Statuses.{IsScan, some_conflict, some_unit}
 
 -- no clause so far is false, and one that would propagate was found, or there is none
 abbrev pub IsScanOf : (ℤ → Bool) → List (List ℤ) → ℕ → Scan → Type 0

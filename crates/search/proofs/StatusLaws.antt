@@ -1,14 +1,13 @@
 -- What a clause is, by its literals that aren't false.
 use Rattle.std.proofs.Common.{◌≡◌, ℕ, ◌+◌, ◌<◌, ◌≤◌, Bool, true, false, List, [], ◌∷◌, ◌++◌, length, take, drop, get_or, refl, sym, ◌∙◌, ap, Option, None, Some, option_to_list}
-use Rattle.std.specs.Prelude.{ℤ, neg_ℤ, not, ◌&&◌, filter, if◌then◌else◌}
-use Rattle.std.specs.List.{list_all}
+use Rattle.std.specs.Prelude.{ℤ, neg_ℤ, not, ◌&&◌, if◌then◌else◌}
 use Rattle.std.specs.Option.{is_some}
 use Rattle.std.proofs.lemmas.List.{take-append-drop, take_all, take_more}
 use Rattle.std.proofs.lemmas.List.Elements.{filter-append}
 use Rattle.cnf.specs.Clauses.{IsClause, IsLiteral}
 use Rattle.cnf.proofs.ClauseLaws.{equal_literal, literal_in_clause}
 use Rattle.search.proofs.KeptLaws.{has_filtered}
-use Rattle.search.specs.Machine.{is_conflict, is_open, lone_open, remaining, unit_of}
+use Rattle.search.specs.Machine.{is_conflict, remaining, unit_of}
 
 pub remaining_more : (set : ℤ → Bool) (xs : List ℤ) (i : ℕ) (d : ℤ) → i < length xs → remaining set (take (i + 1) xs) ≡ remaining set (take i xs) ++ remaining set (get_or xs i d ∷ [])
 remaining_more set xs i d h =

@@ -1,5 +1,5 @@
 -- What clauses are, by the set of the literals that are true.
-use Rattle.std.specs.Prelude.{◌≡◌, ℕ, ℤ, Bool, true, false, List, None, Some, IsSomeAnd}
+use Rattle.std.specs.Prelude.{◌≡◌, ℤ, Bool, true, false, List, None, Some, IsSomeAnd}
 use Rattle.std.specs.List.{list_any}
 use Rattle.std.specs.Option.{is_some}
 use Rattle.cnf.specs.Checks.{numbered}

@@ -5,12 +5,15 @@
 
 mod choice;
 mod conflict;
+mod found;
 pub mod laws;
 mod moves;
+mod next;
 mod scan;
 mod status;
 mod trail;
 mod watch;
 
+pub use found::Found;
 pub use moves::{History, Move};
 pub use watch::{KeepWatch, NoWatch, Watch};

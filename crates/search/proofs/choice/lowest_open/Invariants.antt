@@ -1,5 +1,4 @@
-use Rattle.std.proofs.Common.{◌≡◌, ◌≤◌, ◌+◌, ◌*◌, ℤ, false}
-use Rattle.cnf.specs.Clauses.{literal_key}
+use Rattle.std.proofs.Common.{◌≡◌, ℤ, false}
 use Rattle.literal_marks.specs.Marks.{marked}
 use Rattle.literal_marks.specs.declared.places.Places.TheVariants.{ByKey}
 use Rattle.search.specs.Machine.{IsOver, is_open}

@@ -1,4 +1,4 @@
-use Rattle.std.proofs.Common.{◌≡◌, sym, rules, get_or, pos, neg_ℤ, true, false, None, Some}
+use Rattle.std.proofs.Common.{◌≡◌, sym, get_or, pos, neg_ℤ, true, false, None, Some}
 use Rattle.std.specs.Prelude.{slice_get}
 use Rattle.std.proofs.lemmas.Int.{to_z-of_z}
 use Rattle.std.proofs.lemmas.Option.{slice_get-get_or}
@@ -23,16 +23,16 @@ loop-entry-preserved c =
     let before = c.loop-entry.invariant in
     elim c.if-is_marked.branch [
       | then-is_marked+in_ok-push w ↦
-        let found : marked ByKey c.args.marks.now (neg_ℤ e.literal) ≡ true = sym (rw (value, to_z-of_z _ _ negated_fits) at w.if-is_marked.ensures) in
-        let pushed = rw (value, to_z-of_z _ _ negated_fits) at w.in_ok-push.ensures.items in
-        rw (w.found-is, pushed) record {
-          literals = literals_more _ _ before.literals negated;
-          has = against_more (marked ByKey c.args.marks.now) c.args.trail.now c.loop-entry.entry-index e _ at found before.has;
-        }
+          let found : marked ByKey c.args.marks.now (neg_ℤ e.literal) ≡ true = sym (rw (value, to_z-of_z _ _ negated_fits) at w.if-is_marked.ensures) in
+          let pushed = rw (value, to_z-of_z _ _ negated_fits) at w.in_ok-push.ensures.items in
+          rw (w.found-is, pushed) record {
+            literals = literals_more _ _ before.literals negated;
+            has = against_more (marked ByKey c.args.marks.now) c.args.trail.now c.loop-entry.entry-index e _ at found before.has;
+          }
       | else-is_marked w ↦
-        let none : marked ByKey c.args.marks.now (neg_ℤ e.literal) ≡ false = sym (rw (value, to_z-of_z _ _ negated_fits) at w.if-is_marked.ensures) in
-        rw w.found-is record {
-          literals = before.literals;
-          has = against_skip (marked ByKey c.args.marks.now) c.args.trail.now c.loop-entry.entry-index e _ at none before.has;
-        }
+          let none : marked ByKey c.args.marks.now (neg_ℤ e.literal) ≡ false = sym (rw (value, to_z-of_z _ _ negated_fits) at w.if-is_marked.ensures) in
+          rw w.found-is record {
+            literals = before.literals;
+            has = against_skip (marked ByKey c.args.marks.now) c.args.trail.now c.loop-entry.entry-index e _ at none before.has;
+          }
     ]

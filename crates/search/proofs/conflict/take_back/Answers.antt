@@ -1,4 +1,4 @@
-use Rattle.std.proofs.Common.{◌≡◌, sym, ◌∙◌, rules, get_or, pos, neg_ℤ, true, false, None, Some}
+use Rattle.std.proofs.Common.{◌≡◌, sym, get_or, pos, neg_ℤ, true, false, None, Some}
 use Rattle.std.specs.Prelude.{slice_get}
 use Rattle.std.proofs.lemmas.Int.{to_z-of_z}
 use Rattle.std.proofs.lemmas.Option.{slice_get-get_or}
@@ -7,7 +7,6 @@ use Rattle.literal_marks.specs.Marks.{marked}
 use Rattle.literal_marks.specs.declared.places.Places.TheVariants.{ByKey}
 use Rattle.search.specs.Machine.{IsOver}
 use Rattle.search.specs.Sound.{all_clauses}
-use Rattle.search.specs.declared.trail.Entry.{Entry}
 use Rattle.search.proofs.BackLaws.{back_over, back_decided, back_by_reason, literal-over, negated-over, over_at}
 use Rattle.search.proofs.conflict.take_back.Goals as goal
 
@@ -49,5 +48,5 @@ returns-in_ok-push-in-Some c =
     let pushed = rw (value, to_z-of_z _ _ negated_fits) at c.in_ok-push-in-Some.ensures.items in
     let gives = rw (value, to_z-of_z _ _ negated_fits) at c.resolve_with.ensures in
     λ first b.
-        rw pushed
-        (back_by_reason (all_clauses c.args.formula.now c.args.learned.now) c.args.trail.now first n c.args.place e c.in-Some.number _ _ _ _ c.requires.sound.kept at found c.in-Some.is told gives b)
+    rw pushed
+    (back_by_reason (all_clauses c.args.formula.now c.args.learned.now) c.args.trail.now first n c.args.place e c.in-Some.number _ _ _ _ c.requires.sound.kept at found c.in-Some.is told gives b)

@@ -1,6 +1,6 @@
-use Rattle.std.proofs.Common.{◌≡◌, ◌+◌, ◌≤◌, sym, ◌∙◌, rules, arith, length, None, Some}
+use Rattle.std.proofs.Common.{◌≡◌, sym, arith, length, None, Some}
 use Rattle.std.specs.Prelude.{slice_get}
-use Rattle.cnf.specs.Checks.{clauses_before, numbered}
+use Rattle.cnf.specs.Checks.{clauses_before}
 use Rattle.literal_marks.specs.Marks.{marked}
 use Rattle.literal_marks.specs.declared.places.Places.TheVariants.{ByKey}
 use Rattle.std.proofs.lemmas.Int.{to_z-of_z}

@@ -1,4 +1,4 @@
-use Rattle.std.proofs.Common.{◌≡◌, ◌+◌, ◌<◌, ◌^◌, length, take}
+use Rattle.std.proofs.Common.{◌≡◌, ◌+◌, ◌<◌, ◌^◌, length}
 use Rattle.cnf.specs.Checks.{clauses_before}
 use Rattle.literal_marks.specs.Marks.{marked}
 use Rattle.literal_marks.specs.declared.places.Places.TheVariants.{ByKey}

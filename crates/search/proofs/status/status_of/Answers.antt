@@ -1,11 +1,11 @@
-use Rattle.std.proofs.Common.{pos, sym, ◌≡◌, List, ℤ, neg_ℤ, [], ◌∷◌, false, get_or, option_to_list}
+use Rattle.std.proofs.Common.{pos, sym, ◌≡◌, neg_ℤ, [], ◌∷◌, false, get_or, option_to_list}
 use Rattle.std.proofs.lemmas.Int.{to_z-of_z}
 use Rattle.cnf.proofs.ClauseLaws.{literals_of_clause}
 use Rattle.literal_marks.proofs.PlacesLaws.{literal_fits}
 use Rattle.literal_marks.specs.Marks.{marked}
 use Rattle.literal_marks.specs.declared.places.Places.TheVariants.{ByKey}
 use Rattle.search.specs.Machine.{remaining}
-use Rattle.search.proofs.StatusLaws.{empty_conflicts, false_more, left_literal, left_more, open_left, second_left, true_left, whole_left}
+use Rattle.search.proofs.StatusLaws.{empty_conflicts, left_literal, open_left, second_left, true_left, whole_left}
 use Rattle.search.proofs.status.status_of.Goals as goal
 
 pub is_false-requires : goal.is_false-requires

@@ -1,0 +1,59 @@
+// The next move.
+ghost use Rattle.std.specs.Prelude.{◌≡◌, ◌+◌, ◌*◌, ◌<◌, ◌≤◌, ◌^◌, ℤ, IfOk, length};
+ghost use Rattle.literal_marks.specs.Marks.{marked};
+ghost use Rattle.literal_marks.specs.declared.places.Places.TheVariants.{ByKey};
+ghost use Rattle.search.specs.Machine.{is_true};
+ghost use Rattle.search.specs.Nexts.{IsNext, state_of};
+ghost use Rattle.search.specs.Sound.{IsSound};
+
+use crate::choice::lowest_open;
+use crate::conflict::lesson_of;
+use crate::scan::{Scan, look_through};
+use crate::trail::Entry;
+use cnf::{Derivation, DerivationLine, Formula};
+use fq_core::Memory;
+use std::alloc::Global;
+
+/// What comes next in a state: the search is finished, or a move. A literal is what the move puts on the trail.
+#[derive(Debug, Drop)]
+pub(crate) enum Next {
+    Model,
+    Refuted(DerivationLine),
+    Propagate { clause: u32, literal: i32 },
+    Decide { literal: i32 },
+    Jump { line: DerivationLine, cut: usize },
+}
+
+/// What comes next: a clause that is false is learned from, else one with a single literal left is propagated, else the
+/// lowest open variable is decided to be false.
+pub(crate) fn next_of(
+    alloc: Global,
+    formula: &Formula,
+    learned: &Derivation,
+    trail: &[Entry],
+    values: &[bool],
+    marks: &mut [bool],
+) -> Result<Next, Memory>
+    requires sound { IsSound formula.now learned.now trail.now }
+    requires values { (x : ℤ) → marked ByKey values.now x ≡ is_true trail.now x }
+    requires small { formula.now.variables ≤ 2 ^ 30 }
+    requires few { length formula.now.clauses + length learned.now.lines < 2 ^ 32 }
+    requires size { length marks.old ≡ 2 * formula.now.variables + 2 }
+    ensures { IfOk result (IsNext formula.now (state_of trail.now learned.now)) }
+{
+    match look_through(values, formula, learned) {
+        Scan::Conflict(number) => {
+            let lesson = lesson_of(alloc, marks, formula, learned, trail, number)?;
+            let line = lesson.line;
+            match lesson.cut {
+                None => Ok(Next::Refuted(line)),
+                Some(cut) => Ok(Next::Jump { line, cut }),
+            }
+        }
+        Scan::Unit { clause, literal } => Ok(Next::Propagate { clause, literal }),
+        Scan::Neither => match lowest_open(values, formula.variables) {
+            None => Ok(Next::Model),
+            Some(literal) => Ok(Next::Decide { literal }),
+        },
+    }
+}
