@@ -1,2 +1,4 @@
+pub mod Borders
+pub mod Ground
 pub mod Outcome
 pub mod Paths

@@ -6,6 +6,9 @@
 //! path is and which list of them is meant, and `Outcome` what the limits make of that list.
 #![tactic(auto)]
 
+mod borders;
+mod edge_ends;
 mod fault;
+mod ground;
 
 pub use fault::PathFault;

@@ -1,0 +1,73 @@
+-- Tables of nodes.
+use Rattle.std.proofs.Common.{◌≡◌, ℕ, zero, suc, ◌+◌, ◌≤◌, ◌<◌, ◌||◌, ◌&&◌, ◌==◌, not, cond, Bool, true, false, List, [], ◌∷◌, ◌++◌, Option, Some, None, length, get_or, take, refl, sym, ◌∙◌, ap, add-one, add-zero, zero-add, arith}
+use Rattle.std.specs.Prelude.{slice_get}
+use Rattle.std.specs.List.{list_any, filter, range_with_len}
+use Rattle.std.proofs.lemmas.List.{append-nil}
+use Rattle.std.proofs.lemmas.List.Elements.{filter-append}
+use Rattle.std.specs.Option.{IsSomeAnd, option_map_or}
+use Rattle.std.proofs.lemmas.List.Folds.{list_any_more}
+use Rattle.std.proofs.lemmas.Option.{get_or_from_slice_get, slice_get_within, slice_get_read}
+use Rattle.cfa.proofs.Exits.{taken}
+use Rattle.cfa.specs.declared.parts.Edge.{Edge}
+use Rattle.cfa.specs.declared.parts.GraphParts.{GraphParts}
+use Rattle.filters.specs.Parts.{edge_has, some_below}
+
+-- the index of what is there is within
+pub within_by : {X : Type 0} (xs : List X) (P : X → Type 0) (i : ℕ) → IsSomeAnd (slice_get xs i) P → i < length xs
+within_by xs P i h = let there = taken P (slice_get xs i) h in slice_get_within xs i there.0 there.1
+
+-- one more element, whose number is known
+pub any_more : {X : Type 0} (number : X → ℕ) (xs : List X) (i v n : ℕ) → IsSomeAnd (slice_get xs i) (λ x. number x ≡ v)
+    → list_any (λ x. number x == n) (take (i + 1) xs) ≡ (list_any (λ x. number x == n) (take i xs) || (v == n))
+any_more number xs i v n h =
+    let there = taken (λ x. number x ≡ v) (slice_get xs i) h in
+    let lt = slice_get_within xs i there.0 there.1 in
+    list_any_more (λ x. number x == n) xs i there.0 lt
+    ∙ ap (λ x. list_any (λ y. number y == n) (take i xs) || (number x == n)) (get_or_from_slice_get xs i there.0 there.0 there.1)
+    ∙ ap (λ m. list_any (λ y. number y == n) (take i xs) || (m == n)) there.2
+
+-- what a property of an edge is, by a number of the edge
+pub has_number : (parts : GraphParts) (number : Edge → ℕ) (k v n : ℕ) → IsSomeAnd (slice_get parts.edges k) (λ e. number e ≡ v) → edge_has parts (λ e. number e == n) k ≡ (v == n)
+has_number parts number k v n h =
+    let there = taken (λ (e : Edge). number e ≡ v) (slice_get parts.edges k) h in
+    ap (λ o. option_map_or (λ (e : Edge). number e == n) o false) there.1 ∙ ap (λ m. m == n) there.2
+
+or_false : (x : Bool) → x ≡ (x || false)
+or_false true = refl
+or_false false = refl
+
+-- one more edge, of the part or from outside
+pub kept_inside : (edges property : ℕ → Bool) (k : ℕ) (x y : Bool) → edges k ≡ true → x ≡ (y || some_below (λ j. not (edges j) && property j) k) → x ≡ (y || some_below (λ j. not (edges j) && property j) (k + 1))
+kept_inside edges property k x y inside h =
+    h ∙ ap (λ b. y || b) (or_false (some_below (λ j. not (edges j) && property j) k) ∙ ap (λ b. some_below (λ j. not (edges j) && property j) k || (not b && property k)) (sym inside))
+    ∙ ap (λ m. y || some_below (λ j. not (edges j) && property j) m) (sym (add-one k))
+
+or_assoc : (x y z : Bool) → ((x || y) || z) ≡ (x || (y || z))
+or_assoc true y z = refl
+or_assoc false y z = refl
+
+pub more_outside : (edges property : ℕ → Bool) (k : ℕ) (x y w : Bool) → edges k ≡ false → property k ≡ w → x ≡ (y || some_below (λ j. not (edges j) && property j) k) → (x || w) ≡ (y || some_below (λ j. not (edges j) && property j) (k + 1))
+more_outside edges property k x y w outside is h =
+    ap (λ b. b || w) h ∙ or_assoc y (some_below (λ j. not (edges j) && property j) k) w
+    ∙ ap (λ b. y || (some_below (λ j. not (edges j) && property j) k || b)) (sym is ∙ ap (λ b. not b && property k) (sym outside))
+    ∙ ap (λ m. y || some_below (λ j. not (edges j) && property j) m) (sym (add-one k))
+
+-- what is read at a place that is within
+pub read_within : {X : Type 0} (xs ys : List X) → ys ≡ xs → (i : ℕ) (x : X) → i < length xs → x ≡ get_or ys i x → slice_get xs i ≡ Some x
+read_within xs ys same i x lt is = slice_get_read xs (length xs) i x refl lt (is ∙ ap (λ l. get_or l i x) same)
+
+-- a range of one more number
+range_more : (a n : ℕ) → range_with_len a (suc n) ≡ range_with_len a n ++ (a + n) ∷ []
+range_more a zero = ap (λ m. m ∷ []) (sym (add-zero a))
+range_more a (suc n) = ap (λ xs. a ∷ xs) (range_more (a + 1) n) ∙ ap (λ m. a ∷ (range_with_len (a + 1) n ++ m ∷ [])) (omega arith)
+
+pub first_numbers : (test : ℕ → Bool) (n : ℕ) → filter test (range_with_len 0 (n + 1)) ≡ filter test (range_with_len 0 n) ++ filter test (n ∷ [])
+first_numbers test n =
+    ap (λ m. filter test (range_with_len 0 m)) (add-one n) ∙ ap (filter test) (range_more 0 n) ∙ filter-append test (range_with_len 0 n) ((0 + n) ∷ [])
+    ∙ ap (λ m. filter test (range_with_len 0 n) ++ filter test (m ∷ [])) (zero-add n)
+
+pub first_passes : (test : ℕ → Bool) (n : ℕ) → test n ≡ true → filter test (range_with_len 0 (n + 1)) ≡ filter test (range_with_len 0 n) ++ n ∷ []
+first_passes test n h = first_numbers test n ∙ ap (λ b. filter test (range_with_len 0 n) ++ cond b (n ∷ []) []) h
+
+pub first_fails : (test : ℕ → Bool) (n : ℕ) → test n ≡ false → filter test (range_with_len 0 (n + 1)) ≡ filter test (range_with_len 0 n)
+first_fails test n h = first_numbers test n ∙ ap (λ b. filter test (range_with_len 0 n) ++ cond b (n ∷ []) []) h ∙ append-nil _

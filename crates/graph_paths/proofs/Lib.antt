@@ -1,0 +1,4 @@
+pub mod Lists
+pub mod BorderLaws
+pub mod Extensions
+pub mod Pending
