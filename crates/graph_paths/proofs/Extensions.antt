@@ -5,11 +5,8 @@ use Rattle.std.proofs.lemmas.List.{append-nil, append_assoc, length_push}
 use Rattle.std.proofs.lemmas.List.Elements.{filter-append}
 use Rattle.std.specs.List.{filter, flat_map, range_with_len}
 use Rattle.graph_paths.specs.Paths.{ordered_lists}
+use Rattle.graph_paths.specs.Walking.{extensions, behind}
 use Rattle.graph_paths.proofs.Lists.{filter-flat_map, map-flat_map, flat_map_agree, map-map, filter_none, flat_map_none}
-
--- those that go on after a prefix by at most so many numbers
-pub extensions : ℕ → (List ℕ → Bool) → ℕ → List ℕ → List (List ℕ)
-extensions limit test most p = filter test (map (λ rest. p ++ rest) (ordered_lists limit most))
 
 -- the list itself, if it passes
 abbrev pub own : (List ℕ → Bool) → List ℕ → List (List ℕ)
@@ -43,9 +40,6 @@ unfolding extensions
 none_behind limit test most p none = filter_none test (λ rest. p ++ rest) none (ordered_lists limit most)
 
 -- ---- the lists of at most so many numbers that begin with a prefix and pass
-
-pub behind : ℕ → (List ℕ → Bool) → ℕ → List ℕ → List (List ℕ)
-behind limit test longest p = extensions limit test (longest - length p) p
 
 own_none : (test : List ℕ → Bool) (p : List ℕ) → test p ≡ false → own test p ≡ []
 own_none test p h = ap (λ b. cond b (p ∷ []) []) h

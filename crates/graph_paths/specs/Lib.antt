@@ -2,3 +2,5 @@ pub mod Borders
 pub mod Ground
 pub mod Outcome
 pub mod Paths
+pub mod Searching
+pub mod Walking

@@ -10,5 +10,7 @@ mod borders;
 mod edge_ends;
 mod fault;
 mod ground;
+mod search;
+mod walk;
 
 pub use fault::PathFault;

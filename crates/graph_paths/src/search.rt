@@ -1,0 +1,118 @@
+// Searches for a way to the end of a path.
+ghost use Rattle.std.specs.Prelude.{◌≡◌, ◌<◌, ◌≤◌, ◌⊎◌, ℕ, All, Contains, IfOk, OnOk, false, true, length, slice_index};
+ghost use Rattle.cfa.specs.Table.{outgoing_of};
+ghost use Rattle.graph_paths.specs.Searching.{is_way, IsSearch, is_met, IsSearching, KeepsMet, HaveTables};
+ghost use Rattle.filters.specs.Parts.{is_marked};
+
+use crate::edge_ends::target_of;
+use cfa::Graph;
+use fq_core::Memory;
+use std::alloc::Global;
+
+/// The memory of searches, of which each begins where the one before left it.
+#[derive(Drop)]
+pub(crate) struct Search {
+    /// By node, the number of the search that met it last.
+    pub(crate) met: Vec<u64>,
+    /// The number of the search, from 1.
+    pub(crate) round: u64,
+    /// The edges that wait to be followed.
+    pub(crate) waiting: Vec<u32>,
+}
+
+// The edges that leave a node and may still be taken wait too.
+fn wait(
+    waiting: &mut Vec<u32>,
+    graph: &Graph,
+    left: &[u32],
+    node: u32,
+) -> Result<(), Memory>
+    requires node { node < length graph.now.nodes }
+    requires left { length left.now ≡ length graph.now.edges }
+    requires waiting { All (λ k. k < length graph.now.edges) waiting.old.items }
+    ensures waiting { OnOk result (All (λ k. k < length graph.now.edges) waiting.new.items) }
+    ensures kept { OnOk result ((k : ℕ) → Contains waiting.old.items k → Contains waiting.new.items k) }
+    ensures more { OnOk result ((k : ℕ) → Contains (outgoing_of graph.now node) k → 0 < slice_index left.now k → Contains waiting.new.items k) }
+{
+    for edge in graph.outgoing(node) {
+        if left[*edge as usize] > 0 {
+            waiting.push(*edge)?;
+        }
+    }
+    Ok(())
+}
+
+impl Search {
+    pub(crate) fn new(alloc: Global, graph: &Graph) -> Result<Search, Memory>
+        ensures { IfOk result (λ s. IsSearch graph.now s) }
+    {
+        let met = vec![in alloc; 0; graph.nodes().len()]?;
+        Ok(Search {
+            met,
+            round: 0,
+            waiting: Vec::new(alloc),
+        })
+    }
+
+    // Whether a node is an end. If it isn't, it is met, and its edges wait.
+    fn arrive(
+        &mut self,
+        graph: &Graph,
+        ends: &[bool],
+        left: &[u32],
+        node: u32,
+    ) -> Result<bool, Memory>
+        requires node { node < length graph.now.nodes }
+        requires tables { HaveTables graph.now ends.now left.now }
+        requires open { IsSearching graph.now ends.now left.now (λ n. n ≡ node) self.old }
+        ensures search { OnOk result (IsSearch graph.now self.new) }
+        ensures kept { OnOk result (KeepsMet self.old self.new) }
+        ensures inner { IfOk result (λ at_end. at_end ≡ false → IsSearching graph.now ends.now left.now (λ n. ⊥) self.new × (is_met self.new node ≡ true)) }
+    {
+        let at = node as usize;
+        if self.met[at] == self.round {
+            return Ok(false);
+        }
+        if ends[at] {
+            return Ok(true);
+        }
+        self.met[at] = self.round;
+        wait(&mut self.waiting, graph, left, node)?;
+        Ok(false)
+    }
+
+    /// Whether a way may lead from a node, by edges with uses left, to an end. `false` says that none does.
+    pub(crate) fn reaches_end(
+        &mut self,
+        graph: &Graph,
+        ends: &[bool],
+        left: &[u32],
+        from: u32,
+    ) -> Result<bool, Memory>
+        requires node { from < length graph.now.nodes }
+        requires tables { HaveTables graph.now ends.now left.now }
+        requires search { IsSearch graph.now self.old }
+        ensures search { OnOk result (IsSearch graph.now self.new) }
+        ensures none { IfOk result (λ found. found ≡ false → (way : _) → is_way graph.now ends.now left.now from way ≡ false) }
+    {
+        if self.round == u64::MAX {
+            return Ok(true);
+        }
+        self.round += 1;
+        self.waiting.clear();
+        if self.arrive(graph, ends, left, from)? {
+            return Ok(true);
+        }
+        for _ in 0..u64::MAX {
+            match self.waiting.pop() {
+                None => return Ok(false),
+                Some(edge) => {
+                    if self.arrive(graph, ends, left, target_of(graph, edge))? {
+                        return Ok(true);
+                    }
+                }
+            }
+        }
+        Ok(true)
+    }
+}
