@@ -81,7 +81,7 @@ module _ (parts : GraphParts) (a : Part) (most : ℕ) where
 
   -- ---- the table of uses
 
-  use_is : (p : List ℕ) (k : ℕ) → a.edge k ≡ true → uses_left a most p k ≡ most - occurrences k p
+  pub use_is : (p : List ℕ) (k : ℕ) → a.edge k ≡ true → uses_left a most p k ≡ most - occurrences k p
   use_is p k edge = ap (λ b. if b then most - occurrences k p else 0) edge
 
   pub use_some : (p : List ℕ) (k : ℕ) → 0 < uses_left a most p k → (a.edge k ≡ true) × (occurrences k p < most)

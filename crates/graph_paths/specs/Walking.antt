@@ -1,5 +1,5 @@
 -- A depth-first walk over the prefixes of paths.
-use Rattle.std.specs.Prelude.{◌≡◌, ℕ, zero, suc, ◌+◌, ◌-◌, ◌*◌, ◌<◌, ◌≤◌, Bool, true, List, [], ◌∷◌, ◌++◌, Option, None, Some, length, map, drop, slice_index, if◌then◌else◌}
+use Rattle.std.specs.Prelude.{◌≡◌, ℕ, zero, suc, ◌+◌, ◌-◌, ◌*◌, ◌<◌, ◌≤◌, Bool, true, List, [], ◌∷◌, ◌++◌, Option, None, Some, length, map, drop, slice_index, if◌then◌else◌, All}
 use Rattle.std.specs.List.{filter, flat_map, last_or, list_all, range_with_len}
 use Rattle.cfa.specs.declared.parts.GraphParts.{GraphParts}
 use Rattle.filters.specs.Parts.{Part}
@@ -76,6 +76,7 @@ prefix_of w = edges_of w.steps.items
 pub record IsWalk (g : Ground) (w : Walk) : Type 0 where
   pub «prefix» : IsPrefix (parts_of g) (part_in g) g.bound (prefix_of w)
   pub uses : AreUses (parts_of g) (part_in g) g.bound (prefix_of w) w.left.items
+  pub places : All (λ (s : Step). s.place < length (parts_of g).edges) w.steps.items
   pub search : IsSearch (parts_of g) w.search
 
 -- the paths that a walk has still to list

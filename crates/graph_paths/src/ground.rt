@@ -1,7 +1,7 @@
 // What stays the same over a walk.
 ghost use Rattle.std.specs.Prelude.{◌≡◌, ◌<◌, ◌^◌, ℕ, length, IfOk};
 ghost use Rattle.filters.specs.Parts.{IsWithin, part_of, is_marked};
-ghost use Rattle.graph_paths.specs.Ground.{IsGround, is_first, first_edges};
+ghost use Rattle.graph_paths.specs.Ground.{IsGround, is_first, first_edges, parts_of};
 ghost use Rattle.graph_paths.specs.Paths.{is_start_node};
 
 use crate::borders::{Border, border_nodes};
@@ -63,7 +63,8 @@ impl<'a> Ground<'a> {
         bound: u32,
     ) -> Result<Ground<'a>, Memory>
         requires { IsWithin graph.now (part_of target.now) }
-        ensures { IfOk result (λ g. IsGround g) }
+        ensures tables { IfOk result (λ g. IsGround g) }
+        ensures same { IfOk result (λ g. (parts_of g ≡ graph.now) × (g.target.now ≡ target.now) × (g.bound ≡ bound)) }
     {
         if graph.edges().len() > u32::MAX as usize || graph.nodes().len() > u32::MAX as usize {
             return Err(Memory);

@@ -10,7 +10,9 @@ mod borders;
 mod edge_ends;
 mod fault;
 mod ground;
+mod listing;
 mod search;
 mod walk;
 
 pub use fault::PathFault;
+pub use listing::paths;
