@@ -31,6 +31,10 @@ pub record IsSearching (parts : GraphParts) (ends : List Bool) (left : List ℕ)
 abbrev pub KeepsMet : Search → Search → Type 0
 KeepsMet s t = (n : ℕ) → is_met s n ≡ true → is_met t n ≡ true
 
+-- the marks of nodes stay as they are
+abbrev pub KeepsMarks : Search → Search → Type 0
+KeepsMarks s t = (t.met.items ≡ s.met.items) × (t.round ≡ s.round)
+
 -- a mark for each node, and a count for each edge
 pub record HaveTables (parts : GraphParts) (ends : List Bool) (left : List ℕ) : Type 0 where
   pub nodes : length ends ≡ length parts.nodes

@@ -106,10 +106,11 @@ impl Walk {
         }
         self.left[at] -= 1;
         if ground.ends[node as usize] {
+            self.search.forget_route();
             self.push(edge)?;
             return Ok(true);
         }
-        if self.search.reaches_end(ground.graph, &ground.ends, &self.left, node)? {
+        if self.search.reaches_end(ground.graph, &ground.ends, &self.left, edge, node)? {
             self.push(edge)?;
         } else {
             self.left[at] += 1;
@@ -131,6 +132,7 @@ impl Walk {
             Some(step) => {
                 self.left[step.edge as usize] += 1;
                 self.place = step.place + 1;
+                self.search.forget_route();
                 true
             }
         }

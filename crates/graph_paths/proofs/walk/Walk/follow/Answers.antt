@@ -1,6 +1,7 @@
 use Rattle.std.proofs.Common.{◌≡◌, false, subst, ◌+◌, ◌-◌, ◌<◌, length, get_or, set, refl, sym, ◌∙◌, ap, arith, get_or-set_same}
 use Rattle.std.proofs.Math.ListN.{length-set}
 use Rattle.std.proofs.lemmas.List.{get_or_read}
+use Rattle.graph_paths.proofs.SearchLaws.{keeps_search}
 use Rattle.graph_paths.proofs.Walks.{edge_within, place_within, passed_used, stepped, stepped_to_end, stepped_on, passed_barren, restored, use_fits}
 use Rattle.graph_paths.specs.declared.search.Search.{Search}
 use Rattle.graph_paths.specs.Ground.{parts_of}
@@ -41,7 +42,7 @@ returns-then-index-clause-walk c =
     let first = get_or_read w.left.items c.args.edge c.index.result.now lt c.index.ensures 0 in
     let second = get_or_read w.left.items c.args.edge c.index_mut.result.now lt c.index_mut.ensures.value 0 in
     stepped c.args.ground.now c.requires.ground w _ c.args.edge (c.index_mut.result.now - 1) c.requires.walk c.requires.edge (omega (arith, first, c.if-index-eq0.false)) (ap (λ n. n - 1) second)
-    c.in_ok-push.ensures.steps (ap (λ v. v.items) c.in_ok-push.ensures.rest.1) (let S : Search → Type 0 = λ s. IsSearch (parts_of c.args.ground.now) s in subst S (sym c.in_ok-push.ensures.rest.2) c.requires.walk.search)
+    c.in_ok-push.ensures.steps (ap (λ v. v.items) c.in_ok-push.ensures.rest.1) (let S : Search → Type 0 = λ s. IsSearch (parts_of c.args.ground.now) s in subst S (sym c.in_ok-push.ensures.rest.2) (keeps_search c.args.ground.now.graph.now w.search c.forget_route.new.self c.requires.walk.search c.forget_route.ensures))
 
 pub returns-then-index-clause-next : goal.returns-then-index-clause-next
 returns-then-index-clause-next c =
