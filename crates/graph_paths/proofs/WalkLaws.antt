@@ -16,7 +16,8 @@ use Rattle.filters.specs.Parts.{Part, IsWithin, part_of, edge_has, is_marked}
 use Rattle.graph_paths.specs.Ground.{is_first, first_edges}
 use Rattle.graph_paths.specs.Paths.{is_start_node, is_end_node, begins_at_start, leads_to, occurrences, is_path, paths_of, ordered_lists}
 use Rattle.graph_paths.specs.Searching.{is_way}
-use Rattle.graph_paths.specs.Walking.{extensions, behind, paths_behind, edges_of, from_place, later, remaining, row_after, row_of, IsPrefix, uses_left, AreUses}
+use Rattle.graph_paths.specs.Uses.{uses_left, AreUses}
+use Rattle.graph_paths.specs.Walking.{extensions, behind, paths_behind, edges_of, from_place, later, remaining, row_after, row_of, IsPrefix}
 use Rattle.graph_paths.proofs.Extensions.{own, none_behind, behind_is}
 use Rattle.graph_paths.proofs.Lists.{flat_map-filter}
 use Rattle.graph_paths.proofs.Prefixes.{edge_with, has_by, last_or-append, chained, chained-append, joined_is, ends_by, occurrences-append, occurrences-cons, occurs_first, occurs_later, PathParts, path_parts, path_from, short_path}
