@@ -1,14 +1,13 @@
 -- The steps of a walk.
-use Rattle.std.proofs.Common.{◌≡◌, ℕ, zero, suc, ◌+◌, ◌-◌, ◌*◌, ◌≤◌, ◌<◌, Bool, true, false, List, [], ◌∷◌, ◌++◌, Option, Some, None, length, get_or, set, map, All, refl, sym, ◌∙◌, ap, subst, arith}
-use Rattle.std.specs.Prelude.{slice_get, ◌==◌, nat_lt, if◌then◌else◌}
+use Rattle.std.proofs.Common.{◌≡◌, ℕ, zero, suc, ◌+◌, ◌-◌, ◌≤◌, ◌<◌, Bool, true, false, List, [], ◌∷◌, ◌++◌, Option, Some, None, length, get_or, set, All, refl, sym, ◌∙◌, ap, subst, arith}
+use Rattle.std.specs.Prelude.{slice_get, ◌==◌, if◌then◌else◌}
 use Rattle.std.specs.Option.{IsSomeAnd}
 use Rattle.std.specs.List.{filter, last_or, range_with_len}
-use Rattle.std.proofs.Math.ListN.{length-set}
-use Rattle.std.proofs.lemmas.Bool.{and_parts, eqb-true}
+use Rattle.std.proofs.lemmas.Bool.{and_parts}
 use Rattle.std.proofs.lemmas.List.{map_push, set-set, set-get_or, length_push, get_or_push, get_or_append_left}
-use Rattle.std.proofs.lemmas.List.Elements.{All-push, All-append}
+use Rattle.std.proofs.lemmas.List.Elements.{All-push}
 use Rattle.std.proofs.lemmas.List.Sums.{length-filter, count_by-le-length}
-use Rattle.std.proofs.lemmas.Option.{slice_get_within, get_or_from_slice_get, slice_get-get_or}
+use Rattle.std.proofs.lemmas.Option.{slice_get_within, get_or_from_slice_get}
 use Rattle.cfa.proofs.Exits.{taken}
 use Rattle.cfa.specs.declared.parts.Edge.{Edge}
 use Rattle.cfa.specs.declared.parts.GraphParts.{GraphParts}
@@ -20,7 +19,7 @@ use Rattle.graph_paths.specs.Ground.{IsGround, parts_of, part_in, is_first}
 use Rattle.graph_paths.specs.Paths.{is_end_node, leads_to, occurrences, is_path}
 use Rattle.graph_paths.specs.Searching.{is_way, IsSearch}
 use Rattle.graph_paths.specs.Walking.{AreDead, paths_behind, edges_of, row_after, row_of, from_place, remaining, IsPrefix, prefix_of, IsWalk, ahead}
-use Rattle.graph_paths.specs.Uses.{uses_left, AreUses}
+use Rattle.graph_paths.specs.Uses.{AreUses}
 use Rattle.graph_paths.proofs.Extensions.{own}
 use Rattle.graph_paths.proofs.Pending.{passed_over, forward, backward, nothing_left}
 use Rattle.graph_paths.proofs.Prefixes.{edge_with, has_by, occurrences-append, occurs_first}

@@ -92,6 +92,13 @@ impl<'a> Ground<'a> {
         let starts = border_nodes(alloc, graph, target, Border::Start)?;
         let firsts = first_edges(alloc, graph, target, &starts)?;
         let uses = all_uses(alloc, graph, target, bound)?;
-        Ok(Ground { graph, target, bound, ends, firsts, uses })
+        Ok(Ground {
+            graph,
+            target,
+            bound,
+            ends,
+            firsts,
+            uses,
+        })
     }
 }

@@ -25,12 +25,7 @@ pub(crate) struct Search {
 }
 
 // The edges that leave a node and may still be taken wait too, the first of them last.
-fn wait(
-    waiting: &mut Vec<u32>,
-    graph: &Graph,
-    left: &[u32],
-    node: u32,
-) -> Result<(), Memory>
+fn wait(waiting: &mut Vec<u32>, graph: &Graph, left: &[u32], node: u32) -> Result<(), Memory>
     requires node { node < length graph.now.nodes }
     requires left { length left.now ≡ length graph.now.edges }
     requires waiting { All (λ k. k < length graph.now.edges) waiting.old.items }

@@ -134,7 +134,10 @@ impl Walk {
             self.push(edge)?;
             return Ok(true);
         }
-        if self.search.reaches_end(ground.graph, &ground.ends, &self.left, edge, node)? {
+        if self
+            .search
+            .reaches_end(ground.graph, &ground.ends, &self.left, edge, node)?
+        {
             self.push(edge)?;
         } else {
             self.left[at] += 1;

@@ -1,8 +1,8 @@
-use Rattle.std.proofs.Common.{◌≡◌, Bool, Vec, Global, false, subst, ◌+◌, ◌-◌, ◌<◌, length, get_or, set, refl, sym, ◌∙◌, ap, arith, get_or-set_same}
+use Rattle.std.proofs.Common.{Bool, Vec, Global, false, subst, ◌+◌, ◌-◌, ◌<◌, length, set, refl, sym, ◌∙◌, ap, arith, get_or-set_same}
 use Rattle.std.proofs.Math.ListN.{length-set}
 use Rattle.std.proofs.lemmas.List.{get_or_read}
 use Rattle.graph_paths.proofs.SearchLaws.{keeps_search}
-use Rattle.graph_paths.proofs.Walks.{edge_within, place_within, passed_used, passed_dead, stepped, stepped_to_end, stepped_on, passed_barren, restored, use_fits}
+use Rattle.graph_paths.proofs.Walks.{edge_within, place_within, passed_used, passed_dead, stepped, stepped_to_end, stepped_on, passed_barren, use_fits}
 use Rattle.graph_paths.specs.declared.search.Search.{Search}
 use Rattle.graph_paths.specs.Ground.{parts_of}
 use Rattle.graph_paths.specs.Walking.{AreDead}

@@ -1,4 +1,4 @@
-use Rattle.std.proofs.Common.{◌≡◌, ◌+◌, ◌<◌, length, refl, ap, arith}
+use Rattle.std.proofs.Common.{◌+◌, ◌<◌, length, refl, ap, arith}
 use Rattle.std.proofs.lemmas.List.{get_or_read, nil_from_length}
 use Rattle.graph_paths.proofs.SearchLaws.{keeps_search}
 use Rattle.graph_paths.proofs.Walks.{last_within, last_place, use_low, walk_back, ahead_back, ahead_none}
