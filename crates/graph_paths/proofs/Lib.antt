@@ -1,0 +1,12 @@
+pub mod Lists
+pub mod BorderLaws
+pub mod Extensions
+pub mod ListingLaws
+pub mod Members
+pub mod Ordered
+pub mod Pending
+pub mod Prefixes
+pub mod Rows
+pub mod SearchLaws
+pub mod WalkLaws
+pub mod Walks

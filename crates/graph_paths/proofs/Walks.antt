@@ -1,0 +1,239 @@
+-- The steps of a walk.
+use Rattle.std.proofs.Common.{◌≡◌, ℕ, zero, suc, ◌+◌, ◌-◌, ◌≤◌, ◌<◌, Bool, true, false, List, [], ◌∷◌, ◌++◌, Option, Some, None, length, get_or, set, All, refl, sym, ◌∙◌, ap, subst, arith}
+use Rattle.std.specs.Prelude.{slice_get, ◌==◌, if◌then◌else◌}
+use Rattle.std.specs.Option.{IsSomeAnd}
+use Rattle.std.specs.List.{filter, last_or, range_with_len}
+use Rattle.std.proofs.lemmas.Bool.{and_parts}
+use Rattle.std.proofs.lemmas.List.{map_push, set-set, set-get_or, length_push, get_or_push, get_or_append_left}
+use Rattle.std.proofs.lemmas.List.Elements.{All-push}
+use Rattle.std.proofs.lemmas.List.Sums.{length-filter, count_by-le-length}
+use Rattle.std.proofs.lemmas.Option.{slice_get_within, get_or_from_slice_get}
+use Rattle.cfa.proofs.Exits.{taken}
+use Rattle.cfa.specs.declared.parts.Edge.{Edge}
+use Rattle.cfa.specs.declared.parts.GraphParts.{GraphParts}
+use Rattle.filters.specs.Parts.{Part, IsWithin, edge_has, is_marked}
+use Rattle.graph_paths.specs.declared.ground.Ground.{Ground}
+use Rattle.graph_paths.specs.declared.walk.Step.{Step}
+use Rattle.graph_paths.specs.declared.walk.Walk.{Walk}
+use Rattle.graph_paths.specs.Ground.{IsGround, parts_of, part_in, is_first}
+use Rattle.graph_paths.specs.Paths.{is_end_node, leads_to, occurrences, is_path}
+use Rattle.graph_paths.specs.Searching.{is_way, IsSearch}
+use Rattle.graph_paths.specs.Walking.{AreDead, paths_behind, edges_of, row_after, row_of, from_place, remaining, IsPrefix, prefix_of, IsWalk, ahead}
+use Rattle.graph_paths.specs.Uses.{AreUses}
+use Rattle.graph_paths.proofs.Extensions.{own}
+use Rattle.graph_paths.proofs.Pending.{passed_over, forward, backward, nothing_left}
+use Rattle.graph_paths.proofs.Prefixes.{edge_with, has_by, occurrences-append, occurs_first}
+use Rattle.graph_paths.proofs.WalkLaws.{follows, in_row, prefix_push, prefix_pop, last_in_part, use_is, use_some, use_from, uses_push, uses_pop, used_up, behind_row, own_path, own_none, barren}
+
+range_length : (a n : ℕ) → length (range_with_len a n) ≡ n
+range_length a zero = refl
+range_length a (suc n) = ap suc (range_length (a + 1) n)
+
+row_short : (test : ℕ → Bool) (n : ℕ) → length (filter test (range_with_len 0 n)) ≤ n
+row_short test n =
+    let count = length-filter test (range_with_len 0 n) in
+    let low = count_by-le-length test (range_with_len 0 n) in
+    let long = range_length 0 n in
+    omega arith
+
+-- an edge that may follow is one of the graph
+follows_within : (parts : GraphParts) (a : Part) → IsWithin parts a → (o : Option ℕ) (e : ℕ) → follows parts a 0 o e ≡ true → e < length parts.edges
+follows_within parts a within None e h = within.edges e (and_parts (a.edge e) _ h).0
+follows_within parts a within (Some k) e h =
+    let one = edge_with parts (λ (x : Edge). edge_has parts (λ (y : Edge). x.target == y.source) e) k h in
+    let two = edge_with parts (λ (y : Edge). one.0.target == y.source) e one.2 in
+    slice_get_within parts.edges e two.0 two.1
+
+row_length : (parts : GraphParts) (a : Part) (o : Option ℕ) → length (row_after parts a o) ≤ length parts.edges
+row_length parts a None = row_short (is_first parts a) (length parts.edges)
+row_length parts a (Some k) = row_short (leads_to parts k) (length parts.edges)
+
+module _ (g : Ground) (ground : IsGround g) where
+  abbrev parts : GraphParts
+  parts = parts_of g
+
+  abbrev a : Part
+  a = part_in g
+
+  abbrev pub NextEdge : Walk → ℕ → Type 0
+  NextEdge w e = slice_get (row_of parts a (prefix_of w)) w.place ≡ Some e
+
+  pub edge_within : (w : Walk) (e : ℕ) → NextEdge w e → e < length parts.edges
+  edge_within w e at = follows_within parts a ground.within (last_or None (prefix_of w)) e (in_row parts a g.bound (last_or None (prefix_of w)) w.place e at)
+
+  pub place_within : (w : Walk) (e : ℕ) → NextEdge w e → w.place < length parts.edges
+  place_within w e at = let low = slice_get_within (row_of parts a (prefix_of w)) w.place e at in let short = row_length parts a (last_or None (prefix_of w)) in omega arith
+
+  pub passed : (w t : Walk) (e : ℕ) → NextEdge w e → paths_behind parts a g.bound (prefix_of w ++ e ∷ []) ≡ [] → t.steps.items ≡ w.steps.items → t.place ≡ w.place + 1 → ahead g w ≡ ahead g t
+  passed w t e at none steps place =
+      passed_over (paths_behind parts a g.bound) (row_of parts a) w.steps.items w.place e (slice_get_within (row_of parts a (prefix_of w)) w.place e at) (get_or_from_slice_get (row_of parts a (prefix_of w)) w.place e 0 at) none
+      ∙ ap (λ xs. remaining (paths_behind parts a g.bound) (row_of parts a) xs (w.place + 1)) (sym steps)
+      ∙ ap (remaining (paths_behind parts a g.bound) (row_of parts a) t.steps.items) (sym place)
+
+  -- an edge with no uses left is passed over
+  pub passed_used : (w t : Walk) (e : ℕ) → IsWalk g w → NextEdge w e → get_or w.left.items e 0 ≡ 0 → t.steps.items ≡ w.steps.items → t.place ≡ w.place + 1 → ahead g w ≡ ahead g t
+  passed_used w t e walk at none = passed w t e at (used_up parts a g.bound (prefix_of w) e (sym (walk.uses.each e (edge_within w e at)) ∙ none))
+
+  use_most : (b : Bool) (most n : ℕ) → (if b then most - n else 0) ≤ most
+  use_most true most n = omega arith
+  use_most false most n = omega arith
+
+  pub use_fits : (w : Walk) (e : ℕ) → IsWalk g w → NextEdge w e → get_or w.left.items e 0 ≤ g.bound
+  use_fits w e walk at = let is = walk.uses.each e (edge_within w e at) in let low = use_most (a.edge e) g.bound (occurrences e (prefix_of w)) in omega arith
+
+  -- the nodes whose marks say so are ends
+  end_marks : (n : ℕ) → is_end_node parts a n ≡ true → is_marked g.ends.items n ≡ true
+  end_marks n h = ground.ends n (ground.within.nodes n (and_parts (a.node n) _ h).0) ∙ h
+
+  -- an edge that leads to a dead node is passed over
+  pub passed_dead : (w t : Walk) (e node : ℕ) → IsWalk g w → NextEdge w e → is_marked w.dead.items node ≡ true → IsSomeAnd (slice_get parts.edges e) (λ x. x.target ≡ node) → t.steps.items ≡ w.steps.items → t.place ≡ w.place + 1 → ahead g w ≡ ahead g t
+  passed_dead w t e node walk at dead to =
+      let some : (k : ℕ) → a.edge k ≡ true → occurrences k (prefix_of w ++ e ∷ []) < g.bound → 0 < get_or g.uses.items k 0 = λ k inside low.
+      let it = ground.uses.each k (ground.within.edges k inside) in let u = use_from parts a g.bound [] k inside (omega arith) in omega arith in
+      passed w t e at (barren parts a g.bound g.ends.items g.uses.items (prefix_of w) e node end_marks some to (walk.dead.each node dead))
+
+  -- ---- a step forward
+
+  abbrev pub Taken : Walk → Walk → ℕ → Type 0
+  Taken w t e = t.steps.items ≡ w.steps.items ++ record { edge = e; place = w.place } ∷ []
+
+  longer : (w t : Walk) (e : ℕ) → Taken w t e → prefix_of t ≡ prefix_of w ++ e ∷ []
+  longer w t e steps = ap edges_of steps ∙ map_push (λ (s : Step). s.edge) w.steps.items (record { edge = e; place = w.place })
+
+  room : (w : Walk) (e : ℕ) → IsWalk g w → NextEdge w e → 0 < get_or w.left.items e 0 → (a.edge e ≡ true) × (occurrences e (prefix_of w) < g.bound)
+  room w e walk at some = use_some parts a g.bound (prefix_of w) e (let is = walk.uses.each e (edge_within w e at) in omega arith)
+
+  longer_prefix : (w : Walk) (e : ℕ) → IsWalk g w → NextEdge w e → 0 < get_or w.left.items e 0 → IsPrefix parts a g.bound (prefix_of w ++ e ∷ [])
+  longer_prefix w e walk at some =
+      let r = room w e walk at some in
+      prefix_push parts a g.bound (prefix_of w) e walk.«prefix» (in_row parts a g.bound (last_or None (prefix_of w)) w.place e at) r.0 r.1
+
+  fewer_uses : (w : Walk) (e v : ℕ) → IsWalk g w → NextEdge w e → 0 < get_or w.left.items e 0 → v ≡ get_or w.left.items e 0 - 1 → AreUses parts a g.bound (prefix_of w ++ e ∷ []) (set w.left.items e v)
+  fewer_uses w e v walk at some is =
+      let r = room w e walk at some in
+      uses_push parts a g.bound (prefix_of w) w.left.items e v walk.uses (edge_within w e at) r.0 is
+
+  pub stepped : (w t : Walk) (e v : ℕ) → IsWalk g w → NextEdge w e → 0 < get_or w.left.items e 0 → v ≡ get_or w.left.items e 0 - 1 → Taken w t e → t.left.items ≡ set w.left.items e v → IsSearch parts t.search → AreDead g t.dead.items → IsWalk g t
+  stepped w t e v walk at some is steps left search dead =
+      let P : List ℕ → Type 0 = λ p. IsPrefix parts a g.bound p in
+      let U : List ℕ → Type 0 = λ p. AreUses parts a g.bound p t.left.items in
+      let L : List ℕ → Type 0 = λ xs. AreUses parts a g.bound (prefix_of w ++ e ∷ []) xs in
+      let A : List Step → Type 0 = λ xs. All (λ (s : Step). s.place < length parts.edges) xs in
+      let low = place_within w e at in
+      record {
+        «prefix» = subst P (sym (longer w t e steps)) (longer_prefix w e walk at some);
+        uses = subst U (sym (longer w t e steps)) (subst L (sym left) (fewer_uses w e v walk at some is));
+        places = subst A (sym steps) (All-push (λ (s : Step). s.place < length parts.edges) w.steps.items (record { edge = e; place = w.place }) walk.places low);
+        search = search;
+        dead = dead;
+      }
+
+  -- what is ahead before and after a step forward
+  ahead_by : (w t : Walk) (e : ℕ) (itself : List (List ℕ)) → NextEdge w e → Taken w t e → t.place ≡ 0 → own (is_path parts a g.bound) (prefix_of w ++ e ∷ []) ≡ itself → ahead g w ≡ itself ++ ahead g t
+  ahead_by w t e itself at steps place is =
+      let p = prefix_of w in
+      let below = paths_behind parts a g.bound in
+      let row = row_of parts a in
+      forward below row w.steps.items (record { edge = e; place = w.place }) itself (slice_get_within (row p) w.place e at) (get_or_from_slice_get (row p) w.place e 0 at)
+      (behind_row parts a g.bound (p ++ e ∷ []) ground.within ∙ ap (λ xs. xs ++ from_place below row (p ++ e ∷ []) 0) is)
+      ∙ ap (λ xs. itself ++ remaining below row xs 0) (sym steps) ∙ ap (λ n. itself ++ remaining below row t.steps.items n) (sym place)
+
+  -- the marks of nodes say whether the target of an edge is an end node
+  target_end : (e node : ℕ) (b : Bool) → IsSomeAnd (slice_get parts.edges e) (λ x. x.target ≡ node) → node < length parts.nodes → is_marked g.ends.items node ≡ b → edge_has parts (λ (x : Edge). is_end_node parts a x.target) e ≡ b
+  target_end e node b to low marked =
+      let there = taken (λ (x : Edge). x.target ≡ node) (slice_get parts.edges e) to in
+      has_by parts (λ (x : Edge). is_end_node parts a x.target) e there.0 there.1 ∙ ap (is_end_node parts a) there.2 ∙ sym (ground.ends node low) ∙ marked
+
+  pub stepped_to_end : (w t : Walk) (e node : ℕ) → IsWalk g w → NextEdge w e → 0 < get_or w.left.items e 0 → Taken w t e → t.place ≡ 0 → IsSomeAnd (slice_get parts.edges e) (λ x. x.target ≡ node) → node < length parts.nodes
+      → is_marked g.ends.items node ≡ true → ahead g w ≡ prefix_of t ∷ ahead g t
+  stepped_to_end w t e node walk at some steps place to low marked =
+      ahead_by w t e (prefix_of t ∷ []) at steps place
+      (own_path parts a g.bound (prefix_of w) e (longer_prefix w e walk at some) (target_end e node true to low marked) ∙ ap (λ p. p ∷ []) (sym (longer w t e steps)))
+
+  pub stepped_on : (w t : Walk) (e node : ℕ) → NextEdge w e → Taken w t e → t.place ≡ 0 → IsSomeAnd (slice_get parts.edges e) (λ x. x.target ≡ node) → node < length parts.nodes
+      → is_marked g.ends.items node ≡ false → ahead g w ≡ ahead g t
+  stepped_on w t e node at steps place to low marked = ahead_by w t e [] at steps place (own_none parts a g.bound (prefix_of w) e (target_end e node false to low marked))
+
+  -- an edge from which no way leads to an end is passed over
+  pub passed_barren : (w t : Walk) (e v node : ℕ) (left : List ℕ) → IsWalk g w → NextEdge w e → 0 < get_or w.left.items e 0 → v ≡ get_or w.left.items e 0 - 1 → left ≡ set w.left.items e v
+      → IsSomeAnd (slice_get parts.edges e) (λ x. x.target ≡ node) → ((way : List ℕ) → is_way parts g.ends.items left node way ≡ false) → t.steps.items ≡ w.steps.items → t.place ≡ w.place + 1 → ahead g w ≡ ahead g t
+  passed_barren w t e v node left walk at some is after to none =
+      let U : List ℕ → Type 0 = λ xs. AreUses parts a g.bound (prefix_of w ++ e ∷ []) xs in
+      let uses = subst U (sym after) (fewer_uses w e v walk at some is) in
+      let left_some : (k : ℕ) → a.edge k ≡ true → occurrences k (prefix_of w ++ e ∷ []) < g.bound → 0 < get_or left k 0 = λ k inside low.
+      let it = uses.each k (ground.within.edges k inside) in let u = use_from parts a g.bound (prefix_of w ++ e ∷ []) k inside low in omega arith in
+      passed w t e at (barren parts a g.bound g.ends.items left (prefix_of w) e node end_marks left_some to none)
+
+  -- the table of uses as it was
+  pub restored : (w t : Walk) (e u v : ℕ) → IsWalk g w → NextEdge w e → v ≡ get_or w.left.items e 0 → t.left.items ≡ set (set w.left.items e u) e v → t.steps.items ≡ w.steps.items → IsSearch parts t.search → AreDead g t.dead.items → IsWalk g t
+  restored w t e u v walk at is left steps search dead =
+      let same : t.left.items ≡ w.left.items = left ∙ set-set w.left.items e u v ∙ ap (set w.left.items e) is ∙ set-get_or w.left.items e 0 in
+      let P : List Step → Type 0 = λ xs. IsPrefix parts a g.bound (edges_of xs) in
+      let U : List Step → Type 0 = λ xs. AreUses parts a g.bound (edges_of xs) t.left.items in
+      let L : List ℕ → Type 0 = λ xs. AreUses parts a g.bound (prefix_of w) xs in
+      let A : List Step → Type 0 = λ xs. All (λ (s : Step). s.place < length parts.edges) xs in
+      record { «prefix» = subst P (sym steps) walk.«prefix»; uses = subst U (sym steps) (subst L (sym same) walk.uses); places = subst A (sym steps) walk.places; search = search; dead = dead }
+
+  -- ---- a step back
+
+  module _ (w t : Walk) (s : Step) (walk : IsWalk g w) (steps : w.steps.items ≡ t.steps.items ++ s ∷ []) where
+    shorter : prefix_of w ≡ prefix_of t ++ s.edge ∷ []
+    shorter = ap edges_of steps ∙ map_push (λ (r : Step). r.edge) t.steps.items s
+
+    whole_prefix : IsPrefix parts a g.bound (prefix_of t ++ s.edge ∷ [])
+    whole_prefix = let P : List ℕ → Type 0 = λ p. IsPrefix parts a g.bound p in subst P shorter walk.«prefix»
+
+    whole_uses : AreUses parts a g.bound (prefix_of t ++ s.edge ∷ []) w.left.items
+    whole_uses = let U : List ℕ → Type 0 = λ p. AreUses parts a g.bound p w.left.items in subst U shorter walk.uses
+
+    last_part : a.edge s.edge ≡ true
+    last_part = last_in_part parts a g.bound (prefix_of t) s.edge whole_prefix
+
+    pub last_within : s.edge < length parts.edges
+    last_within = ground.within.edges s.edge last_part
+
+    all_places : All (λ (r : Step). r.place < length parts.edges) (t.steps.items ++ s ∷ [])
+    all_places = let A : List Step → Type 0 = λ xs. All (λ (r : Step). r.place < length parts.edges) xs in subst A steps walk.places
+
+    pub last_place : s.place < length parts.edges
+    last_place =
+        let long = length_push t.steps.items s in
+        let low = all_places (length t.steps.items) s (omega arith) in
+        let is = get_or_push t.steps.items s s (length t.steps.items) refl in
+        let e = ap (λ (r : Step). r.place) is in
+        omega arith
+
+    -- a use more fits
+    pub use_low : get_or w.left.items s.edge 0 + 1 ≤ g.bound
+    use_low =
+        let is = whole_uses.each s.edge last_within in
+        let rest = use_is parts a g.bound (prefix_of t ++ s.edge ∷ []) s.edge last_part in
+        let count = occurrences-append s.edge (prefix_of t) (s.edge ∷ []) in
+        let one = occurs_first s.edge [] in
+        let low = whole_prefix.bounded s.edge in
+        omega arith
+
+    pub walk_back : (v : ℕ) → v ≡ get_or w.left.items s.edge 0 + 1 → t.left.items ≡ set w.left.items s.edge v → IsSearch parts t.search → AreDead g t.dead.items → IsWalk g t
+    walk_back v is left search dead =
+        let L : List ℕ → Type 0 = λ xs. AreUses parts a g.bound (prefix_of t) xs in
+        record {
+          «prefix» = prefix_pop parts a g.bound (prefix_of t) s.edge whole_prefix;
+          uses = subst L (sym left) (uses_pop parts a g.bound (prefix_of t) w.left.items s.edge v whole_uses last_within last_part (whole_prefix.bounded s.edge) is);
+          places = λ i d lt. let low = all_places i d (let long = length_push t.steps.items s in omega arith) in let e = ap (λ (r : Step). r.place) (get_or_append_left t.steps.items (s ∷ []) d i lt) in omega arith;
+          search = search;
+          dead = dead;
+        }
+
+    pub ahead_back : length (row_of parts a (prefix_of w)) ≤ w.place → t.place ≡ s.place + 1 → ahead g w ≡ ahead g t
+    ahead_back end place =
+        let below = paths_behind parts a g.bound in
+        let row = row_of parts a in
+        let E : List Step → Type 0 = λ xs. length (row (edges_of xs)) ≤ w.place in
+        ap (λ xs. remaining below row xs w.place) steps ∙ backward below row t.steps.items s w.place (subst E steps end) ∙ ap (remaining below row t.steps.items) (sym place)
+
+  pub ahead_none : (w : Walk) → w.steps.items ≡ [] → length (row_of parts a (prefix_of w)) ≤ w.place → ahead g w ≡ []
+  ahead_none w none end =
+      let below = paths_behind parts a g.bound in
+      let row = row_of parts a in
+      let E : List Step → Type 0 = λ xs. length (row (edges_of xs)) ≤ w.place in
+      ap (λ xs. remaining below row xs w.place) none ∙ nothing_left below row w.place (subst E none end)

@@ -1,0 +1,15 @@
+use Rattle.std.proofs.Common.{refl}
+use Rattle.graph_paths.specs.Paths.{paths_of}
+use Rattle.graph_paths.specs.Walking.{ahead, prefix_of}
+use Rattle.graph_paths.proofs.ListingLaws.{begun, under_way_more, one_ahead}
+use Rattle.graph_paths.proofs.listing.paths.Goals as goal
+
+pub loop-init : goal.loop-init
+loop-init c = begun c.in_ok-ground.ground c.args.graph.now c.args.target.now c.args.k c.args.edge_limit c.in_ok-walk.walk _ c.in_ok-ground.ensures.tables c.in_ok-ground.ensures.same.0 c.in_ok-ground.ensures.same.1 c.in_ok-ground.ensures.same.2
+    c.in_ok-walk.ensures.walk c.in_ok-walk.ensures.first.0 c.in_ok-walk.ensures.first.1 refl c.new-3.ensures
+
+pub loop-preserved : goal.loop-preserved
+loop-preserved c =
+    let g = c.in_ok-ground.ground in
+    let next = one_ahead (ahead g c.loop.walk) (ahead g c.advance.new.self) (prefix_of c.advance.new.self) c.in_ok-advance.field-0 c.in_ok-advance.ensures.next c.if-not-branch.false in
+    under_way_more g (paths_of c.args.graph.now c.args.target.now c.args.k) c.args.edge_limit c.loop.counter c.loop.walk c.advance.new.self c.loop.listing c.add.new.self c.loop.invariant c.in_ok-advance.ensures.walk next c.in_ok-add.ensures.paths c.in_ok-add.ensures.room
