@@ -2,6 +2,8 @@ pub mod Lists
 pub mod BorderLaws
 pub mod Extensions
 pub mod ListingLaws
+pub mod Members
+pub mod Ordered
 pub mod Pending
 pub mod Prefixes
 pub mod Rows

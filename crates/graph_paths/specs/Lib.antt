@@ -1,5 +1,6 @@
 pub mod Borders
 pub mod Ground
+pub mod Laws
 pub mod Listing
 pub mod Outcome
 pub mod Paths

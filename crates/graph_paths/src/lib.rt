@@ -10,6 +10,7 @@ mod borders;
 mod edge_ends;
 mod fault;
 mod ground;
+pub mod laws;
 mod listing;
 mod search;
 mod walk;

@@ -1,0 +1,5 @@
+use Rattle.graph_paths.proofs.Ordered.{paths_rise}
+use Rattle.graph_paths.proofs.laws.paths_rise.Goals as goal
+
+pub returns : goal.returns
+returns c = paths_rise
