@@ -1,16 +1,13 @@
 -- Tables of nodes.
-use Rattle.std.proofs.Common.{◌≡◌, ℕ, zero, suc, ◌+◌, ◌≤◌, ◌<◌, ◌||◌, ◌&&◌, ◌==◌, not, cond, Bool, true, false, List, [], ◌∷◌, ◌++◌, Option, Some, None, length, get_or, take, refl, sym, ◌∙◌, ap, add-one, add-zero, zero-add, arith}
+use Rattle.std.proofs.Common.{◌≡◌, ℕ, zero, suc, ◌+◌, ◌<◌, ◌||◌, ◌==◌, cond, Bool, true, false, List, [], ◌∷◌, ◌++◌, Some, length, get_or, take, refl, sym, ◌∙◌, ap, add-one, add-zero, zero-add, arith}
 use Rattle.std.specs.Prelude.{slice_get}
 use Rattle.std.specs.List.{list_any, filter, range_with_len}
 use Rattle.std.proofs.lemmas.List.{append-nil}
 use Rattle.std.proofs.lemmas.List.Elements.{filter-append}
-use Rattle.std.specs.Option.{IsSomeAnd, option_map_or}
+use Rattle.std.specs.Option.{IsSomeAnd}
 use Rattle.std.proofs.lemmas.List.Folds.{list_any_more}
 use Rattle.std.proofs.lemmas.Option.{get_or_from_slice_get, slice_get_within, slice_get_read}
 use Rattle.cfa.proofs.Exits.{taken}
-use Rattle.cfa.specs.declared.parts.Edge.{Edge}
-use Rattle.cfa.specs.declared.parts.GraphParts.{GraphParts}
-use Rattle.filters.specs.Parts.{edge_has, some_below}
 
 -- the index of what is there is within
 pub within_by : {X : Type 0} (xs : List X) (P : X → Type 0) (i : ℕ) → IsSomeAnd (slice_get xs i) P → i < length xs
@@ -25,32 +22,6 @@ any_more number xs i v n h =
     list_any_more (λ x. number x == n) xs i there.0 lt
     ∙ ap (λ x. list_any (λ y. number y == n) (take i xs) || (number x == n)) (get_or_from_slice_get xs i there.0 there.0 there.1)
     ∙ ap (λ m. list_any (λ y. number y == n) (take i xs) || (m == n)) there.2
-
--- what a property of an edge is, by a number of the edge
-pub has_number : (parts : GraphParts) (number : Edge → ℕ) (k v n : ℕ) → IsSomeAnd (slice_get parts.edges k) (λ e. number e ≡ v) → edge_has parts (λ e. number e == n) k ≡ (v == n)
-has_number parts number k v n h =
-    let there = taken (λ (e : Edge). number e ≡ v) (slice_get parts.edges k) h in
-    ap (λ o. option_map_or (λ (e : Edge). number e == n) o false) there.1 ∙ ap (λ m. m == n) there.2
-
-or_false : (x : Bool) → x ≡ (x || false)
-or_false true = refl
-or_false false = refl
-
--- one more edge, of the part or from outside
-pub kept_inside : (edges property : ℕ → Bool) (k : ℕ) (x y : Bool) → edges k ≡ true → x ≡ (y || some_below (λ j. not (edges j) && property j) k) → x ≡ (y || some_below (λ j. not (edges j) && property j) (k + 1))
-kept_inside edges property k x y inside h =
-    h ∙ ap (λ b. y || b) (or_false (some_below (λ j. not (edges j) && property j) k) ∙ ap (λ b. some_below (λ j. not (edges j) && property j) k || (not b && property k)) (sym inside))
-    ∙ ap (λ m. y || some_below (λ j. not (edges j) && property j) m) (sym (add-one k))
-
-or_assoc : (x y z : Bool) → ((x || y) || z) ≡ (x || (y || z))
-or_assoc true y z = refl
-or_assoc false y z = refl
-
-pub more_outside : (edges property : ℕ → Bool) (k : ℕ) (x y w : Bool) → edges k ≡ false → property k ≡ w → x ≡ (y || some_below (λ j. not (edges j) && property j) k) → (x || w) ≡ (y || some_below (λ j. not (edges j) && property j) (k + 1))
-more_outside edges property k x y w outside is h =
-    ap (λ b. b || w) h ∙ or_assoc y (some_below (λ j. not (edges j) && property j) k) w
-    ∙ ap (λ b. y || (some_below (λ j. not (edges j) && property j) k || b)) (sym is ∙ ap (λ b. not b && property k) (sym outside))
-    ∙ ap (λ m. y || some_below (λ j. not (edges j) && property j) m) (sym (add-one k))
 
 -- what is read at a place that is within
 pub read_within : {X : Type 0} (xs ys : List X) → ys ≡ xs → (i : ℕ) (x : X) → i < length xs → x ≡ get_or ys i x → slice_get xs i ≡ Some x

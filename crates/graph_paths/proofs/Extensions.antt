@@ -1,5 +1,5 @@
 -- The lists that begin with a prefix and pass a test, in order.
-use Rattle.std.proofs.Common.{◌≡◌, ℕ, zero, suc, ◌+◌, ◌-◌, ◌≤◌, ◌<◌, Bool, true, false, cond, List, [], ◌∷◌, ◌++◌, length, map, refl, sym, ◌∙◌, ap, inl, inr, arith}
+use Rattle.std.proofs.Common.{◌≡◌, ℕ, zero, suc, ◌+◌, ◌-◌, ◌<◌, Bool, false, cond, List, [], ◌∷◌, ◌++◌, length, map, sym, ◌∙◌, ap, inl, inr, arith}
 use Rattle.std.proofs.lemmas.Bool.{cases_lt}
 use Rattle.std.proofs.lemmas.List.{append-nil, append_assoc, length_push}
 use Rattle.std.proofs.lemmas.List.Elements.{filter-append}
@@ -55,9 +55,9 @@ behind_is limit test longest p short = elim (cases_lt (length p) longest) [
   | inr ge ↦
       let fuel : longest - length p ≡ zero = omega arith in
       let nothing : (e : ℕ) → extensions limit test (longest - length (p ++ e ∷ [])) (p ++ e ∷ []) ≡ [] = λ e.
-          let long = length_push p e in
-          let none : longest - length (p ++ e ∷ []) ≡ zero = omega arith in
-          ap (λ n. extensions limit test n (p ++ e ∷ [])) none ∙ extensions_zero limit test (p ++ e ∷ []) ∙ own_none test (p ++ e ∷ []) (short (p ++ e ∷ []) (omega arith)) in
+      let long = length_push p e in
+      let none : longest - length (p ++ e ∷ []) ≡ zero = omega arith in
+      ap (λ n. extensions limit test n (p ++ e ∷ [])) none ∙ extensions_zero limit test (p ++ e ∷ []) ∙ own_none test (p ++ e ∷ []) (short (p ++ e ∷ []) (omega arith)) in
       ap (λ n. extensions limit test n p) fuel ∙ extensions_zero limit test p ∙ sym (append-nil (own test p))
       ∙ ap (λ xs. own test p ++ xs) (sym (flat_map_none _ nothing (range_with_len 0 limit)))
 ]

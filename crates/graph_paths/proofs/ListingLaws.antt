@@ -1,19 +1,17 @@
 -- A list of paths that grows.
-use Rattle.std.proofs.Common.{◌≡◌, ℕ, ◌+◌, ◌-◌, ◌*◌, ◌≤◌, ◌<◌, Bool, true, false, List, [], ◌∷◌, ◌++◌, Option, Some, None, Result, Ok, Err, length, refl, sym, ◌∙◌, ap, subst, inl, inr, arith, append_assoc, length-append, zero-add}
+use Rattle.std.proofs.Common.{◌≡◌, ℕ, ◌+◌, ◌-◌, ◌<◌, Bool, true, List, [], ◌∷◌, ◌++◌, Option, Some, None, length, refl, sym, ◌∙◌, ap, subst, inl, inr, arith, append_assoc, zero-add}
 use Rattle.std.specs.Prelude.{nat_le, if◌then◌else◌}
 use Rattle.std.proofs.lemmas.Bool.{cases_Bool, leb-true, leb-false}
-use Rattle.std.proofs.lemmas.List.{append-nil, length_push}
+use Rattle.std.proofs.lemmas.List.{length_push}
 use Rattle.std.proofs.lemmas.List.Sums.{sum_by_push}
 use Rattle.cfa.specs.declared.parts.GraphParts.{GraphParts}
 use Rattle.filters.specs.declared.target_graph.TargetGraph.{TargetGraph}
-use Rattle.filters.specs.Parts.{part_of}
 use Rattle.graph_paths.specs.declared.ground.Ground.{Ground}
 use Rattle.graph_paths.specs.declared.listing.Listing.{Listing}
-use Rattle.graph_paths.specs.declared.walk.Step.{Step}
 use Rattle.graph_paths.specs.declared.walk.Walk.{Walk}
 use Rattle.graph_paths.specs.Ground.{IsGround, parts_of, part_in}
-use Rattle.graph_paths.specs.Listing.{paths_with, room_with, AreListed, listed, IsUnderWay}
-use Rattle.graph_paths.specs.Outcome.{edge_count, IsPathsOutcome}
+use Rattle.graph_paths.specs.Listing.{paths_with, room_with, AreListed, IsUnderWay}
+use Rattle.graph_paths.specs.Outcome.{edge_count}
 use Rattle.graph_paths.specs.Paths.{paths_of}
 use Rattle.graph_paths.specs.Walking.{IsAdvanced, IsWalk, ahead, prefix_of, remaining, paths_behind, row_of}
 use Rattle.graph_paths.proofs.WalkLaws.{at_the_start}
@@ -54,26 +52,6 @@ under_way_more g all edge_limit count w t l m h walk next paths room =
       kept = subst R (sym room) (subst P (sym paths) (listed_more edge_limit h.done p l.room l.paths h.kept));
     }
 
-outcome_by : (all : List (List ℕ)) (limit edge_limit : ℕ) (room : Option ℕ) (paths : List (List ℕ)) → AreListed edge_limit all room paths → length all ≤ limit → IsPathsOutcome all limit edge_limit (listed room paths)
-outcome_by all limit edge_limit (Some room) paths h few = (h.0, few, omega (arith, h.1))
-outcome_by all limit edge_limit None paths h few = (few, h)
-
--- nothing is ahead
-pub finished : (g : Ground) (all : List (List ℕ)) (limit edge_limit count : ℕ) (w : Walk) (l : Listing) → IsUnderWay g all edge_limit count w l → ahead g w ≡ [] → count ≤ limit → IsPathsOutcome all limit edge_limit (listed l.room l.paths)
-finished g all limit edge_limit count w l h none few =
-    let same : h.done ≡ all = sym (append-nil h.done) ∙ ap (λ xs. h.done ++ xs) (sym none) ∙ h.whole in
-    let A : List (List ℕ) → Type 0 = λ xs. AreListed edge_limit xs l.room l.paths in
-    let size = h.size in
-    outcome_by all limit edge_limit l.room l.paths (subst A same h.kept) (omega (arith, ap length same, size, few))
-
--- one more is ahead
-pub too_many : (g : Ground) (all : List (List ℕ)) (limit edge_limit count : ℕ) (w : Walk) (l : Listing) (path : List ℕ) (rest : List (List ℕ)) → IsUnderWay g all edge_limit count w l → ahead g w ≡ path ∷ rest → limit ≤ count → limit < length all
-too_many g all limit edge_limit count w l path rest h next many =
-    let long = ap length (sym h.whole ∙ ap (λ xs. h.done ++ xs) next) in
-    let sum = length-append h.done (path ∷ rest) in
-    let size = h.size in
-    omega arith
-
 -- the walk begins with all paths ahead
 pub begun : (g : Ground) (parts : GraphParts) (target : TargetGraph) (k edge_limit : ℕ) (w : Walk) (l : Listing) → IsGround g → parts_of g ≡ parts → g.target.now ≡ target → g.bound ≡ k → IsWalk g w → w.steps.items ≡ [] → w.place ≡ 0
     → l.room ≡ Some edge_limit → l.paths ≡ [] → IsUnderWay g (paths_of parts target k) edge_limit 0 w l
@@ -93,6 +71,3 @@ begun g parts target k edge_limit w l ground graph part bound walk steps place r
 -- what a step to the next path leaves ahead
 pub one_ahead : (before after : List (List ℕ)) (path : List ℕ) (found : Bool) → IsAdvanced before found path after → found ≡ true → before ≡ path ∷ after
 one_ahead before after path found h is = h ∙ ap (λ b. if b then path ∷ after else []) is
-
-pub none_ahead : (before after : List (List ℕ)) (path : List ℕ) (found : Bool) → IsAdvanced before found path after → found ≡ false → before ≡ []
-none_ahead before after path found h is = h ∙ ap (λ b. if b then path ∷ after else []) is

@@ -1,5 +1,5 @@
 -- Members of lists, and lists in lexicographic order.
-use Rattle.std.proofs.Common.{◌≡◌, ℕ, zero, suc, ◌+◌, ◌≤◌, ◌<◌, ◌⊎◌, Bool, true, false, cond, List, [], ◌∷◌, ◌++◌, Contains, length, map, refl, sym, ◌∙◌, ap, subst, inl, inr, ⊎_elim, arith}
+use Rattle.std.proofs.Common.{◌≡◌, ℕ, zero, suc, ◌+◌, ◌≤◌, ◌<◌, ◌⊎◌, Bool, true, cond, List, [], ◌∷◌, ◌++◌, Contains, map, refl, sym, ◌∙◌, ap, subst, inl, inr, ⊎_elim, arith}
 use Rattle.std.specs.Cmp.Lexicographic.{slice_cmp}
 use Rattle.std.specs.List.{filter, flat_map, range_with_len, AllByRecursion}
 use Rattle.std.specs.List.Sorted.{IsStrictlySortedBy}
@@ -106,9 +106,10 @@ Rises xs = IsStrictlySortedBy before xs
 pub rises-append : (xs ys : List (List ℕ)) → Rises xs → Rises ys → ((x y : List ℕ) → In x xs → In y ys → before x y ≡ Less) → Rises (xs ++ ys)
 unfolding IsStrictlySortedBy
 rises-append [] ys rise also apart = also
-rises-append (x ∷ xs) ys rise also apart =
-    (all_from_in (λ y. before x y ≡ Less) (xs ++ ys) (λ y h. ⊎_elim (λ l. in_from_all (λ z. before x z ≡ Less) y xs rise.0 l) (λ r. apart x y (inl refl) r) (in_append y xs ys h)),
-     rises-append xs ys rise.1 also (λ z y h k. apart z y (inr h) k))
+rises-append (x ∷ xs) ys rise also apart = (
+  all_from_in (λ y. before x y ≡ Less) (xs ++ ys) (λ y h. ⊎_elim (λ l. in_from_all (λ z. before x z ≡ Less) y xs rise.0 l) (λ r. apart x y (inl refl) r) (in_append y xs ys h)),
+  rises-append xs ys rise.1 also (λ z y h k. apart z y (inr h) k),
+)
 
 same_first : (k : ℕ) (x y : List ℕ) → before (k ∷ x) (k ∷ y) ≡ before x y
 same_first k x y = ap (λ o. ordering_then o (before x y)) (tied_itself nat_cmp_total k)
@@ -119,12 +120,13 @@ lower_first k l x y lt = ap (λ b. ordering_then (cond b Less (cond (k == l) Equ
 pub rises-map : (k : ℕ) (xs : List (List ℕ)) → Rises xs → Rises (map (λ rest. k ∷ rest) xs)
 unfolding IsStrictlySortedBy
 rises-map k [] rise = tt
-rises-map k (x ∷ xs) rise =
-    (all_from_in (λ y. before (k ∷ x) y ≡ Less) (map (λ rest. k ∷ rest) xs) (λ y h.
-        let there = map_in (λ rest. k ∷ rest) y xs h in
-        let P : List ℕ → Type 0 = λ z. before (k ∷ x) z ≡ Less in
-        subst P there.2 (same_first k x there.0 ∙ in_from_all (λ z. before x z ≡ Less) there.0 xs rise.0 there.1)),
-     rises-map k xs rise.1)
+rises-map k (x ∷ xs) rise = (
+  all_from_in (λ y. before (k ∷ x) y ≡ Less) (map (λ rest. k ∷ rest) xs) (λ y h.
+      let there = map_in (λ rest. k ∷ rest) y xs h in
+      let P : List ℕ → Type 0 = λ z. before (k ∷ x) z ≡ Less in
+      subst P there.2 (same_first k x there.0 ∙ in_from_all (λ z. before x z ≡ Less) there.0 xs rise.0 there.1)),
+  rises-map k xs rise.1,
+)
 
 -- two rising lists with the same members are one
 head_same : (x y : List ℕ) (xs ys : List (List ℕ)) → Rises (x ∷ xs) → Rises (y ∷ ys) → In x (y ∷ ys) → In y (x ∷ xs) → y ≡ x

@@ -1,15 +1,14 @@
 -- The list of paths: it rises, and holds exactly the paths.
-use Rattle.std.proofs.Common.{◌≡◌, ℕ, zero, suc, ◌+◌, ◌*◌, ◌≤◌, ◌<◌, Bool, true, List, [], ◌∷◌, ◌++◌, length, map, refl, sym, ◌∙◌, ap, subst, inl, inr, arith}
-use Rattle.std.specs.Prelude.{nat_lt}
-use Rattle.std.specs.List.{filter, flat_map, range_with_len, list_all}
+use Rattle.std.proofs.Common.{◌≡◌, ℕ, zero, suc, ◌+◌, ◌*◌, ◌≤◌, ◌<◌, Bool, true, List, [], ◌∷◌, length, map, refl, subst, inl, inr, arith}
+use Rattle.std.specs.List.{flat_map, range_with_len, list_all}
 use Rattle.std.specs.List.Sorted.{IsStrictlySortedBy}
 use Rattle.std.specs.declared.cmp.Ordering.TheVariants.{Less}
 use Rattle.std.proofs.lemmas.Bool.{and_parts}
 use Rattle.std.proofs.lemmas.List.Kept.{IsStrictlySortedBy-filter}
 use Rattle.cfa.specs.declared.parts.GraphParts.{GraphParts}
 use Rattle.filters.specs.declared.target_graph.TargetGraph.{TargetGraph}
-use Rattle.filters.specs.Parts.{Part, IsWithin, part_of}
-use Rattle.graph_paths.specs.Laws.{ArePaths, PathsRise, OneList}
+use Rattle.filters.specs.Parts.{IsWithin, part_of}
+use Rattle.graph_paths.specs.Laws.{PathsRise, OneList}
 use Rattle.graph_paths.specs.Paths.{is_path, ordered_lists, paths_of}
 use Rattle.graph_paths.proofs.Members.{In, in_from_Contains, Contains-from_in, in_map, map_in, in_flat_map, flat_map_in, in_range, range_in, in_filter, filter_in, all_from_in, before, Rises, rises-append, lower_first, rises-map, same_list}
 use Rattle.graph_paths.proofs.Prefixes.{path_parts, not_longer}
@@ -26,13 +25,13 @@ pieces_rise limit most a (suc n) rise =
     rises-append (map (λ rest. a ∷ rest) (ordered_lists limit most)) (flat_map (λ first. map (λ rest. first ∷ rest) (ordered_lists limit most)) (range_with_len (a + 1) n))
     (rises-map a (ordered_lists limit most) rise) (pieces_rise limit most (a + 1) n rise)
     (λ x y h k.
-        let there = flat_map_in (λ first. map (λ rest. first ∷ rest) (ordered_lists limit most)) y (range_with_len (a + 1) n) k in
-        let front = behind_first limit most a x h in
-        let back = behind_first limit most there.0 y there.2 in
-        let low = range_in there.0 (a + 1) n there.1 in
-        let P : List ℕ → Type 0 = λ z. before z y ≡ Less in
-        let Q : List ℕ → Type 0 = λ z. before (a ∷ front.0) z ≡ Less in
-        subst P front.1 (subst Q back.1 (lower_first a there.0 front.0 back.0 (omega arith))))
+    let there = flat_map_in (λ first. map (λ rest. first ∷ rest) (ordered_lists limit most)) y (range_with_len (a + 1) n) k in
+    let front = behind_first limit most a x h in
+    let back = behind_first limit most there.0 y there.2 in
+    let low = range_in there.0 (a + 1) n there.1 in
+    let P : List ℕ → Type 0 = λ z. before z y ≡ Less in
+    let Q : List ℕ → Type 0 = λ z. before (a ∷ front.0) z ≡ Less in
+    subst P front.1 (subst Q back.1 (lower_first a there.0 front.0 back.0 (omega arith))))
 
 no_empty : (limit most : ℕ) (x : List ℕ) (numbers : List ℕ) → In x (flat_map (λ first. map (λ rest. first ∷ rest) (ordered_lists limit most)) numbers) → before [] x ≡ Less
 no_empty limit most x numbers h =
@@ -44,9 +43,10 @@ no_empty limit most x numbers h =
 lists_rise : (limit most : ℕ) → Rises (ordered_lists limit most)
 unfolding ordered_lists IsStrictlySortedBy
 lists_rise limit zero = (tt, tt)
-lists_rise limit (suc most) =
-    (all_from_in (λ x. before [] x ≡ Less) (flat_map (λ first. map (λ rest. first ∷ rest) (ordered_lists limit most)) (range_with_len 0 limit)) (λ x h. no_empty limit most x (range_with_len 0 limit) h),
-     pieces_rise limit most 0 limit (lists_rise limit most))
+lists_rise limit (suc most) = (
+  all_from_in (λ x. before [] x ≡ Less) (flat_map (λ first. map (λ rest. first ∷ rest) (ordered_lists limit most)) (range_with_len 0 limit)) (λ x h. no_empty limit most x (range_with_len 0 limit) h),
+  pieces_rise limit most 0 limit (lists_rise limit most),
+)
 
 all_lists : (limit most : ℕ) (test : ℕ → Bool) → ((k : ℕ) → test k ≡ true → k < limit) → (p : List ℕ) → length p ≤ most → list_all test p ≡ true → In p (ordered_lists limit most)
 unfolding ordered_lists

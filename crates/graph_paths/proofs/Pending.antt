@@ -1,5 +1,5 @@
 -- What a depth-first walk over prefixes has still to list.
-use Rattle.std.proofs.Common.{◌≡◌, ℕ, ◌+◌, ◌≤◌, ◌<◌, List, [], ◌∷◌, ◌++◌, Some, length, get_or, drop, map, refl, sym, ◌∙◌, ap, arith}
+use Rattle.std.proofs.Common.{◌≡◌, ℕ, ◌+◌, ◌≤◌, ◌<◌, List, [], ◌∷◌, ◌++◌, length, get_or, drop, sym, ◌∙◌, ap}
 use Rattle.std.proofs.lemmas.List.{append-nil, append_assoc, drop_more, drop_all, map_push}
 use Rattle.std.specs.List.{flat_map}
 use Rattle.graph_paths.specs.declared.walk.Step.{Step}

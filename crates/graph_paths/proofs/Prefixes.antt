@@ -1,16 +1,14 @@
 -- Paths by their last edge.
 use Rattle.std.proofs.Common.{◌≡◌, ℕ, zero, suc, ◌+◌, ◌-◌, ◌*◌, ◌≤◌, ◌<◌, ◌&&◌, ◌==◌, Bool, true, false, cond, List, [], ◌∷◌, ◌++◌, Option, Some, None, length, refl, sym, ◌∙◌, ap, subst, inl, inr, arith, eq-eqb}
 use Rattle.std.specs.Prelude.{nat_lt, nat_le, slice_get}
-use Rattle.std.specs.List.{count_by, sum_by, last_or, list_all}
+use Rattle.std.specs.List.{count_by, last_or, list_all}
 use Rattle.std.specs.Option.{option_map_or}
-use Rattle.std.proofs.lemmas.Bool.{and_parts, and_from, cases_eq, cases_lt, cases_order, cases_Bool, both_ways, eqb-true, ne_eqb, leb-true, le-leb, lt-ltb, le-ltb, ltb-true, false_from_ne_true}
-use Rattle.std.proofs.lemmas.List.Folds.{list_all-append}
+use Rattle.std.proofs.lemmas.Bool.{and_parts, and_from, cases_eq, cases_lt, cases_order, ne_eqb, leb-true, le-leb, lt-ltb, le-ltb, false_from_ne_true}
 use Rattle.std.proofs.lemmas.List.Sums.{sum_by-append, sum_by-cons}
-use Rattle.std.proofs.lemmas.Option.{same_Some}
 use Rattle.cfa.specs.declared.parts.Edge.{Edge}
 use Rattle.cfa.specs.declared.parts.GraphParts.{GraphParts}
 use Rattle.filters.specs.Parts.{Part, IsWithin, edge_has}
-use Rattle.graph_paths.specs.Paths.{is_start_node, is_end_node, begins_at_start, ends_at_end, leads_to, are_joined, occurrences, is_bounded, is_path}
+use Rattle.graph_paths.specs.Paths.{is_end_node, begins_at_start, ends_at_end, leads_to, are_joined, occurrences, is_bounded, is_path}
 
 -- ---- the edge of a number
 
@@ -138,21 +136,21 @@ below_more n (x ∷ p) =
           ∙ sym (ap (λ t. (cond t 1 0 + below_count n p) + (1 + occurrences n p)) b) ∙ sym (ap (λ t. (cond (nat_lt x n) 1 0 + below_count n p) + (cond t 1 0 + occurrences n p)) c)
           ∙ sym (ap (λ m. m + (cond (x == n) 1 0 + occurrences n p)) narrow) ∙ sym (ap (λ m. below_count n (x ∷ p) + m) own)
       | inr apart ↦ elim apart [
-          | inl lt ↦
-              let a : nat_lt x (suc n) ≡ true = lt-ltb x (suc n) (omega arith) in
-              let b : nat_lt x n ≡ true = lt-ltb x n lt in
-              let c : x == n ≡ false = ne_eqb x n (λ e. omega arith) in
-              wide ∙ ap (λ t. cond t 1 0 + below_count (suc n) p) a ∙ (let d : 1 + below_count (suc n) p ≡ (1 + below_count n p) + (0 + occurrences n p) = omega arith in d)
-              ∙ sym (ap (λ t. (cond t 1 0 + below_count n p) + (0 + occurrences n p)) b) ∙ sym (ap (λ t. (cond (nat_lt x n) 1 0 + below_count n p) + (cond t 1 0 + occurrences n p)) c)
-              ∙ sym (ap (λ m. m + (cond (x == n) 1 0 + occurrences n p)) narrow) ∙ sym (ap (λ m. below_count n (x ∷ p) + m) own)
-          | inr gt ↦
-              let a : nat_lt x (suc n) ≡ false = le-ltb x (suc n) (omega arith) in
-              let b : nat_lt x n ≡ false = le-ltb x n (omega arith) in
-              let c : x == n ≡ false = ne_eqb x n (λ e. omega arith) in
-              wide ∙ ap (λ t. cond t 1 0 + below_count (suc n) p) a ∙ (let d : 0 + below_count (suc n) p ≡ (0 + below_count n p) + (0 + occurrences n p) = omega arith in d)
-              ∙ sym (ap (λ t. (cond t 1 0 + below_count n p) + (0 + occurrences n p)) b) ∙ sym (ap (λ t. (cond (nat_lt x n) 1 0 + below_count n p) + (cond t 1 0 + occurrences n p)) c)
-              ∙ sym (ap (λ m. m + (cond (x == n) 1 0 + occurrences n p)) narrow) ∙ sym (ap (λ m. below_count n (x ∷ p) + m) own)
-        ]
+        | inl lt ↦
+            let a : nat_lt x (suc n) ≡ true = lt-ltb x (suc n) (omega arith) in
+            let b : nat_lt x n ≡ true = lt-ltb x n lt in
+            let c : x == n ≡ false = ne_eqb x n (λ e. omega arith) in
+            wide ∙ ap (λ t. cond t 1 0 + below_count (suc n) p) a ∙ (let d : 1 + below_count (suc n) p ≡ (1 + below_count n p) + (0 + occurrences n p) = omega arith in d)
+            ∙ sym (ap (λ t. (cond t 1 0 + below_count n p) + (0 + occurrences n p)) b) ∙ sym (ap (λ t. (cond (nat_lt x n) 1 0 + below_count n p) + (cond t 1 0 + occurrences n p)) c)
+            ∙ sym (ap (λ m. m + (cond (x == n) 1 0 + occurrences n p)) narrow) ∙ sym (ap (λ m. below_count n (x ∷ p) + m) own)
+        | inr gt ↦
+            let a : nat_lt x (suc n) ≡ false = le-ltb x (suc n) (omega arith) in
+            let b : nat_lt x n ≡ false = le-ltb x n (omega arith) in
+            let c : x == n ≡ false = ne_eqb x n (λ e. omega arith) in
+            wide ∙ ap (λ t. cond t 1 0 + below_count (suc n) p) a ∙ (let d : 0 + below_count (suc n) p ≡ (0 + below_count n p) + (0 + occurrences n p) = omega arith in d)
+            ∙ sym (ap (λ t. (cond t 1 0 + below_count n p) + (0 + occurrences n p)) b) ∙ sym (ap (λ t. (cond (nat_lt x n) 1 0 + below_count n p) + (cond t 1 0 + occurrences n p)) c)
+            ∙ sym (ap (λ m. m + (cond (x == n) 1 0 + occurrences n p)) narrow) ∙ sym (ap (λ m. below_count n (x ∷ p) + m) own)
+      ]
     ]
 
 below_none : (p : List ℕ) → below_count 0 p ≡ 0

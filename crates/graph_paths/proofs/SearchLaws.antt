@@ -1,10 +1,10 @@
 -- Searches for a way to an end.
-use Rattle.std.proofs.Common.{◌≡◌, ℕ, ◌+◌, ◌≤◌, ◌<◌, ◌==◌, ◌&&◌, Bool, true, false, List, [], ◌∷◌, ◌++◌, Some, length, get_or, set, take, All, Contains, ◌⊎◌, inl, inr, refl, sym, ◌∙◌, ap, subst, arith, eq-eqb, get_or-set_same, get_or-set_other, ⊎_elim}
+use Rattle.std.proofs.Common.{◌≡◌, ℕ, ◌+◌, ◌-◌, ◌≤◌, ◌<◌, ◌==◌, ◌&&◌, Bool, true, false, List, [], ◌∷◌, ◌++◌, length, get_or, set, All, Contains, ◌⊎◌, inl, inr, sym, ◌∙◌, ap, subst, arith, eq-eqb, get_or-set_same, get_or-set_other, ⊎_elim}
 use Rattle.std.specs.Prelude.{slice_get, nat_lt}
-use Rattle.std.proofs.lemmas.Bool.{and_parts, cases_eq, cases_lt, eqb-true, ltb-true, ne_eqb, both_ways, false_from_ne_true, true≢false}
+use Rattle.std.proofs.lemmas.Bool.{and_parts, cases_eq, cases_lt, eqb-true, ltb-true, both_ways, false_from_ne_true}
 use Rattle.std.proofs.Math.ListN.{length-set}
-use Rattle.std.proofs.lemmas.List.{take_more, get_or_append_left, length_push}
-use Rattle.std.proofs.lemmas.List.Elements.{Contains-push_cases, Contains-append_left, Contains-push, All-contains, Contains-get_or}
+use Rattle.std.proofs.lemmas.List.{get_or_append_left, length_push, get_or_default}
+use Rattle.std.proofs.lemmas.List.Elements.{Contains-push_cases, Contains-append_left, Contains-push, All-contains}
 use Rattle.std.proofs.lemmas.Option.{same_Some}
 use Rattle.std.specs.Option.{IsSomeAnd}
 use Rattle.cfa.proofs.Exits.{taken, given}
@@ -12,9 +12,9 @@ use Rattle.cfa.proofs.Places.{outgoing_tells}
 use Rattle.cfa.specs.declared.parts.Edge.{Edge}
 use Rattle.cfa.specs.declared.parts.GraphParts.{GraphParts}
 use Rattle.cfa.specs.Table.{outgoing_of}
-use Rattle.filters.specs.Parts.{edge_has, is_marked}
+use Rattle.filters.specs.Parts.{is_marked}
 use Rattle.graph_paths.specs.declared.search.Search.{Search}
-use Rattle.graph_paths.specs.Searching.{is_way, IsSearch, is_met, IsSearching, KeepsMet}
+use Rattle.graph_paths.specs.Searching.{is_way, IsSearch, is_met, IsSearching, KeepsMarks}
 use Rattle.graph_paths.proofs.BorderLaws.{within_by}
 use Rattle.graph_paths.proofs.Prefixes.{edge_with}
 
@@ -22,27 +22,46 @@ use Rattle.graph_paths.proofs.Prefixes.{edge_with}
 pub row_below : (parts : GraphParts) (node k : ℕ) → Contains (outgoing_of parts node) k → k < length parts.edges
 row_below parts node k h = within_by parts.edges (λ (e : Edge). e.source ≡ node) k ((outgoing_tells parts node k).0 h)
 
--- one more edge of a row, which waits from now on
+-- one more edge of a row, from its end, which waits from now on
 pub waits_too : (row waiting left : List ℕ) (i : ℕ) → i < length row
-    → ((k : ℕ) → Contains (take i row) k → 0 < get_or left k 0 → Contains waiting k)
-    → (k : ℕ) → Contains (take (i + 1) row) k → 0 < get_or left k 0 → Contains (waiting ++ get_or row i 0 ∷ []) k
-waits_too row waiting left i lt before k is some =
-    let P : List ℕ → Type 0 = λ xs. Contains xs k in
-    ⊎_elim
-    (λ old. Contains-append_left waiting (get_or row i 0 ∷ []) k (before k old some))
-    (λ new. let Q : ℕ → Type 0 = λ m. Contains (waiting ++ get_or row i 0 ∷ []) m in subst Q new (Contains-push waiting (get_or row i 0)))
-    (Contains-push_cases (take i row) (get_or row i 0) k (subst P (take_more row i 0 lt) is))
+    → ((j : ℕ) → length row ≤ j + i → j < length row → 0 < get_or left (get_or row j 0) 0 → Contains waiting (get_or row j 0))
+    → (j : ℕ) → length row ≤ j + (i + 1) → j < length row → 0 < get_or left (get_or row j 0) 0 → Contains (waiting ++ get_or row (length row - 1 - i) 0 ∷ []) (get_or row j 0)
+waits_too row waiting left i lt before j far within some = elim (cases_lt (j + i) (length row)) [
+  | inl here ↦
+      let at : length row - 1 - i ≡ j = omega arith in
+      let P : ℕ → Type 0 = λ m. Contains (waiting ++ get_or row m 0 ∷ []) (get_or row j 0) in
+      subst P (sym at) (Contains-push waiting (get_or row j 0))
+  | inr old ↦ Contains-append_left waiting (get_or row (length row - 1 - i) 0 ∷ []) (get_or row j 0) (before j old within some)
+]
 
 -- one more edge, with no uses left
-pub waits_not : (row waiting left : List ℕ) (i : ℕ) → i < length row → get_or left (get_or row i 0) 0 ≤ 0
-    → ((k : ℕ) → Contains (take i row) k → 0 < get_or left k 0 → Contains waiting k)
-    → (k : ℕ) → Contains (take (i + 1) row) k → 0 < get_or left k 0 → Contains waiting k
-waits_not row waiting left i lt none before k is some =
-    let P : List ℕ → Type 0 = λ xs. Contains xs k in
-    ⊎_elim
-    (λ old. before k old some)
-    (λ new. let e = ap (λ m. get_or left m 0) new in absurd (omega arith))
-    (Contains-push_cases (take i row) (get_or row i 0) k (subst P (take_more row i 0 lt) is))
+pub waits_not : (row waiting left : List ℕ) (i : ℕ) → i < length row → get_or left (get_or row (length row - 1 - i) 0) 0 ≤ 0
+    → ((j : ℕ) → length row ≤ j + i → j < length row → 0 < get_or left (get_or row j 0) 0 → Contains waiting (get_or row j 0))
+    → (j : ℕ) → length row ≤ j + (i + 1) → j < length row → 0 < get_or left (get_or row j 0) 0 → Contains waiting (get_or row j 0)
+waits_not row waiting left i lt none before j far within some = elim (cases_lt (j + i) (length row)) [
+  | inl here ↦
+      let at : length row - 1 - i ≡ j = omega arith in
+      let e = ap (λ m. get_or left (get_or row m 0) 0) at in
+      absurd (omega arith)
+  | inr old ↦ before j old within some
+]
+
+-- all edges of a row wait
+pub all_wait : (row waiting left : List ℕ) (i : ℕ) → length row ≤ i
+    → ((j : ℕ) → length row ≤ j + i → j < length row → 0 < get_or left (get_or row j 0) 0 → Contains waiting (get_or row j 0))
+    → (k : ℕ) → Contains row k → 0 < get_or left k 0 → Contains waiting k
+all_wait row waiting left i end each k (j, lt, is) some =
+    let here : get_or row j 0 ≡ k = get_or_default row j 0 k lt ∙ is in
+    let P : ℕ → Type 0 = λ m. Contains waiting m in
+    let e = ap (λ m. get_or left m 0) here in
+    subst P here (each j (omega arith) lt (omega arith))
+
+-- a search goes on by the marks alone
+pub keeps_search : (parts : GraphParts) (s t : Search) → IsSearch parts s → KeepsMarks s t → IsSearch parts t
+keeps_search parts s t h keeps = record {
+  size = ap length keeps.0 ∙ h.size;
+  marks = λ n. let b = h.marks n in let e = ap (λ xs. get_or xs n 0) keeps.0 in let r = keeps.1 in omega arith;
+}
 
 -- ---- marks of nodes
 
@@ -94,25 +113,27 @@ arrived parts ends left s t node within state inside met round waiting kept more
     let same : (n : ℕ) → is_met t n ≡ (get_or (set s.met.items node s.round) n 0 == s.round) = λ n. ap (λ xs. get_or xs n 0 == t.round) met ∙ ap (λ r. get_or (set s.met.items node s.round) n 0 == r) round in
     let stays : (n : ℕ) → is_met s n ≡ true → is_met t n ≡ true = λ n h. same n ∙ met_more s.met.items s.round node n lt h in
     let here : is_met t node ≡ true = same node ∙ met_here s.met.items s.round node lt in
-    let marks : (n : ℕ) → get_or t.met.items n 0 ≤ t.round = λ n. let b = marks_more s.met.items s.round node lt state.search.marks n in let e = ap (λ xs. get_or xs n 0) met in omega arith in
-    (record {
-      search = record { size = ap length met ∙ length-set s.met.items node s.round ∙ size; marks = marks };
-      waiting = waiting;
-      inner = λ n h. elim (met_cases s.met.items s.round node n lt (sym (same n) ∙ h)) [
-        | inl new ↦ ap (is_marked ends) new ∙ inside
-        | inr old ↦ state.inner n old
-      ];
-      edges = λ k e is some h. elim (met_cases s.met.items s.round node e.source lt (sym (same e.source) ∙ h)) [
-        | inl new ↦ inr (inl (more k ((outgoing_tells parts node k).1 (given (λ (f : Edge). f.source ≡ node) (slice_get parts.edges k) e is new)) some))
-        | inr old ↦ elim (state.edges k e is some old) [
+    let marks : (n : ℕ) → get_or t.met.items n 0 ≤ t.round = λ n. let b = marks_more s.met.items s.round node lt state.search.marks n in let e = ap (λ xs. get_or xs n 0) met in omega arith in (
+      record {
+        search = record { size = ap length met ∙ length-set s.met.items node s.round ∙ size; marks = marks };
+        waiting = waiting;
+        inner = λ n h. elim (met_cases s.met.items s.round node n lt (sym (same n) ∙ h)) [
+          | inl new ↦ ap (is_marked ends) new ∙ inside
+          | inr old ↦ state.inner n old
+        ];
+        edges = λ k e is some h. elim (met_cases s.met.items s.round node e.source lt (sym (same e.source) ∙ h)) [
+          | inl new ↦ inr (inl (more k ((outgoing_tells parts node k).1 (given (λ (f : Edge). f.source ≡ node) (slice_get parts.edges k) e is new)) some))
+          | inr old ↦ elim (state.edges k e is some old) [
             | inl target_met ↦ inl (stays e.target target_met)
             | inr other ↦ elim other [
-                | inl waits ↦ inr (inl (kept k waits))
-                | inr arriving ↦ inl (ap (is_met t) arriving ∙ here)
-              ]
+              | inl waits ↦ inr (inl (kept k waits))
+              | inr arriving ↦ inl (ap (is_met t) arriving ∙ here)
+            ]
           ]
-      ];
-    }, here)
+        ];
+      },
+      here,
+    )
 
 -- an edge that waited is followed
 pub followed : (parts : GraphParts) (ends : List Bool) (left : List ℕ) (s t : Search) (k node : ℕ) → IsSearching parts ends left (λ n. ⊥) s → s.waiting.items ≡ t.waiting.items ++ k ∷ []
@@ -130,12 +151,12 @@ followed parts ends left s t k node state waits met round to =
       edges = λ m e is some h. elim (state.edges m e is some (sym (same e.source) ∙ h)) [
         | inl target_met ↦ inl (same e.target ∙ target_met)
         | inr other ↦ elim other [
-            | inl waited ↦ elim (Contains-push_cases t.waiting.items k m (subst (λ xs. Contains xs m) waits waited)) [
-                | inl still ↦ inr (inl still)
-                | inr this ↦ inr (inr (ap (λ (f : Edge). f.target) (same_Some e there.0 (sym is ∙ ap (slice_get parts.edges) (sym this) ∙ there.1)) ∙ there.2))
-              ]
-            | inr never ↦ absurd never
+          | inl waited ↦ elim (Contains-push_cases t.waiting.items k m (subst (λ xs. Contains xs m) waits waited)) [
+            | inl still ↦ inr (inl still)
+            | inr this ↦ inr (inr (ap (λ (f : Edge). f.target) (same_Some e there.0 (sym is ∙ ap (slice_get parts.edges) (sym this) ∙ there.1)) ∙ there.2))
           ]
+          | inr never ↦ absurd never
+        ]
       ];
     }
 

@@ -1,25 +1,24 @@
 -- Prefixes of paths, and what lies behind them.
-use Rattle.std.proofs.Common.{◌≡◌, ℕ, zero, suc, ◌+◌, ◌-◌, ◌*◌, ◌≤◌, ◌<◌, ◌&&◌, ◌==◌, Bool, true, false, cond, List, [], ◌∷◌, ◌++◌, Option, Some, None, length, get_or, set, drop, map, refl, sym, ◌∙◌, ap, subst, inl, inr, ⊎_elim, arith, eq-eqb, append_assoc, get_or-set_same, get_or-set_other}
-use Rattle.std.specs.Prelude.{nat_lt, slice_get, if◌then◌else◌}
+use Rattle.std.proofs.Common.{◌≡◌, ℕ, ◌+◌, ◌-◌, ◌*◌, ◌≤◌, ◌<◌, ◌&&◌, ◌==◌, Bool, true, false, cond, List, [], ◌∷◌, ◌++◌, Option, Some, None, length, get_or, set, refl, sym, ◌∙◌, ap, subst, inl, inr, arith, eq-eqb, append_assoc, get_or-set_same, get_or-set_other}
+use Rattle.std.specs.Prelude.{slice_get, if◌then◌else◌}
 use Rattle.std.specs.Option.{IsSomeAnd}
 use Rattle.std.specs.List.{filter, flat_map, last_or, list_all, range_with_len}
 use Rattle.std.proofs.Math.ListN.{length-set}
 use Rattle.std.proofs.lemmas.Bool.{and_parts, and_from, cases_eq, cases_Bool, both_ways, lt-ltb, eqb-true, false_from_ne_true}
 use Rattle.std.proofs.lemmas.List.{append-nil, length_push, map-id}
 use Rattle.std.proofs.lemmas.List.Folds.{list_all-append}
-use Rattle.std.proofs.lemmas.Option.{same_Some}
 use Rattle.cfa.proofs.Exits.{taken}
 use Rattle.cfa.specs.declared.parts.Edge.{Edge}
 use Rattle.cfa.specs.declared.parts.GraphParts.{GraphParts}
-use Rattle.filters.specs.declared.target_graph.TargetGraph.{TargetGraph}
-use Rattle.filters.specs.Parts.{Part, IsWithin, part_of, edge_has, is_marked}
-use Rattle.graph_paths.specs.Ground.{is_first, first_edges}
-use Rattle.graph_paths.specs.Paths.{is_start_node, is_end_node, begins_at_start, leads_to, occurrences, is_path, paths_of, ordered_lists}
+use Rattle.filters.specs.Parts.{Part, IsWithin, edge_has, is_marked}
+use Rattle.graph_paths.specs.Ground.{is_first}
+use Rattle.graph_paths.specs.Paths.{is_end_node, begins_at_start, leads_to, occurrences, is_path, ordered_lists}
 use Rattle.graph_paths.specs.Searching.{is_way}
-use Rattle.graph_paths.specs.Walking.{extensions, behind, paths_behind, edges_of, from_place, later, remaining, row_after, row_of, IsPrefix, uses_left, AreUses}
+use Rattle.graph_paths.specs.Uses.{uses_left, AreUses}
+use Rattle.graph_paths.specs.Walking.{extensions, behind, paths_behind, from_place, later, remaining, row_after, row_of, IsPrefix}
 use Rattle.graph_paths.proofs.Extensions.{own, none_behind, behind_is}
 use Rattle.graph_paths.proofs.Lists.{flat_map-filter}
-use Rattle.graph_paths.proofs.Prefixes.{edge_with, has_by, last_or-append, chained, chained-append, joined_is, ends_by, occurrences-append, occurrences-cons, occurs_first, occurs_later, PathParts, path_parts, path_from, short_path}
+use Rattle.graph_paths.proofs.Prefixes.{edge_with, has_by, last_or-append, chained, chained-append, joined_is, ends_by, occurrences-append, occurs_first, occurs_later, PathParts, path_parts, path_from, short_path}
 use Rattle.graph_paths.proofs.Rows.{passes_at}
 
 last_push : (o : Option ℕ) (p : List ℕ) (e : ℕ) → last_or o (p ++ e ∷ []) ≡ Some e
@@ -150,11 +149,12 @@ module _ (parts : GraphParts) (a : Part) (most : ℕ) where
   pub used_up : (p : List ℕ) (e : ℕ) → uses_left a most p e ≡ 0 → paths_behind parts a most (p ++ e ∷ []) ≡ []
   used_up p e none = none_by (p ++ e ∷ []) (λ rest h.
       let it = goes_on p e rest h in
-      let inside = (and_parts _ _ (and_parts _ _ (sym (list_all-append a.edge p (e ∷ rest)) ∙ it.edges)).1).0 in
+      let behind_it = and_parts (list_all a.edge p) (list_all a.edge (e ∷ rest)) (sym (list_all-append a.edge p (e ∷ rest)) ∙ it.edges) in
+      let inside : a.edge e ≡ true = (and_parts (a.edge e) (list_all a.edge rest) behind_it.1).0 in
       let all = it.bounded e in
       let sum = occurrences-append e p (e ∷ rest) in
-      let own = occurs_first e rest in
-      let left = use_from p e inside (omega arith) in
+      let itself = occurs_first e rest in
+      let left : 0 < uses_left a most p e = use_from p e inside (omega arith) in
       omega arith)
 
   follows_chain : (o : Option ℕ) (p : List ℕ) (e : ℕ) (rest : List ℕ) → last_or None p ≡ o → PathParts parts a most (p ++ (e ∷ rest)) → follows o e ≡ true
@@ -228,15 +228,16 @@ module _ (parts : GraphParts) (a : Part) (most : ℕ) where
       let it = path_parts parts a most ((p ++ e ∷ []) ++ rest) h in
       let there = taken (λ (x : Edge). x.target ≡ node) (slice_get parts.edges e) to in
       let last : last_or None (p ++ e ∷ []) ≡ Some e = last_push None p e in
-      let joined = ap (λ o. chained parts o rest) (sym last) ∙ (and_parts _ _ (sym (chained-append parts None (p ++ e ∷ []) rest) ∙ it.joined)).1 in
-      let edges = (and_parts _ _ (sym (list_all-append a.edge (p ++ e ∷ []) rest) ∙ it.edges)).1 in
+      let joined : chained parts (Some e) rest ≡ true = ap (λ o. chained parts o rest) (sym last)
+      ∙ (and_parts (chained parts None (p ++ e ∷ [])) (chained parts (last_or None (p ++ e ∷ [])) rest) (sym (chained-append parts None (p ++ e ∷ []) rest) ∙ it.joined)).1 in
+      let edges : list_all a.edge rest ≡ true = (and_parts (list_all a.edge (p ++ e ∷ [])) (list_all a.edge rest) (sym (list_all-append a.edge (p ++ e ∷ []) rest) ∙ it.edges)).1 in
       let at_end = ap (λ o. ends_by parts a (last_or o rest)) (sym last) ∙ ap (ends_by parts a) (sym (last_or-append None (p ++ e ∷ []) rest)) ∙ it.ends in
       let way = way_on ends left (p ++ e ∷ []) marks uses e there.0 [] rest there.1 joined edges (λ j. let b = it.bounded j in let s = occurrences-append j (p ++ e ∷ []) rest in omega arith) at_end in
       both_ways (is_way parts ends left node rest) (none rest) (ap (λ n. is_way parts ends left n rest) (sym there.2) ∙ way))
 
   -- ---- the start
 
-  pub all_behind : extensions (length parts.edges) (is_path parts a most) (most * length parts.edges) [] ≡ filter (is_path parts a most) (ordered_lists (length parts.edges) (most * length parts.edges))
+  all_behind : extensions (length parts.edges) (is_path parts a most) (most * length parts.edges) [] ≡ filter (is_path parts a most) (ordered_lists (length parts.edges) (most * length parts.edges))
   unfolding extensions
   all_behind = ap (filter (is_path parts a most)) (map-id (ordered_lists (length parts.edges) (most * length parts.edges)))
 

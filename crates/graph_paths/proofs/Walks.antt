@@ -1,14 +1,13 @@
 -- The steps of a walk.
-use Rattle.std.proofs.Common.{◌≡◌, ℕ, zero, suc, ◌+◌, ◌-◌, ◌*◌, ◌≤◌, ◌<◌, Bool, true, false, List, [], ◌∷◌, ◌++◌, Option, Some, None, length, get_or, set, map, All, refl, sym, ◌∙◌, ap, subst, arith}
-use Rattle.std.specs.Prelude.{slice_get, ◌==◌, nat_lt, if◌then◌else◌}
+use Rattle.std.proofs.Common.{◌≡◌, ℕ, zero, suc, ◌+◌, ◌-◌, ◌≤◌, ◌<◌, Bool, true, false, List, [], ◌∷◌, ◌++◌, Option, Some, None, length, get_or, set, All, refl, sym, ◌∙◌, ap, subst, arith}
+use Rattle.std.specs.Prelude.{slice_get, ◌==◌, if◌then◌else◌}
 use Rattle.std.specs.Option.{IsSomeAnd}
 use Rattle.std.specs.List.{filter, last_or, range_with_len}
-use Rattle.std.proofs.Math.ListN.{length-set}
-use Rattle.std.proofs.lemmas.Bool.{and_parts, eqb-true}
+use Rattle.std.proofs.lemmas.Bool.{and_parts}
 use Rattle.std.proofs.lemmas.List.{map_push, set-set, set-get_or, length_push, get_or_push, get_or_append_left}
-use Rattle.std.proofs.lemmas.List.Elements.{All-push, All-append}
+use Rattle.std.proofs.lemmas.List.Elements.{All-push}
 use Rattle.std.proofs.lemmas.List.Sums.{length-filter, count_by-le-length}
-use Rattle.std.proofs.lemmas.Option.{slice_get_within, get_or_from_slice_get, slice_get-get_or}
+use Rattle.std.proofs.lemmas.Option.{slice_get_within, get_or_from_slice_get}
 use Rattle.cfa.proofs.Exits.{taken}
 use Rattle.cfa.specs.declared.parts.Edge.{Edge}
 use Rattle.cfa.specs.declared.parts.GraphParts.{GraphParts}
@@ -19,7 +18,8 @@ use Rattle.graph_paths.specs.declared.walk.Walk.{Walk}
 use Rattle.graph_paths.specs.Ground.{IsGround, parts_of, part_in, is_first}
 use Rattle.graph_paths.specs.Paths.{is_end_node, leads_to, occurrences, is_path}
 use Rattle.graph_paths.specs.Searching.{is_way, IsSearch}
-use Rattle.graph_paths.specs.Walking.{paths_behind, edges_of, row_after, row_of, from_place, remaining, IsPrefix, AreUses, uses_left, prefix_of, IsWalk, ahead}
+use Rattle.graph_paths.specs.Walking.{AreDead, paths_behind, edges_of, row_after, row_of, from_place, remaining, IsPrefix, prefix_of, IsWalk, ahead}
+use Rattle.graph_paths.specs.Uses.{AreUses}
 use Rattle.graph_paths.proofs.Extensions.{own}
 use Rattle.graph_paths.proofs.Pending.{passed_over, forward, backward, nothing_left}
 use Rattle.graph_paths.proofs.Prefixes.{edge_with, has_by, occurrences-append, occurs_first}
@@ -81,6 +81,17 @@ module _ (g : Ground) (ground : IsGround g) where
   pub use_fits : (w : Walk) (e : ℕ) → IsWalk g w → NextEdge w e → get_or w.left.items e 0 ≤ g.bound
   use_fits w e walk at = let is = walk.uses.each e (edge_within w e at) in let low = use_most (a.edge e) g.bound (occurrences e (prefix_of w)) in omega arith
 
+  -- the nodes whose marks say so are ends
+  end_marks : (n : ℕ) → is_end_node parts a n ≡ true → is_marked g.ends.items n ≡ true
+  end_marks n h = ground.ends n (ground.within.nodes n (and_parts (a.node n) _ h).0) ∙ h
+
+  -- an edge that leads to a dead node is passed over
+  pub passed_dead : (w t : Walk) (e node : ℕ) → IsWalk g w → NextEdge w e → is_marked w.dead.items node ≡ true → IsSomeAnd (slice_get parts.edges e) (λ x. x.target ≡ node) → t.steps.items ≡ w.steps.items → t.place ≡ w.place + 1 → ahead g w ≡ ahead g t
+  passed_dead w t e node walk at dead to =
+      let some : (k : ℕ) → a.edge k ≡ true → occurrences k (prefix_of w ++ e ∷ []) < g.bound → 0 < get_or g.uses.items k 0 = λ k inside low.
+      let it = ground.uses.each k (ground.within.edges k inside) in let u = use_from parts a g.bound [] k inside (omega arith) in omega arith in
+      passed w t e at (barren parts a g.bound g.ends.items g.uses.items (prefix_of w) e node end_marks some to (walk.dead.each node dead))
+
   -- ---- a step forward
 
   abbrev pub Taken : Walk → Walk → ℕ → Type 0
@@ -102,8 +113,8 @@ module _ (g : Ground) (ground : IsGround g) where
       let r = room w e walk at some in
       uses_push parts a g.bound (prefix_of w) w.left.items e v walk.uses (edge_within w e at) r.0 is
 
-  pub stepped : (w t : Walk) (e v : ℕ) → IsWalk g w → NextEdge w e → 0 < get_or w.left.items e 0 → v ≡ get_or w.left.items e 0 - 1 → Taken w t e → t.left.items ≡ set w.left.items e v → IsSearch parts t.search → IsWalk g t
-  stepped w t e v walk at some is steps left search =
+  pub stepped : (w t : Walk) (e v : ℕ) → IsWalk g w → NextEdge w e → 0 < get_or w.left.items e 0 → v ≡ get_or w.left.items e 0 - 1 → Taken w t e → t.left.items ≡ set w.left.items e v → IsSearch parts t.search → AreDead g t.dead.items → IsWalk g t
+  stepped w t e v walk at some is steps left search dead =
       let P : List ℕ → Type 0 = λ p. IsPrefix parts a g.bound p in
       let U : List ℕ → Type 0 = λ p. AreUses parts a g.bound p t.left.items in
       let L : List ℕ → Type 0 = λ xs. AreUses parts a g.bound (prefix_of w ++ e ∷ []) xs in
@@ -114,6 +125,7 @@ module _ (g : Ground) (ground : IsGround g) where
         uses = subst U (sym (longer w t e steps)) (subst L (sym left) (fewer_uses w e v walk at some is));
         places = subst A (sym steps) (All-push (λ (s : Step). s.place < length parts.edges) w.steps.items (record { edge = e; place = w.place }) walk.places low);
         search = search;
+        dead = dead;
       }
 
   -- what is ahead before and after a step forward
@@ -148,20 +160,19 @@ module _ (g : Ground) (ground : IsGround g) where
   passed_barren w t e v node left walk at some is after to none =
       let U : List ℕ → Type 0 = λ xs. AreUses parts a g.bound (prefix_of w ++ e ∷ []) xs in
       let uses = subst U (sym after) (fewer_uses w e v walk at some is) in
-      let ends : (n : ℕ) → is_end_node parts a n ≡ true → is_marked g.ends.items n ≡ true = λ n h. ground.ends n (ground.within.nodes n (and_parts (a.node n) _ h).0) ∙ h in
       let left_some : (k : ℕ) → a.edge k ≡ true → occurrences k (prefix_of w ++ e ∷ []) < g.bound → 0 < get_or left k 0 = λ k inside low.
       let it = uses.each k (ground.within.edges k inside) in let u = use_from parts a g.bound (prefix_of w ++ e ∷ []) k inside low in omega arith in
-      passed w t e at (barren parts a g.bound g.ends.items left (prefix_of w) e node ends left_some to none)
+      passed w t e at (barren parts a g.bound g.ends.items left (prefix_of w) e node end_marks left_some to none)
 
   -- the table of uses as it was
-  pub restored : (w t : Walk) (e u v : ℕ) → IsWalk g w → NextEdge w e → v ≡ get_or w.left.items e 0 → t.left.items ≡ set (set w.left.items e u) e v → t.steps.items ≡ w.steps.items → IsSearch parts t.search → IsWalk g t
-  restored w t e u v walk at is left steps search =
+  pub restored : (w t : Walk) (e u v : ℕ) → IsWalk g w → NextEdge w e → v ≡ get_or w.left.items e 0 → t.left.items ≡ set (set w.left.items e u) e v → t.steps.items ≡ w.steps.items → IsSearch parts t.search → AreDead g t.dead.items → IsWalk g t
+  restored w t e u v walk at is left steps search dead =
       let same : t.left.items ≡ w.left.items = left ∙ set-set w.left.items e u v ∙ ap (set w.left.items e) is ∙ set-get_or w.left.items e 0 in
       let P : List Step → Type 0 = λ xs. IsPrefix parts a g.bound (edges_of xs) in
       let U : List Step → Type 0 = λ xs. AreUses parts a g.bound (edges_of xs) t.left.items in
       let L : List ℕ → Type 0 = λ xs. AreUses parts a g.bound (prefix_of w) xs in
       let A : List Step → Type 0 = λ xs. All (λ (s : Step). s.place < length parts.edges) xs in
-      record { «prefix» = subst P (sym steps) walk.«prefix»; uses = subst U (sym steps) (subst L (sym same) walk.uses); places = subst A (sym steps) walk.places; search = search }
+      record { «prefix» = subst P (sym steps) walk.«prefix»; uses = subst U (sym steps) (subst L (sym same) walk.uses); places = subst A (sym steps) walk.places; search = search; dead = dead }
 
   -- ---- a step back
 
@@ -202,14 +213,15 @@ module _ (g : Ground) (ground : IsGround g) where
         let low = whole_prefix.bounded s.edge in
         omega arith
 
-    pub walk_back : (v : ℕ) → v ≡ get_or w.left.items s.edge 0 + 1 → t.left.items ≡ set w.left.items s.edge v → IsSearch parts t.search → IsWalk g t
-    walk_back v is left search =
+    pub walk_back : (v : ℕ) → v ≡ get_or w.left.items s.edge 0 + 1 → t.left.items ≡ set w.left.items s.edge v → IsSearch parts t.search → AreDead g t.dead.items → IsWalk g t
+    walk_back v is left search dead =
         let L : List ℕ → Type 0 = λ xs. AreUses parts a g.bound (prefix_of t) xs in
         record {
           «prefix» = prefix_pop parts a g.bound (prefix_of t) s.edge whole_prefix;
           uses = subst L (sym left) (uses_pop parts a g.bound (prefix_of t) w.left.items s.edge v whole_uses last_within last_part (whole_prefix.bounded s.edge) is);
           places = λ i d lt. let low = all_places i d (let long = length_push t.steps.items s in omega arith) in let e = ap (λ (r : Step). r.place) (get_or_append_left t.steps.items (s ∷ []) d i lt) in omega arith;
           search = search;
+          dead = dead;
         }
 
     pub ahead_back : length (row_of parts a (prefix_of w)) ≤ w.place → t.place ≡ s.place + 1 → ahead g w ≡ ahead g t

@@ -5,4 +5,5 @@ pub mod Listing
 pub mod Outcome
 pub mod Paths
 pub mod Searching
+pub mod Uses
 pub mod Walking

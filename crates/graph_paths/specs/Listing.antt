@@ -1,5 +1,5 @@
 -- A list of paths that grows.
-use Rattle.std.specs.Prelude.{◌≡◌, ℕ, ◌+◌, ◌-◌, ◌<◌, ◌≤◌, nat_le, List, [], ◌∷◌, ◌++◌, Option, None, Some, Result, Ok, Err, length, if◌then◌else◌}
+use Rattle.std.specs.Prelude.{◌≡◌, ℕ, ◌+◌, ◌-◌, ◌<◌, nat_le, List, [], ◌∷◌, ◌++◌, Option, None, Some, Result, Ok, Err, length, if◌then◌else◌}
 use Rattle.graph_paths.specs.declared.fault.PathFault.{PathFault}
 use Rattle.graph_paths.specs.declared.fault.PathFault.TheVariants.{TooManyEdges}
 use Rattle.graph_paths.specs.declared.ground.Ground.{Ground}

@@ -79,11 +79,7 @@ fn mark_outside(marks: &mut Vec<bool>, graph: &Graph, target: &TargetGraph, bord
 }
 
 // Which of the nodes that are marked belong to the part.
-fn nodes_in_part(
-    alloc: Global,
-    target: &TargetGraph,
-    marks: &[bool],
-) -> Result<Vec<bool>, Memory>
+fn nodes_in_part(alloc: Global, target: &TargetGraph, marks: &[bool]) -> Result<Vec<bool>, Memory>
     requires { length marks.now < 2 ^ 32 }
     ensures size { IfOk result (λ kept. length kept.items ≡ length marks.now) }
     ensures each { IfOk result (λ kept. (n : ℕ) → n < length marks.now → is_marked kept.items n ≡ ((part_of target.now).node n && is_marked marks.now n)) }

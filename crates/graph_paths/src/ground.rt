@@ -1,7 +1,8 @@
 // What stays the same over a walk.
-ghost use Rattle.std.specs.Prelude.{◌≡◌, ◌<◌, ◌^◌, ℕ, length, IfOk};
+ghost use Rattle.std.specs.Prelude.{◌≡◌, ◌<◌, ◌^◌, ℕ, [], length, IfOk};
 ghost use Rattle.filters.specs.Parts.{IsWithin, part_of, is_marked};
 ghost use Rattle.graph_paths.specs.Ground.{IsGround, is_first, first_edges, parts_of};
+ghost use Rattle.graph_paths.specs.Uses.{AreUses};
 ghost use Rattle.graph_paths.specs.Paths.{is_start_node};
 
 use crate::borders::{Border, border_nodes};
@@ -22,6 +23,8 @@ pub(crate) struct Ground<'a> {
     pub(crate) ends: Vec<bool>,
     /// The edges by which paths begin, rising.
     pub(crate) firsts: Vec<u32>,
+    /// By edge, how often it may be taken.
+    pub(crate) uses: Vec<u32>,
 }
 
 // Whether a path may begin by an edge.
@@ -55,6 +58,22 @@ fn first_edges(
     Ok(firsts)
 }
 
+fn all_uses(
+    alloc: Global,
+    graph: &Graph,
+    target: &TargetGraph,
+    bound: u32,
+) -> Result<Vec<u32>, Memory>
+    requires { length graph.now.edges < 2 ^ 32 }
+    ensures { IfOk result (λ uses. AreUses graph.now (part_of target.now) bound [] uses.items) }
+{
+    let mut uses = Vec::new(alloc);
+    for edge in 0..graph.edges().len() as u32 {
+        uses.push(if target.has_edge(edge) { bound } else { 0 })?;
+    }
+    Ok(uses)
+}
+
 impl<'a> Ground<'a> {
     pub(crate) fn new(
         alloc: Global,
@@ -72,6 +91,14 @@ impl<'a> Ground<'a> {
         let ends = border_nodes(alloc, graph, target, Border::End)?;
         let starts = border_nodes(alloc, graph, target, Border::Start)?;
         let firsts = first_edges(alloc, graph, target, &starts)?;
-        Ok(Ground { graph, target, bound, ends, firsts })
+        let uses = all_uses(alloc, graph, target, bound)?;
+        Ok(Ground {
+            graph,
+            target,
+            bound,
+            ends,
+            firsts,
+            uses,
+        })
     }
 }

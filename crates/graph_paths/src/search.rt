@@ -1,7 +1,7 @@
 // Searches for a way to the end of a path.
 ghost use Rattle.std.specs.Prelude.{◌≡◌, ◌<◌, ◌≤◌, ◌⊎◌, ℕ, All, Contains, IfOk, OnOk, false, true, length, slice_index};
 ghost use Rattle.cfa.specs.Table.{outgoing_of};
-ghost use Rattle.graph_paths.specs.Searching.{is_way, IsSearch, is_met, IsSearching, KeepsMet, HaveTables};
+ghost use Rattle.graph_paths.specs.Searching.{ClosedOff, IsSearch, is_met, IsSearching, KeepsMet, KeepsMarks, HaveTables};
 ghost use Rattle.filters.specs.Parts.{is_marked};
 
 use crate::edge_ends::target_of;
@@ -16,17 +16,16 @@ pub(crate) struct Search {
     pub(crate) met: Vec<u64>,
     /// The number of the search, from 1.
     pub(crate) round: u64,
-    /// The edges that wait to be followed.
+    /// The edges that wait to be followed, the next one last.
     pub(crate) waiting: Vec<u32>,
+    /// By node that the search has met, the edge by which it came there.
+    pub(crate) via: Vec<u32>,
+    /// The way that was found last, its first edge last.
+    pub(crate) route: Vec<u32>,
 }
 
-// The edges that leave a node and may still be taken wait too.
-fn wait(
-    waiting: &mut Vec<u32>,
-    graph: &Graph,
-    left: &[u32],
-    node: u32,
-) -> Result<(), Memory>
+// The edges that leave a node and may still be taken wait too, the first of them last.
+fn wait(waiting: &mut Vec<u32>, graph: &Graph, left: &[u32], node: u32) -> Result<(), Memory>
     requires node { node < length graph.now.nodes }
     requires left { length left.now ≡ length graph.now.edges }
     requires waiting { All (λ k. k < length graph.now.edges) waiting.old.items }
@@ -34,9 +33,11 @@ fn wait(
     ensures kept { OnOk result ((k : ℕ) → Contains waiting.old.items k → Contains waiting.new.items k) }
     ensures more { OnOk result ((k : ℕ) → Contains (outgoing_of graph.now node) k → 0 < slice_index left.now k → Contains waiting.new.items k) }
 {
-    for edge in graph.outgoing(node) {
-        if left[*edge as usize] > 0 {
-            waiting.push(*edge)?;
+    let row = graph.outgoing(node);
+    for taken in 0..row.len() {
+        let edge = row[row.len() - 1 - taken];
+        if left[edge as usize] > 0 {
+            waiting.push(edge)?;
         }
     }
     Ok(())
@@ -47,11 +48,70 @@ impl Search {
         ensures { IfOk result (λ s. IsSearch graph.now s) }
     {
         let met = vec![in alloc; 0; graph.nodes().len()]?;
+        let via = vec![in alloc; 0; graph.nodes().len()]?;
         Ok(Search {
             met,
             round: 0,
             waiting: Vec::new(alloc),
+            via,
+            route: Vec::new(alloc),
         })
+    }
+
+    // Whether the way that was found last goes on by this edge. It is forgotten if it doesn't.
+    fn goes_on_by(&mut self, edge: u32) -> bool
+        ensures { KeepsMarks self.old self.new }
+    {
+        match self.route.pop() {
+            Some(next) if next == edge => true,
+            _ => {
+                self.route.clear();
+                false
+            }
+        }
+    }
+
+    /// Forgets the way that was found last.
+    pub(crate) fn forget_route(&mut self)
+        ensures { KeepsMarks self.old self.new }
+    {
+        self.route.clear();
+    }
+
+    // An edge is followed to a node. The edge is kept with it, if the node wasn't met yet.
+    fn come_by(&mut self, node: u32, edge: u32)
+        ensures marks { KeepsMarks self.old self.new }
+        ensures waiting { self.new.waiting ≡ self.old.waiting }
+    {
+        let at = node as usize;
+        let met = self.met.get(at).copied() == Some(self.round);
+        if let Some(via) = self.via.get_mut(at) {
+            if !met {
+                *via = edge;
+            }
+        }
+    }
+
+    // Keeps the way from a node that ends by an edge.
+    fn keep_route(&mut self, graph: &Graph, from: u32, last: u32) -> Result<(), Memory>
+        ensures { OnOk result (KeepsMarks self.old self.new) }
+    {
+        self.route.clear();
+        let mut edge = last;
+        for _ in 0..graph.edges().len() {
+            self.route.push(edge)?;
+            let Some(source) = graph.edges().get(edge as usize).map(|edge| edge.source) else {
+                return Ok(());
+            };
+            if source == from {
+                return Ok(());
+            }
+            match self.via.get(source as usize) {
+                None => return Ok(()),
+                Some(before) => edge = *before,
+            }
+        }
+        Ok(())
     }
 
     // Whether a node is an end. If it isn't, it is met, and its edges wait.
@@ -81,21 +141,32 @@ impl Search {
         Ok(false)
     }
 
-    /// Whether a way may lead from a node, by edges with uses left, to an end. `false` says that none does.
+    /// Whether the search that was made last has met a node.
+    pub(crate) fn has_met(&self, node: usize) -> bool
+        requires { node < length self.now.met.items }
+        ensures { result ≡ is_met self.now node }
+    {
+        self.met[node] == self.round
+    }
+
+    /// Whether a way may lead from the node to which an edge leads, by edges with uses left, to an end. `false` says that
+    /// none does.
     pub(crate) fn reaches_end(
         &mut self,
         graph: &Graph,
         ends: &[bool],
         left: &[u32],
+        by: u32,
         from: u32,
     ) -> Result<bool, Memory>
         requires node { from < length graph.now.nodes }
         requires tables { HaveTables graph.now ends.now left.now }
         requires search { IsSearch graph.now self.old }
         ensures search { OnOk result (IsSearch graph.now self.new) }
-        ensures none { IfOk result (λ found. found ≡ false → (way : _) → is_way graph.now ends.now left.now from way ≡ false) }
+        ensures none { IfOk result (λ found. found ≡ false → ClosedOff graph.now ends.now left.now self.new) }
+        ensures from { IfOk result (λ found. found ≡ false → is_met self.new from ≡ true) }
     {
-        if self.round == u64::MAX {
+        if self.goes_on_by(by) || self.round == u64::MAX {
             return Ok(true);
         }
         self.round += 1;
@@ -107,7 +178,10 @@ impl Search {
             match self.waiting.pop() {
                 None => return Ok(false),
                 Some(edge) => {
-                    if self.arrive(graph, ends, left, target_of(graph, edge))? {
+                    let node = target_of(graph, edge);
+                    self.come_by(node, edge);
+                    if self.arrive(graph, ends, left, node)? {
+                        self.keep_route(graph, from, edge)?;
                         return Ok(true);
                     }
                 }

@@ -1,8 +1,9 @@
 // A depth-first walk over the prefixes of paths.
-ghost use Rattle.std.specs.Prelude.{◌≡◌, ◌≤◌, ◌++◌, ◌∷◌, [], Some, IfOk, OnOk, length, slice_get, if◌then◌else◌};
+ghost use Rattle.std.specs.Prelude.{◌≡◌, ◌<◌, ◌≤◌, ◌++◌, ◌∷◌, [], Some, IfOk, OnOk, length, slice_get, if◌then◌else◌};
 ghost use Rattle.filters.specs.Parts.{part_of};
 ghost use Rattle.graph_paths.specs.Ground.{IsGround, parts_of, part_in};
-ghost use Rattle.graph_paths.specs.Walking.{AreUses, IsWalk, IsAdvanced, ahead, prefix_of, row_of};
+ghost use Rattle.graph_paths.specs.Searching.{IsSearch};
+ghost use Rattle.graph_paths.specs.Walking.{AreDead, IsWalk, IsAdvanced, ahead, prefix_of, row_of};
 
 use crate::edge_ends::target_of;
 use crate::ground::Ground;
@@ -26,18 +27,35 @@ pub(crate) struct Walk {
     /// By edge, how often it may still be taken.
     pub(crate) left: Vec<u32>,
     pub(crate) search: Search,
+    /// By node, whether it is known that no way leads from it to an end, whatever was taken before.
+    pub(crate) dead: Vec<bool>,
 }
 
-fn all_uses(alloc: Global, ground: &Ground) -> Result<Vec<u32>, Memory>
-    requires { IsGround ground.now }
-    ensures { IfOk result (λ left. AreUses (parts_of ground.now) (part_in ground.now) ground.now.bound [] left.items) }
+// Marks the node to which an edge leads, and all that a search from there meets, if no way leads to an end, whatever was
+// taken before.
+fn bury(
+    search: &mut Search,
+    dead: &mut Vec<bool>,
+    ground: &Ground,
+    edge: u32,
+    node: u32,
+) -> Result<(), Memory>
+    requires ground { IsGround ground.now }
+    requires node { node < length (parts_of ground.now).nodes }
+    requires search { IsSearch (parts_of ground.now) search.old }
+    requires dead { AreDead ground.now dead.old.items }
+    ensures search { OnOk result (IsSearch (parts_of ground.now) search.new) }
+    ensures dead { OnOk result (AreDead ground.now dead.new.items) }
 {
-    let mut left = Vec::new(alloc);
-    for edge in 0..ground.graph.edges().len() as u32 {
-        let uses = if ground.target.has_edge(edge) { ground.bound } else { 0 };
-        left.push(uses)?;
+    if search.reaches_end(ground.graph, &ground.ends, &ground.uses, edge, node)? {
+        return Ok(());
     }
-    Ok(left)
+    for at in 0..dead.len() {
+        if search.has_met(at) {
+            dead[at] = true;
+        }
+    }
+    Ok(())
 }
 
 fn edge_at(row: &[u32], place: usize) -> Option<u32>
@@ -53,13 +71,15 @@ impl Walk {
         ensures walk { IfOk result (λ w. IsWalk ground.now w) }
         ensures first { IfOk result (λ w. (w.steps.items ≡ []) × (w.place ≡ 0)) }
     {
-        let left = all_uses(alloc, ground)?;
+        let left = Vec::from_slice(alloc, &ground.uses)?;
         let search = Search::new(alloc, ground.graph)?;
+        let dead = vec![in alloc; false; ground.graph.nodes().len()]?;
         Ok(Walk {
             steps: Vec::new(alloc),
             place: 0,
             left,
             search,
+            dead,
         })
     }
 
@@ -81,7 +101,7 @@ impl Walk {
     // Takes an edge: it is the last of the prefix from now on.
     fn push(&mut self, edge: u32) -> Result<(), Memory>
         ensures steps { OnOk result (self.new.steps.items ≡ self.old.steps.items ++ record { edge = edge; place = self.old.place } ∷ []) }
-        ensures rest { OnOk result ((self.new.place ≡ 0) × (self.new.left ≡ self.old.left) × (self.new.search ≡ self.old.search)) }
+        ensures rest { OnOk result ((self.new.place ≡ 0) × (self.new.left ≡ self.old.left) × (self.new.search ≡ self.old.search) × (self.new.dead ≡ self.old.dead)) }
     {
         let place = self.place;
         self.steps.push(Step { edge, place })?;
@@ -104,16 +124,25 @@ impl Walk {
             self.place += 1;
             return Ok(false);
         }
+        if self.dead[node as usize] {
+            self.place += 1;
+            return Ok(false);
+        }
         self.left[at] -= 1;
         if ground.ends[node as usize] {
+            self.search.forget_route();
             self.push(edge)?;
             return Ok(true);
         }
-        if self.search.reaches_end(ground.graph, &ground.ends, &self.left, node)? {
+        if self
+            .search
+            .reaches_end(ground.graph, &ground.ends, &self.left, edge, node)?
+        {
             self.push(edge)?;
         } else {
             self.left[at] += 1;
             self.place += 1;
+            bury(&mut self.search, &mut self.dead, ground, edge, node)?;
         }
         Ok(false)
     }
@@ -131,6 +160,7 @@ impl Walk {
             Some(step) => {
                 self.left[step.edge as usize] += 1;
                 self.place = step.place + 1;
+                self.search.forget_route();
                 true
             }
         }

@@ -1,5 +1,4 @@
-use Rattle.std.proofs.Common.{◌≡◌, ◌∙◌, ap, sym, ◌||◌, ◌==◌, arith}
-use Rattle.cfa.specs.declared.parts.Function.{Function}
+use Rattle.std.proofs.Common.{◌∙◌, ap, sym, ◌||◌, ◌==◌, arith}
 use Rattle.graph_paths.specs.Borders.{function_node}
 use Rattle.graph_paths.proofs.BorderLaws.{any_more}
 use Rattle.graph_paths.proofs.borders.function_nodes.Goals as goal
@@ -8,5 +7,5 @@ pub loop-number-preserved : goal.loop-number-preserved
 loop-number-preserved c = record {
   size = omega arith;
   each = λ n. c.mark.ensures.each n ∙ ap (λ b. b || (c.function_node.result == n)) (c.loop-number.invariant.each n)
-  ∙ sym (any_more (function_node c.args.border) c.args.graph.now.functions c.loop-number.number c.function_node.result n c.function_node.ensures.node);
+      ∙ sym (any_more (function_node c.args.border) c.args.graph.now.functions c.loop-number.number c.function_node.result n c.function_node.ensures.node);
 }

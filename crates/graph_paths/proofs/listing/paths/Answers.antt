@@ -1,7 +1,7 @@
 use Rattle.std.proofs.Common.{refl}
 use Rattle.graph_paths.specs.Paths.{paths_of}
 use Rattle.graph_paths.specs.Walking.{ahead, prefix_of}
-use Rattle.graph_paths.proofs.ListingLaws.{begun, under_way_more, finished, too_many, one_ahead, none_ahead}
+use Rattle.graph_paths.proofs.ListingLaws.{begun, under_way_more, one_ahead}
 use Rattle.graph_paths.proofs.listing.paths.Goals as goal
 
 pub loop-init : goal.loop-init
