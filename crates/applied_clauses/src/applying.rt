@@ -186,8 +186,8 @@ pub fn apply_clause(
         CoverTree::Paths(filter, k) => paths_of(alloc, graph, base, filter, *k),
         CoverTree::Predicate(number) => Ok(predicate(*number)),
         CoverTree::Quoted { body, text } => {
-            let body = apply_clause(alloc, graph, base, body)?;
-            Ok(quoted(alloc, body, text.bytes())?)
+            let inner = apply_clause(alloc, graph, base, body)?;
+            Ok(quoted(alloc, inner, text.bytes())?)
         }
         CoverTree::Dot(first, second) => {
             let a = apply_clause(alloc, graph, base, first)?;

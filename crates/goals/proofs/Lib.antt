@@ -1,6 +1,7 @@
 pub mod Capped
 pub mod Causes
 pub mod Counted
+pub mod DifferentWords
 pub mod Found
 pub mod Long
 pub mod Products
