@@ -1,0 +1,5 @@
+pub mod Applied
+pub mod Limits
+pub mod Missing
+pub mod Outcome
+pub mod Trees

@@ -1,0 +1,9 @@
+pub mod Capped
+pub mod Causes
+pub mod Counted
+pub mod DifferentWords
+pub mod Found
+pub mod Long
+pub mod Products
+pub mod Same
+pub mod Seen

@@ -1,0 +1,178 @@
+-- The greatest number of letters of a word, without its words.
+use Rattle.std.proofs.Common.{◌≡◌, ℕ, zero, suc, ◌+◌, ◌*◌, ◌≤◌, ◌==◌, ◌||◌, true, false, max, if◌then◌else◌, List, [], ◌∷◌, ◌++◌, fold, length, map, refl, sym, ap, ◌∙◌, arith}
+use Rattle.std.specs.Prelude.{nat_lt, slice_get, slice_index_or}
+use Rattle.std.specs.List.{list_any}
+use Rattle.std.proofs.lemmas.List.Sums.{sum_by-cons}
+use Rattle.std.specs.Option.{option_map_or}
+use Rattle.std.proofs.lemmas.Bool.Decides.{nat_tests}
+use Rattle.patterns.specs.Letters.{form, letter_count, times}
+use Rattle.patterns.specs.declared.pattern.Pattern.TheVariants as pattern
+use Rattle.patterns.proofs.Forms.{form_nothing, form_letter, form_dot, form_either, form_repeat}
+use Rattle.graph_paths.specs.Outcome.{edge_count}
+use Rattle.applied_clauses.specs.Trees as tree
+use Rattle.applied_clauses.specs.Trees.{Tree}
+use Rattle.goals.specs.Counts.{greatest, joined_letters, longest, one_of, tree_letters}
+use Rattle.goals.specs.Forms.{Pattern, dots, either_of, edge_pattern, path_pattern, pattern_of, quote_patterns, letter_pattern, word_pattern}
+use Rattle.goals.specs.Words.{Quote, Word, number_of, product, texts, words}
+use Rattle.goals.specs.declared.goal_letter.GoalLetter.{GoalLetter}
+use Rattle.goals.specs.declared.goal_letter.GoalLetter.TheVariants.{Node, Edge, Predicate}
+use Rattle.goals.proofs.Products.{length-words}
+
+-- ---- letters of patterns
+
+abbrev count : Pattern → ℕ
+count p = letter_count (form p)
+
+abbrev pub total : {X : Type 0} → (X → ℕ) → List X → ℕ
+total f [] = 0
+total f (x ∷ xs) = f x + total f xs
+
+count_dot : (p q : Pattern) → count (pattern.Dot p q) ≡ count p + count q
+count_dot p q = ap letter_count (form_dot p q)
+
+count_either : (p q : Pattern) → count (pattern.Either p q) ≡ count p + count q
+count_either p q = ap letter_count (form_either p q)
+
+count_dots_from : (p : Pattern) (ps : List Pattern) → count (fold pattern.Dot p ps) ≡ count p + total count ps
+count_dots_from p [] = omega arith
+count_dots_from p (q ∷ qs) = let rest = count_dots_from (pattern.Dot p q) qs in let one = count_dot p q in omega arith
+
+count_dots : (ps : List Pattern) → count (dots ps) ≡ total count ps
+count_dots [] = ap letter_count form_nothing
+count_dots (p ∷ ps) = count_dots_from p ps
+
+count_choices_from : (p : Pattern) (ps : List Pattern) → count (fold pattern.Either p ps) ≡ count p + total count ps
+count_choices_from p [] = omega arith
+count_choices_from p (q ∷ qs) = let rest = count_choices_from (pattern.Either p q) qs in let one = count_either p q in omega arith
+
+count_choices : (ps : List Pattern) → count (either_of ps) ≡ total count ps
+count_choices [] = ap letter_count form_nothing
+count_choices (p ∷ ps) = count_choices_from p ps
+
+count_edge : (e : ℕ) → count (edge_pattern e) ≡ 1
+count_edge e = ap letter_count (form_letter _)
+
+count_path : (path : List ℕ) → count (path_pattern path) ≡ length path
+count_path path = count_dots (map edge_pattern path) ∙ each path
+  where
+    each : (es : List ℕ) → total count (map edge_pattern es) ≡ length es
+    each [] = refl
+    each (e ∷ es) = let rest = each es in let one = count_edge e in omega arith
+
+count_paths : (ps : List (List ℕ)) → count (either_of (map path_pattern ps)) ≡ edge_count ps
+count_paths ps = count_choices (map path_pattern ps) ∙ each ps
+  where
+    each : (qs : List (List ℕ)) → total count (map path_pattern qs) ≡ edge_count qs
+    each [] = refl
+    each (q ∷ qs) = let rest = each qs in let one = count_path q in omega (arith, sum_by-cons length q qs)
+
+-- the letters of a clause are counted without its pattern
+pub count_tree : (t : Tree) → letter_count (form (pattern_of t)) ≡ tree_letters t
+count_tree (tree.nodes ns) = ap letter_count (form_letter _)
+count_tree (tree.edges es) = ap letter_count (form_letter _)
+count_tree (tree.paths ps) = count_paths ps
+count_tree (tree.predicate i) = ap letter_count (form_letter _)
+count_tree (tree.quoted body text) = count_tree body
+count_tree (tree.dot a b) = count_dot (pattern_of a) (pattern_of b) ∙ (λ i. count_tree a i + count_tree b i)
+count_tree (tree.plus a b) = count_either (pattern_of a) (pattern_of b) ∙ (λ i. count_tree a i + count_tree b i)
+count_tree (tree.repeat body least most) = ap letter_count (form_repeat (pattern_of body) least most) ∙ (λ i. count_tree body i * times least most)
+
+-- ---- letters of words
+
+either_above : (n a b : ℕ) → (nat_lt n a || nat_lt n b) ≡ nat_lt n (max a b)
+either_above n a b = grind (arith, nat_tests)
+
+module _ (qs : List Quote) where
+  abbrev letters : GoalLetter → ℕ
+  letters l = count (letter_pattern (quote_patterns qs) l)
+
+  abbrev pub word_letters : Word → ℕ
+  word_letters w = total letters w
+
+  pub count_word : (w : Word) → letter_count (form (word_pattern (quote_patterns qs) w)) ≡ word_letters w
+  count_word w = count_dots (map (letter_pattern (quote_patterns qs)) w) ∙ each w
+    where
+      each : (v : Word) → total count (map (letter_pattern (quote_patterns qs)) v) ≡ word_letters v
+      each [] = refl
+      each (l ∷ v) = let rest = each v in omega arith
+
+  one_letter : (l : GoalLetter) (p : Pattern) → letter_pattern (quote_patterns qs) l ≡ p → count p ≡ 1 → word_letters (l ∷ []) ≡ 1
+  one_letter l p e h = let same : letters l ≡ 1 = ap count e ∙ h in omega arith
+
+  both : (v w : Word) → word_letters (v ++ w) ≡ word_letters v + word_letters w
+  both [] w = omega arith
+  both (l ∷ v) w = let rest = both v w in omega arith
+
+  abbrev most : List Word → ℕ
+  most ws = greatest (map word_letters ws)
+
+  most-append : (vs ws : List Word) → most (vs ++ ws) ≡ max (most vs) (most ws)
+  most-append [] ws = omega arith
+  most-append (v ∷ vs) ws = let rest = most-append vs ws in omega arith
+
+  most_followed : (v w : Word) (ws : List Word) → most (map (λ x. v ++ x) (w ∷ ws)) ≡ word_letters v + most (w ∷ ws)
+  most_followed v w [] = let one = both v w in omega arith
+  most_followed v w (x ∷ xs) = let rest = most_followed v x xs in let one = both v w in omega arith
+
+  most_product_some : (v : Word) (vs : List Word) (w : Word) (ws : List Word) → most (product (v ∷ vs) (w ∷ ws)) ≡ most (v ∷ vs) + most (w ∷ ws)
+  most_product_some v [] w ws =
+      let one = most_followed v w ws in let all = most-append (map (λ x. v ++ x) (w ∷ ws)) [] in omega arith
+  most_product_some v (u ∷ us) w ws =
+      let one = most_followed v w ws in let all = most-append (map (λ x. v ++ x) (w ∷ ws)) (product (u ∷ us) (w ∷ ws)) in
+      let rest = most_product_some u us w ws in omega arith
+
+  no_followed : (vs : List Word) → product vs [] ≡ []
+  no_followed [] = refl
+  no_followed (v ∷ vs) = no_followed vs
+
+  most_product : (vs ws : List Word) → most (product vs ws) ≡ joined_letters (length vs) (length ws) (most vs) (most ws)
+  most_product [] ws = refl
+  most_product (v ∷ vs) [] = ap most (no_followed (v ∷ vs)) ∙ sym (no_second (suc (length vs)) (most (v ∷ vs)) 0)
+    where
+      no_second : (n a b : ℕ) → joined_letters n 0 a b ≡ 0
+      no_second n a b = elim (n == 0) as (λ t. (if t || true then 0 else a + b) ≡ 0) [ true ↦ refl | false ↦ refl ]
+  most_product (v ∷ vs) (w ∷ ws) = most_product_some v vs w ws ∙ sym (some_both (length vs) (length ws) (most (v ∷ vs)) (most (w ∷ ws)))
+    where
+      some_both : (n m a b : ℕ) → joined_letters (suc n) (suc m) a b ≡ a + b
+      some_both n m a b = grind (arith, nat_tests)
+
+  ones : (f : ℕ → GoalLetter) → ((n : ℕ) → word_letters (f n ∷ []) ≡ 1) → (ns : List ℕ) → most (map (λ n. f n ∷ []) ns) ≡ one_of ns
+  ones f one [] = refl
+  ones f one (n ∷ ns) = let here = one n in let rest = ones f one ns in let few = at_most_one ns in omega arith
+    where
+      at_most_one : (ms : List ℕ) → one_of ms ≤ 1
+      at_most_one [] = omega arith
+      at_most_one (m ∷ ms) = omega arith
+
+  edges_of_path : (path : List ℕ) → word_letters (map Edge path) ≡ length path
+  edges_of_path [] = refl
+  edges_of_path (e ∷ es) = let rest = edges_of_path es in let one = count_edge e in omega arith
+
+  paths_most : (ps : List (List ℕ)) → most (map (λ path. map Edge path) ps) ≡ greatest (map length ps)
+  paths_most [] = refl
+  paths_most (p ∷ ps) = let rest = paths_most ps in let one = edges_of_path p in omega arith
+
+  quote_at : (rs : List Quote) (n : ℕ) → count (slice_index_or (quote_patterns rs) n pattern.Nothing) ≡ option_map_or (λ (q : Quote). tree_letters q.body) (slice_get rs n) 0
+  quote_at [] n = ap letter_count form_nothing
+  quote_at (r ∷ rs) zero = count_tree r.body
+  quote_at (r ∷ rs) (suc n) = quote_at rs n
+
+  -- the greatest number of letters of a word
+  most_words : (t : Tree) → most (words (texts qs) t) ≡ longest qs t
+  most_words (tree.nodes ns) = ones Node (λ n. one_letter (Node n) _ refl (ap letter_count (form_letter _))) ns
+  most_words (tree.edges es) = ones Edge (λ e. one_letter (Edge e) _ refl (count_edge e)) es
+  most_words (tree.paths ps) = paths_most ps
+  most_words (tree.predicate i) = let one = one_letter (Predicate i) _ refl (ap letter_count (form_letter _)) in omega arith
+  most_words (tree.quoted body text) = let one = quote_at qs (number_of (texts qs) text) in omega arith
+  most_words (tree.dot a b) = most_product (words (texts qs) a) (words (texts qs) b)
+      ∙ (λ i. joined_letters (length-words (texts qs) a i) (length-words (texts qs) b i) (most_words a i) (most_words b i))
+  most_words (tree.plus a b) = most-append (words (texts qs) a) (words (texts qs) b) ∙ (λ i. max (most_words a i) (most_words b i))
+  most_words (tree.repeat body least most) = refl
+
+  some_above : (n : ℕ) (ws : List Word) → list_any (λ w. nat_lt n (word_letters w)) ws ≡ nat_lt n (most ws)
+  some_above n [] = grind (arith, nat_tests)
+  some_above n (w ∷ ws) = ap (λ b. nat_lt n (word_letters w) || b) (some_above n ws) ∙ either_above n (word_letters w) (most ws)
+
+  -- some word has more letters than this exactly where the longest has
+  pub some_long : (n : ℕ) (t : Tree) → list_any (λ w. nat_lt n (word_letters w)) (words (texts qs) t) ≡ nat_lt n (longest qs t)
+  some_long n t = some_above n (words (texts qs) t) ∙ ap (nat_lt n) (most_words t)

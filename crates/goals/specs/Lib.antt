@@ -1,0 +1,7 @@
+pub mod CountedCauses
+pub mod Counts
+pub mod Forms
+pub mod GoalForm
+pub mod Plans
+pub mod Quotes
+pub mod Words
