@@ -36,8 +36,14 @@ fn an_automaton_of_two_texts(rt: HostRuntime) -> Result<(), Fail> {
     assert_eq!(rt; graph.function_named(b"f"), Some(1));
     // g's return; f's call, its return edge, and f's return.
     assert_eq!(rt; graph.edges().len(), 4);
-    assert_eq!(rt; (graph.edges()[0].span.file, graph.edges()[0].span.line), (0, 1));
-    assert_eq!(rt; (graph.edges()[3].span.file, graph.edges()[3].span.line), (1, 2));
+    assert_eq!(rt;
+        (graph.edges()[0].span.file, graph.edges()[0].span.line),
+        (0, 1)
+    );
+    assert_eq!(rt;
+        (graph.edges()[3].span.file, graph.edges()[3].span.line),
+        (1, 2)
+    );
     Ok(())
 }
 
