@@ -1,136 +1,176 @@
 -- What is due at each end of the way from the words to the text.
-use Rattle.std.proofs.Common.{◌≡◌, ℕ, ◌<◌, ◌≤◌, List, [], length, Option, None, Some, refl, inl, inr, subst, lit<}
-use Rattle.std.specs.Prelude.{IfSome, replicate}
-use Rattle.std.proofs.lemmas.Bool.{lt-leb}
-use Rattle.std.proofs.lemmas.Fmt.{decimal_digit}
-use Rattle.std.proofs.lemmas.List.{length-replicate}
-use Rattle.fq_core.specs.declared.refusal.Place.TheVariants as place
-use Rattle.fq_io.specs.Counts.{Rose}
-use Rattle.command.specs.declared.source.Program.{Program}
-use Rattle.command.specs.Inputs.{inputs_of}
+use Rattle.std.proofs.Common.{◌≡◌, ℕ, ◌^◌, ◌<◌, ◌≤◌, Bool, true, false, List, [], ◌∷◌, length, map, drop, get_or, Some, None, refl, sym, ap, subst, ◌∙◌, arith, inl, inr, zero, suc, cond}
+use Rattle.std.specs.Prelude.{Option, IfErr, IfOk, Result, Ok, Err, MatchBool, MatchOption, option_map, codes, nat_le, not, ◌&&◌, ◌==◌}
+use Rattle.std.specs.List.{All, list_any}
+use Rattle.std.specs.Str.{bytes_eq}
+use Rattle.std.proofs.lemmas.Bool.{eqb-true}
+use Rattle.std.proofs.lemmas.List.{length-map}
+use Rattle.containers.specs.Lists.{all_there, before}
 use Rattle.fq_core.specs.declared.refusal.Fault.{Fault}
 use Rattle.fq_core.specs.declared.refusal.Fault.TheVariants as fault
+use Rattle.fq_core.specs.declared.refusal.Place.TheVariants as place
 use Rattle.fq_core.specs.declared.refusal.Refusal.{Refusal}
+use Rattle.fq_core.specs.Word.{word_of_text}
+use Rattle.cfa.specs.declared.parts.Function.{Function}
+use Rattle.cfa.specs.declared.parts.GraphParts.{GraphParts}
+use Rattle.c_meaning.specs.declared.input.Input.{Input}
+use Rattle.c_meaning.specs.Starts.{CanStart}
+use Rattle.command.specs.Due.{IsDueOfGraph, IsDueOfInputs, no_such_entry, not_built, nowhere}
+use Rattle.command.specs.Inputs.{input_in, input_of, inputs_of, most_bytes, most_inputs, rows_of, word_in, words_in}
+use Rattle.command.specs.Reads.{IsPast, Reads, Sees}
 use Rattle.command.specs.Refusal.{IfRefused, said_by}
-use Rattle.command.specs.Run.{HasFailedAt, IsDue, Reads, Sees}
-use Rattle.command.specs.Said.{Said, answered, not_built, program_asked, read_failed, report_of, said_of, usage}
-use Rattle.command.specs.Words.{Measurement, measurement_of}
+use Rattle.command.specs.Runs.{entry_of}
+use Rattle.command.specs.Said.{Said}
+use Rattle.c_front.specs.Automata.{most_edges}
+use Rattle.command.specs.Sources.{HaveAutomaton}
+use Rattle.command.specs.Words.{Measurement, is_option, measurement_of}
+use Rattle.command.proofs.ReadsLaws.{failed_since, late, past_since, refused_map, whole}
 
--- ---- the lines of today's refusals
+-- ---- refusals without a place
 
-said_usage : (sources : List (List ℕ)) → said_by sources record { code = 2; place = place.Nowhere } ≡ usage
-said_usage sources = rw (decimal_digit 2 (lit< tt)) refl
+pub said_nowhere : (sources : List (List ℕ)) (code : ℕ) → said_by sources (record { code = code; place = place.Nowhere }) ≡ nowhere code
+unfolding said_by
+said_nowhere sources code = refl
 
-said_not_built : (sources : List (List ℕ)) → said_by sources record { code = 1; place = place.Nowhere } ≡ not_built
-said_not_built sources = rw (decimal_digit 1 (lit< tt)) refl
+-- a refusal without a place is said, whatever the names of the sources
+pub refused_nowhere : (sources : List (List ℕ)) (code : ℕ) (f : Fault) (P : Said → Type 0) → IfRefused f (λ x. x ≡ record { code = code; place = place.Nowhere })
+    → P (nowhere code) → IfRefused f (λ x. P (said_by sources x))
+refused_nowhere sources code (fault.Refused x) P is due = subst (λ (y : Refusal). P (said_by sources y)) (sym is) (subst P (sym (said_nowhere sources code)) due)
+refused_nowhere sources code fault.Memory P is due = tt
 
-said_failed : (sources : List (List ℕ)) (file : List ℕ) → said_by sources record { code = 7; place = place.FileName file } ≡ read_failed file
-said_failed sources file = rw (decimal_digit 7 (lit< tt)) refl
+-- ---- the words of inputs
 
--- ---- bytes that a file may hold
+length-all_there : {A : Type 0} (xs : List (Option A)) (ys : List A) → all_there xs ≡ Some ys → length ys ≡ length xs
+length-all_there [] ys is = let same : [] ≡ ys = cc in ap length (sym same)
+length-all_there (None ∷ xs) ys is = cc
+length-all_there {A} (Some x ∷ xs) ys is = by (all_there xs) (length-all_there xs) is
+  where
+    by : (rest : Option (List A)) → ((zs : List A) → rest ≡ Some zs → length zs ≡ length xs) → before (Some x) rest ≡ Some ys → length ys ≡ suc (length xs)
+    by None again is = cc
+    by (Some zs) again is =
+        let same : x ∷ zs ≡ ys = cc in
+        ap length (sym same) ∙ ap suc (again zs refl)
 
--- what a file holds, or else nothing
-abbrev bytes_in : Option (List ℕ) → List ℕ
-bytes_in None = []
-bytes_in (Some held) = held
+-- an input of a line has so many words
+input_words : (count : ℕ) (row : List (List ℕ)) (input : Input) → input_in count row ≡ Some input → length input.words ≡ count
+input_words count row input is = by_test (length row == count) refl is
+  where
+    by_words : (words : Option (List ℕ)) → words_in row ≡ words → length row ≡ count → option_map input_of words ≡ Some input → length input.words ≡ count
+    by_words None words_is same is = cc
+    by_words (Some words) words_is same is =
+        let made : input_of words ≡ input = cc in
+        ap (λ (i : Input). length i.words) (sym made)
+        ∙ length-all_there (map (λ text. word_in (word_of_text text)) row) words words_is ∙ length-map row (λ text. word_in (word_of_text text)) ∙ same
 
-seen_in : (held : Option (List ℕ)) → IfSome held (λ h. bytes_in held ≡ h)
-seen_in None = tt
-seen_in (Some held) = refl
+    by_test : (b : Bool) → (length row == count) ≡ b → cond b (option_map input_of (words_in row)) None ≡ Some input → length input.words ≡ count
+    by_test true same is = by_words (words_in row) refl (eqb-true (length row) count same) is
+    by_test false same is = cc
 
--- too many bytes, which are those that the file holds, where that is told
-record IsLong (held : Option (List ℕ)) : Type 0 where
-  bytes : List ℕ
-  seen : IfSome held (λ h. bytes ≡ h)
-  long : 65536 < length bytes
+each_words : (count : ℕ) (rows : List (List (List ℕ))) (inputs : List Input) → all_there (map (input_in count) rows) ≡ Some inputs
+    → (k : ℕ) (d : Input) → k < length inputs → length (get_or inputs k d).words ≡ count
+each_words count [] inputs is k d within = let none : [] ≡ inputs = cc in absurd (omega (arith, ap length none))
+each_words count (row ∷ rows) inputs is k d within = by (input_in count row) (all_there (map (input_in count) rows)) (input_words count row) (each_words count rows) is k within
+  where
+    by : (first : Option Input) (rest : Option (List Input)) → ((input : Input) → first ≡ Some input → length input.words ≡ count)
+        → ((more : List Input) → rest ≡ Some more → (k : ℕ) (d : Input) → k < length more → length (get_or more k d).words ≡ count)
+        → before first rest ≡ Some inputs → (k : ℕ) → k < length inputs → length (get_or inputs k d).words ≡ count
+    by None rest one others is k within = cc
+    by (Some input) None one others is k within = cc
+    by (Some input) (Some more) one others is zero within =
+        let same : input ∷ more ≡ inputs = cc in
+        subst (λ (l : List Input). length (get_or l 0 d).words ≡ count) same (one input refl)
+    by (Some input) (Some more) one others is (suc k) within =
+        let same : input ∷ more ≡ inputs = cc in
+        let long = ap length same in
+        subst (λ (l : List Input). length (get_or l (suc k) d).words ≡ count) same (others more refl k d (omega (arith, long)))
 
-long_in : (held : Option (List ℕ)) → IfSome held (λ h. 65536 < length h) → IsLong held
-long_in None long = record { bytes = replicate 65537 0; seen = tt; long = rw length-replicate (lit< tt) }
-long_in (Some held) long = record { bytes = held; seen = refl; long = long }
+-- a run can start on each of the inputs
+pub inputs_start : (f : Function) (bytes : List ℕ) (inputs : List Input) → inputs_of (length f.parameters) bytes ≡ Some inputs → f.arrays ≡ []
+    → All (λ (input : Input). CanStart f input.words) inputs
+inputs_start f bytes inputs is none =
+    by (nat_le (length bytes) most_bytes && nat_le (length (rows_of bytes)) most_inputs) is
+  where
+    by : (b : Bool) → cond b (all_there (map (input_in (length f.parameters)) (rows_of bytes))) None ≡ Some inputs → All (λ (input : Input). CanStart f input.words) inputs
+    by true is = λ k d within. (each_words (length f.parameters) (rows_of bytes) inputs is k d within, none)
+    by false is = cc
 
-no_program_in : (asked : Measurement) (source : List ℕ) → 65536 < length source → program_asked asked source ≡ None
-no_program_in asked source long = rw (lt-leb (length source) 65536 long) refl
+-- ---- the words
 
-no_inputs_in : (bytes : List ℕ) → 65536 < length bytes → inputs_of bytes ≡ None
-no_inputs_in bytes long = rw (lt-leb (length bytes) 65536 long) refl
+pub sources_are : (words : List (List ℕ)) (asked : Measurement) → measurement_of words ≡ Some asked → asked.sources ≡ drop 4 words
+sources_are [] asked is = cc
+sources_are (a ∷ []) asked is = cc
+sources_are (a ∷ b ∷ []) asked is = cc
+sources_are (a ∷ b ∷ c ∷ []) asked is = cc
+sources_are (a ∷ b ∷ c ∷ d ∷ []) asked is = cc
+sources_are (a ∷ b ∷ c ∷ d ∷ e ∷ rest) asked is = by (bytes_eq a (codes "measure") && not (list_any is_option (b ∷ c ∷ d ∷ e ∷ rest))) is
+  where
+    by : (test : Bool) → cond test (Some (record { entry = b; query = c; inputs = d; sources = e ∷ rest })) None ≡ Some asked → asked.sources ≡ e ∷ rest
+    by true is = let same : record { entry = b; query = c; inputs = d; sources = e ∷ rest } ≡ asked = cc in ap (λ (m : Measurement). m.sources) (sym same)
+    by false is = cc
 
--- ---- what is due
+-- ---- by the file of inputs
 
-pub due_usage : (r : Reads) (words : List (List ℕ)) → measurement_of words ≡ None → IsDue r words usage
-due_usage r words none = inl record { source = []; inputs = []; seen = rw none tt; is = rw none refl }
+module _ (r : Reads) (asked : Measurement) (graph : GraphParts) (entry : Function) where
+  pub due_past : (f : Fault) → IfRefused f (λ x. x ≡ record { code = 1; place = place.Nowhere }) → IsPast r most_bytes asked.inputs
+      → IfRefused f (λ x. IsDueOfInputs r asked graph entry (said_by asked.sources x))
+  due_past f is past = refused_nowhere asked.sources 1 f (IsDueOfInputs r asked graph entry) is (inr (inl (past, refl)))
 
-asked_with : (r : Reads) (words : List (List ℕ)) (asked : Measurement) (source bytes : List ℕ) (said : Said) → measurement_of words ≡ Some asked
-    → Sees r asked.source source → Sees r asked.inputs bytes → said ≡ said_of words source bytes → IsDue r words said
-asked_with r words asked source bytes said named first second is =
-    inl record { source = source; inputs = bytes; seen = rw named (first, second); is = is }
+  pub due_no_inputs : (f : Fault) (bytes : List ℕ) → IfRefused f (λ x. x ≡ record { code = 1; place = place.Nowhere }) → Sees r.holds asked.inputs bytes
+      → inputs_of (length entry.parameters) bytes ≡ None → IfRefused f (λ x. IsDueOfInputs r asked graph entry (said_by asked.sources x))
+  due_no_inputs f bytes is seen none =
+      refused_nowhere asked.sources 1 f (IsDueOfInputs r asked graph entry) is (inr (inr (bytes, seen, rw none refl)))
 
-pub due_no_program : (r : Reads) (words : List (List ℕ)) (asked : Measurement) (source : List ℕ) → measurement_of words ≡ Some asked
-    → Sees r asked.source source → program_asked asked source ≡ None → IsDue r words not_built
-due_no_program r words asked source named first none =
-    asked_with r words asked source (bytes_in (r.holds asked.inputs)) not_built named first (seen_in (r.holds asked.inputs)) (rw (named, none) refl)
+-- ---- by the automaton
 
-pub due_long_source : (r : Reads) (words : List (List ℕ)) (asked : Measurement) → measurement_of words ≡ Some asked
-    → IfSome (r.holds asked.source) (λ held. 65536 < length held) → IsDue r words not_built
-due_long_source r words asked named long =
-    let some = long_in (r.holds asked.source) long in
-    due_no_program r words asked some.bytes named some.seen (no_program_in asked some.bytes some.long)
+module _ (r : Reads) (asked : Measurement) (graph : GraphParts) where
+  pub due_no_entry : (f : Fault) → IfRefused f (λ x. x ≡ record { code = 36; place = place.Nowhere }) → entry_of graph asked.entry ≡ None
+      → IfRefused f (λ x. IsDueOfGraph r asked graph (said_by asked.sources x))
+  due_no_entry f is none = refused_nowhere asked.sources 36 f (IsDueOfGraph r asked graph) is (rw none refl)
 
-pub due_no_inputs : (r : Reads) (words : List (List ℕ)) (asked : Measurement) (source bytes : List ℕ) (program : Program)
-    → measurement_of words ≡ Some asked → Sees r asked.source source → program_asked asked source ≡ Some program
-    → Sees r asked.inputs bytes → inputs_of bytes ≡ None → IsDue r words not_built
-due_no_inputs r words asked source bytes program named first spelled second none =
-    asked_with r words asked source bytes not_built named first second (rw (named, spelled, none) refl)
+  pub due_other_query : (f : Fault) (entry : Function) → IfRefused f (λ x. x ≡ record { code = 1; place = place.Nowhere }) → entry_of graph asked.entry ≡ Some entry
+      → bytes_eq asked.query (codes "cover EDGES(ID)") ≡ false → IfRefused f (λ x. IsDueOfGraph r asked graph (said_by asked.sources x))
+  due_other_query f entry is some other = refused_nowhere asked.sources 1 f (IsDueOfGraph r asked graph) is (rw (some, other) refl)
 
-pub due_long_inputs : (r : Reads) (words : List (List ℕ)) (asked : Measurement) (source : List ℕ) (program : Program)
-    → measurement_of words ≡ Some asked → Sees r asked.source source → program_asked asked source ≡ Some program
-    → IfSome (r.holds asked.inputs) (λ held. 65536 < length held) → IsDue r words not_built
-due_long_inputs r words asked source program named first spelled long =
-    let some = long_in (r.holds asked.inputs) long in
-    due_no_inputs r words asked source some.bytes program named first spelled some.seen (no_inputs_in some.bytes some.long)
+-- ---- what is due since some reads is due since before them
 
-pub due_report : (r : Reads) (words : List (List ℕ)) (asked : Measurement) (source bytes values : List ℕ) (program : Program)
-    → measurement_of words ≡ Some asked → Sees r asked.source source → program_asked asked source ≡ Some program
-    → Sees r asked.inputs bytes → inputs_of bytes ≡ Some values → IsDue r words (answered (report_of asked.source program values))
-due_report r words asked source bytes values program named first spelled second read =
-    asked_with r words asked source bytes _ named first second (rw (named, spelled, read) refl)
+module _ (holds held : List ℕ → Option (List ℕ)) (last : Option (Option (List ℕ))) (first middle after one two three : ℕ)
+    (same : held ≡ holds) (no_fault : middle ≡ first) (received : one ≤ two) (asked : Measurement) (graph : GraphParts) (said : Said) where
+  abbrev since : Reads
+  since = late holds held last first middle after one two three same no_fault received
 
-pub due_source_failure : (r : Reads) (words : List (List ℕ)) (asked : Measurement) → measurement_of words ≡ Some asked
-    → HasFailedAt r asked.source → IsDue r words (read_failed asked.source)
-due_source_failure r words asked named failed = inr (inl record { asked = asked; named = named; failed = failed; is = refl })
+  abbrev all : Reads
+  all = whole holds held last first middle after one two three same no_fault received
 
-pub due_inputs_failure : (r : Reads) (words : List (List ℕ)) (asked : Measurement) (source : List ℕ) (program : Program)
-    → measurement_of words ≡ Some asked → Sees r asked.source source → program_asked asked source ≡ Some program
-    → HasFailedAt r asked.inputs → IsDue r words (read_failed asked.inputs)
-due_inputs_failure r words asked source program named first spelled failed =
-    inr (inr record { asked = asked; source = source; program = program; named = named; seen = first; spelled = spelled; failed = failed; is = refl })
+  inputs_since : (entry : Function) → IsDueOfInputs since asked graph entry said → IsDueOfInputs all asked graph entry said
+  inputs_since entry due = elim due [
+    | inl failure ↦ inl (failed_since holds held last first middle after one two three same no_fault received asked.inputs failure.0, failure.1)
+    | inr (inl past) ↦ inr (inl (past_since holds held last first middle after one two three same no_fault received most_bytes asked.inputs past.0, past.1))
+    | inr (inr seen) ↦ inr (inr (seen.0, subst (λ (h : List ℕ → Option (List ℕ)). Sees h asked.inputs seen.0) same seen.1, seen.2))
+  ]
 
--- ---- refusals by their codes
+  pub graph_since : IsDueOfGraph since asked graph said → IsDueOfGraph all asked graph said
+  graph_since due = by (entry_of graph asked.entry) (bytes_eq asked.query (codes "cover EDGES(ID)")) due
+    where
+      by : (found : Option Function) (query : Bool) → MatchOption found (said ≡ no_such_entry) (λ entry. MatchBool query (IsDueOfInputs since asked graph entry said) (said ≡ not_built))
+          → MatchOption found (said ≡ no_such_entry) (λ entry. MatchBool query (IsDueOfInputs all asked graph entry said) (said ≡ not_built))
+      by None query due = due
+      by (Some entry) true due = inputs_since entry due
+      by (Some entry) false due = due
 
-refused_due : (r : Reads) (words sources : List (List ℕ)) (f : Fault) (refusal : Refusal) (said : Said) → IfRefused f (λ x. x ≡ refusal)
-    → said_by sources refusal ≡ said → IsDue r words said → IfRefused f (λ x. IsDue r words (said_by sources x))
-refused_due r words sources (fault.Refused x) refusal said is says due = rw (is, says) due
-refused_due r words sources fault.Memory refusal said is says due = tt
+-- the edges are numbered by 32 bits
+pub few_edges : (holds : List ℕ → Option (List ℕ)) (files : List (List ℕ)) (graph : GraphParts) → HaveAutomaton holds files graph → length graph.edges < 2 ^ 32
+few_edges holds files graph have = let few : length graph.edges ≤ most_edges = rw have.automaton.is have.automaton.few in omega (arith, few)
 
-pub usage_refused : (r : Reads) (words sources : List (List ℕ)) (f : Fault) → IfRefused f (λ x. x ≡ record { code = 2; place = place.Nowhere })
-    → IsDue r words usage → IfRefused f (λ x. IsDue r words (said_by sources x))
-usage_refused r words sources f is due = refused_due r words sources f _ usage is (said_usage sources) due
+-- ---- what holds of an answer tells another thing of it
 
-pub not_built_refused : (r : Reads) (words sources : List (List ℕ)) (f : Fault) → IfRefused f (λ x. x ≡ record { code = 1; place = place.Nowhere })
-    → IsDue r words not_built → IfRefused f (λ x. IsDue r words (said_by sources x))
-not_built_refused r words sources f is due = refused_due r words sources f _ not_built is (said_not_built sources) due
+pub ok_map : {T : Type 0} (r : Result T Fault) {P Q : T → Type 0} → IfOk r P → ((x : T) → P x → Q x) → IfOk r Q
+ok_map (Ok x) p tells = tells x p
+ok_map (Err e) p tells = tt
 
--- a failed read, which is known to have failed at a refusal alone
-pub failed_refused : (r : Reads) (words sources : List (List ℕ)) (f : Fault) (file : List ℕ) (Q : Type 0)
-    → IfRefused f (λ x. x ≡ record { code = 7; place = place.FileName file }) → IfRefused f (λ _. Q)
-    → (Q → IsDue r words (read_failed file)) → IfRefused f (λ x. IsDue r words (said_by sources x))
-failed_refused r words sources (fault.Refused x) file Q is q due = rw (is, said_failed sources file) (due q)
-failed_refused r words sources fault.Memory file Q is q due = tt
+pub err_map : {T : Type 0} (r : Result T Fault) {P Q : Refusal → Type 0} → IfErr r (λ f. IfRefused f P) → ((x : Refusal) → P x → Q x) → IfErr r (λ f. IfRefused f Q)
+err_map (Ok x) p tells = tt
+err_map (Err f) p tells = refused_map f p tells
 
--- a failure after some time is a failure since before it
-pub failed_since : (holds : List ℕ → Option (List ℕ)) (held : List ℕ → Option (List ℕ)) (last : Option (Option (List ℕ))) (before middle after : ℕ) (file : List ℕ)
-    → middle ≡ before → HasFailedAt record { holds = held; last_failed = last; faults_before = middle; faults_after = after } file
-    → HasFailedAt record { holds = holds; last_failed = last; faults_before = before; faults_after = after } file
-failed_since holds held last before middle after file same failed = record {
-  last = failed.last;
-  rose = subst (λ n. Rose n after) same failed.rose;
-}
+pub is_false : (b : Bool) → true ≡ not b → b ≡ false
+is_false true is = cc
+is_false false is = refl

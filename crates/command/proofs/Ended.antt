@@ -22,6 +22,7 @@ Keeps-refl (Some xs) = refl
 -- a refusal that is due and is written, or cut short, ends the run
 ends : (due : Said → Type 0) (sources : List (List ℕ)) (refusal : Refusal) (s : Status) (out err : Writes)
     → due (said_by sources refusal) → GainsNone out → Refuses sources refusal s err → Ends due s out err
+unfolding said_by
 ends due sources refusal status.WriteFault out err is none refuses =
     (said_by sources refusal, is, inr (none, refuses.0, refuses.1))
 ends due sources refusal status.Memory out err is none refuses =

@@ -1,53 +1,102 @@
--- Laws of the inputs of a text, line by line.
-use Rattle.std.proofs.Common.{◌≡◌, ℕ, suc, ◌+◌, ◌-◌, ◌≤◌, Bool, true, false, cond, List, [], ◌∷◌, ◌++◌, length, take, drop, Some, None, option_map, refl, sym, ◌∙◌, arith, Bor}
-use Rattle.std.specs.Prelude.{Option, ◌==◌, nat_lt, not, position}
+-- Laws of the inputs of a text, part by part.
+use Rattle.std.proofs.Common.{◌≡◌, ℕ, suc, ◌+◌, ◌-◌, ◌≤◌, Bool, true, false, cond, List, [], ◌∷◌, ◌++◌, length, map, take, drop, get_or, Some, None, option_map, refl, sym, ◌∙◌, ap, arith, append_assoc, Bor, ◌<◌}
+use Rattle.std.specs.Prelude.{Option, nat_lt, not, position}
 use Rattle.std.specs.Option.{option_map_or}
 use Rattle.std.specs.List.{onto_first, position_or_len, slice_split}
-use Rattle.std.proofs.lemmas.Bool.{ltb-true, ltb-false}
-use Rattle.std.proofs.lemmas.List.{take_rest}
+use Rattle.std.proofs.lemmas.Bool.{le-ltb, lt-ltb, ltb-true, ltb-false}
+use Rattle.std.proofs.lemmas.List.{drop_more, length-map, take_rest}
 use Rattle.std.proofs.lemmas.List.Splits.{slice_split_first}
-use Rattle.command.specs.Inputs.{lines_of}
+use Rattle.containers.specs.Lists.{all_there, before}
+use Rattle.fq_core.specs.declared.word.WordText.{WordText}
+use Rattle.fq_core.specs.declared.word.WordText.TheVariants as word
+use Rattle.fq_core.specs.Word.{word_of_text}
+use Rattle.c_meaning.specs.declared.input.Input.{Input}
+use Rattle.command.specs.Inputs.{filled, input_in, texts_in, word_in, words_in}
 
--- ---- the first line
+module _ (ends : ℕ → Bool) where
+  -- ---- the first part
 
-abbrev is_line_feed : ℕ → Bool
-is_line_feed byte = byte == 10
+  found_or_not : (text : List ℕ) (found : Bool) (first place : ℕ) → nat_lt first (length text) ≡ found → first ≡ position_or_len ends text
+      → cond found (Some first) None ≡ Some place → slice_split ends text ≡ take place text ∷ slice_split ends (drop (place + 1) text)
+  found_or_not text true first place within is here =
+      let same : place ≡ position_or_len ends text = let at : first ≡ place = cc in sym at ∙ is in
+      rw same (slice_split_first ends text 0 (rw is at (ltb-true first (length text) within)))
+  found_or_not text false first place within is here = cc
 
-found_or_not : (text : List ℕ) (found : Bool) (first place : ℕ) → nat_lt first (length text) ≡ found → first ≡ position_or_len is_line_feed text
-    → cond found (Some first) None ≡ Some place → lines_of text ≡ take place text ∷ lines_of (drop (place + 1) text)
-found_or_not text true first place within is here =
-    let same : place ≡ position_or_len is_line_feed text = let at : first ≡ place = cc in sym at ∙ is in
-    rw same (slice_split_first is_line_feed text 0 (rw is at (ltb-true first (length text) within)))
-found_or_not text false first place within is here = cc
+  pub part_found : (text : List ℕ) (place : ℕ) → position ends text ≡ Some place
+      → slice_split ends text ≡ take place text ∷ slice_split ends (take (length text - (place + 1)) (drop (place + 1) text))
+  part_found text place here =
+      rw (take_rest text (place + 1)) (found_or_not text _ (position_or_len ends text) place refl refl here)
 
-pub line_found : (text : List ℕ) (place : ℕ) → position (λ byte. byte == 10) text ≡ Some place
-    → lines_of text ≡ take place text ∷ lines_of (take (length text - (place + 1)) (drop (place + 1) text))
-line_found text place here =
-    rw (take_rest text (place + 1)) (found_or_not text _ (position_or_len is_line_feed text) place refl refl here)
+  one_more : (byte : ℕ) (text : List ℕ) (here : Bool) (rest : ℕ) → suc (length text) ≤ cond (not here) (1 + rest) 0
+      → (length text ≤ rest → slice_split ends text ≡ text ∷ [])
+      → cond here ([] ∷ slice_split ends text) (onto_first byte (slice_split ends text)) ≡ (byte ∷ text) ∷ []
+  one_more byte text true rest none whole = absurd (omega arith)
+  one_more byte text false rest more whole = rw (whole (omega arith)) refl
 
-one_more : (byte : ℕ) (text : List ℕ) (here : Bool) (rest : ℕ) → suc (length text) ≤ cond (not here) (1 + rest) 0
-    → (length text ≤ rest → slice_split is_line_feed text ≡ text ∷ [])
-    → cond here ([] ∷ slice_split is_line_feed text) (onto_first byte (slice_split is_line_feed text)) ≡ (byte ∷ text) ∷ []
-one_more byte text true rest none whole = absurd (omega arith)
-one_more byte text false rest more whole = rw (whole (omega arith)) refl
+  slice_split-none : (text : List ℕ) → length text ≤ position_or_len ends text → slice_split ends text ≡ text ∷ []
+  slice_split-none [] whole = refl
+  slice_split-none (byte ∷ text) whole = one_more byte text (ends byte) (position_or_len ends text) whole (slice_split-none text)
 
-slice_split-none : (text : List ℕ) → length text ≤ position_or_len is_line_feed text → lines_of text ≡ text ∷ []
-slice_split-none [] whole = refl
-slice_split-none (byte ∷ text) whole = one_more byte text (is_line_feed byte) (position_or_len is_line_feed text) whole (slice_split-none text)
+  missing_or_not : (text : List ℕ) (found : Bool) → nat_lt (position_or_len ends text) (length text) ≡ found
+      → cond found (Some (position_or_len ends text)) None ≡ None → slice_split ends text ≡ text ∷ []
+  missing_or_not text true within here = cc
+  missing_or_not text false within here = slice_split-none text (ltb-false _ _ within)
 
-missing_or_not : (text : List ℕ) (found : Bool) → nat_lt (position_or_len is_line_feed text) (length text) ≡ found
-    → cond found (Some (position_or_len is_line_feed text)) None ≡ None → lines_of text ≡ text ∷ []
-missing_or_not text true within here = cc
-missing_or_not text false within here = slice_split-none text (ltb-false _ _ within)
+  pub part_missing : (text : List ℕ) → position ends text ≡ None → slice_split ends text ≡ text ∷ []
+  part_missing text here = missing_or_not text _ refl here
 
-pub line_missing : (text : List ℕ) → position (λ byte. byte == 10) text ≡ None → lines_of text ≡ text ∷ []
-line_missing text here = missing_or_not text _ refl here
+  -- the parts that are left
+  abbrev pub parts_left : Option (Bor (List ℕ)) → List (List ℕ)
+  parts_left left = option_map_or (λ text. slice_split ends text.now) left []
 
--- ---- the lines that are left
+-- these, and then those
+abbrev pub after : {A : Type 0} → List A → Option (List A) → Option (List A)
+after first = option_map (λ more. first ++ more)
 
-abbrev pub lines_left : Option (Bor (List ℕ)) → List (List ℕ)
-lines_left rest = option_map_or (λ text. lines_of text.now) rest []
+-- ---- the words of a line
 
--- these words, and then those
-abbrev pub after : List ℕ → Option (List ℕ) → Option (List ℕ)
-after words = option_map (λ more. words ++ more)
+no_word : (w : WordText) → ((x : ℕ) → w ≡ word.Number x → ⊥) → word_in w ≡ None
+no_word (word.Number value) not = absurd (not value refl)
+no_word word.NotNumber not = refl
+no_word word.OutOfRange not = refl
+
+-- a text that writes no word
+pub word_missing : (texts : List (Bor (List ℕ))) (i : ℕ) (d : Bor (List ℕ)) (w : WordText) (words : List ℕ) (total : Option (List ℕ)) → i < length texts
+    → w ≡ word_of_text (get_or texts i d).now → ((x : ℕ) → w ≡ word.Number x → ⊥)
+    → total ≡ after words (words_in (map (λ (text : Bor (List ℕ)). text.now) (drop i texts))) → None ≡ total
+word_missing texts i d w words total within is not all =
+    let none : word_in (word_of_text (get_or texts i d).now) ≡ None = rw is at (no_word w not) in
+    sym (all ∙ rw (drop_more texts i d within, none) refl)
+
+-- ---- the inputs of lines
+
+module _ (count : ℕ) (line : List ℕ) (lines : List (List ℕ)) (row : List (Bor (List ℕ))) (is : map (λ (text : Bor (List ℕ)). text.now) row ≡ texts_in line) where
+  row_length : length (texts_in line) ≡ length row
+  row_length = sym (ap length is) ∙ length-map row (λ (text : Bor (List ℕ)). text.now)
+
+  -- a line that isn't blank
+  line_filled : 0 < length row → filled (map texts_in (line ∷ lines)) ≡ texts_in line ∷ filled (map texts_in lines)
+  line_filled some = rw (lt-ltb 0 (length (texts_in line)) (omega (arith, row_length))) refl
+
+  -- a blank line
+  pub line_blank : length row ≤ 0 → filled (map texts_in (line ∷ lines)) ≡ filled (map texts_in lines)
+  line_blank none = rw (le-ltb 0 (length (texts_in line)) (omega (arith, row_length))) refl
+
+  pub line_counted : (n before after : ℕ) → 0 < length row → after ≡ before + 1 → n ≡ before + length (filled (map texts_in (line ∷ lines)))
+      → n ≡ after + length (filled (map texts_in lines))
+  line_counted n before after some one all = let more = rw (line_filled some) at all in omega (arith, one, more)
+
+  -- one more input
+  pub input_added : (inputs new : List Input) (input : Input) (whole : Option (List Input)) → 0 < length row
+      → input_in count (map (λ (text : Bor (List ℕ)). text.now) row) ≡ Some input → new ≡ inputs ++ input ∷ []
+      → whole ≡ after inputs (all_there (map (input_in count) (filled (map texts_in (line ∷ lines)))))
+      → whole ≡ after new (all_there (map (input_in count) (filled (map texts_in lines))))
+  input_added inputs new input whole some made new_is all =
+      let here : input_in count (texts_in line) ≡ Some input = rw is at made in
+      let more = rw (line_filled some, here) at all in
+      rw new_is (more ∙ by (all_there (map (input_in count) (filled (map texts_in lines)))))
+    where
+      by : (rest : Option (List Input)) → after inputs (before (Some input) rest) ≡ after (inputs ++ input ∷ []) rest
+      by None = refl
+      by (Some more) = ap Some (sym (append_assoc inputs (input ∷ []) more))

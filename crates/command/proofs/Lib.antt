@@ -1,11 +1,12 @@
 pub mod DueLaws
 pub mod Ended
-pub mod ExecutionLaws
+pub mod EntryLaws
 pub mod FirstCovering
 pub mod InputsLaws
 pub mod Irredundant
 pub mod MarksLaws
+pub mod ReadsLaws
 pub mod ReportLaws
-pub mod SourceLaws
+pub mod RunsLaws
 pub mod SuiteLaws
-pub mod TokensLaws
+pub mod WordsLaws

@@ -94,12 +94,12 @@ answers_of-more hits i count d goals old new within is before each =
 
 -- ---- one more goal of an input
 
-slice_get-set_here : (xs : List Answer) (p : ℕ) (y : Answer) → p < length xs → slice_get (set xs p y) p ≡ Some y
+pub slice_get-set_here : {X : Type 0} (xs : List X) (p : ℕ) (y : X) → p < length xs → slice_get (set xs p y) p ≡ Some y
 slice_get-set_here [] p y within = absurd (omega arith)
 slice_get-set_here (x ∷ xs) zero y within = refl
 slice_get-set_here (x ∷ xs) (suc p) y within = slice_get-set_here xs p y (omega arith)
 
-slice_get-set_other : (xs : List Answer) (p k : ℕ) (y : Answer) → k ≢ p → slice_get (set xs p y) k ≡ slice_get xs k
+pub slice_get-set_other : {X : Type 0} (xs : List X) (p k : ℕ) (y : X) → k ≢ p → slice_get (set xs p y) k ≡ slice_get xs k
 slice_get-set_other [] p k y other = refl
 slice_get-set_other (x ∷ xs) zero zero y other = absurd (other refl)
 slice_get-set_other (x ∷ xs) zero (suc k) y other = refl

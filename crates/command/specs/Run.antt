@@ -1,71 +1,13 @@
--- What a run of the program reads, says and writes.
-use Rattle.std.specs.Prelude.{◌≡◌, ◌⊎◌, ⊤, ℕ, List, Option, Some, IfSome}
+-- What a run of the program writes, and how it ends.
+use Rattle.std.specs.Prelude.{◌≡◌, ◌⊎◌, ⊤, ℕ, List, Option}
 use Rattle.std.specs.Io.KnownBytes.{Appends, Keeps}
+use Rattle.fq_core.specs.declared.refusal.Refusal.{Refusal}
 use Rattle.fq_io.specs.Bytes.{AppendsPart}
 use Rattle.fq_io.specs.Counts.{Rose}
-use Rattle.command.specs.declared.source.Program.{Program}
 use Rattle.command.specs.declared.status.Status.{Status}
 use Rattle.command.specs.declared.status.Status.TheVariants as status
-use Rattle.fq_core.specs.declared.refusal.Refusal.{Refusal}
 use Rattle.command.specs.Refusal.{line_of, status_of}
-use Rattle.command.specs.Said.{Said, program_asked, read_failed, said_of}
-use Rattle.command.specs.Words.{Measurement, measurement_of}
-
--- ---- what is read
-
--- what the files told before a call, the name of the last read that failed after it, and the counts of faults
-pub record Reads : Type 0 where
-  pub holds : List ℕ → Option (List ℕ)
-  pub last_failed : Option (Option (List ℕ))
-  pub faults_before : ℕ
-  pub faults_after : ℕ
-
-abbrev pub reads : {F : Type 0} → (F → List ℕ → Option (List ℕ)) → (F → Option (Option (List ℕ))) → (F → ℕ) → F → F → Reads
-reads holds last_failed faults old new = record {
-  holds = holds old;
-  last_failed = last_failed new;
-  faults_before = faults old;
-  faults_after = faults new;
-}
-
--- these are the bytes of the file, where that is told
-abbrev pub Sees : Reads → List ℕ → List ℕ → Type 0
-Sees r file bytes = IfSome (r.holds file) (λ held. bytes ≡ held)
-
--- the last read that failed was of this file, where that is told, and the count of faults rose
-pub record HasFailedAt (r : Reads) (file : List ℕ) : Type 0 where
-  pub last : IfSome r.last_failed (λ last. last ≡ Some file)
-  pub rose : Rose r.faults_before r.faults_after
-
--- ---- what is due
-
--- it is what the words ask for, with the bytes of the files that they name
-pub record IsAsked (r : Reads) (words : List (List ℕ)) (said : Said) : Type 0 where
-  pub source : List ℕ
-  pub inputs : List ℕ
-  pub seen : IfSome (measurement_of words) (λ asked. Sees r asked.source source × Sees r asked.inputs inputs)
-  pub is : said ≡ said_of words source inputs
-
--- it is that the read of the source failed, and it did
-pub record IsSourceFailure (r : Reads) (words : List (List ℕ)) (said : Said) : Type 0 where
-  pub asked : Measurement
-  pub named : measurement_of words ≡ Some asked
-  pub failed : HasFailedAt r asked.source
-  pub is : said ≡ read_failed asked.source
-
--- it is that the read of the inputs failed, after the source, and it did
-pub record IsInputsFailure (r : Reads) (words : List (List ℕ)) (said : Said) : Type 0 where
-  pub asked : Measurement
-  pub source : List ℕ
-  pub program : Program
-  pub named : measurement_of words ≡ Some asked
-  pub seen : Sees r asked.source source
-  pub spelled : program_asked asked source ≡ Some program
-  pub failed : HasFailedAt r asked.inputs
-  pub is : said ≡ read_failed asked.inputs
-
-abbrev pub IsDue : Reads → List (List ℕ) → Said → Type 0
-IsDue r words said = IsAsked r words said ⊎ (IsSourceFailure r words said ⊎ IsInputsFailure r words said)
+use Rattle.command.specs.Said.{Said}
 
 -- ---- what is written
 

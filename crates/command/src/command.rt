@@ -1,6 +1,8 @@
 // The top call.
 ghost use Rattle.std.specs.Prelude.{◌≡◌, drop};
-ghost use Rattle.command.specs.Run.{Ends, IsDue, Refuses, reads, writes};
+ghost use Rattle.command.specs.Due.{IsDue};
+ghost use Rattle.command.specs.Reads.{reads};
+ghost use Rattle.command.specs.Run.{Ends, Refuses, writes};
 ghost use Rattle.command.specs.Words.{bytes_of};
 
 use crate::Status;
@@ -18,11 +20,11 @@ pub fn run<F: Files, O: Sink, E: Sink>(
     out: &mut O,
     err: &mut E,
 ) -> Status
-    ensures { Ends (IsDue (reads F.holds F.last_failed F.faults files.old files.new) (bytes_of words.now))
+    ensures { Ends (IsDue (reads F.holds F.last_failed F.faults F.received files.old files.new) (bytes_of words.now))
         result (writes O.taken O.faults out.old out.new) (writes E.taken E.faults err.old err.new) }
 {
     match answer(alloc, words, files) {
-        Ok(text) => match write_all(out, text.as_bytes()) {
+        Ok(text) => match write_all(out, &text) {
             Ok(()) => Status::Done,
             Err(SinkFault::Failed) => Status::WriteFault,
             Err(SinkFault::Memory) => Status::Memory,

@@ -15,6 +15,8 @@ pub fn refused_status(code: u16) -> Status
     match code {
         2 => Status::Usage,
         7 => Status::ReadFault,
+        10..=14 | 20 | 21 | 29..=33 | 35 | 36 | 38 | 39 => Status::SourceRefused,
+        15 | 16 | 22 | 34 | 37 | 41 => Status::Limit,
         _ => Status::NotBuilt,
     }
 }

@@ -1,15 +1,19 @@
 // The text of what was measured.
-ghost use Rattle.std.specs.Prelude.{◌≡◌, ◌+◌, ◌<◌, ◌^◌, ◌++◌, ◌∷◌, [], IfOk, OnOk, codes, count_by, length, map, string_bytes};
+ghost use Rattle.std.specs.Prelude.{◌≡◌, ◌+◌, ◌<◌, ◌^◌, ◌++◌, ◌∷◌, [], IfOk, OnOk, codes, count_by, length, map, slice_get, string_bytes, unwrap_or};
 ghost use Rattle.std.specs.Fmt.{decimal, signed_decimal};
 ghost use Rattle.std.specs.List.{join_with_byte};
 ghost use Rattle.c_values.specs.Kind.{number_of};
 ghost use Rattle.command.specs.Measured.{is_covered};
-ghost use Rattle.command.specs.Report.{end_parts, goal_line, goal_lines, head_line, input_line, input_lines, line, measured_text, total_line, trap_name};
+ghost use Rattle.path_runner.specs.declared.path.RunEnd.TheVariants as ended;
+ghost use Rattle.command.specs.Lines.{goal_front};
+ghost use Rattle.command.specs.Report.{edge_text, end_parts, goal_line, goal_lines, goal_texts, head_line, input_line, input_lines, line, measured_text, total_line, trap_name};
 
 use crate::answer::Answer;
 use crate::measurer::covered;
-use crate::run_end::{RunEnd, Trap};
 use c_values::Kind;
+use cfa::{Graph, Trap};
+use fq_core::Name;
+use path_runner::RunEnd;
 use std::alloc::{AllocError, Global};
 
 fn trap_text(trap: Trap) -> &'static str
@@ -34,52 +38,96 @@ fn value_text(alloc: Global, kind: Kind, value: u64) -> Result<String, AllocErro
     }
 }
 
-fn end_text(alloc: Global, kind: Kind, end: RunEnd) -> Result<String, AllocError>
-    ensures { IfOk result (λ text. string_bytes text ≡ join_with_byte 32 (end_parts kind end)) }
+fn returned_text(alloc: Global, kind: Kind, value: u64) -> Result<String, AllocError>
+    ensures { IfOk result (λ text. string_bytes text ≡ join_with_byte 32 (end_parts (Some kind) (ended.Returned (Some value)))) }
+{
+    let value = value_text(alloc, kind, value)?;
+    Ok(format!(in alloc; "returned {value}")?)
+}
+
+fn end_text(alloc: Global, kind: Option<Kind>, end: &RunEnd) -> Result<String, AllocError>
+    ensures { IfOk result (λ text. string_bytes text ≡ join_with_byte 32 (end_parts kind end.now)) }
 {
     match end {
-        RunEnd::Returned { value: None } => String::from_str(alloc, "returned"),
-        RunEnd::Returned { value: Some(value) } => {
-            let value = value_text(alloc, kind, value)?;
-            Ok(format!(in alloc; "returned {value}")?)
-        }
-        RunEnd::Trapped(trap) => Ok(format!(in alloc; "trapped {}", trap_text(trap))?),
+        RunEnd::Returned { value } => match (kind, value) {
+            (Some(kind), Some(value)) => returned_text(alloc, kind, *value),
+            _ => String::from_str(alloc, "returned"),
+        },
+        RunEnd::Trapped(trap) => Ok(format!(in alloc; "trapped {}", trap_text(*trap))?),
         RunEnd::Blocked => String::from_str(alloc, "blocked"),
         RunEnd::TooDeep => String::from_str(alloc, "too-deep"),
         RunEnd::Cut => String::from_str(alloc, "cut"),
     }
 }
 
-fn input_text(alloc: Global, kind: Kind, number: usize, end: RunEnd) -> Result<String, AllocError>
-    ensures { IfOk result (λ text. string_bytes text ≡ input_line kind number end) }
+fn input_text(
+    alloc: Global,
+    kind: Option<Kind>,
+    number: usize,
+    end: &RunEnd,
+) -> Result<String, AllocError>
+    ensures { IfOk result (λ text. string_bytes text ≡ input_line kind number end.now) }
 {
     let end = end_text(alloc, kind, end)?;
     Ok(format!(in alloc; "input {number} {end}\n")?)
 }
 
-fn goal_text(alloc: Global, number: usize, answer: Answer, goal: &str) -> Result<String, AllocError>
-    ensures { IfOk result (λ text. string_bytes text ≡ goal_line number answer goal.now) }
+// How a goal's line begins, before the name of its edge's file.
+fn goal_front(alloc: Global, place: usize, answer: Answer) -> Result<String, AllocError>
+    requires { place < 2 ^ 63 }
+    ensures { IfOk result (λ text. string_bytes text ≡ goal_front place answer) }
 {
+    let number = place + 1;
     match answer {
         Answer::Covered { input } => Ok(format!(in alloc;
-            "goal {number} covered {input} {goal}\n"
+            "goal {number} covered {input} e{place}@"
         )?),
-        Answer::Missed => Ok(format!(in alloc; "goal {number} missed {goal}\n")?),
+        Answer::Missed => Ok(format!(in alloc; "goal {number} missed e{place}@")?),
+    }
+}
+
+// The line of the goal of an edge.
+fn push_goal(
+    alloc: Global,
+    text: &mut Vec<u8>,
+    place: usize,
+    answer: Answer,
+    file: &[u8],
+    line: u32,
+) -> Result<(), AllocError>
+    requires { place < 2 ^ 63 }
+    ensures { OnOk result (text.new.items ≡ text.old.items ++ goal_line (place + 1) answer (edge_text place file.now line)) }
+{
+    let front = goal_front(alloc, place, answer)?;
+    let back = format!(in alloc; ":{line}\n")?;
+    text.extend_from_slice(front.as_bytes())?;
+    text.extend_from_slice(file)?;
+    text.extend_from_slice(back.as_bytes())?;
+    Ok(())
+}
+
+// The name of a file, or nothing past the last one.
+fn file_name(files: &[Name], file: u32) -> &[u8]
+    ensures { result.now ≡ unwrap_or (slice_get files.now file) [] }
+{
+    match files.get(file as usize) {
+        Some(name) => name.bytes(),
+        None => &[],
     }
 }
 
 // A line for each input.
 fn push_inputs(
     alloc: Global,
-    text: &mut String,
-    kind: Kind,
+    text: &mut Vec<u8>,
+    kind: Option<Kind>,
     ends: &[RunEnd],
 ) -> Result<(), AllocError>
-    ensures { OnOk result (string_bytes text.new ≡ string_bytes text.old ++ input_lines kind 1 ends.now) }
+    ensures { OnOk result (text.new.items ≡ text.old.items ++ input_lines kind 1 ends.now) }
 {
     for place in 0..ends.len() {
-        let line = input_text(alloc, kind, place + 1, ends[place])?;
-        text.push_str(line.as_str())?;
+        let line = input_text(alloc, kind, place + 1, &ends[place])?;
+        text.extend_from_slice(line.as_bytes())?;
     }
     Ok(())
 }
@@ -87,30 +135,33 @@ fn push_inputs(
 // A line for each goal.
 fn push_goals(
     alloc: Global,
-    text: &mut String,
+    text: &mut Vec<u8>,
     answers: &[Answer],
-    goals: &[String],
+    graph: &Graph,
 ) -> Result<(), AllocError>
-    requires { length goals.now ≡ length answers.now }
-    ensures { OnOk result (string_bytes text.new ≡ string_bytes text.old ++ goal_lines 1 answers.now (map string_bytes goals.now)) }
+    requires same { length graph.now.edges ≡ length answers.now }
+    requires few { length graph.now.edges < 2 ^ 32 }
+    ensures { OnOk result (text.new.items ≡ text.old.items ++ goal_lines 1 answers.now (goal_texts graph.now)) }
 {
-    for place in 0..answers.len() {
-        let line = goal_text(alloc, place + 1, answers[place], goals[place].as_str())?;
-        text.push_str(line.as_str())?;
+    let (edges, files) = (graph.edges(), graph.files());
+    for place in 0..edges.len() {
+        let span = edges[place].span;
+        let file = file_name(files, span.file);
+        push_goal(alloc, text, place, answers[place], file, span.line)?;
     }
     Ok(())
 }
 
 // The numbers of the inputs that are kept.
-fn push_suite(alloc: Global, text: &mut String, kept: &[u32]) -> Result<(), AllocError>
-    ensures { OnOk result (string_bytes text.new ≡ string_bytes text.old ++ line (codes "suite" ∷ map decimal kept.now)) }
+fn push_suite(alloc: Global, text: &mut Vec<u8>, kept: &[u32]) -> Result<(), AllocError>
+    ensures { OnOk result (text.new.items ≡ text.old.items ++ line (codes "suite" ∷ map decimal kept.now)) }
 {
-    text.push_str("suite")?;
+    text.extend_from_slice(b"suite")?;
     for number in kept {
         let part = format!(in alloc; " {number}")?;
-        text.push_str(part.as_str())?;
+        text.extend_from_slice(part.as_bytes())?;
     }
-    text.push_str("\n")?;
+    text.push(b'\n')?;
     Ok(())
 }
 
@@ -132,24 +183,28 @@ fn covered_count(answers: &[Answer]) -> usize
     answers.iter().filter(|answer| covered(**answer)).count()
 }
 
-/// The text of what was measured of the goals with these texts: how each input's run ended, the answer of each goal,
-/// and the numbers of the inputs that are kept in the reduced suite. A returned value is one of this kind.
+/// The text of what was measured of all edges of an automaton: how each input's run ended, the answer of each edge, and
+/// the numbers of the inputs that are kept in the reduced suite. A returned value is one of this kind.
 pub fn measured_text(
     alloc: Global,
-    kind: Kind,
-    goals: &[String],
+    graph: &Graph,
+    kind: Option<Kind>,
     ends: &[RunEnd],
     answers: &[Answer],
     kept: &[u32],
-) -> Result<String, AllocError>
-    requires { length goals.now ≡ length answers.now }
-    ensures { IfOk result (λ text. string_bytes text ≡ measured_text kind (map string_bytes goals.now) ends.now answers.now kept.now) }
+) -> Result<Vec<u8>, AllocError>
+    requires same { length graph.now.edges ≡ length answers.now }
+    requires few { length graph.now.edges < 2 ^ 32 }
+    ensures { IfOk result (λ text. text.items ≡ measured_text kind (goal_texts graph.now) ends.now answers.now kept.now) }
 {
-    let mut text = head_text(alloc, goals.len(), ends.len())?;
+    let mut text = Vec::new(alloc);
+    let goals = graph.edges().len();
+    let head = head_text(alloc, goals, ends.len())?;
+    text.extend_from_slice(head.as_bytes())?;
     push_inputs(alloc, &mut text, kind, ends)?;
-    push_goals(alloc, &mut text, answers, goals)?;
+    push_goals(alloc, &mut text, answers, graph)?;
     push_suite(alloc, &mut text, kept)?;
-    let total = total_text(alloc, covered_count(answers), goals.len())?;
-    text.push_str(total.as_str())?;
+    let total = total_text(alloc, covered_count(answers), goals)?;
+    text.extend_from_slice(total.as_bytes())?;
     Ok(text)
 }

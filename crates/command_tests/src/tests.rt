@@ -28,16 +28,16 @@ fn files(alloc: Global, entries: &[(&str, &str)], failing: &[u32]) -> Result<Mem
     Ok(MemoryFiles::new(held, failing.to_vec(alloc)?))
 }
 
-// Measures a source and inputs in memory, and compares the status and both texts.
+// Runs on words, with these files in memory, and compares the status and both texts.
 fn compare(
     rt: &impl Abort,
     alloc: Global,
-    source: &str,
-    inputs: &str,
+    texts: &[&str],
+    entries: &[(&str, &str)],
     want: (Status, &str, &str),
 ) -> Result<(), Fail> {
-    let mut files = files(alloc, &[("a.c", source), ("in.txt", inputs)], &[])?;
-    let words = words(alloc, &["measure", "f", QUERY, "in.txt", "a.c"])?;
+    let mut files = files(alloc, entries, &[])?;
+    let words = words(alloc, texts)?;
     let mut out = VecSink::new(alloc);
     let mut err = VecSink::new(alloc);
     let status = run(alloc, &words, &mut files, &mut out, &mut err);
@@ -45,6 +45,23 @@ fn compare(
     assert_eq!(rt; out.taken(), want.1.as_bytes());
     assert_eq!(rt; err.taken(), want.2.as_bytes());
     Ok(())
+}
+
+// Measures the function f of a source.
+fn compare_source(
+    rt: &impl Abort,
+    alloc: Global,
+    source: &str,
+    inputs: &str,
+    want: (Status, &str, &str),
+) -> Result<(), Fail> {
+    compare(
+        rt,
+        alloc,
+        &["measure", "f", QUERY, "in.txt", "a.c"],
+        &[("a.c", source), ("in.txt", inputs)],
+        want,
+    )
 }
 
 const TWO_INPUTS: &str = "goals 4 inputs 2\ninput 1 returned 0\ninput 2 returned 1\n\
@@ -62,64 +79,197 @@ fn reports_of_inputs(rt: HostRuntime) -> Result<(), Fail> {
         ("", NO_INPUTS),
         (" \n\r\n\t\n", NO_INPUTS),
     ] {
-        compare(&rt, rt.alloc(), A_C, inputs, (Status::Done, want, ""))?;
+        compare_source(&rt, rt.alloc(), A_C, inputs, (Status::Done, want, ""))?;
     }
     Ok(())
 }
 
-// Each relation of the condition, with inputs below, at and above its number, and the words at int's borders.
+// Each way in which a run ends: it is told, and only a run that returned covers.
 #[test]
-fn relations_and_conversions(rt: HostRuntime) -> Result<(), Fail> {
-    for (relation, ends) in [
-        ("<", "1 0 0 1 0 1"),
-        ("<=", "1 1 0 1 0 1"),
-        (">", "0 0 1 0 1 0"),
-        (">=", "0 1 1 0 1 0"),
-        ("==", "0 1 0 0 0 0"),
-        ("!=", "1 0 1 1 1 1"),
+fn ends_of_runs(rt: HostRuntime) -> Result<(), Fail> {
+    let alloc = rt.alloc();
+    for (source, inputs, end, covered) in [
+        (
+            "int f(int a, int b) { return a + b; }",
+            "2147483647 1",
+            "returned -2147483648",
+            true,
+        ),
+        (
+            "unsigned f(int a) { return a; }",
+            "-1",
+            "returned 4294967295",
+            true,
+        ),
+        ("void f(int a) { a = a; }", "1", "returned", true),
+        (
+            "int f(int a) { return 1 / a; }",
+            "0",
+            "trapped zero-divisor",
+            false,
+        ),
+        (
+            "int f(int a) { return a / -1; }",
+            "-2147483648",
+            "trapped overflow-divisor",
+            false,
+        ),
+        (
+            "int f(int a) { int b[2]; return b[a]; }",
+            "2",
+            "trapped index",
+            false,
+        ),
+        (
+            "int f(int a) { return 1 << a; }",
+            "32",
+            "trapped shift",
+            false,
+        ),
+        (
+            "int f(int a) { assert(a > 0); return a; }",
+            "0",
+            "trapped assert",
+            false,
+        ),
+        (
+            "int f(int a) { assume(a > 0); return a; }",
+            "0",
+            "blocked",
+            false,
+        ),
+        ("int f(int a) { return f(a); }", "0", "too-deep", false),
+        (
+            "int f(int a) { while (1) { a = 1; } return a; }",
+            "0",
+            "cut",
+            false,
+        ),
     ] {
-        let alloc = rt.alloc();
-        let source = format!(in alloc; "int f(int x){{if(x{relation}10){{return 1;}}return 0;}}")?;
-        // 2147483648 and 4294967297 are -2147483648 and 1 as int, and -2147483649 is 2147483647.
-        let inputs = "9\n10\n11\n2147483648\n-2147483649\n4294967297\n";
-        let mut files = files(alloc, &[("a.c", source.as_str()), ("in.txt", inputs)], &[])?;
+        let entries = [("a.c", source), ("in.txt", inputs)];
+        let mut files = files(alloc, &entries, &[])?;
         let words = words(alloc, &["measure", "f", QUERY, "in.txt", "a.c"])?;
         let mut out = VecSink::new(alloc);
         let mut err = VecSink::new(alloc);
+        let status = run(alloc, &words, &mut files, &mut out, &mut err);
+        assert_eq!(rt; status, Status::Done, "{source}");
+        let text = str::from_utf8(out.taken())?;
+        let line = format!(in alloc; "\ninput 1 {end}\n")?;
+        assert!(rt; text.contains(line.as_str()), "{source}: {text}");
+        assert_eq!(rt; text.contains("\nsuite 1\n"), covered, "{source}: {text}");
         assert_eq!(rt;
-            run(alloc, &words, &mut files, &mut out, &mut err),
-            Status::Done
+            text.contains("\ncovered 0 of "),
+            !covered,
+            "{source}: {text}"
         );
-        let mut want = String::from_str(alloc, "goals 4 inputs 6\n")?;
-        for (place, value) in ends.split(' ').enumerate() {
-            let line = format!(in alloc; "input {} returned {value}\n", place.saturating_add(1))?;
-            want.push_str(line.as_str())?;
-        }
-        assert!(rt; out.taken().starts_with(want.as_bytes()), "{relation}");
+    }
+    Ok(())
+}
+
+// What is refused of a source and of the entry.
+#[test]
+fn refusals(rt: HostRuntime) -> Result<(), Fail> {
+    for (source, status, line) in [
+        (
+            "int f(void) { return @; }",
+            Status::SourceRefused,
+            "error 10 UnknownByte a.c:1\n",
+        ),
+        (
+            "\n/* ",
+            Status::SourceRefused,
+            "error 11 OpenComment a.c:2\n",
+        ),
+        (
+            "#if 1\n",
+            Status::SourceRefused,
+            "error 12 Directive a.c:1\n",
+        ),
+        (
+            "long x = 9223372036854775808;",
+            Status::SourceRefused,
+            "error 13 LiteralTooWide a.c:1\n",
+        ),
+        (
+            "#define A A\nint f(void) { return A; }",
+            Status::SourceRefused,
+            "error 14 MacroLoop a.c:2\n",
+        ),
+        (
+            "int f(void) { return 1 }",
+            Status::SourceRefused,
+            "error 20 Syntax a.c:1\n",
+        ),
+        (
+            "int f(float x) { return 1; }",
+            Status::SourceRefused,
+            "error 21 OutOfProfile a.c:1\n",
+        ),
+        (
+            "int f(void) { break; }",
+            Status::SourceRefused,
+            "error 29 Misplaced a.c:1\n",
+        ),
+        (
+            "int f(void) { return y; }",
+            Status::SourceRefused,
+            "error 30 Unknown a.c:1\n",
+        ),
+        (
+            "int f(int x, int x) { return x; }",
+            Status::SourceRefused,
+            "error 31 Twice a.c:1\n",
+        ),
+        (
+            "int f(int x) { return f(); }",
+            Status::SourceRefused,
+            "error 32 Arity a.c:1\n",
+        ),
+        (
+            "void g(void) {}\nint f(void) { return g(); }",
+            Status::SourceRefused,
+            "error 33 NotInteger a.c:2\n",
+        ),
+        (
+            "int a[1025];",
+            Status::Limit,
+            "error 34 ArrayLength limit 1024\n",
+        ),
+        (
+            "int f(int a[3]) { return a[0]; }\nint g(int a[2]) { return f(a); }",
+            Status::SourceRefused,
+            "error 35 ArrayArgument a.c:2\n",
+        ),
+        (
+            "int g(void) { return 1; }",
+            Status::SourceRefused,
+            "error 36 NoSuchEntry\n",
+        ),
+        (
+            "int f(int a[2]) { return a[0]; }",
+            Status::SourceRefused,
+            "error 36 NoSuchEntry\n",
+        ),
+        (
+            "int f(int x) { switch (x) { case x: ; } return 1; }",
+            Status::SourceRefused,
+            "error 38 ConstantNeeded a.c:1\n",
+        ),
+        (
+            "void g(void); int f(void) { g(); return 1; }",
+            Status::SourceRefused,
+            "error 39 InputForm a.c:1\n",
+        ),
+    ] {
+        compare_source(&rt, rt.alloc(), source, "1\n", (status, "", line))?;
     }
     Ok(())
 }
 
 #[test]
 fn what_is_not_built(rt: HostRuntime) -> Result<(), Fail> {
+    let alloc = rt.alloc();
     let want = (Status::NotBuilt, "", "error 1 NotBuilt\n");
-    for source in [
-        "int f(int x) { return x; }",
-        "int f(int f) { if (f > 1) { return 1; } return 0; }",
-        "int f(int x) { if (y > 1) { return 1; } return 0; }",
-        "int g(int x) { if (x > 1) { return 1; } return 0; }",
-        "int f(int xx) { if (xx > 1) { return 1; } return 0; }",
-        "int f(int x) { if (x > 01) { return 1; } return 0; }",
-        "int f(int x) { if (x > 1000000000) { return 1; } return 0; }",
-        "int f(int x) { if (x = > 1) { return 1; } return 0; }",
-        "int f(int x) { if (x > 1) { return 1; } return 0; } ;",
-        "intf(int x) { if (x > 1) { return 1; } return 0; }",
-        "int f(int x) { if (x > 1) { return1; } return 0; }",
-        "int f(int x) { if (x\x0c> 1) { return 1; } return 0; }",
-        "",
-    ] {
-        compare(&rt, rt.alloc(), source, "1\n", want)?;
-    }
     for inputs in [
         "1 2\n",
         "x\n",
@@ -129,33 +279,79 @@ fn what_is_not_built(rt: HostRuntime) -> Result<(), Fail> {
         "1\x0b\n",
         "\u{a0}1",
     ] {
-        compare(&rt, rt.alloc(), A_C, inputs, want)?;
+        compare_source(&rt, alloc, A_C, inputs, want)?;
+    }
+    // Another query is told before the inputs are read, and after the entry is looked up.
+    for (entry, want) in [
+        ("f", want),
+        ("g", (Status::SourceRefused, "", "error 36 NoSuchEntry\n")),
+    ] {
+        let words = ["measure", entry, "cover NODES(ID)", "no.txt", "a.c"];
+        compare(&rt, alloc, &words, &[("a.c", A_C)], want)?;
     }
     Ok(())
 }
 
-// A source of 65,536 bytes, and inputs of 10,000 lines, are within their limits; one more of each isn't.
+// A source of 4 MiB, and inputs of 65,536 bytes in 10,000 lines, are within their limits; one more of each isn't.
 #[test]
 fn limits(rt: HostRuntime) -> Result<(), Fail> {
     let alloc = rt.alloc();
-    let blanks = vec![in alloc; b' '; 65_536 - A_C.len()]?;
     let mut source = String::from_str(alloc, A_C)?;
+    let blanks = vec![in alloc; b' '; 4_194_304 - A_C.len()]?;
     source.push_str(str::from_utf8(&blanks)?)?;
-    compare(
-        &rt,
-        alloc,
-        source.as_str(),
-        "5\n11\n",
-        (Status::Done, TWO_INPUTS, ""),
-    )?;
+    let done = (Status::Done, TWO_INPUTS, "");
+    compare_source(&rt, alloc, source.as_str(), "5\n11\n", done)?;
     source.push_str("\n")?;
+    let long = (Status::Limit, "", "error 16 FileTooLong a.c\n");
+    compare_source(&rt, alloc, source.as_str(), "5\n11\n", long)?;
     let want = (Status::NotBuilt, "", "error 1 NotBuilt\n");
-    compare(&rt, alloc, source.as_str(), "5\n11\n", want)?;
+    let mut inputs = String::from_str(alloc, "5\n11")?;
+    let blanks = vec![in alloc; b' '; 65_532]?;
+    inputs.push_str(str::from_utf8(&blanks)?)?;
+    compare_source(&rt, alloc, A_C, inputs.as_str(), done)?;
+    inputs.push_str("\n")?;
+    compare_source(&rt, alloc, A_C, inputs.as_str(), want)?;
     let mut inputs = String::new(alloc);
     for _ in 0..10_001 {
         inputs.push_str("1\n")?;
     }
-    compare(&rt, alloc, A_C, inputs.as_str(), want)?;
+    compare_source(&rt, alloc, A_C, inputs.as_str(), want)?;
+    Ok(())
+}
+
+const P1_C: &str = "int g(int v) { return v; }\n";
+
+const P2_C: &str =
+    "int f(int x) {\n  int y = 0;\n  if (x > 3) {\n    y = g(x);\n  }\n  return y;\n}\n";
+
+const P_REPORT: &str = "goals 8 inputs 2\ninput 1 returned 9\ninput 2 returned 0\n\
+goal 1 covered 1 e0@p1.c:1\ngoal 2 covered 1 e1@p2.c:2\ngoal 3 covered 1 e2@p2.c:3\ngoal 4 covered 2 e3@p2.c:3\n\
+goal 5 covered 1 e4@p2.c:4\ngoal 6 covered 1 e5@p2.c:4\ngoal 7 covered 1 e6@p2.c:4\ngoal 8 covered 1 e7@p2.c:6\n\
+suite 1 2\ncovered 8 of 8\n";
+
+// Sources are one unit in the order of the words, each read once for each word that names it.
+#[test]
+fn several_sources(rt: HostRuntime) -> Result<(), Fail> {
+    let alloc = rt.alloc();
+    let entries = [("p1.c", P1_C), ("p2.c", P2_C), ("in.txt", "9\n2\n")];
+    for (sources, want) in [
+        (["p1.c", "p2.c"], (Status::Done, P_REPORT, "")),
+        (
+            ["p2.c", "p1.c"],
+            (Status::SourceRefused, "", "error 30 Unknown p2.c:4\n"),
+        ),
+        (
+            ["p1.c", "p1.c"],
+            (Status::SourceRefused, "", "error 31 Twice p1.c:1\n"),
+        ),
+        (
+            ["p1.c", "no.c"],
+            (Status::ReadFault, "", "error 7 ReadFault no.c\n"),
+        ),
+    ] {
+        let words = ["measure", "f", QUERY, "in.txt", sources[0], sources[1]];
+        compare(&rt, alloc, &words, &entries, want)?;
+    }
     Ok(())
 }
 
@@ -167,7 +363,7 @@ fn words_that_are_no_command(rt: HostRuntime) -> Result<(), Fail> {
         &["measure", "f"],
         &[],
         &["Measure", "f", QUERY, "in.txt", "a.c"],
-        &["measure", "f", QUERY, "in.txt", "a.c", "b.c"],
+        &["measure", "f", QUERY, "in.txt", "a.c", "-b.c"],
         &["measure", "-f", QUERY, "in.txt", "a.c"],
         &["measure", "f", QUERY, "in.txt", "-"],
     ] {
@@ -232,7 +428,7 @@ fn a_reduced_suite(rt: HostRuntime) -> Result<(), Fail> {
         "goals 4 inputs 4\ninput 1 returned 0\ninput 2 returned 0\ninput 3 returned 1\ninput 4 returned 1\n\
 goal 1 covered 3 e0@a.c:2\ngoal 2 covered 1 e1@a.c:2\ngoal 3 covered 3 e2@a.c:3\ngoal 4 covered 1 e3@a.c:5\n\
 suite 1 3\ncovered 4 of 4\n";
-    compare(
+    compare_source(
         &rt,
         rt.alloc(),
         A_C,

@@ -1,14 +1,17 @@
-use Rattle.std.proofs.Common.{◌≡◌, ◌+◌, length, vec_len}
+use Rattle.std.proofs.Common.{◌≡◌, ◌+◌, length, map, vec_len}
+use Rattle.std.specs.Prelude.{◌==◌}
 use Rattle.std.specs.Option.{option_map_or}
-use Rattle.command.specs.Inputs.{lines_of, texts_in, words_in}
-use Rattle.command.proofs.InputsLaws.{after, lines_left}
+use Rattle.containers.specs.Lists.{all_there}
+use Rattle.command.specs.Inputs.{filled, input_in, rows_of, texts_in}
+use Rattle.command.proofs.InputsLaws.{after, parts_left}
 use Rattle.command.proofs.input_text.inputs.Given as goal
 
-abbrev pub invariant-loop-rest : goal.invariant-loop-rest
-invariant-loop-rest l = record {
-  words : words_in (texts_in (lines_of l.bytes)) ≡ after l.words.items (words_in (texts_in (lines_left l.rest)));
-  count : length (texts_in (lines_of l.bytes)) ≡ vec_len l.words + length (texts_in (lines_left l.rest));
+abbrev pub invariant-loop-left : goal.invariant-loop-left
+invariant-loop-left l = record {
+  inputs : all_there (map (input_in l.count) (rows_of l.bytes))
+      ≡ after l.inputs.items (all_there (map (input_in l.count) (filled (map texts_in (parts_left (λ byte. byte == 10) l.left)))));
+  count : length (rows_of l.bytes) ≡ vec_len l.inputs + length (filled (map texts_in (parts_left (λ byte. byte == 10) l.left)));
 }
 
-abbrev pub decreases-loop-rest : goal.decreases-loop-rest
-decreases-loop-rest l = option_map_or (λ text. length text.now + 1) l.rest 0
+abbrev pub decreases-loop-left : goal.decreases-loop-left
+decreases-loop-left l = option_map_or (λ text. length text.now + 1) l.left 0

@@ -1,8 +1,8 @@
-use Rattle.std.proofs.Common.{◌≡◌, ◌+◌, ◌++◌, drop, map, string_bytes}
-use Rattle.command.specs.Report.{goal_lines}
+use Rattle.std.proofs.Common.{◌≡◌, ◌+◌, ◌++◌, drop}
+use Rattle.command.specs.Report.{edge_texts, goal_lines}
 use Rattle.command.proofs.report.push_goals.Given as goal
 
 abbrev pub invariant-loop-place : goal.invariant-loop-place
 invariant-loop-place l =
-    string_bytes l.text ++ goal_lines (l.place + 1) (drop l.place l.answers) (map string_bytes (drop l.place l.goals))
-    ≡ string_bytes l.initial.text ++ goal_lines 1 l.answers (map string_bytes l.goals)
+    l.text.items ++ goal_lines (l.place + 1) (drop l.place l.answers) (edge_texts l.graph.files l.place (drop l.place l.graph.edges))
+    ≡ l.initial.text.items ++ goal_lines 1 l.answers (edge_texts l.graph.files 0 l.graph.edges)
