@@ -1,6 +1,9 @@
-//! The search machine's moves, and who is shown histories that spent their budget.
+//! The search machine: states with a trail and learned clauses, its moves, and who is shown histories that spent their
+//! budget (clause learning: Marques-Silva and Sakallah 1999; the words are those of MiniSat, Eén and Sörensson 2003).
 //!
-//! It stands on `cnf`. The layers above use that `shown` appends what it is given, and after want of memory nothing.
+//! It stands on `cnf` and on `literal_marks`. specs/Machine.antt says what a move is; the laws say that histories end.
+//! The move that comes next in a state is chosen here (`next`); the search that makes the moves isn't there yet. The layers
+//! above use that `shown` appends what it is given, and after want of memory nothing.
 #![tactic(auto)]
 
 mod choice;
