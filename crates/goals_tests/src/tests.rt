@@ -69,7 +69,11 @@ fn words_in_order(rt: HostRuntime) -> Result<(), Fail> {
             " e0 e2, e1 e2, e2, e0 e0, e0 e1, e0 e3, e1 e0, e1 e1, e1 e3,",
         ),
         (RETURNS, "cover PATHS(ID,1)", " e0 e2, e1 e3,"),
-        (RETURNS, "in @LINE(2) cover NODES(ID)+ID", " n0, n2, n3, e0, e1,"),
+        (
+            RETURNS,
+            "in @LINE(2) cover NODES(ID)+ID",
+            " n0, n2, n3, e0, e1,",
+        ),
         (RETURNS, "in NOT(@LINE(2)) cover ID", " e2, e3,"),
         (RETURNS, "cover @LINE(3)->@LINE(5)", " e2 q0 e3,"),
         (
@@ -78,7 +82,11 @@ fn words_in_order(rt: HostRuntime) -> Result<(), Fail> {
             " e2 q0 e3, e2 q1 e3,",
         ),
         (RETURNS, "cover \"ID.ID\"+\"ID*\"+\"ID.ID\"", " q0, q1,"),
-        (RETURNS, "cover {x}.ID->{y}+{x}.@LINE(3)", " p0 e0 q0 p1, p0 e1 q0 p1, p0 e2 q0 p1, p0 e3 q0 p1, p0 e2,"),
+        (
+            RETURNS,
+            "cover {x}.ID->{y}+{x}.@LINE(3)",
+            " p0 e0 q0 p1, p0 e1 q0 p1, p0 e2 q0 p1, p0 e3 q0 p1, p0 e2,",
+        ),
         (
             CONDITIONS,
             "cover PATHS(@CONDITIONGRAPH,1)",
@@ -102,11 +110,20 @@ fn refusals(rt: HostRuntime) -> Result<(), Fail> {
     let rows = [
         ("cover EDGES(@FUNC(zz))", "70 query:13"),
         ("in @FUNC(a) cover @FUNC(b) passing @FUNC(c)", "70 query:4"),
-        ("cover ID.@FUNC(b).\"@FUNC(a)\" passing @FUNC(c)", "70 query:10"),
+        (
+            "cover ID.@FUNC(b).\"@FUNC(a)\" passing @FUNC(c)",
+            "70 query:10",
+        ),
         ("cover ID passing ID.@FUNC(c)", "70 query:21"),
         ("cover ID.ID.ID.ID.ID.ID.ID.ID", "71 limit 10000"),
-        ("cover ID.ID.ID.ID.ID.ID.ID.ID passing @FUNC(c)", "70 query:39"),
-        ("cover ID.ID.ID.ID.ID.ID.ID.ID.\"(ID==80)==80\"", "71 limit 10000"),
+        (
+            "cover ID.ID.ID.ID.ID.ID.ID.ID passing @FUNC(c)",
+            "70 query:39",
+        ),
+        (
+            "cover ID.ID.ID.ID.ID.ID.ID.ID.\"(ID==80)==80\"",
+            "71 limit 10000",
+        ),
         ("cover ID.ID.ID.ID.ID.ID.ID.ID.@LINE(9)", "72 query"),
         (
             "cover ID.ID.ID.ID.ID.ID.ID.ID.ID.ID.ID.ID.ID.ID.ID.ID.ID.ID.ID.ID.ID.ID.ID.ID.ID.ID.ID.ID.ID.ID.ID.ID.ID",
@@ -205,7 +222,12 @@ fn limits_of_paths_and_words(rt: HostRuntime) -> Result<(), Fail> {
     let rows = [
         (14, 0, "cover PATHS(@FUNC(f),1)", "71 limit 10000"),
         (14, 0, "cover \"PATHS(@FUNC(f),1)\"", "71 limit 10000"),
-        (14, 0, "cover ID passing PATHS(@FUNC(f),1)", "71 limit 10000"),
+        (
+            14,
+            0,
+            "cover ID passing PATHS(@FUNC(f),1)",
+            "71 limit 10000",
+        ),
         (13, 110, "cover PATHS(@FUNC(f),1)", "71 limit 1000000"),
         (0, 98, "cover ID.ID.ID", "71 limit 10000"),
         (0, 98, "cover ID.ID+@LINE(3)", "71 limit 10000"),
@@ -225,5 +247,46 @@ fn limits_of_paths_and_words(rt: HostRuntime) -> Result<(), Fail> {
         return Ok(());
     };
     assert_eq!(rt; plan.goals.len(), 10_000);
+    Ok(())
+}
+
+// An automaton of 40,000 edges, 100 of them on line 3.
+fn long_source(alloc: Global) -> Result<String, Fail> {
+    let mut text = String::new(alloc);
+    text.push_str("int f(int x) {\n  int y = 0;\n")?;
+    for _ in 0..100 {
+        text.push_str("y = 1;")?;
+    }
+    for _ in 0..39_898 {
+        text.push_str("\ny = 1;")?;
+    }
+    text.push_str("\nreturn y;\n}\n")?;
+    Ok(text)
+}
+
+// How many goals a query has, and how many letters in all; none where it has no plan.
+fn sizes(alloc: Global, source: &str, query: &str) -> (usize, u64) {
+    let Ok(graph) = graph_of(alloc, source) else {
+        return (0, 0);
+    };
+    let Ok(plan) = planned(alloc, &graph, query) else {
+        return (0, 0);
+    };
+    let mut letters = 0u64;
+    for goal in &plan.goals {
+        letters = letters.saturating_add(goal.word().len() as u64);
+    }
+    (plan.goals.len(), letters)
+}
+
+// 2^13 paths, with 102 edges and 13 to 26 more: 8,192 times 121 and a half. 10,000 goals with an arrow over 40,000 edges.
+#[test]
+fn many_goals(rt: HostRuntime) -> Result<(), Fail> {
+    let source = branches(rt.alloc(), 13, 100)?;
+    let found = sizes(rt.alloc(), source.as_str(), "cover PATHS(@FUNC(f),1)");
+    assert_eq!(rt; found, (8192, 995_328));
+    let source = long_source(rt.alloc())?;
+    let found = sizes(rt.alloc(), source.as_str(), "cover @LINE(3)->@LINE(3)");
+    assert_eq!(rt; found, (10_000, 30_000));
     Ok(())
 }
