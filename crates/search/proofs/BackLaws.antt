@@ -55,7 +55,7 @@ or_behind false b e = e
 
 -- ---- trails and their beginnings
 
-at_entry : (trail : List Entry) (i : ℕ) (e : Entry) → slice_get trail i ≡ Some e → (i < length trail) × (get_or trail i e ≡ e)
+pub at_entry : (trail : List Entry) (i : ℕ) (e : Entry) → slice_get trail i ≡ Some e → (i < length trail) × (get_or trail i e ≡ e)
 at_entry [] i e h = absurd cc
 at_entry (f ∷ trail) zero e h = let same : f ≡ e = cc in (omega arith, same)
 at_entry (f ∷ trail) (suc i) e h = let rest = at_entry trail i e h in (omega (arith, rest.0), rest.1)

@@ -2,7 +2,9 @@ pub mod BackLaws
 pub mod HistoryLaws
 pub mod KeptLaws
 pub mod LessonLaws
+pub mod MachineLaws
 pub mod NextLaws
 pub mod ScanLaws
 pub mod StatusLaws
 pub mod TrailLaws
+pub mod TurnLaws

@@ -1,3 +1,4 @@
+pub mod At
 pub mod Laws
 pub mod Lessons
 pub mod Machine
@@ -5,3 +6,4 @@ pub mod Nexts
 pub mod Sound
 pub mod Statuses
 pub mod Trails
+pub mod Turns

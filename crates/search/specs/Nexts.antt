@@ -1,5 +1,5 @@
 -- What comes next in a state of the search.
-use Rattle.std.specs.Prelude.{◌≡◌, ℕ, ◌+◌, ◌-◌, ◌≤◌, ℤ, neg_ℤ, false, List, [], ◌∷◌, ◌++◌, length, take, slice_get, slice_index_or, None, Some, IsSomeAnd}
+use Rattle.std.specs.Prelude.{◌≡◌, ℕ, ◌+◌, ◌-◌, ◌≤◌, ℤ, neg_ℤ, Bool, false, List, [], ◌∷◌, ◌++◌, length, take, slice_get, slice_index_or, None, Some, IsSomeAnd}
 use Rattle.cnf.specs.declared.derivation.Derivation.{Derivation}
 use Rattle.cnf.specs.declared.derivation.DerivationLine.{DerivationLine}
 use Rattle.cnf.specs.declared.formula.Formula.{Formula}
@@ -33,10 +33,23 @@ IsNext formula s (next.Decide x) = Moves formula s (move.Decide x) record { trai
 IsNext formula s (next.Jump line cut) =
     IsSomeAnd (slice_get s.trail cut) (λ e. Moves formula s (move.Jump line cut) (jumped formula s line cut (neg_ℤ e.literal))) × (IsFinished formula s → ⊥)
 
--- What a search may answer. A model has a value for each variable, from 1, and satisfies the formula; a derivation checks
--- over it, and has at most a line more than the budget; a history has as many moves as the budget, and its end isn't finished.
+-- a value for each variable, from 1, so that the formula is satisfied
+abbrev pub IsModel : Formula → List Bool → Type 0
+IsModel formula model = (length model ≡ formula.variables) × Satisfies (λ v. slice_index_or model (v - 1) false) formula
+
+-- lines that check over the formula, at most one more than the moves
+abbrev pub IsRefutation : Formula → ℕ → Derivation → Type 0
+IsRefutation formula moves derivation = Checks formula derivation × (length derivation.lines ≤ moves + 1)
+
+-- what ends a search after so many moves
+abbrev pub IsEnd : Formula → ℕ → Found → Type 0
+IsEnd formula moves (found.Model model) = IsModel formula model
+IsEnd formula moves (found.NoModel derivation) = IsRefutation formula moves derivation
+IsEnd formula moves (found.Spent history) = ⊥
+
+-- what a search may answer: an end within the budget, or a history of as many moves as the budget, whose end isn't finished
 abbrev pub IsFound : Formula → ℕ → Found → Type 0
-IsFound formula budget (found.Model model) = (length model ≡ formula.variables) × Satisfies (λ v. slice_index_or model (v - 1) false) formula
-IsFound formula budget (found.NoModel derivation) = Checks formula derivation × (length derivation.lines ≤ budget + 1)
+IsFound formula budget (found.Model model) = IsModel formula model
+IsFound formula budget (found.NoModel derivation) = IsRefutation formula budget derivation
 IsFound formula budget (found.Spent history) =
     (length history.moves ≡ budget) × ((end : State) × Runs formula first_state history.moves end × (IsFinished formula end → ⊥))

@@ -2,21 +2,24 @@
 //! budget (clause learning: Marques-Silva and Sakallah 1999; the words are those of MiniSat, Eén and Sörensson 2003).
 //!
 //! It stands on `cnf` and on `literal_marks`. specs/Machine.antt says what a move is; the laws say that histories end.
-//! The move that comes next in a state is chosen here (`next`); the search that makes the moves isn't there yet. The layers
-//! above use that `shown` appends what it is given, and after want of memory nothing.
+//! `search` looks at all clauses before each move. The layers above use what it answers (specs/Nexts.antt), and that `shown`
+//! appends what it is given, and after want of memory nothing.
 #![tactic(auto)]
 
 mod choice;
 mod conflict;
 mod found;
 pub mod laws;
+mod machine;
 mod moves;
 mod next;
 mod scan;
+mod searching;
 mod status;
 mod trail;
 mod watch;
 
 pub use found::Found;
 pub use moves::{History, Move};
+pub use searching::search;
 pub use watch::{KeepWatch, NoWatch, Watch};

@@ -1,0 +1,314 @@
+-- What each turn of the machine leads to.
+use Rattle.std.proofs.Common.{◌≡◌, ℕ, zero, suc, ◌+◌, ◌-◌, ◌*◌, ◌<◌, ◌≤◌, ◌^◌, Bool, true, false, ◌||◌, List, [], ◌∷◌, ◌++◌, length, take, map, get_or, replicate, refl, sym, ◌∙◌, ap, arith, Option, None, Some}
+use Rattle.std.specs.Prelude.{ℤ, pos, ◌&&◌, slice_get, All, IfSome, IsSomeAnd}
+use Rattle.std.specs.List.{list_all}
+use Rattle.std.specs.Ordering.{int_eq}
+use Rattle.std.proofs.lemmas.List.{append_cancel_left, append-nil, length-append, length-replicate}
+use Rattle.std.proofs.lemmas.List.Folds.{list_all-append, list_any-append}
+use Rattle.cnf.specs.declared.derivation.Derivation.{Derivation}
+use Rattle.cnf.specs.declared.derivation.DerivationLine.{DerivationLine}
+use Rattle.cnf.specs.declared.formula.Formula.{Formula}
+use Rattle.cnf.specs.Checks.{Checks, IsRight, numbered}
+use Rattle.cnf.specs.Clauses.{IsLiteral, literal_key}
+use Rattle.cnf.specs.Formulas.{Satisfies}
+use Rattle.literal_marks.specs.Marks.{marked}
+use Rattle.literal_marks.specs.declared.places.Places.TheVariants.{ByKey}
+use Rattle.search.specs.declared.machine.Machine.{Machine}
+use Rattle.search.specs.declared.moves.Move.{Move}
+use Rattle.search.specs.declared.moves.Move.TheVariants as move
+use Rattle.search.specs.declared.trail.Entry.{Entry}
+use Rattle.search.specs.At.{IsAt, IsHeld, IsSameBut}
+use Rattle.search.specs.Laws.{IsFormula, is_over}
+use Rattle.search.specs.Machine.{EndsAsModel, IsOver, Jumps, Moves, State, clauses_of, first_state, is_conflict, is_open, is_true, unit_of, with_entry}
+use Rattle.search.specs.Nexts.{jumped, state_of}
+use Rattle.search.specs.Sound.{Implies, all_clauses}
+use Rattle.search.proofs.HistoryLaws.{no_places}
+use Rattle.search.proofs.KeptLaws.{has_over, is_over-tells, numbered_over, unit_is}
+use Rattle.search.proofs.MachineLaws.{all_true, checks_by, numbered_last, rights_more, run_more, sound_cut, sound_learn, sound_more, unit_implies, with_line}
+use Rattle.search.proofs.NextLaws.{same_clauses}
+use Rattle.search.proofs.ScanLaws.{clauses_count}
+
+-- ---- the first state
+
+none_marked : (size k : ℕ) → get_or (replicate size false) k false ≡ false
+none_marked zero k = refl
+none_marked (suc size) zero = refl
+none_marked (suc size) (suc k) = none_marked size k
+
+pub at_first : (formula : Formula) (m : Machine) → IsFormula formula → length formula.clauses < 2 ^ 32 → m.trail.items ≡ [] → m.learned ≡ record { lines = [] } → m.moves.items ≡ []
+    → m.values.items ≡ replicate (2 * formula.variables + 2) false → length m.marks.items ≡ 2 * formula.variables + 2 → IsAt formula m
+at_first formula m is few trail learned moves values marks = record {
+  held = record {
+    sound = rw (trail, learned) record {
+      kept = record { over = refl; distinct = no_places };
+      clauses = ap (list_all (list_all (is_over formula.variables))) (append-nil formula.clauses) ∙ is;
+      reasons = λ j e number at r. absurd cc;
+    };
+    rights = λ k h. absurd (none k h);
+    values = λ x. rw (trail, values) (none_marked (2 * formula.variables + 2) (literal_key x));
+    places = rw values (length-replicate (2 * formula.variables + 2) false);
+    marks = marks;
+    few = let no_lines : length m.learned.lines ≡ 0 = rw learned refl in omega arith;
+  };
+  run = rw (trail, learned, moves) refl;
+  lines = let no_lines : length m.learned.lines ≡ 0 = rw learned refl in omega arith;
+}
+  where
+    none : (k : ℕ) → k < length m.learned.lines → ⊥
+    none k h = let no_lines : length m.learned.lines ≡ 0 = rw learned refl in omega arith
+
+-- ---- ends
+
+pub model_ends : (formula : Formula) (m : Machine) (values : List Bool) → IsHeld formula m → EndsAsModel formula (state_of m.trail.items m.learned)
+    → ((v : ℕ) → 0 < v → v ≤ formula.variables → get_or values (v - 1) false ≡ marked ByKey m.values.items (pos v)) → Satisfies (λ v. get_or values (v - 1) false) formula
+model_ends formula m values held is each =
+    all_true formula m.trail.items (λ v. get_or values (v - 1) false) held.sound.kept (λ v low high. each v low high ∙ held.values (pos v)) is.all formula.clauses
+    (front _ _ (sym (list_all-append (list_all (is_over formula.variables)) formula.clauses (map (λ (line : DerivationLine). line.clause) m.learned.lines)) ∙ ap (list_all (list_all (is_over formula.variables))) (same_clauses formula m.learned m.trail.items) ∙ held.sound.clauses))
+    (none _ _ (sym (list_any-append (is_conflict (is_true m.trail.items)) formula.clauses (map (λ (line : DerivationLine). line.clause) m.learned.lines)) ∙ is.no_conflict))
+  where
+    front : (a b : Bool) → (a && b) ≡ true → a ≡ true
+    front true b h = refl
+    front false b h = h
+
+    none : (a b : Bool) → (a || b) ≡ false → a ≡ false
+    none true b h = h
+    none false b h = refl
+
+pub refuted_ends : (formula : Formula) (m : Machine) (line : DerivationLine) (derivation : Derivation) → IsAt formula m → IsRight (clauses_of formula (state_of m.trail.items m.learned)) line → line.clause ≡ []
+    → derivation.lines ≡ m.learned.lines ++ line ∷ [] → Checks formula derivation × (length derivation.lines ≤ length m.moves.items + 1)
+refuted_ends formula m line derivation at right empty lines =
+    let same : derivation ≡ record { lines = m.learned.lines ++ line ∷ [] } = ap (λ ls. record { lines = ls }) lines in
+    let count = length-append m.learned.lines (line ∷ []) in (
+      rw same (checks_by formula m.learned line at.held.rights (rw (same_clauses formula m.learned m.trail.items) at right) empty),
+      rw lines (omega (arith, count, at.lines)),
+    )
+
+-- ---- moves
+
+more_true : (trail : List Entry) (x : ℤ) (reason : Option ℕ) (y : ℤ) → is_true (with_entry trail x reason) y ≡ (is_true trail y || int_eq x y)
+more_true trail x reason y = list_any-append (λ e. int_eq e.literal y) trail (record { literal = x; reason = reason } ∷ []) ∙ last (is_true trail y) (int_eq x y)
+  where
+    last : (a b : Bool) → (a || (b || false)) ≡ (a || b)
+    last true b = refl
+    last false true = refl
+    last false false = refl
+
+-- one more literal
+pub held_more : (formula : Formula) (m n : Machine) (x : ℤ) (reason : Option ℕ) → IsHeld formula m → IsOver formula.variables x → is_open (is_true m.trail.items) x ≡ true
+    → IfSome reason (λ number. IsSomeAnd (numbered (all_clauses formula m.learned) number) (Implies m.trail.items x)) → n.trail.items ≡ with_entry m.trail.items x reason
+    → ((y : ℤ) → marked ByKey n.values.items y ≡ (marked ByKey m.values.items y || int_eq x y)) → IsSameBut m n → IsHeld formula n
+held_more formula m n x reason held over free implied trail values same = record {
+  sound = rw (trail, same.learned) (sound_more formula m.learned m.trail.items x reason held.sound over free implied);
+  rights = rw same.learned held.rights;
+  values = λ y. values y ∙ rw (held.values y, trail) (sym (more_true m.trail.items x reason y));
+  places = same.places ∙ held.places;
+  marks = same.marks ∙ held.marks;
+  few = rw same.learned held.few;
+}
+
+-- the trail cut
+pub held_cut : (formula : Formula) (m n : Machine) (cut : ℕ) → IsHeld formula m → n.trail.items ≡ take cut m.trail.items → ((y : ℤ) → marked ByKey n.values.items y ≡ is_true (take cut m.trail.items) y)
+    → IsSameBut m n → IsHeld formula n
+held_cut formula m n cut held trail values same = record {
+  sound = rw (trail, same.learned) (sound_cut formula m.learned m.trail.items cut held.sound);
+  rights = rw same.learned held.rights;
+  values = λ y. values y ∙ rw trail refl;
+  places = same.places ∙ held.places;
+  marks = same.marks ∙ held.marks;
+  few = rw same.learned held.few;
+}
+
+-- a learned line
+pub held_learn : (formula : Formula) (m n : Machine) (line : DerivationLine) → IsHeld formula m → IsRight (all_clauses formula m.learned) line → n.trail.items ≡ m.trail.items
+    → n.values.items ≡ m.values.items → n.marks.items ≡ m.marks.items → n.learned ≡ record { lines = m.learned.lines ++ line ∷ [] } → length formula.clauses + length m.learned.lines + 1 < 2 ^ 32 → IsHeld formula n
+held_learn formula m n line held right trail values marks learned few = record {
+  sound = rw (trail, learned) (sound_learn formula m.learned m.trail.items line held.sound right);
+  rights = rw learned (rights_more formula m.learned line held.rights right);
+  values = λ y. rw (values, trail) (held.values y);
+  places = rw values held.places;
+  marks = rw marks held.marks;
+  few = let count = length-append m.learned.lines (line ∷ []) in let own : length n.learned.lines ≡ length m.learned.lines + 1 = rw learned count in omega (arith, own);
+}
+
+-- a propagation or a decision
+pub at_more : (formula : Formula) (m n o : Machine) (x : ℤ) (reason : Option ℕ) (made : Move) → IsAt formula m → IsHeld formula n → n.trail.items ≡ with_entry m.trail.items x reason → IsSameBut m n
+    → Moves formula (state_of m.trail.items m.learned) made record { trail = with_entry m.trail.items x reason; learned = m.learned.lines }
+    → o.trail ≡ n.trail → o.values ≡ n.values → o.learned ≡ n.learned → o.marks ≡ n.marks → o.moves.items ≡ n.moves.items ++ made ∷ [] → IsAt formula o
+at_more formula m n o x reason made at held trail same moved otrail ovalues olearned omarks omoves = record {
+  held = record {
+    sound = rw (otrail, olearned) held.sound;
+    rights = rw olearned held.rights;
+    values = λ y. rw (ovalues, otrail) (held.values y);
+    places = rw ovalues held.places;
+    marks = rw omarks held.marks;
+    few = rw olearned held.few;
+  };
+  run = rw (omoves, same.moves, otrail, trail, olearned, same.learned) (run_more formula first_state m.moves.items (state_of m.trail.items m.learned) made _ at.run moved);
+  lines =
+      let count = length-append n.moves.items (made ∷ []) in
+      let own : length o.moves.items ≡ length n.moves.items + 1 = rw omoves count in
+      let before : length n.moves.items ≡ length m.moves.items = rw same.moves refl in
+      let lines : length o.learned.lines ≡ length m.learned.lines = rw (olearned, same.learned) refl in
+      omega (arith, at.lines, own, before, lines);
+}
+
+-- ---- trails cut
+
+pub places_taken : (test : Entry → Bool) (trail : List Entry) (cut : ℕ) → list_all test trail ≡ true → list_all test (take cut trail) ≡ true
+places_taken test trail zero h = refl
+places_taken test [] (suc cut) h = refl
+places_taken test (e ∷ trail) (suc cut) h = by_test (test e) h (places_taken test trail cut)
+  where
+    by_test : (b : Bool) → (b && list_all test trail) ≡ true → (list_all test trail ≡ true → list_all test (take cut trail) ≡ true) → (b && list_all test (take cut trail)) ≡ true
+    by_test true g rest = rest g
+    by_test false g rest = absurd cc
+
+pub literals_taken : (trail : List Entry) (cut : ℕ) → All (λ (e : Entry). IsLiteral e.literal) trail → All (λ (e : Entry). IsLiteral e.literal) (take cut trail)
+literals_taken trail zero a k d h = absurd (omega arith)
+literals_taken [] (suc cut) a k d h = absurd (omega arith)
+literals_taken (e ∷ trail) (suc cut) a zero d h = a zero d (omega arith)
+literals_taken (e ∷ trail) (suc cut) a (suc k) d h = literals_taken trail cut (λ j f g. a (suc j) f (omega arith)) k d (omega arith)
+
+pub entry_has : (test : Entry → Bool) (trail : List Entry) (i : ℕ) (e : Entry) → list_all test trail ≡ true → slice_get trail i ≡ Some e → test e ≡ true
+entry_has test [] i e a h = absurd cc
+entry_has test (f ∷ trail) zero e a h = let same : f ≡ e = cc in ap test (sym same) ∙ left (test f) a
+  where
+    left : (b : Bool) → (b && list_all test trail) ≡ true → b ≡ true
+    left true g = refl
+    left false g = g
+entry_has test (f ∷ trail) (suc i) e a h = entry_has test trail i e (right (test f) a) h
+  where
+    right : (b : Bool) → (b && list_all test trail) ≡ true → list_all test trail ≡ true
+    right true g = g
+    right false g = absurd cc
+
+-- ---- jumps
+
+pub jump_entry : (trail : List Entry) (cut : ℕ) (P : Entry → Type 0) → IsSomeAnd (slice_get trail cut) P → (e : Entry) × (slice_get trail cut ≡ Some e) × P e
+jump_entry trail cut P h = by_found (slice_get trail cut) refl h
+  where
+    by_found : (found : Option Entry) → slice_get trail cut ≡ found → IsSomeAnd found P → (e : Entry) × (slice_get trail cut ≡ Some e) × P e
+    by_found None f g = absurd g
+    by_found (Some e) f g = (e, f, g)
+
+same_last : (trail : List Entry) (x y : ℤ) (r q : Option ℕ) → with_entry trail x r ≡ with_entry trail y q → x ≡ y
+same_last trail x y r q e =
+    let tails = append_cancel_left trail _ _ e in
+    let same : record { literal = x; reason = r } ≡ record { literal = y; reason = q } = cc in
+    ap (λ (f : Entry). f.literal) same
+
+-- the literal that a jump puts on the trail is open before, and implied by the line
+pub jump_opens : (formula : Formula) (m : Machine) (line : DerivationLine) (cut : ℕ) (x : ℤ)
+    → Jumps formula (state_of m.trail.items m.learned) line cut (jumped formula (state_of m.trail.items m.learned) line cut x)
+    → (is_open (is_true (take cut m.trail.items)) x ≡ true) × Implies (take cut m.trail.items) x line.clause
+jump_opens formula m line cut x j =
+    let same : x ≡ j.literal = same_last (take cut m.trail.items) x j.literal _ _ (ap (λ (s : State). s.trail) j.gives) in
+    let unit : unit_of (is_true (take cut m.trail.items)) line.clause ≡ Some x = j.unit ∙ ap Some (sym same) in
+    ((unit_is (take cut m.trail.items) line.clause x unit).1, unit_implies (take cut m.trail.items) line.clause x unit)
+
+pub propagation_implies : (formula : Formula) (m : Machine) (number : ℕ) (x : ℤ) → IsHeld formula m
+    → Moves formula (state_of m.trail.items m.learned) (move.Propagate number) record { trail = with_entry m.trail.items x (Some number); learned = m.learned.lines }
+    → (is_open (is_true m.trail.items) x ≡ true) × IsSomeAnd (numbered (all_clauses formula m.learned) number) (Implies m.trail.items x)
+propagation_implies formula m number x held p =
+    let same : x ≡ p.literal = same_last m.trail.items x p.literal _ _ (ap (λ (s : State). s.trail) p.gives) in
+    let unit : unit_of (is_true m.trail.items) p.clause ≡ Some x = p.unit ∙ ap Some (sym same) in
+    let named : numbered (all_clauses formula m.learned) number ≡ Some p.clause = ap (λ clauses. numbered clauses number) (sym (same_clauses formula m.learned m.trail.items)) ∙ p.named in
+    ((unit_is m.trail.items p.clause x unit).1, rw named (unit_implies m.trail.items p.clause x unit))
+
+pub propagation_over : (formula : Formula) (m : Machine) (number : ℕ) (x : ℤ) → IsHeld formula m
+    → Moves formula (state_of m.trail.items m.learned) (move.Propagate number) record { trail = with_entry m.trail.items x (Some number); learned = m.learned.lines }
+    → IsOver formula.variables x
+propagation_over formula m number x held p =
+    let same : x ≡ p.literal = same_last m.trail.items x p.literal _ _ (ap (λ (s : State). s.trail) p.gives) in
+    let unit : unit_of (is_true m.trail.items) p.clause ≡ Some x = p.unit ∙ ap Some (sym same) in
+    let clauses = rw (sym (same_clauses formula m.learned m.trail.items)) at held.sound.clauses in
+    is_over-tells formula.variables x (has_over formula.variables p.clause x (numbered_over formula.variables _ number p.clause clauses p.named) (unit_is m.trail.items p.clause x unit).0)
+
+-- the marks of the analysis don't matter
+pub at_marks : (formula : Formula) (m o : Machine) → IsAt formula m → o.trail ≡ m.trail → o.values ≡ m.values → o.learned ≡ m.learned → o.moves ≡ m.moves
+    → length o.marks.items ≡ length m.marks.items → IsAt formula o
+at_marks formula m o at trail values learned moves marks = record {
+  held = record {
+    sound = rw (trail, learned) at.held.sound;
+    rights = rw learned at.held.rights;
+    values = λ y. rw (values, trail) (at.held.values y);
+    places = rw values at.held.places;
+    marks = marks ∙ at.held.marks;
+    few = rw learned at.held.few;
+  };
+  run = rw (moves, trail, learned) at.run;
+  lines = rw (learned, moves) at.lines;
+}
+
+pub at_jump : (formula : Formula) (m n o : Machine) (line : DerivationLine) (cut : ℕ) (x : ℤ) → IsAt formula m → IsHeld formula n
+    → n.trail.items ≡ with_entry (take cut m.trail.items) x (Some (length formula.clauses + length m.learned.lines + 1)) → n.learned ≡ record { lines = m.learned.lines ++ line ∷ [] }
+    → n.moves.items ≡ m.moves.items
+    → Moves formula (state_of m.trail.items m.learned) (move.Jump line cut) (jumped formula (state_of m.trail.items m.learned) line cut x)
+    → o.trail ≡ n.trail → o.values ≡ n.values → o.learned ≡ n.learned → o.marks ≡ n.marks → o.moves.items ≡ n.moves.items ++ move.Jump line cut ∷ [] → IsAt formula o
+at_jump formula m n o line cut x at held trail learned moves moved otrail ovalues olearned omarks omoves = record {
+  held = record {
+    sound = rw (otrail, olearned) held.sound;
+    rights = rw olearned held.rights;
+    values = λ y. rw (ovalues, otrail) (held.values y);
+    places = rw ovalues held.places;
+    marks = rw omarks held.marks;
+    few = rw olearned held.few;
+  };
+  run = rw (omoves, moves, otrail, trail, olearned, learned) (rw count at (run_more formula first_state m.moves.items (state_of m.trail.items m.learned) (move.Jump line cut) _ at.run moved));
+  lines =
+      let grown = length-append n.moves.items (move.Jump line cut ∷ []) in
+      let own : length o.moves.items ≡ length n.moves.items + 1 = rw omoves grown in
+      let before : length n.moves.items ≡ length m.moves.items = rw moves refl in
+      let more = length-append m.learned.lines (line ∷ []) in
+      let lines : length o.learned.lines ≡ length m.learned.lines + 1 = rw (olearned, learned) more in
+      omega (arith, at.lines, own, before, lines);
+}
+  where
+    count : length (clauses_of formula (state_of m.trail.items m.learned)) ≡ length formula.clauses + length m.learned.lines
+    count = ap length (same_clauses formula m.learned m.trail.items) ∙ clauses_count formula m.learned
+
+-- the machine after a jump, by its steps: the line learned, the trail cut, and one more literal
+abbrev pub with_lines : Machine → List DerivationLine → Machine
+with_lines m lines = record { trail = m.trail; values = m.values; learned = record { lines = lines }; moves = m.moves; marks = m.marks }
+
+pub jump_steps : (formula : Formula) (m cut_m n o : Machine) (lines : List DerivationLine) (line : DerivationLine) (cut number : ℕ) (x : ℤ) → IsAt formula m → IsOver formula.variables x
+    → Moves formula (state_of m.trail.items m.learned) (move.Jump line cut) (jumped formula (state_of m.trail.items m.learned) line cut x)
+    → number ≡ length formula.clauses + length m.learned.lines + 1 → number < 2 ^ 32 → lines ≡ m.learned.lines ++ line ∷ []
+    → cut_m.trail.items ≡ take cut m.trail.items → ((y : ℤ) → marked ByKey cut_m.values.items y ≡ is_true (take cut m.trail.items) y) → IsSameBut (with_lines m lines) cut_m
+    → n.trail.items ≡ with_entry cut_m.trail.items x (Some number) → ((y : ℤ) → marked ByKey n.values.items y ≡ (marked ByKey cut_m.values.items y || int_eq x y)) → IsSameBut cut_m n
+    → o.trail ≡ n.trail → o.values ≡ n.values → o.learned ≡ n.learned → o.marks ≡ n.marks → o.moves.items ≡ n.moves.items ++ move.Jump line cut ∷ [] → IsAt formula o
+jump_steps formula m cut_m n o lines line cut number x at over moved count few pushed cut_trail cut_values cut_same trail values same otrail ovalues olearned omarks omoves =
+    at_jump formula m n o line cut x at held
+    (trail ∙ rw (cut_trail, count) refl)
+    (same.learned ∙ learned)
+    (same.moves ∙ cut_same.moves)
+    moved otrail ovalues olearned omarks omoves
+  where
+    learned : cut_m.learned ≡ record { lines = m.learned.lines ++ line ∷ [] }
+    learned = cut_same.learned ∙ ap (λ ls. record { lines = ls }) pushed
+
+    right : IsRight (all_clauses formula m.learned) line
+    right = rw (same_clauses formula m.learned m.trail.items) at moved.right
+
+    first_held : IsHeld formula (with_lines m lines)
+    first_held = held_learn formula m (with_lines m lines) line at.held right refl refl refl (ap (λ ls. record { lines = ls }) pushed) (omega (arith, count, few))
+
+    cut_held : IsHeld formula cut_m
+    cut_held = held_cut formula (with_lines m lines) cut_m cut first_held cut_trail cut_values cut_same
+
+    opens : (is_open (is_true (take cut m.trail.items)) x ≡ true) × Implies (take cut m.trail.items) x line.clause
+    opens = jump_opens formula m line cut x moved
+
+    all : all_clauses formula cut_m.learned ≡ all_clauses formula m.learned ++ line.clause ∷ []
+    all = ap (all_clauses formula) learned ∙ with_line formula m.learned line
+
+    place : number ≡ length (all_clauses formula m.learned) + 1
+    place = count ∙ ap (λ k. k + 1) (sym (clauses_count formula m.learned))
+
+    named : numbered (all_clauses formula cut_m.learned) number ≡ Some line.clause
+    named = ap (λ clauses. numbered clauses number) all ∙ rw place (numbered_last (all_clauses formula m.learned) line.clause)
+
+    held : IsHeld formula n
+    held =
+        held_more formula cut_m n x (Some number) cut_held over (rw cut_trail opens.0)
+        (rw (named, cut_trail) opens.1) trail values same
