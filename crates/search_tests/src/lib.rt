@@ -1,0 +1,7 @@
+//! Tests of `search`.
+#![tactic(auto)]
+
+#[cfg(test)]
+mod formulas;
+#[cfg(test)]
+mod tests;
