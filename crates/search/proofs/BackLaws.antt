@@ -38,10 +38,10 @@ negated-over n (negsuc k) h = (omega arith, omega (arith, h.1))
 pub literal-over : (n : ℕ) (x : ℤ) → n ≤ 2 ^ 30 → IsOver n x → IsLiteral x
 literal-over n x small h = (omega (arith, h.0), omega (arith, h.1))
 
-same_by_negation : (x y : ℤ) → int_eq x (neg_ℤ y) ≡ true → y ≡ neg_ℤ x
+pub same_by_negation : (x y : ℤ) → int_eq x (neg_ℤ y) ≡ true → y ≡ neg_ℤ x
 same_by_negation x y e = sym (negated_twice y) ∙ ap neg_ℤ (sym (same_literal x (neg_ℤ y) e))
 
-or_cases : (a b : Bool) → (a || b) ≡ true → (a ≡ true) ⊎ (b ≡ true)
+pub or_cases : (a b : Bool) → (a || b) ≡ true → (a ≡ true) ⊎ (b ≡ true)
 or_cases true b e = inl refl
 or_cases false b e = inr e
 
@@ -49,7 +49,7 @@ or_front : (a b : Bool) → a ≡ true → (a || b) ≡ true
 or_front true b e = refl
 or_front false b e = absurd cc
 
-or_behind : (a b : Bool) → b ≡ true → (a || b) ≡ true
+pub or_behind : (a b : Bool) → b ≡ true → (a || b) ≡ true
 or_behind true b e = refl
 or_behind false b e = e
 

@@ -19,13 +19,13 @@ use Rattle.search.proofs.StatusLaws.{conflict_empties}
 
 -- ---- the marked literals against a trail
 
-negation_test : (x y : ℤ) → int_eq x (neg_ℤ y) ≡ int_eq (neg_ℤ x) y
+pub negation_test : (x y : ℤ) → int_eq x (neg_ℤ y) ≡ int_eq (neg_ℤ x) y
 negation_test x y =
     same_test (int_eq x (neg_ℤ y)) (int_eq (neg_ℤ x) y)
     (λ e. equal_literal (neg_ℤ x) y (ap neg_ℤ (same_literal x (neg_ℤ y) e) ∙ negated_twice y))
     (λ e. equal_literal x (neg_ℤ y) (sym (negated_twice x) ∙ ap neg_ℤ (same_literal (neg_ℤ x) y e)))
 
-next_against : (trail : List Entry) (i : ℕ) (e : Entry) (x : ℤ) → slice_get trail i ≡ Some e
+pub next_against : (trail : List Entry) (i : ℕ) (e : Entry) (x : ℤ) → slice_get trail i ≡ Some e
     → is_true (take (i + 1) trail) (neg_ℤ x) ≡ (is_true (take i trail) (neg_ℤ x) || int_eq (neg_ℤ e.literal) x)
 next_against trail i e x at = true_next trail i e (neg_ℤ x) at ∙ ap (λ t. is_true (take i trail) (neg_ℤ x) || t) (negation_test e.literal x)
 
@@ -91,7 +91,7 @@ module _ (clauses : List (List ℤ)) (trail : List Entry) where
 
 -- ---- the end
 
-nothing_false : (set : ℤ → Bool) (xs : List ℤ) → ((y : ℤ) → has_literal xs y ≡ true → set (neg_ℤ y) ≡ true) → remaining set xs ≡ []
+pub nothing_false : (set : ℤ → Bool) (xs : List ℤ) → ((y : ℤ) → has_literal xs y ≡ true → set (neg_ℤ y) ≡ true) → remaining set xs ≡ []
 nothing_false set xs all = conflict_empties set xs (all_false xs all)
   where
     all_false : (ys : List ℤ) → ((y : ℤ) → has_literal ys y ≡ true → set (neg_ℤ y) ≡ true) → is_conflict set ys ≡ true

@@ -3,6 +3,7 @@ pub mod HistoryLaws
 pub mod KeptLaws
 pub mod LessonLaws
 pub mod MachineLaws
+pub mod MoveLaws
 pub mod NextLaws
 pub mod ScanLaws
 pub mod StatusLaws

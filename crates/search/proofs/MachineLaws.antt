@@ -84,7 +84,7 @@ unit_implies trail clause x e = record {
 
 -- ---- what a state keeps
 
-get_before : (trail : List Entry) (e : Entry) (j : ℕ) (f : Entry) → slice_get (trail ++ e ∷ []) j ≡ Some f → ((slice_get trail j ≡ Some f) × (take j (trail ++ e ∷ []) ≡ take j trail)) ⊎ ((f ≡ e) × (take j (trail ++ e ∷ []) ≡ trail))
+pub get_before : (trail : List Entry) (e : Entry) (j : ℕ) (f : Entry) → slice_get (trail ++ e ∷ []) j ≡ Some f → ((slice_get trail j ≡ Some f) × (take j (trail ++ e ∷ []) ≡ take j trail)) ⊎ ((f ≡ e) × (take j (trail ++ e ∷ []) ≡ trail))
 get_before [] e zero f at = inr (cc, refl)
 get_before [] e (suc j) f at = absurd cc
 get_before (g ∷ trail) e zero f at = inl (at, refl)
@@ -95,7 +95,7 @@ get_before (g ∷ trail) e (suc j) f at = by_side (get_before trail e j f at)
     by_side (inl h) = inl (h.0, ap (λ t. g ∷ t) h.1)
     by_side (inr h) = inr (h.0, ap (λ t. g ∷ t) h.1)
 
-get_taken : (trail : List Entry) (cut j : ℕ) (f : Entry) → slice_get (take cut trail) j ≡ Some f → (slice_get trail j ≡ Some f) × (take j (take cut trail) ≡ take j trail)
+pub get_taken : (trail : List Entry) (cut j : ℕ) (f : Entry) → slice_get (take cut trail) j ≡ Some f → (slice_get trail j ≡ Some f) × (take j (take cut trail) ≡ take j trail)
 get_taken trail zero j f at = absurd cc
 get_taken [] (suc cut) j f at = absurd cc
 get_taken (g ∷ trail) (suc cut) zero f at = (at, refl)

@@ -48,7 +48,7 @@ unfinished_decided formula s cut e some at d (inr refuted) = no_reason s.trail c
         differ _ has lacks
     no_reason (f ∷ trail) (suc i) a h = no_reason trail i (and_right _ _ a) h
 
-any_at : (clauses : List (List ℤ)) (i : ℕ) (clause : List ℤ) (test : List ℤ → Bool) → slice_get clauses i ≡ Some clause → test clause ≡ true → list_any test clauses ≡ true
+pub any_at : (clauses : List (List ℤ)) (i : ℕ) (clause : List ℤ) (test : List ℤ → Bool) → slice_get clauses i ≡ Some clause → test clause ≡ true → list_any test clauses ≡ true
 any_at [] i clause test at h = absurd cc
 any_at (c ∷ cs) zero clause test at h = let same : c ≡ clause = cc in rw (ap test same ∙ h) refl
 any_at (c ∷ cs) (suc i) clause test at h = later (test c) _ (any_at cs i clause test at h)

@@ -6,7 +6,7 @@ use Rattle.cnf.specs.declared.formula.Formula.{Formula}
 use Rattle.cnf.specs.Clauses.{literal_key}
 use Rattle.search.specs.declared.moves.Move.{Move}
 use Rattle.search.specs.declared.trail.Entry.{Entry}
-use Rattle.search.specs.Machine.{State, Moves, Runs, first_state}
+use Rattle.search.specs.Machine.{State, IsFinished, Moves, Runs, first_state}
 
 -- each literal of the formula is one of its variables 1 to their number
 abbrev pub is_over : ℕ → ℤ → Bool
@@ -36,3 +36,9 @@ abbrev pub HistoriesEnd : Type 0
 HistoriesEnd =
     (formula : Formula) (moves : List Move) (s : State) → IsFormula formula
     → Runs formula first_state moves s → length moves < 3 ^ formula.variables
+
+-- from the end of a history, where it isn't finished, a move leads on
+abbrev pub MovesOn : Type 0
+MovesOn =
+    (formula : Formula) (moves : List Move) (s : State) → IsFormula formula → Runs formula first_state moves s
+    → (IsFinished formula s → ⊥) → (move : Move) × (t : State) × Moves formula s move t

@@ -1,7 +1,8 @@
 //! The search machine: states with a trail and learned clauses, its moves, and who is shown histories that spent their
 //! budget (clause learning: Marques-Silva and Sakallah 1999; the words are those of MiniSat, Eén and Sörensson 2003).
 //!
-//! It stands on `cnf` and on `literal_marks`. specs/Machine.antt says what a move is; the laws say that histories end.
+//! It stands on `cnf` and on `literal_marks`. specs/Machine.antt says what a move is; the laws say that histories end, and
+//! that none stops before.
 //! `search` looks at all clauses before each move. The layers above use what it answers (specs/Nexts.antt), and that `shown`
 //! appends what it is given, and after want of memory nothing.
 #![tactic(auto)]
