@@ -1,5 +1,5 @@
 -- A state that isn't finished has a move.
-use Rattle.std.proofs.Common.{◌≡◌, ◌⊎◌, ℕ, zero, suc, ◌+◌, ◌*◌, ◌<◌, ◌≤◌, Bool, true, false, ◌||◌, List, [], ◌∷◌, ◌++◌, length, take, map, get_or, refl, sym, ◌∙◌, ap, add-one, arith, Option, None, Some}
+use Rattle.std.proofs.Common.{◌≡◌, ◌⊎◌, ℕ, zero, suc, ◌+◌, ◌<◌, ◌≤◌, Bool, true, false, ◌||◌, List, [], ◌∷◌, ◌++◌, length, take, get_or, refl, sym, ◌∙◌, ap, add-one, arith, Option, None, Some}
 use mathlib.Core.Logic.{inl, inr}
 use Rattle.std.specs.Prelude.{ℤ, pos, negsuc, neg_ℤ, not, ◌&&◌, nat_eq, slice_get, IfSome, IsSomeAnd, if◌then◌else◌}
 use Rattle.std.specs.List.{list_all, list_any}
@@ -13,19 +13,19 @@ use Rattle.cnf.specs.declared.derivation.Derivation.{Derivation}
 use Rattle.cnf.specs.declared.derivation.DerivationLine.{DerivationLine}
 use Rattle.cnf.specs.declared.formula.Formula.{Formula}
 use Rattle.cnf.specs.Checks.{IsRight, numbered}
-use Rattle.cnf.specs.Clauses.{has_literal, literal_key}
-use Rattle.cnf.specs.Resolution.{can_resolve, resolvent}
+use Rattle.cnf.specs.Clauses.{has_literal}
+use Rattle.cnf.specs.Resolution.{resolvent}
 use Rattle.cnf.proofs.ClauseLaws.{equal_literal, same_literal, same_test}
 use Rattle.search.specs.declared.moves.Move.{Move}
 use Rattle.search.specs.declared.moves.Move.TheVariants.{Propagate, Decide, Jump}
 use Rattle.search.specs.declared.trail.Entry.{Entry}
 use Rattle.search.specs.Laws.{IsFormula, MovesOn, is_over}
 use Rattle.search.specs.Lessons.{IsBack}
-use Rattle.search.specs.Machine.{IsFinished, IsOver, Jumps, Moves, Runs, State, clauses_of, first_state, is_conflict, is_implied_by, is_open, is_true, remaining, unit_of, with_entry}
+use Rattle.search.specs.Machine.{IsFinished, IsOver, Moves, Runs, State, clauses_of, first_state, is_conflict, is_implied_by, is_open, is_true, remaining, unit_of, with_entry}
 use Rattle.search.specs.Nexts.{jumped}
 use Rattle.search.specs.Sound.{Implies, IsSound, all_clauses}
 use Rattle.search.specs.Trails.{IsTrail}
-use Rattle.search.proofs.BackLaws.{at_entry, back_by_reason, back_over, free_before, negated_twice, or_behind, or_cases, same_by_negation, true_in_all, true_later}
+use Rattle.search.proofs.BackLaws.{at_entry, back_by_reason, back_over, free_before, negated_twice, or_behind, or_cases, true_in_all, true_later}
 use Rattle.search.proofs.HistoryLaws.{no_places}
 use Rattle.search.proofs.KeptLaws.{has_over, is_over-tells, line_over, numbered_over, unit_is}
 use Rattle.search.proofs.LessonLaws.{back_begins, negation_test, next_against, nothing_false}

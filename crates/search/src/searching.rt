@@ -1,5 +1,5 @@
 // The search.
-ghost use Rattle.std.specs.Prelude.{◌<◌, ◌≤◌, ◌^◌, IfOk, length};
+ghost use Rattle.std.specs.Prelude.{◌≤◌, ◌^◌, IfOk};
 ghost use Rattle.search.specs.Laws.{IsFormula};
 ghost use Rattle.search.specs.Nexts.{IsFound};
 
@@ -14,9 +14,12 @@ use std::alloc::Global;
 pub fn search(alloc: Global, formula: &Formula, budget: u64) -> Result<Found, Memory>
     requires formula { IsFormula formula.now }
     requires small { formula.now.variables ≤ 2 ^ 30 }
-    requires few { length formula.now.clauses < 2 ^ 32 }
     ensures { IfOk result (IsFound formula.now budget) }
 {
+    // Clauses are numbered in 32 bits.
+    if formula.clauses.len() >= 0x1_0000_0000 {
+        return Err(Memory);
+    }
     let mut machine = Machine::new(alloc, formula)?;
     for _ in 0..budget {
         machine = match machine.turn(alloc, formula)? {

@@ -28,7 +28,6 @@ fn satisfies(values: &[bool], formula: &Formula) -> bool {
 
 fn found(rt: &impl Abort, alloc: Global, formula: &Formula, budget: u64) -> Found {
     assert!(rt; is_over_variables(formula) && formula.variables <= 1 << 30);
-    assert!(rt; formula.clauses.len() < 0x1_0000_0000);
     search(alloc, formula, budget).expect(rt, "no memory")
 }
 
