@@ -1,0 +1,4 @@
+pub mod Made
+pub mod Options
+pub mod Reading
+pub mod Request

@@ -1,0 +1,232 @@
+-- What the words of a command line ask for.
+use denote.Ref.{Bor}
+use Rattle.std.specs.Prelude.{ℕ, ◌&&◌, Bool, true, false, List, [], ◌∷◌, Option, None, Some, codes, if◌then◌else◌, length, map, nat_le, nat_lt, option_and_then, option_map}
+use Rattle.std.specs.Char.{is_ascii_digit}
+use Rattle.std.specs.List.{list_all}
+use Rattle.std.specs.Str.{bytes_eq}
+use Rattle.std.specs.Str.Parse.{digits_value}
+use Rattle.command_words.specs.declared.command_option.CommandOption.{CommandOption}
+use Rattle.command_words.specs.declared.command_option.CommandOption.TheVariants.{Steps, Turns, Frames, Answers, Budget, Json}
+use Rattle.command_words.specs.declared.requests.Bounds.{Bounds}
+use Rattle.command_words.specs.declared.requests.Check.{Check}
+use Rattle.command_words.specs.declared.requests.Generate.{Generate}
+use Rattle.command_words.specs.declared.requests.Goals.{Goals}
+use Rattle.command_words.specs.declared.requests.Measure.{Measure}
+use Rattle.command_words.specs.declared.requests.Prove.{Prove}
+use Rattle.command_words.specs.declared.requests.Request.{Request}
+use Rattle.command_words.specs.declared.requests.Runs.{Runs}
+use Rattle.command_words.specs.declared.requests.Request.TheVariants as request
+use Rattle.command_words.specs.Options.{name_of}
+use Rattle.command_words.specs.Reading.{Text, Use, positional_id, reading, values}
+
+-- ---- what may be asked for
+
+pub record Measuring : Type 0 where
+  pub entry : Text
+  pub query : Text
+  pub inputs : Text
+  pub sources : List Text
+  pub steps : ℕ
+  pub json : Bool
+
+pub record Generating : Type 0 where
+  pub entry : Text
+  pub query : Text
+  pub sources : List Text
+  pub bounds : Bounds
+  pub budget : ℕ
+  pub json : Bool
+
+pub record Listing : Type 0 where
+  pub query : Text
+  pub sources : List Text
+
+pub record Running : Type 0 where
+  pub entry : Text
+  pub inputs : Text
+  pub sources : List Text
+  pub steps : ℕ
+
+pub record Proving : Type 0 where
+  pub entry : Text
+  pub query : Text
+  pub goal : ℕ
+  pub sources : List Text
+  pub bounds : Bounds
+  pub budget : ℕ
+
+pub record Checking : Type 0 where
+  pub entry : Text
+  pub query : Text
+  pub goal : ℕ
+  pub certificate : Text
+  pub sources : List Text
+  pub bounds : Bounds
+
+pub data Asked : Type 0 where
+  measure : Measuring → Asked
+  generate : Generating → Asked
+  goals : Listing → Asked
+  runs : Running → Asked
+  prove : Proving → Asked
+  check : Checking → Asked
+  -- of this size
+  sample : ℕ → Asked
+
+-- ---- what a request asks for
+
+-- the texts that references lead to
+abbrev pub texts_at : List (Bor Text) → List Text
+texts_at = map (λ (text : Bor Text). text.now)
+
+abbrev pub measuring : Measure → Measuring
+measuring m = record { entry = m.entry.now; query = m.query.now; inputs = m.inputs.now; sources = texts_at m.sources.items; steps = m.steps; json = m.json }
+
+abbrev pub generating : Generate → Generating
+generating m = record { entry = m.entry.now; query = m.query.now; sources = texts_at m.sources.items; bounds = m.bounds; budget = m.budget; json = m.json }
+
+abbrev pub listing : Goals → Listing
+listing m = record { query = m.query.now; sources = texts_at m.sources.items }
+
+abbrev pub running : Runs → Running
+running m = record { entry = m.entry.now; inputs = m.inputs.now; sources = texts_at m.sources.items; steps = m.steps }
+
+abbrev pub proving : Prove → Proving
+proving m = record { entry = m.entry.now; query = m.query.now; goal = m.goal; sources = texts_at m.sources.items; bounds = m.bounds; budget = m.budget }
+
+abbrev pub checking : Check → Checking
+checking m = record { entry = m.entry.now; query = m.query.now; goal = m.goal; certificate = m.certificate.now; sources = texts_at m.sources.items; bounds = m.bounds }
+
+abbrev pub asked : Request → Asked
+asked (request.Measure m) = measure (measuring m)
+asked (request.Generate m) = generate (generating m)
+asked (request.Goals m) = goals (listing m)
+asked (request.Runs m) = runs (running m)
+asked (request.Prove m) = prove (proving m)
+asked (request.Check m) = check (checking m)
+asked (request.Sample size) = sample size
+
+-- ---- numbers
+
+-- one to ten decimal digits, and a number from `least` to `most`
+abbrev pub number_in : ℕ → ℕ → Text → Option ℕ
+number_in least most text =
+    let n = digits_value 10 text in
+    if nat_lt 0 (length text) && (nat_le (length text) 10 && (list_all is_ascii_digit text && (nat_le least n && nat_le n most))) then Some n else None
+
+-- the number of an option that is used at most once
+abbrev pub number_of : ℕ → ℕ → ℕ → List Text → Option ℕ
+number_of least most default [] = Some default
+number_of least most default (text ∷ []) = number_in least most text
+number_of least most default _ = None
+
+-- whether a flag is used, at most once
+abbrev pub flag_of : List Text → Option Bool
+flag_of [] = Some false
+flag_of (text ∷ []) = Some true
+flag_of _ = None
+
+abbrev pub values_of : CommandOption → List Use → List Text
+values_of o uses = values (name_of o) uses
+
+abbrev pub steps_in : List Text → Option ℕ
+steps_in = number_of 1 1000000 100000
+
+abbrev pub steps_of : List Use → Option ℕ
+steps_of uses = steps_in (values_of Steps uses)
+
+abbrev pub budget_in : List Text → Option ℕ
+budget_in = number_of 1 20000000 5000000
+
+abbrev pub budget_of : List Use → Option ℕ
+budget_of uses = budget_in (values_of Budget uses)
+
+abbrev pub json_of : List Use → Option Bool
+json_of uses = flag_of (values_of Json uses)
+
+abbrev pub bounds_with : Option ℕ → Option ℕ → Option ℕ → Option Bounds
+bounds_with (Some turns) (Some frames) (Some answers) = Some (record { turns = turns; frames = frames; answers = answers })
+bounds_with _ _ _ = None
+
+-- by the values of the options
+abbrev pub bounds_in : (Text → List Text) → Option Bounds
+bounds_in at = bounds_with (number_of 0 1000 4 (at (name_of Turns))) (number_of 1 64 8 (at (name_of Frames))) (number_of 0 256 16 (at (name_of Answers)))
+
+abbrev pub bounds_of : List Use → Option Bounds
+bounds_of uses = bounds_in (λ id. values id uses)
+
+-- a goal's number
+abbrev pub goal_in : Text → Option ℕ
+goal_in = number_in 1 10000
+
+-- ---- what the positional words are, with the values of the options
+
+abbrev pub measured : List Text → Option ℕ → Option Bool → Option Asked
+measured (entry ∷ query ∷ inputs ∷ source ∷ sources) (Some steps) (Some json) = Some (measure record { entry = entry; query = query; inputs = inputs; sources = source ∷ sources; steps = steps; json = json })
+measured _ _ _ = None
+
+abbrev pub generated : List Text → Option Bounds → Option ℕ → Option Bool → Option Asked
+generated (entry ∷ query ∷ source ∷ sources) (Some bounds) (Some budget) (Some json) = Some (generate record { entry = entry; query = query; sources = source ∷ sources; bounds = bounds; budget = budget; json = json })
+generated _ _ _ _ = None
+
+abbrev pub listed : List Text → Option Asked
+listed (query ∷ source ∷ sources) = Some (goals record { query = query; sources = source ∷ sources })
+listed _ = None
+
+abbrev pub run_with : List Text → Option ℕ → Option Asked
+run_with (entry ∷ inputs ∷ source ∷ sources) (Some steps) = Some (runs record { entry = entry; inputs = inputs; sources = source ∷ sources; steps = steps })
+run_with _ _ = None
+
+abbrev pub proved : List Text → Option Bounds → Option ℕ → Option Asked
+proved (entry ∷ query ∷ number ∷ source ∷ sources) (Some bounds) (Some budget) = option_map (λ goal. prove record { entry = entry; query = query; goal = goal; sources = source ∷ sources; bounds = bounds; budget = budget }) (goal_in number)
+proved _ _ _ = None
+
+abbrev pub checked : List Text → Option Bounds → Option Asked
+checked (entry ∷ query ∷ number ∷ certificate ∷ source ∷ sources) (Some bounds) = option_map (λ goal. check record { entry = entry; query = query; goal = goal; certificate = certificate; sources = source ∷ sources; bounds = bounds }) (goal_in number)
+checked _ _ = None
+
+abbrev pub sampled : List Text → Option Asked
+sampled (number ∷ []) = option_map sample (number_in 1 200 number)
+sampled _ = None
+
+-- ---- the commands
+
+abbrev pub positionals_of : List Use → List Text
+positionals_of uses = values positional_id uses
+
+abbrev pub measure_of : List Use → Option Asked
+measure_of uses = measured (positionals_of uses) (steps_of uses) (json_of uses)
+
+abbrev pub generate_of : List Use → Option Asked
+generate_of uses = generated (positionals_of uses) (bounds_of uses) (budget_of uses) (json_of uses)
+
+abbrev pub goals_of : List Use → Option Asked
+goals_of uses = listed (positionals_of uses)
+
+abbrev pub runs_of : List Use → Option Asked
+runs_of uses = run_with (positionals_of uses) (steps_of uses)
+
+abbrev pub prove_of : List Use → Option Asked
+prove_of uses = proved (positionals_of uses) (bounds_of uses) (budget_of uses)
+
+abbrev pub check_of : List Use → Option Asked
+check_of uses = checked (positionals_of uses) (bounds_of uses)
+
+abbrev pub sample_of : List Use → Option Asked
+sample_of uses = sampled (positionals_of uses)
+
+-- what the words after a command's name ask for, where the command has these options
+abbrev pub asked_by : (List Use → Option Asked) → List CommandOption → List Text → Option Asked
+asked_by f options words = option_and_then f (reading options words None)
+
+-- What the words ask for, or None where they are no command: the first word names the command.
+abbrev pub request_of : List Text → Option Asked
+request_of [] = None
+request_of (name ∷ words) =
+    if bytes_eq name (codes "measure") then asked_by measure_of (Steps ∷ Json ∷ []) words else
+    (if bytes_eq name (codes "generate") then asked_by generate_of (Turns ∷ Frames ∷ Answers ∷ Budget ∷ Json ∷ []) words else
+    (if bytes_eq name (codes "goals") then asked_by goals_of [] words else
+    (if bytes_eq name (codes "runs") then asked_by runs_of (Steps ∷ []) words else
+    (if bytes_eq name (codes "prove") then asked_by prove_of (Turns ∷ Frames ∷ Answers ∷ Budget ∷ []) words else
+    (if bytes_eq name (codes "check") then asked_by check_of (Turns ∷ Frames ∷ Answers ∷ []) words else
+    (if bytes_eq name (codes "sample") then asked_by sample_of [] words else None))))))

@@ -1,0 +1,153 @@
+// The commands.
+ghost use Rattle.std.specs.Prelude.{◌≡◌, None, Some, IfOk, IsErrOf};
+ghost use Rattle.clap.specs.Matches.{found_of};
+ghost use Rattle.clap.specs.Walk.{rows_of};
+ghost use Rattle.command_words.specs.Reading.{texts, row_values};
+ghost use Rattle.command_words.specs.Request.{asked, asked_by, bounds_in, check_of, generate_of, goals_of, measure_of, prove_of, request_of, runs_of, sample_of};
+
+use crate::CommandOption;
+use crate::matching::{WORDS, matches, values_of};
+use crate::requests::{
+    Bounds, Refused, Request, bounds_given, budget_given, check_with, flag_given, generate_with,
+    goals_with, measure_with, number_given, prove_with, runs_with, sample_with, steps_given,
+};
+use clap::ArgMatches;
+use std::alloc::{AllocError, Global};
+
+const MEASURE: [CommandOption; 2] = [CommandOption::Steps, CommandOption::Json];
+
+const GENERATE: [CommandOption; 5] = [
+    CommandOption::Turns,
+    CommandOption::Frames,
+    CommandOption::Answers,
+    CommandOption::Budget,
+    CommandOption::Json,
+];
+
+const GOALS: [CommandOption; 0] = [];
+
+const RUNS: [CommandOption; 1] = [CommandOption::Steps];
+
+const PROVE: [CommandOption; 4] = [
+    CommandOption::Turns,
+    CommandOption::Frames,
+    CommandOption::Answers,
+    CommandOption::Budget,
+];
+
+const CHECK: [CommandOption; 3] = [
+    CommandOption::Turns,
+    CommandOption::Frames,
+    CommandOption::Answers,
+];
+
+const SAMPLE: [CommandOption; 0] = [];
+
+fn measure<'a>(alloc: Global, words: &'a [String]) -> Result<Request<'a>, Refused>
+    ensures ok { IfOk result (λ r. asked_by measure_of MEASURE (texts words.now) ≡ Some (asked r)) }
+    ensures usage { IsErrOf result Refused.Usage → asked_by measure_of MEASURE (texts words.now) ≡ None }
+{
+    let matches = matches(alloc, "measure", &MEASURE, words)?;
+    let positionals = values_of(alloc, &matches, WORDS)?;
+    let steps = values_of(alloc, &matches, CommandOption::Steps.name())?;
+    let json = values_of(alloc, &matches, CommandOption::Json.name())?;
+    measure_with(alloc, &positionals, steps_given(&steps), flag_given(&json))
+}
+
+// The bounds that the options give.
+fn bounds(alloc: Global, matches: &ArgMatches) -> Result<Option<Bounds>, AllocError>
+    ensures { IfOk result (λ bounds. bounds ≡ bounds_in (λ id. row_values id (rows_of (found_of matches.now)))) }
+{
+    let turns = values_of(alloc, matches, CommandOption::Turns.name())?;
+    let frames = values_of(alloc, matches, CommandOption::Frames.name())?;
+    let answers = values_of(alloc, matches, CommandOption::Answers.name())?;
+    Ok(bounds_given(
+        number_given(&turns, 0, 1000, 4),
+        number_given(&frames, 1, 64, 8),
+        number_given(&answers, 0, 256, 16),
+    ))
+}
+
+fn generate<'a>(alloc: Global, words: &'a [String]) -> Result<Request<'a>, Refused>
+    ensures ok { IfOk result (λ r. asked_by generate_of GENERATE (texts words.now) ≡ Some (asked r)) }
+    ensures usage { IsErrOf result Refused.Usage → asked_by generate_of GENERATE (texts words.now) ≡ None }
+{
+    let matches = matches(alloc, "generate", &GENERATE, words)?;
+    let positionals = values_of(alloc, &matches, WORDS)?;
+    let bounds = bounds(alloc, &matches)?;
+    let budget = values_of(alloc, &matches, CommandOption::Budget.name())?;
+    let json = values_of(alloc, &matches, CommandOption::Json.name())?;
+    generate_with(
+        alloc,
+        &positionals,
+        bounds,
+        budget_given(&budget),
+        flag_given(&json),
+    )
+}
+
+fn goals<'a>(alloc: Global, words: &'a [String]) -> Result<Request<'a>, Refused>
+    ensures ok { IfOk result (λ r. asked_by goals_of GOALS (texts words.now) ≡ Some (asked r)) }
+    ensures usage { IsErrOf result Refused.Usage → asked_by goals_of GOALS (texts words.now) ≡ None }
+{
+    let matches = matches(alloc, "goals", &GOALS, words)?;
+    let positionals = values_of(alloc, &matches, WORDS)?;
+    goals_with(alloc, &positionals)
+}
+
+fn runs<'a>(alloc: Global, words: &'a [String]) -> Result<Request<'a>, Refused>
+    ensures ok { IfOk result (λ r. asked_by runs_of RUNS (texts words.now) ≡ Some (asked r)) }
+    ensures usage { IsErrOf result Refused.Usage → asked_by runs_of RUNS (texts words.now) ≡ None }
+{
+    let matches = matches(alloc, "runs", &RUNS, words)?;
+    let positionals = values_of(alloc, &matches, WORDS)?;
+    let steps = values_of(alloc, &matches, CommandOption::Steps.name())?;
+    runs_with(alloc, &positionals, steps_given(&steps))
+}
+
+fn prove<'a>(alloc: Global, words: &'a [String]) -> Result<Request<'a>, Refused>
+    ensures ok { IfOk result (λ r. asked_by prove_of PROVE (texts words.now) ≡ Some (asked r)) }
+    ensures usage { IsErrOf result Refused.Usage → asked_by prove_of PROVE (texts words.now) ≡ None }
+{
+    let matches = matches(alloc, "prove", &PROVE, words)?;
+    let positionals = values_of(alloc, &matches, WORDS)?;
+    let bounds = bounds(alloc, &matches)?;
+    let budget = values_of(alloc, &matches, CommandOption::Budget.name())?;
+    prove_with(alloc, &positionals, bounds, budget_given(&budget))
+}
+
+fn check<'a>(alloc: Global, words: &'a [String]) -> Result<Request<'a>, Refused>
+    ensures ok { IfOk result (λ r. asked_by check_of CHECK (texts words.now) ≡ Some (asked r)) }
+    ensures usage { IsErrOf result Refused.Usage → asked_by check_of CHECK (texts words.now) ≡ None }
+{
+    let matches = matches(alloc, "check", &CHECK, words)?;
+    let positionals = values_of(alloc, &matches, WORDS)?;
+    let bounds = bounds(alloc, &matches)?;
+    check_with(alloc, &positionals, bounds)
+}
+
+fn sample<'a>(alloc: Global, words: &'a [String]) -> Result<Request<'a>, Refused>
+    ensures ok { IfOk result (λ r. asked_by sample_of SAMPLE (texts words.now) ≡ Some (asked r)) }
+    ensures usage { IsErrOf result Refused.Usage → asked_by sample_of SAMPLE (texts words.now) ≡ None }
+{
+    let matches = matches(alloc, "sample", &SAMPLE, words)?;
+    let positionals = values_of(alloc, &matches, WORDS)?;
+    sample_with(&positionals)
+}
+
+/// What the words ask for. `Usage` comes exactly where they are no command.
+pub fn request<'a>(alloc: Global, words: &'a [String]) -> Result<Request<'a>, Refused>
+    ensures ok { IfOk result (λ r. request_of (texts words.now) ≡ Some (asked r)) }
+    ensures usage { IsErrOf result Refused.Usage → request_of (texts words.now) ≡ None }
+{
+    match words {
+        [name, rest @ ..] if name.as_str() == "measure" => measure(alloc, rest),
+        [name, rest @ ..] if name.as_str() == "generate" => generate(alloc, rest),
+        [name, rest @ ..] if name.as_str() == "goals" => goals(alloc, rest),
+        [name, rest @ ..] if name.as_str() == "runs" => runs(alloc, rest),
+        [name, rest @ ..] if name.as_str() == "prove" => prove(alloc, rest),
+        [name, rest @ ..] if name.as_str() == "check" => check(alloc, rest),
+        [name, rest @ ..] if name.as_str() == "sample" => sample(alloc, rest),
+        _ => Err(Refused::Usage),
+    }
+}

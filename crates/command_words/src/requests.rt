@@ -1,0 +1,381 @@
+// What the words ask for.
+ghost use Rattle.std.specs.Prelude.{◌≡◌, ◌&&◌, nat_le, length, map, IfOk, IsErrOf, None, Some};
+ghost use Rattle.std.specs.Char.{is_ascii_digit};
+ghost use Rattle.std.specs.List.{list_all};
+ghost use Rattle.command_words.specs.Request.{asked, bounds_with, budget_in, checked, flag_of, generated, goal_in, listed, measured, number_in, number_of, proved, run_with, sampled, steps_in};
+
+use std::alloc::{AllocError, Global};
+
+/// Why the words are no request.
+#[derive(Clone, Copy, Debug, PartialEq, Eq)]
+pub enum Refused {
+    /// They are no command.
+    Usage,
+    /// Memory ran out.
+    Memory,
+}
+
+impl From<AllocError> for Refused {
+    ghost use Rattle.std.specs.Prelude.{◌≡◌};
+    ghost use Rattle.command_words.specs.declared.requests.Refused.TheVariants as refused;
+
+    ghost from_gives = { λ _ e. e ≡ refused.Memory };
+
+    fn from(_: AllocError) -> Self {
+        Refused::Memory
+    }
+}
+
+/// The bounds within which inputs are searched.
+#[derive(Clone, Copy, Debug, PartialEq, Eq)]
+pub struct Bounds {
+    /// The greatest value of a loop's counter, 0 to 1,000.
+    pub turns: u32,
+    /// The most frames at once, 1 to 64.
+    pub frames: u32,
+    /// The most answers that a run may read, 0 to 256.
+    pub answers: u32,
+}
+
+/// Which goals given inputs cover.
+#[derive(Debug, Drop)]
+pub struct Measure<'a> {
+    /// The name of the entry function.
+    pub entry: &'a str,
+    pub query: &'a str,
+    /// The name of the file of inputs.
+    pub inputs: &'a str,
+    /// The names of the sources' files, one at least.
+    pub sources: Vec<&'a str>,
+    /// The most edges of a run, 1 to 1,000,000.
+    pub steps: u32,
+    pub json: bool,
+}
+
+/// Inputs that cover the goals, within bounds.
+#[derive(Debug, Drop)]
+pub struct Generate<'a> {
+    /// The name of the entry function.
+    pub entry: &'a str,
+    pub query: &'a str,
+    /// The names of the sources' files, one at least.
+    pub sources: Vec<&'a str>,
+    pub bounds: Bounds,
+    /// The moves of each goal's search, 1 to 20,000,000.
+    pub budget: u32,
+    pub json: bool,
+}
+
+/// The list of goals.
+#[derive(Debug, Drop)]
+pub struct Goals<'a> {
+    pub query: &'a str,
+    /// The names of the sources' files, one at least.
+    pub sources: Vec<&'a str>,
+}
+
+/// How the runs of given inputs end, and their edges.
+#[derive(Debug, Drop)]
+pub struct Runs<'a> {
+    /// The name of the entry function.
+    pub entry: &'a str,
+    /// The name of the file of inputs.
+    pub inputs: &'a str,
+    /// The names of the sources' files, one at least.
+    pub sources: Vec<&'a str>,
+    /// The most edges of a run, 1 to 1,000,000.
+    pub steps: u32,
+}
+
+/// A certificate that no input covers a goal within bounds, or what stands in its place.
+#[derive(Debug, Drop)]
+pub struct Prove<'a> {
+    /// The name of the entry function.
+    pub entry: &'a str,
+    pub query: &'a str,
+    /// The goal's number, 1 to 10,000.
+    pub goal: u32,
+    /// The names of the sources' files, one at least.
+    pub sources: Vec<&'a str>,
+    pub bounds: Bounds,
+    /// The moves of the search, 1 to 20,000,000.
+    pub budget: u32,
+}
+
+/// Whether a certificate refutes a goal.
+#[derive(Debug, Drop)]
+pub struct Check<'a> {
+    /// The name of the entry function.
+    pub entry: &'a str,
+    pub query: &'a str,
+    /// The goal's number, 1 to 10,000.
+    pub goal: u32,
+    /// The name of the certificate's file.
+    pub certificate: &'a str,
+    /// The names of the sources' files, one at least.
+    pub sources: Vec<&'a str>,
+    pub bounds: Bounds,
+}
+
+/// What the words ask for.
+#[derive(Debug, Drop)]
+pub enum Request<'a> {
+    Measure(Measure<'a>),
+    Generate(Generate<'a>),
+    Goals(Goals<'a>),
+    Runs(Runs<'a>),
+    Prove(Prove<'a>),
+    Check(Check<'a>),
+    /// A large program, made from a number from 1 to 200.
+    Sample(u32),
+}
+
+fn has_digits_only(text: &str) -> bool
+    ensures { result ≡ list_all is_ascii_digit text.now }
+{
+    text.as_bytes().iter().all(|b| b.is_ascii_digit())
+}
+
+fn is_numeral(text: &str) -> bool
+    ensures { result ≡ (nat_le (length text.now) 10 && list_all is_ascii_digit text.now) }
+{
+    text.len() <= 10 && has_digits_only(text)
+}
+
+fn number(text: &str, least: u32, most: u32) -> Option<u32>
+    ensures { result ≡ number_in least most text.now }
+{
+    if !is_numeral(text) {
+        return None;
+    }
+    let Ok(number) = text.parse::<u32>() else {
+        return None;
+    };
+    if least <= number && number <= most {
+        Some(number)
+    } else {
+        None
+    }
+}
+
+/// The number of an option that may be used once, or its default.
+pub fn number_given(values: &[&str], least: u32, most: u32, default: u32) -> Option<u32>
+    ensures { result ≡ number_of least most default (map (λ v. v.now) values.now) }
+{
+    match values {
+        [] => Some(default),
+        [text] => number(text, least, most),
+        _ => None,
+    }
+}
+
+/// The number of `--steps`.
+pub fn steps_given(values: &[&str]) -> Option<u32>
+    ensures { result ≡ steps_in (map (λ v. v.now) values.now) }
+{
+    number_given(values, 1, 1_000_000, 100_000)
+}
+
+/// The number of `--budget`.
+pub fn budget_given(values: &[&str]) -> Option<u32>
+    ensures { result ≡ budget_in (map (λ v. v.now) values.now) }
+{
+    number_given(values, 1, 20_000_000, 5_000_000)
+}
+
+/// Whether a flag is used, which may be used once.
+pub fn flag_given(values: &[&str]) -> Option<bool>
+    ensures { result ≡ flag_of (map (λ v. v.now) values.now) }
+{
+    match values {
+        [] => Some(false),
+        [_] => Some(true),
+        _ => None,
+    }
+}
+
+/// The bounds of their three numbers.
+pub fn bounds_given(turns: Option<u32>, frames: Option<u32>, answers: Option<u32>) -> Option<Bounds>
+    ensures { result ≡ bounds_with turns frames answers }
+{
+    match (turns, frames, answers) {
+        (Some(turns), Some(frames), Some(answers)) => Some(Bounds {
+            turns,
+            frames,
+            answers,
+        }),
+        _ => None,
+    }
+}
+
+/// The request of `measure`.
+pub fn measure_with<'a>(
+    alloc: Global,
+    positionals: &[&'a str],
+    steps: Option<u32>,
+    json: Option<bool>,
+) -> Result<Request<'a>, Refused>
+    ensures ok { IfOk result (λ r. measured (map (λ v. v.now) positionals.now) steps json ≡ Some (asked r)) }
+    ensures usage { IsErrOf result Refused.Usage → measured (map (λ v. v.now) positionals.now) steps json ≡ None }
+{
+    let (Some(steps), Some(json)) = (steps, json) else {
+        return Err(Refused::Usage);
+    };
+    match positionals {
+        [entry, query, inputs, sources @ ..] if !sources.is_empty() => Ok(Request::Measure(
+            Measure {
+                entry: *entry,
+                query: *query,
+                inputs: *inputs,
+                sources: sources.to_vec(alloc)?,
+                steps,
+                json,
+            },
+        )),
+        _ => Err(Refused::Usage),
+    }
+}
+
+/// The request of `generate`.
+pub fn generate_with<'a>(
+    alloc: Global,
+    positionals: &[&'a str],
+    bounds: Option<Bounds>,
+    budget: Option<u32>,
+    json: Option<bool>,
+) -> Result<Request<'a>, Refused>
+    ensures ok { IfOk result (λ r. generated (map (λ v. v.now) positionals.now) bounds budget json ≡ Some (asked r)) }
+    ensures usage { IsErrOf result Refused.Usage → generated (map (λ v. v.now) positionals.now) bounds budget json ≡ None }
+{
+    let (Some(bounds), Some(budget), Some(json)) = (bounds, budget, json) else {
+        return Err(Refused::Usage);
+    };
+    match positionals {
+        [entry, query, sources @ ..] if !sources.is_empty() => Ok(Request::Generate(Generate {
+            entry: *entry,
+            query: *query,
+            sources: sources.to_vec(alloc)?,
+            bounds,
+            budget,
+            json,
+        })),
+        _ => Err(Refused::Usage),
+    }
+}
+
+/// The request of `goals`.
+pub fn goals_with<'a>(alloc: Global, positionals: &[&'a str]) -> Result<Request<'a>, Refused>
+    ensures ok { IfOk result (λ r. listed (map (λ v. v.now) positionals.now) ≡ Some (asked r)) }
+    ensures usage { IsErrOf result Refused.Usage → listed (map (λ v. v.now) positionals.now) ≡ None }
+{
+    match positionals {
+        [query, sources @ ..] if !sources.is_empty() => Ok(Request::Goals(Goals {
+            query: *query,
+            sources: sources.to_vec(alloc)?,
+        })),
+        _ => Err(Refused::Usage),
+    }
+}
+
+/// The request of `runs`.
+pub fn runs_with<'a>(
+    alloc: Global,
+    positionals: &[&'a str],
+    steps: Option<u32>,
+) -> Result<Request<'a>, Refused>
+    ensures ok { IfOk result (λ r. run_with (map (λ v. v.now) positionals.now) steps ≡ Some (asked r)) }
+    ensures usage { IsErrOf result Refused.Usage → run_with (map (λ v. v.now) positionals.now) steps ≡ None }
+{
+    let Some(steps) = steps else {
+        return Err(Refused::Usage);
+    };
+    match positionals {
+        [entry, inputs, sources @ ..] if !sources.is_empty() => Ok(Request::Runs(Runs {
+            entry: *entry,
+            inputs: *inputs,
+            sources: sources.to_vec(alloc)?,
+            steps,
+        })),
+        _ => Err(Refused::Usage),
+    }
+}
+
+/// The number of a goal.
+fn goal_given(text: &str) -> Option<u32>
+    ensures { result ≡ goal_in text.now }
+{
+    number(text, 1, 10_000)
+}
+
+/// The request of `prove`.
+pub fn prove_with<'a>(
+    alloc: Global,
+    positionals: &[&'a str],
+    bounds: Option<Bounds>,
+    budget: Option<u32>,
+) -> Result<Request<'a>, Refused>
+    ensures ok { IfOk result (λ r. proved (map (λ v. v.now) positionals.now) bounds budget ≡ Some (asked r)) }
+    ensures usage { IsErrOf result Refused.Usage → proved (map (λ v. v.now) positionals.now) bounds budget ≡ None }
+{
+    let (Some(bounds), Some(budget)) = (bounds, budget) else {
+        return Err(Refused::Usage);
+    };
+    match positionals {
+        [entry, query, number, sources @ ..] if !sources.is_empty() => match goal_given(number) {
+            Some(goal) => Ok(Request::Prove(Prove {
+                entry: *entry,
+                query: *query,
+                goal,
+                sources: sources.to_vec(alloc)?,
+                bounds,
+                budget,
+            })),
+            None => Err(Refused::Usage),
+        },
+        _ => Err(Refused::Usage),
+    }
+}
+
+/// The request of `check`.
+pub fn check_with<'a>(
+    alloc: Global,
+    positionals: &[&'a str],
+    bounds: Option<Bounds>,
+) -> Result<Request<'a>, Refused>
+    ensures ok { IfOk result (λ r. checked (map (λ v. v.now) positionals.now) bounds ≡ Some (asked r)) }
+    ensures usage { IsErrOf result Refused.Usage → checked (map (λ v. v.now) positionals.now) bounds ≡ None }
+{
+    let Some(bounds) = bounds else {
+        return Err(Refused::Usage);
+    };
+    match positionals {
+        [entry, query, number, certificate, sources @ ..] if !sources.is_empty() => {
+            match goal_given(number) {
+                Some(goal) => Ok(Request::Check(Check {
+                    entry: *entry,
+                    query: *query,
+                    goal,
+                    certificate: *certificate,
+                    sources: sources.to_vec(alloc)?,
+                    bounds,
+                })),
+                None => Err(Refused::Usage),
+            }
+        }
+        _ => Err(Refused::Usage),
+    }
+}
+
+/// The request of `sample`.
+pub fn sample_with<'a>(positionals: &[&'a str]) -> Result<Request<'a>, Refused>
+    ensures ok { IfOk result (λ r. sampled (map (λ v. v.now) positionals.now) ≡ Some (asked r)) }
+    ensures usage { IsErrOf result Refused.Usage → sampled (map (λ v. v.now) positionals.now) ≡ None }
+{
+    match positionals {
+        [text] => match number(text, 1, 200) {
+            Some(size) => Ok(Request::Sample(size)),
+            None => Err(Refused::Usage),
+        },
+        _ => Err(Refused::Usage),
+    }
+}

@@ -1,0 +1,5 @@
+//! The tests of `command_words`, in a crate of their own so that `command_words` is proved once.
+#![tactic(auto)]
+
+#[cfg(test)]
+mod tests;

@@ -1,0 +1,237 @@
+// The words of command lines, and what they ask for.
+use command_words::{Bounds, Refused, Request, request};
+use std::alloc::Global;
+use std::test::Fail;
+
+// The words of a line, parted by spaces; `_` stands for the empty word.
+fn words(alloc: Global, line: &str) -> Result<Vec<String>, Fail> {
+    let mut words = Vec::new(alloc);
+    for part in line.split(' ') {
+        let word = if part == "_" { "" } else { part };
+        words.push(String::from_str(alloc, word)?)?;
+    }
+    Ok(words)
+}
+
+fn show_bounds(alloc: Global, bounds: Bounds) -> Result<String, Fail> {
+    let Bounds {
+        turns,
+        frames,
+        answers,
+    } = bounds;
+    Ok(format!(in alloc; "{turns}/{frames}/{answers}")?)
+}
+
+// A request, with the name of its command.
+fn show(alloc: Global, request: &Request) -> Result<String, Fail> {
+    let text = match request {
+        Request::Measure(m) => {
+            format!(in alloc;
+                "measure {} {} {} {:?} {} {}",
+                m.entry, m.query, m.inputs, m.sources, m.steps, m.json
+            )?
+        }
+        Request::Generate(m) => {
+            let bounds = show_bounds(alloc, m.bounds)?;
+            format!(in alloc;
+                "generate {} {} {:?} {bounds} {} {}",
+                m.entry, m.query, m.sources, m.budget, m.json
+            )?
+        }
+        Request::Goals(m) => format!(in alloc; "goals {} {:?}", m.query, m.sources)?,
+        Request::Runs(m) => {
+            format!(in alloc; "runs {} {} {:?} {}", m.entry, m.inputs, m.sources, m.steps)?
+        }
+        Request::Prove(m) => {
+            let bounds = show_bounds(alloc, m.bounds)?;
+            format!(in alloc;
+                "prove {} {} {} {:?} {bounds} {}",
+                m.entry, m.query, m.goal, m.sources, m.budget
+            )?
+        }
+        Request::Check(m) => {
+            let bounds = show_bounds(alloc, m.bounds)?;
+            format!(in alloc;
+                "check {} {} {} {} {:?} {bounds}",
+                m.entry, m.query, m.goal, m.certificate, m.sources
+            )?
+        }
+        Request::Sample(size) => format!(in alloc; "sample {size}")?,
+    };
+    Ok(text)
+}
+
+fn answer(alloc: Global, line: &str) -> Result<String, Fail> {
+    let words = words(alloc, line)?;
+    match request(alloc, &words) {
+        Ok(asked) => show(alloc, &asked),
+        Err(Refused::Usage) => Ok(String::from_str(alloc, "usage")?),
+        Err(Refused::Memory) => Err(Fail::from("no memory")),
+    }
+}
+
+// What lines ask for.
+static ASKED: [(&str, &str); 24] = [
+    (
+        "measure f q in a.c",
+        "measure f q in [\"a.c\"] 100000 false",
+    ),
+    (
+        "measure f q in a.c b.c --steps 7 --json",
+        "measure f q in [\"a.c\", \"b.c\"] 7 true",
+    ),
+    (
+        "measure --json f q --steps=1000000 in a.c",
+        "measure f q in [\"a.c\"] 1000000 true",
+    ),
+    (
+        "measure --steps 0000000001 f q in a.c",
+        "measure f q in [\"a.c\"] 1 false",
+    ),
+    ("measure _ _ _ _", "measure    [\"\"] 100000 false"),
+    (
+        "measure f q in -- -a.c -- --json",
+        "measure f q in [\"-a.c\", \"--\", \"--json\"] 100000 false",
+    ),
+    (
+        "measure f q in a.c --json b.c",
+        "measure f q in [\"a.c\", \"b.c\"] 100000 true",
+    ),
+    (
+        "generate f q a.c",
+        "generate f q [\"a.c\"] 4/8/16 5000000 false",
+    ),
+    (
+        "generate --turns 0 --frames 64 --answers 256 --budget 20000000 --json f q a.c",
+        "generate f q [\"a.c\"] 0/64/256 20000000 true",
+    ),
+    (
+        "generate --turns=1000 --frames=1 --answers=0 --budget=1 f q a.c",
+        "generate f q [\"a.c\"] 1000/1/0 1 false",
+    ),
+    ("goals q a.c b.c", "goals q [\"a.c\", \"b.c\"]"),
+    ("goals -- -q --", "goals -q [\"--\"]"),
+    ("runs f in a.c", "runs f in [\"a.c\"] 100000"),
+    ("runs --steps 3 f in a.c", "runs f in [\"a.c\"] 3"),
+    (
+        "prove f q 10000 a.c",
+        "prove f q 10000 [\"a.c\"] 4/8/16 5000000",
+    ),
+    (
+        "prove f q 3 --turns 5 a.c --budget 6",
+        "prove f q 3 [\"a.c\"] 5/8/16 6",
+    ),
+    (
+        "prove f q 0000000001 a.c",
+        "prove f q 1 [\"a.c\"] 4/8/16 5000000",
+    ),
+    ("check f q 1 c a.c", "check f q 1 c [\"a.c\"] 4/8/16"),
+    (
+        "check --answers 2 f q 1 c a.c b.c",
+        "check f q 1 c [\"a.c\", \"b.c\"] 4/8/2",
+    ),
+    ("sample 1", "sample 1"),
+    ("sample 200", "sample 200"),
+    ("sample -- 7", "sample 7"),
+    ("measure f q in a.c --steps", "usage"),
+    ("measure", "usage"),
+];
+
+// Lines that ask for nothing.
+static REFUSED: [&str; 52] = [
+    "measure f q in",
+    "measure f q in --",
+    "measure f q in a.c --json --json",
+    "measure f q in a.c --steps 1 --steps 1",
+    "measure f q in a.c --steps --json",
+    "measure f q in a.c --steps -- 7",
+    "measure f q in a.c --steps=",
+    "measure f q in a.c --steps +7",
+    "measure f q in a.c --steps -7",
+    "measure f q in a.c --steps=-7",
+    "measure f q in a.c --steps 00000000007",
+    "measure f q in a.c --steps 0",
+    "measure f q in a.c --steps 1000001",
+    "measure f q in a.c --steps 4294967297",
+    "measure f q in a.c --steps _",
+    "measure f q in a.c --steps 7x",
+    "measure f q in a.c --step 7",
+    "measure f q in a.c --json=",
+    "measure f q in a.c --json=true",
+    "measure f q in a.c --turns 1",
+    "measure f q in a.c --words x",
+    "measure f q in a.c --=7",
+    "measure f q in a.c -",
+    "measure f q in a.c -h",
+    "measure f q -in a.c",
+    "measure f q in a.c --help",
+    "measure f q in a.c --version",
+    "generate f q",
+    "generate f q a.c --turns 1001",
+    "generate f q a.c --frames 0",
+    "generate f q a.c --frames 65",
+    "generate f q a.c --answers 257",
+    "generate f q a.c --budget 0",
+    "generate f q a.c --budget 20000001",
+    "generate f q a.c --steps 1",
+    "goals q",
+    "goals q a.c --json",
+    "runs f in",
+    "runs f in a.c --json",
+    "prove f q 0 a.c",
+    "prove f q 10001 a.c",
+    "prove f q x a.c",
+    "prove f q 1",
+    "prove f q 1 a.c --json",
+    "check f q 1 c",
+    "check f q 0 c a.c",
+    "check f q 1 c a.c --budget 1",
+    "sample",
+    "sample 0",
+    "sample 201",
+    "sample 1 1",
+    "sample --json 1",
+];
+
+// First words that name no command.
+static UNNAMED: [&str; 8] = [
+    "_",
+    "help",
+    "help measure",
+    "--help",
+    "-- measure f q in a.c",
+    "--json measure f q in a.c",
+    "meas f q in a.c",
+    "Measure f q in a.c",
+];
+
+#[test]
+fn lines(rt: HostRuntime) -> Result<(), Fail> {
+    let alloc = rt.alloc();
+    for (line, want) in &ASKED {
+        assert_eq!(rt; answer(alloc, line)?.as_str(), *want, "at {line}");
+    }
+    for line in &REFUSED {
+        assert_eq!(rt; answer(alloc, line)?.as_str(), "usage", "at {line}");
+    }
+    for line in &UNNAMED {
+        assert_eq!(rt; answer(alloc, line)?.as_str(), "usage", "at {line}");
+    }
+    assert_eq!(rt; request(alloc, &[]).err(), Some(Refused::Usage));
+    Ok(())
+}
+
+// As many words as a shell lets through.
+#[test]
+fn ten_thousand_sources(rt: HostRuntime) -> Result<(), Fail> {
+    let alloc = rt.alloc();
+    let mut words = words(alloc, "goals q")?;
+    for _ in 0..10_000 {
+        words.push(String::from_str(alloc, "a.c")?)?;
+    }
+    match request(alloc, &words) {
+        Ok(Request::Goals(goals)) => assert_eq!(rt; goals.sources.len(), 10_000),
+        _ => return Err(Fail::from("no goals")),
+    }
+    Ok(())
+}
