@@ -14,7 +14,7 @@ use Rattle.c_lex.specs.declared.token.SourceText.{SourceText}
 use Rattle.c_lex.specs.declared.token.Token.{Token}
 use Rattle.c_lex.specs.declared.token.TokenKind.{TokenKind}
 use Rattle.c_lex.specs.declared.token.TokenKind.TheVariants as kind
-use Rattle.c_lex.specs.Lexed.{Outcome, accepted, refused, after, Reads, all_read, too_wide, loops, too_many, a_token, included, unknown_byte, wrong, defined_twice, wide_list, defined, unknown, open_comment, ReadsTexts, no_text, refuses, accepts, token_at}
+use Rattle.c_lex.specs.Lexed.{Lexed, Outcome, accepted, refused, after, Reads, all_read, too_wide, loops, too_many, a_token, included, unknown_byte, wrong, defined_twice, wide_list, defined, unknown, open_comment, ReadsTexts, no_text, refuses, accepts, token_at}
 use Rattle.c_lex.specs.NumbersOfKinds.{HasValue, HaveValues}
 use Rattle.c_lex.specs.Places.{span_of}
 use Rattle.c_lex.proofs.NumbersLaws.{numbers}
@@ -22,7 +22,8 @@ use Rattle.c_parse.specs.declared.sign.Mark.{Mark}
 use Rattle.c_parse.specs.declared.sign.Sign.TheVariants as sign
 use Rattle.c_parse.specs.declared.sign.TypeWord.{TypeWord}
 use Rattle.c_parse.specs.Signs.{terminal_of, sign_of, word_sign, mark_sign, keyword_or_other, type_or_name, mark_or_foreign}
-use Rattle.tree_contents.specs.Contents.{token_passes, sign_passes, UnitsOfTexts}
+use Rattle.tree_contents.specs.Contents.{token_passes, sign_passes, ExpressionsOfTexts, UnitsOfTexts}
+use Rattle.tree_contents.proofs.Expressions.{choice_passes}
 use Rattle.tree_contents.proofs.Items.{items_pass}
 
 -- ---- what the grammar calls a number is a number
@@ -121,7 +122,15 @@ held files (t ∷ ts) h k =
     and_both (token_passes (λ n kind. is_value kind n) (λ place. nat_lt place.file files) (terminal_of t)) _
     (and_both (nat_lt t.span.file files) _ (lt-ltb t.span.file files k.1) (valued_sign t.kind t.text (λ place. nat_lt place.file files) h.0)) (held files ts h.1 k.2)
 
+texts_pass : (texts : List SourceText) (tokens : List Token) → Lexed texts tokens → IsTrue (list_all (token_passes (λ n kind. is_value kind n) (λ place. nat_lt place.file (length texts))) (map terminal_of tokens))
+texts_pass texts tokens lexed =
+    let lie = lies_wider 0 (0 + length texts) 0 (length texts) tokens (omega arith) (omega arith) (texts_give lexed.2) in
+    held (length texts) tokens (numbers texts tokens lexed) lie
+
 pub units_of_texts : UnitsOfTexts
 units_of_texts texts tokens items lexed derived =
-    let lie = lies_wider 0 (0 + length texts) 0 (length texts) tokens (omega arith) (omega arith) (texts_give lexed.2) in
-    items_pass (λ n kind. is_value kind n) (λ place. nat_lt place.file (length texts)) derived (held (length texts) tokens (numbers texts tokens lexed) lie)
+    items_pass (λ n kind. is_value kind n) (λ place. nat_lt place.file (length texts)) derived (texts_pass texts tokens lexed)
+
+pub expressions_of_texts : ExpressionsOfTexts
+expressions_of_texts texts tokens t lexed derived =
+    choice_passes (λ n kind. is_value kind n) (λ place. nat_lt place.file (length texts)) derived (texts_pass texts tokens lexed)

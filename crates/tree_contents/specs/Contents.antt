@@ -168,3 +168,9 @@ abbrev pub UnitsOfTexts : Type 0
 UnitsOfTexts =
     (texts : List SourceText) (tokens : List Token) (items : List Item) → Lexed texts tokens → DerivesItems items (map terminal_of tokens) →
     ContentsFit (length texts) items
+
+-- An expression of texts has numbers that are values of their kinds, and places in these texts.
+abbrev pub ExpressionsOfTexts : Type 0
+ExpressionsOfTexts =
+    (texts : List SourceText) (tokens : List Token) (t : ExprTree) → Lexed texts tokens → DerivesChoice t (map terminal_of tokens) →
+    IsTrue (tree_passes (λ n kind. is_value kind n) (λ place. nat_lt place.file (length texts)) t)
