@@ -1,10 +1,13 @@
-// What filters keep of one automaton, worked by hand.
+// What filters keep of three automata, worked by hand from the tables of docs/GRAPH.md and docs/QUERY.md.
+mod sources;
 mod worked;
 
+use c_front::automaton_of_texts;
 use cfa::Graph;
 use filters::{TargetGraph, apply};
 use fq_core::{Fault, Place, Refusal};
 use fql_read::{CoverTree, Filter, read_query};
+use sources::{ARRAYS, KEPT_OF_ARRAYS, KEPT_OF_LOOPS, LOOPS, texts};
 use std::alloc::Global;
 use std::test::Fail;
 use worked::parts;
@@ -128,5 +131,28 @@ fn filters_keep(rt: HostRuntime) -> Result<(), Fail> {
     }
     let whole = TargetGraph::whole(alloc, &graph)?;
     assert!(rt; whole.has_node(7) && !whole.has_node(8) && whole.has_edge(0) && !whole.has_edge(8));
+    Ok(())
+}
+
+// The automata of sources: recursion, a loop, a label, a `switch` and two files; arrays that are lent.
+#[test]
+fn filters_keep_of_sources(rt: HostRuntime) -> Result<(), Fail> {
+    let alloc = rt.alloc();
+    for (files, cases) in [
+        (LOOPS.as_slice(), KEPT_OF_LOOPS.as_slice()),
+        (ARRAYS.as_slice(), KEPT_OF_ARRAYS.as_slice()),
+    ] {
+        let texts = texts(alloc, files)?;
+        assert!(rt; c_lex::are_small(&texts));
+        assert!(rt; texts.len() < 10);
+        let Ok(graph) = automaton_of_texts(alloc, &texts) else {
+            assert!(rt; false, "no automaton");
+            return Ok(());
+        };
+        for case in cases {
+            let text = case.0;
+            assert!(rt; is_kept(alloc, &graph, case), "{text}");
+        }
+    }
     Ok(())
 }
