@@ -437,7 +437,7 @@ suite 1 3\ncovered 4 of 4\n";
     )
 }
 
-// What a run of a measurement with this query answers, where the files and the words could be made.
+// What a measurement of two sources with this query answers, where the files and the words could be made.
 fn answer_of(
     rt: &HostRuntime,
     query: &str,
@@ -445,9 +445,9 @@ fn answer_of(
     err: &mut VecSink,
 ) -> Result<Status, Fail> {
     let alloc = rt.alloc();
-    let entries = [("a.c", A_C), ("in.txt", "5\n11\n")];
+    let entries = [("p1.c", P1_C), ("p2.c", P2_C), ("in.txt", "9\n2\n")];
     let mut files = files(alloc, &entries, &[])?;
-    let words = words(alloc, &["measure", "f", query, "in.txt", "a.c"])?;
+    let words = words(alloc, &["measure", "f", query, "in.txt", "p1.c", "p2.c"])?;
     let status = run(alloc, &words, &mut files, out, err);
     eprintln!(rt; "answer {status:?}")?;
     Ok(status)
@@ -462,10 +462,10 @@ fn memory_refused(rt: HostRuntime) -> Result<(), Fail> {
     let mut err = VecSink::new(rt.alloc());
     let status = answer_of(&rt, QUERY, &mut out, &mut err)?;
     if status == Status::Memory {
-        assert!(rt; TWO_INPUTS.as_bytes().starts_with(out.taken()));
+        assert!(rt; P_REPORT.as_bytes().starts_with(out.taken()));
     } else {
         assert_eq!(rt; status, Status::Done);
-        assert_eq!(rt; out.taken(), TWO_INPUTS.as_bytes());
+        assert_eq!(rt; out.taken(), P_REPORT.as_bytes());
     }
     assert_eq!(rt; err.taken(), "".as_bytes());
     Ok(())
