@@ -8,5 +8,6 @@ pub mod Pending
 pub mod Prefixes
 pub mod Rows
 pub mod SearchLaws
+pub mod SpreadLaws
 pub mod WalkLaws
 pub mod Walks

@@ -4,9 +4,10 @@ use Rattle.std.specs.Prelude.{slice_get, if◌then◌else◌}
 use Rattle.std.specs.Option.{IsSomeAnd}
 use Rattle.std.specs.List.{filter, flat_map, last_or, list_all, range_with_len}
 use Rattle.std.proofs.Math.ListN.{length-set}
-use Rattle.std.proofs.lemmas.Bool.{and_parts, and_from, cases_eq, cases_Bool, both_ways, lt-ltb, eqb-true, false_from_ne_true}
+use Rattle.std.proofs.lemmas.Bool.{and_parts, and_from, cases_eq, both_ways, lt-ltb, eqb-true, false_from_ne_true}
 use Rattle.std.proofs.lemmas.List.{append-nil, length_push, map-id}
 use Rattle.std.proofs.lemmas.List.Folds.{list_all-append}
+use Rattle.std.proofs.lemmas.Option.{slice_get_within}
 use Rattle.cfa.proofs.Exits.{taken}
 use Rattle.cfa.specs.declared.parts.Edge.{Edge}
 use Rattle.cfa.specs.declared.parts.GraphParts.{GraphParts}
@@ -14,7 +15,7 @@ use Rattle.filters.specs.Parts.{Part, IsWithin, edge_has, is_marked}
 use Rattle.graph_paths.specs.Ground.{is_first}
 use Rattle.graph_paths.specs.Paths.{is_end_node, begins_at_start, leads_to, occurrences, is_path, ordered_lists}
 use Rattle.graph_paths.specs.Searching.{is_way}
-use Rattle.graph_paths.specs.Uses.{uses_left, AreUses}
+use Rattle.graph_paths.specs.Uses.{AreLiving, AreUses, AreLeft}
 use Rattle.graph_paths.specs.Walking.{extensions, behind, paths_behind, from_place, later, remaining, row_after, row_of, IsPrefix}
 use Rattle.graph_paths.proofs.Extensions.{own, none_behind, behind_is}
 use Rattle.graph_paths.proofs.Lists.{flat_map-filter}
@@ -78,63 +79,6 @@ module _ (parts : GraphParts) (a : Part) (most : ℕ) where
   pub last_in_part : (p : List ℕ) (e : ℕ) → IsPrefix parts a most (p ++ e ∷ []) → a.edge e ≡ true
   last_in_part p e h = (and_parts (a.edge e) true (and_parts _ _ (sym (list_all-append a.edge p (e ∷ [])) ∙ h.edges)).1).0
 
-  -- ---- the table of uses
-
-  pub use_is : (p : List ℕ) (k : ℕ) → a.edge k ≡ true → uses_left a most p k ≡ most - occurrences k p
-  use_is p k edge = ap (λ b. if b then most - occurrences k p else 0) edge
-
-  pub use_some : (p : List ℕ) (k : ℕ) → 0 < uses_left a most p k → (a.edge k ≡ true) × (occurrences k p < most)
-  use_some p k h = elim (cases_Bool (a.edge k)) [
-    | inl inside ↦ (inside, let e = use_is p k inside in omega arith)
-    | inr outside ↦ let e : uses_left a most p k ≡ 0 = ap (λ b. if b then most - occurrences k p else 0) outside in absurd (omega arith)
-  ]
-
-  pub use_from : (p : List ℕ) (k : ℕ) → a.edge k ≡ true → occurrences k p < most → 0 < uses_left a most p k
-  use_from p k inside room = let e = use_is p k inside in omega arith
-
-  same_use : (p q : List ℕ) (k : ℕ) → occurrences k p ≡ occurrences k q → uses_left a most p k ≡ uses_left a most q k
-  same_use p q k e = ap (λ n. if a.edge k then most - n else 0) e
-
-  pub uses_push : (p left : List ℕ) (e v : ℕ) → AreUses parts a most p left → e < length parts.edges → a.edge e ≡ true → v ≡ get_or left e 0 - 1 → AreUses parts a most (p ++ e ∷ []) (set left e v)
-  uses_push p left e v h lt edge is = record {
-    size = length-set left e v ∙ h.size;
-    each = λ k low. elim (cases_eq k e) [
-      | inl same ↦
-          let here = ap (λ m. get_or (set left e v) m 0) same ∙ get_or-set_same left e v 0 (omega (arith, h.size)) in
-          let inside : a.edge k ≡ true = ap a.edge same ∙ edge in
-          let old = h.each e lt ∙ use_is p e edge in
-          let new = use_is (p ++ e ∷ []) k inside in
-          let count = occurrences-append k p (e ∷ []) in
-          let one = ap (λ m. occurrences m (e ∷ [])) same ∙ occurs_first e [] in
-          let none : occurrences e [] ≡ 0 = refl in
-          let swap = ap (λ m. occurrences m p) same in
-          omega arith
-      | inr other ↦
-          get_or-set_other left e k v 0 other ∙ h.each k low
-          ∙ same_use p (p ++ e ∷ []) k (let count = occurrences-append k p (e ∷ []) in let none = occurs_later k e [] (λ q. other (sym q)) in let nil : occurrences k [] ≡ 0 = refl in omega arith)
-    ];
-  }
-
-  pub uses_pop : (p left : List ℕ) (e v : ℕ) → AreUses parts a most (p ++ e ∷ []) left → e < length parts.edges → a.edge e ≡ true → occurrences e (p ++ e ∷ []) ≤ most → v ≡ get_or left e 0 + 1 → AreUses parts a most p (set left e v)
-  uses_pop p left e v h lt edge bound is = record {
-    size = length-set left e v ∙ h.size;
-    each = λ k low. elim (cases_eq k e) [
-      | inl same ↦
-          let here = ap (λ m. get_or (set left e v) m 0) same ∙ get_or-set_same left e v 0 (omega (arith, h.size)) in
-          let inside : a.edge k ≡ true = ap a.edge same ∙ edge in
-          let old = h.each e lt ∙ use_is (p ++ e ∷ []) e edge in
-          let new = use_is p k inside in
-          let count = occurrences-append e p (e ∷ []) in
-          let one = occurs_first e [] in
-          let none : occurrences e [] ≡ 0 = refl in
-          let swap = ap (λ m. occurrences m p) same in
-          omega arith
-      | inr other ↦
-          get_or-set_other left e k v 0 other ∙ h.each k low
-          ∙ same_use (p ++ e ∷ []) p k (let count = occurrences-append k p (e ∷ []) in let none = occurs_later k e [] (λ q. other (sym q)) in let nil : occurrences k [] ≡ 0 = refl in omega arith)
-    ];
-  }
-
   -- ---- what no path begins with
 
   pub none_by : (p : List ℕ) → ((rest : List ℕ) → is_path parts a most (p ++ rest) ≡ true → ⊥) → paths_behind parts a most p ≡ []
@@ -145,17 +89,9 @@ module _ (parts : GraphParts) (a : Part) (most : ℕ) where
   goes_on : (p : List ℕ) (e : ℕ) (rest : List ℕ) → is_path parts a most ((p ++ e ∷ []) ++ rest) ≡ true → PathParts parts a most (p ++ (e ∷ rest))
   goes_on p e rest h = path_parts parts a most (p ++ (e ∷ rest)) (ap (is_path parts a most) (sym (append_assoc p (e ∷ []) rest)) ∙ h)
 
-  -- an edge that has no uses left
-  pub used_up : (p : List ℕ) (e : ℕ) → uses_left a most p e ≡ 0 → paths_behind parts a most (p ++ e ∷ []) ≡ []
-  used_up p e none = none_by (p ++ e ∷ []) (λ rest h.
-      let it = goes_on p e rest h in
-      let behind_it = and_parts (list_all a.edge p) (list_all a.edge (e ∷ rest)) (sym (list_all-append a.edge p (e ∷ rest)) ∙ it.edges) in
-      let inside : a.edge e ≡ true = (and_parts (a.edge e) (list_all a.edge rest) behind_it.1).0 in
-      let all = it.bounded e in
-      let sum = occurrences-append e p (e ∷ rest) in
-      let itself = occurs_first e rest in
-      let left : 0 < uses_left a most p e = use_from p e inside (omega arith) in
-      omega arith)
+  chained_tail : (o : Option ℕ) (e : ℕ) (rest : List ℕ) → chained parts o (e ∷ rest) ≡ true → chained parts (Some e) rest ≡ true
+  chained_tail None e rest h = h
+  chained_tail (Some k) e rest h = (and_parts (leads_to parts k e) (chained parts (Some e) rest) h).1
 
   follows_chain : (o : Option ℕ) (p : List ℕ) (e : ℕ) (rest : List ℕ) → last_or None p ≡ o → PathParts parts a most (p ++ (e ∷ rest)) → follows o e ≡ true
   follows_chain None [] e rest is it = and_from _ _ (and_parts (a.edge e) _ it.edges).0 it.begins
@@ -198,42 +134,74 @@ module _ (parts : GraphParts) (a : Part) (most : ℕ) where
   own_none p e out = own_by (p ++ e ∷ []) false (false_from_ne_true (is_path parts a most (p ++ e ∷ [])) (λ h.
       both_ways _ out (sym (ap (ends_by parts a) (last_push None p e)) ∙ (path_parts parts a most (p ++ e ∷ []) h).ends)))
 
-  -- ---- a path that goes on after a prefix is a way to an end
+  -- ---- ways to an end
 
-  module _ (ends : List Bool) (left : List ℕ) (p : List ℕ)
-      (marks : (n : ℕ) → is_end_node parts a n ≡ true → is_marked ends n ≡ true)
-      (uses : (k : ℕ) → a.edge k ≡ true → occurrences k p < most → 0 < get_or left k 0) where
-    way_on : (k : ℕ) (x : Edge) (front rest : List ℕ) → slice_get parts.edges k ≡ Some x → chained parts (Some k) rest ≡ true → list_all a.edge rest ≡ true
-        → ((j : ℕ) → occurrences j p + occurrences j (front ++ rest) ≤ most) → ends_by parts a (last_or (Some k) rest) ≡ true → is_way parts ends left x.target rest ≡ true
-    way_on k x front [] is joined edges bound at_end = marks x.target (sym (has_by parts (λ (e : Edge). is_end_node parts a e.target) k x is) ∙ at_end)
-    way_on k x front (l ∷ rest) is joined edges bound at_end =
+  module _ (ends living : List Bool) (marks : (n : ℕ) → is_end_node parts a n ≡ true → is_marked ends n ≡ true) (lives : AreLiving parts a ends living) where
+    -- what leads to an end node is marked
+    alive : (k : ℕ) (x : Edge) (rest : List ℕ) → slice_get parts.edges k ≡ Some x → chained parts (Some k) rest ≡ true → list_all a.edge rest ≡ true → ends_by parts a (last_or (Some k) rest) ≡ true → is_marked living x.target ≡ true
+    alive k x [] is joined edges at_end = lives.at_end x.target (marks x.target (sym (has_by parts (λ (e : Edge). is_end_node parts a e.target) k x is) ∙ at_end))
+    alive k x (l ∷ rest) is joined edges at_end =
         let chain = and_parts (leads_to parts k l) (chained parts (Some l) rest) joined in
         let inside = and_parts (a.edge l) (list_all a.edge rest) edges in
         let there = edge_with parts (λ (f : Edge). x.target == f.source) l (sym (has_by parts (λ (e : Edge). edge_has parts (λ (f : Edge). e.target == f.source) l) k x is) ∙ chain.0) in
         let y = there.0 in
-        let low = bound l in
-        let sum = occurrences-append l front (l ∷ rest) in
-        let own_use = occurs_first l rest in
-        let some : 0 < get_or left l 0 = uses l inside.0 (omega arith) in
-        let whole : (front ++ l ∷ []) ++ rest ≡ front ++ (l ∷ rest) = append_assoc front (l ∷ []) rest in
-        let B : List ℕ → Type 0 = λ q. (j : ℕ) → occurrences j p + occurrences j q ≤ most in
-        let on = way_on l y (front ++ l ∷ []) rest there.1 chain.1 inside.1 (subst B (sym whole) bound) at_end in
-        and_from _ _ (lt-ltb 0 (get_or left l 0) some) (has_by parts (λ (e : Edge). (e.source == x.target) && is_way parts ends left e.target rest) l y there.1
-        ∙ and_from _ _ (eq-eqb y.source x.target (sym (eqb-true x.target y.source there.2))) on)
+        let on = alive l y rest there.1 chain.1 inside.1 at_end in
+        ap (is_marked living) (eqb-true x.target y.source there.2) ∙ lives.back l y there.1 inside.0 on
 
-  -- no way on from the last edge's target, so no path
-  pub barren : (ends : List Bool) (left p : List ℕ) (e node : ℕ) → ((n : ℕ) → is_end_node parts a n ≡ true → is_marked ends n ≡ true) → ((k : ℕ) → a.edge k ≡ true → occurrences k (p ++ e ∷ []) < most → 0 < get_or left k 0)
-      → IsSomeAnd (slice_get parts.edges e) (λ x. x.target ≡ node) → ((way : List ℕ) → is_way parts ends left node way ≡ false) → paths_behind parts a most (p ++ e ∷ []) ≡ []
-  barren ends left p e node marks uses to none = none_by (p ++ e ∷ []) (λ rest h.
-      let it = path_parts parts a most ((p ++ e ∷ []) ++ rest) h in
-      let there = taken (λ (x : Edge). x.target ≡ node) (slice_get parts.edges e) to in
-      let last : last_or None (p ++ e ∷ []) ≡ Some e = last_push None p e in
-      let joined : chained parts (Some e) rest ≡ true = ap (λ o. chained parts o rest) (sym last)
-      ∙ (and_parts (chained parts None (p ++ e ∷ [])) (chained parts (last_or None (p ++ e ∷ [])) rest) (sym (chained-append parts None (p ++ e ∷ []) rest) ∙ it.joined)).1 in
-      let edges : list_all a.edge rest ≡ true = (and_parts (list_all a.edge (p ++ e ∷ [])) (list_all a.edge rest) (sym (list_all-append a.edge (p ++ e ∷ []) rest) ∙ it.edges)).1 in
-      let at_end = ap (λ o. ends_by parts a (last_or o rest)) (sym last) ∙ ap (ends_by parts a) (sym (last_or-append None (p ++ e ∷ []) rest)) ∙ it.ends in
-      let way = way_on ends left (p ++ e ∷ []) marks uses e there.0 [] rest there.1 joined edges (λ j. let b = it.bounded j in let s = occurrences-append j (p ++ e ∷ []) rest in omega arith) at_end in
-      both_ways (is_way parts ends left node rest) (none rest) (ap (λ n. is_way parts ends left n rest) (sym there.2) ∙ way))
+    -- the target of an edge by which a path goes on after a prefix is marked
+    pub alive_behind : (p : List ℕ) (e : ℕ) (x : Edge) (rest : List ℕ) → slice_get parts.edges e ≡ Some x → PathParts parts a most (p ++ (e ∷ rest)) → is_marked living x.target ≡ true
+    alive_behind p e x rest is it =
+        let edges = (and_parts (list_all a.edge p) (list_all a.edge (e ∷ rest)) (sym (list_all-append a.edge p (e ∷ rest)) ∙ it.edges)).1 in
+        let joined = (and_parts (chained parts None p) (chained parts (last_or None p) (e ∷ rest)) (sym (chained-append parts None p (e ∷ rest)) ∙ it.joined)).1 in
+        let at_end = ap (ends_by parts a) (sym (last_or-append None p (e ∷ rest))) ∙ it.ends in
+        alive e x rest is (chained_tail (last_or None p) e rest joined) (and_parts (a.edge e) (list_all a.edge rest) edges).1 at_end
+
+    module _ (left : List ℕ) (p : List ℕ) (uses : (k : ℕ) (x : Edge) → slice_get parts.edges k ≡ Some x → a.edge k ≡ true → is_marked living x.target ≡ true → occurrences k p < most → 0 < get_or left k 0) where
+      way_on : (k : ℕ) (x : Edge) (front rest : List ℕ) → slice_get parts.edges k ≡ Some x → chained parts (Some k) rest ≡ true → list_all a.edge rest ≡ true
+          → ((j : ℕ) → occurrences j p + occurrences j (front ++ rest) ≤ most) → ends_by parts a (last_or (Some k) rest) ≡ true → is_way parts ends left x.target rest ≡ true
+      way_on k x front [] is joined edges bound at_end = marks x.target (sym (has_by parts (λ (e : Edge). is_end_node parts a e.target) k x is) ∙ at_end)
+      way_on k x front (l ∷ rest) is joined edges bound at_end =
+          let chain = and_parts (leads_to parts k l) (chained parts (Some l) rest) joined in
+          let inside = and_parts (a.edge l) (list_all a.edge rest) edges in
+          let there = edge_with parts (λ (f : Edge). x.target == f.source) l (sym (has_by parts (λ (e : Edge). edge_has parts (λ (f : Edge). e.target == f.source) l) k x is) ∙ chain.0) in
+          let y = there.0 in
+          let low = bound l in
+          let sum = occurrences-append l front (l ∷ rest) in
+          let own_use = occurs_first l rest in
+          let some : 0 < get_or left l 0 = uses l y there.1 inside.0 (alive l y rest there.1 chain.1 inside.1 at_end) (omega arith) in
+          let whole : (front ++ l ∷ []) ++ rest ≡ front ++ (l ∷ rest) = append_assoc front (l ∷ []) rest in
+          let B : List ℕ → Type 0 = λ q. (j : ℕ) → occurrences j p + occurrences j q ≤ most in
+          let on = way_on l y (front ++ l ∷ []) rest there.1 chain.1 inside.1 (subst B (sym whole) bound) at_end in
+          and_from _ _ (lt-ltb 0 (get_or left l 0) some) (has_by parts (λ (e : Edge). (e.source == x.target) && is_way parts ends left e.target rest) l y there.1
+          ∙ and_from _ _ (eq-eqb y.source x.target (sym (eqb-true x.target y.source there.2))) on)
+
+    -- no way on from the last edge's target, so no path
+    pub barren : (left p : List ℕ) (e node : ℕ) → ((k : ℕ) (x : Edge) → slice_get parts.edges k ≡ Some x → a.edge k ≡ true → is_marked living x.target ≡ true → occurrences k (p ++ e ∷ []) < most → 0 < get_or left k 0)
+        → IsSomeAnd (slice_get parts.edges e) (λ x. x.target ≡ node) → ((way : List ℕ) → is_way parts ends left node way ≡ false) → paths_behind parts a most (p ++ e ∷ []) ≡ []
+    barren left p e node uses to none = none_by (p ++ e ∷ []) (λ rest h.
+        let it = path_parts parts a most ((p ++ e ∷ []) ++ rest) h in
+        let there = taken (λ (x : Edge). x.target ≡ node) (slice_get parts.edges e) to in
+        let last : last_or None (p ++ e ∷ []) ≡ Some e = last_push None p e in
+        let joined : chained parts (Some e) rest ≡ true = ap (λ o. chained parts o rest) (sym last)
+        ∙ (and_parts (chained parts None (p ++ e ∷ [])) (chained parts (last_or None (p ++ e ∷ [])) rest) (sym (chained-append parts None (p ++ e ∷ []) rest) ∙ it.joined)).1 in
+        let edges : list_all a.edge rest ≡ true = (and_parts (list_all a.edge (p ++ e ∷ [])) (list_all a.edge rest) (sym (list_all-append a.edge (p ++ e ∷ []) rest) ∙ it.edges)).1 in
+        let at_end = ap (λ o. ends_by parts a (last_or o rest)) (sym last) ∙ ap (ends_by parts a) (sym (last_or-append None (p ++ e ∷ []) rest)) ∙ it.ends in
+        let way = way_on left (p ++ e ∷ []) uses e there.0 [] rest there.1 joined edges (λ j. let b = it.bounded j in let s = occurrences-append j (p ++ e ∷ []) rest in omega arith) at_end in
+        both_ways (is_way parts ends left node rest) (none rest) (ap (λ n. is_way parts ends left n rest) (sym there.2) ∙ way))
+
+    -- an edge that has no uses left
+    pub used_up : (uses left p : List ℕ) (e : ℕ) (x : Edge) → AreUses parts a living most uses → AreLeft parts uses left p → slice_get parts.edges e ≡ Some x → get_or left e 0 ≡ 0 → paths_behind parts a most (p ++ e ∷ []) ≡ []
+    used_up uses left p e x caps table is none = none_by (p ++ e ∷ []) (λ rest h.
+        let it = goes_on p e rest h in
+        let edges = (and_parts (list_all a.edge p) (list_all a.edge (e ∷ rest)) (sym (list_all-append a.edge p (e ∷ rest)) ∙ it.edges)).1 in
+        let inside : a.edge e ≡ true = (and_parts (a.edge e) (list_all a.edge rest) edges).0 in
+        let living_target = alive_behind p e x rest is it in
+        let whole : get_or uses e 0 ≡ most = caps.each e x is ∙ ap (λ b. if b then most else 0) (and_from (a.edge e) (is_marked living x.target) inside living_target) in
+        let sum = table.each e (slice_get_within parts.edges e x is) in
+        let all = it.bounded e in
+        let both = occurrences-append e p (e ∷ rest) in
+        let own_use = occurs_first e rest in
+        omega arith)
 
   -- ---- the start
 
@@ -248,3 +216,49 @@ module _ (parts : GraphParts) (a : Part) (most : ℕ) where
   pub at_the_start : IsWithin parts a → remaining (paths_behind parts a most) (row_of parts a) [] 0 ≡ filter (is_path parts a most) (ordered_lists (length parts.edges) (most * length parts.edges))
   unfolding remaining later
   at_the_start within = append-nil _ ∙ sym (behind_row [] within) ∙ whole_behind
+
+-- ---- the tables of uses
+
+-- one more use
+pub left_push : (parts : GraphParts) (uses left p : List ℕ) (e v : ℕ) → AreLeft parts uses left p → e < length parts.edges → 0 < get_or left e 0 → v ≡ get_or left e 0 - 1 → AreLeft parts uses (set left e v) (p ++ e ∷ [])
+left_push parts uses left p e v h lt some is = record {
+  size = length-set left e v ∙ h.size;
+  each = λ k low.
+      let sum = occurrences-append k p (e ∷ []) in
+      let old = h.each k low in
+      elim (cases_eq k e) [
+        | inl same ↦
+            let here = ap (λ m. get_or (set left e v) m 0) same ∙ get_or-set_same left e v 0 (omega (arith, h.size)) in
+            let one = ap (λ m. occurrences m (e ∷ [])) same ∙ occurs_first e [] in
+            let none : occurrences e [] ≡ 0 = refl in
+            let was = ap (λ m. get_or left m 0) same in
+            omega arith
+        | inr other ↦
+            let here = get_or-set_other left e k v 0 other in
+            let one = occurs_later k e [] (λ q. other (sym q)) in
+            let none : occurrences k [] ≡ 0 = refl in
+            omega arith
+      ];
+}
+
+-- one use less
+pub left_pop : (parts : GraphParts) (uses left p : List ℕ) (e v : ℕ) → AreLeft parts uses left (p ++ e ∷ []) → e < length parts.edges → v ≡ get_or left e 0 + 1 → AreLeft parts uses (set left e v) p
+left_pop parts uses left p e v h lt is = record {
+  size = length-set left e v ∙ h.size;
+  each = λ k low.
+      let sum = occurrences-append k p (e ∷ []) in
+      let old = h.each k low in
+      elim (cases_eq k e) [
+        | inl same ↦
+            let here = ap (λ m. get_or (set left e v) m 0) same ∙ get_or-set_same left e v 0 (omega (arith, h.size)) in
+            let one = ap (λ m. occurrences m (e ∷ [])) same ∙ occurs_first e [] in
+            let none : occurrences e [] ≡ 0 = refl in
+            let was = ap (λ m. get_or left m 0) same in
+            omega arith
+        | inr other ↦
+            let here = get_or-set_other left e k v 0 other in
+            let one = occurs_later k e [] (λ q. other (sym q)) in
+            let none : occurrences k [] ≡ 0 = refl in
+            omega arith
+      ];
+}

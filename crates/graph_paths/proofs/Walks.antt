@@ -1,13 +1,14 @@
 -- The steps of a walk.
-use Rattle.std.proofs.Common.{◌≡◌, ℕ, zero, suc, ◌+◌, ◌-◌, ◌≤◌, ◌<◌, Bool, true, false, List, [], ◌∷◌, ◌++◌, Option, Some, None, length, get_or, set, All, refl, sym, ◌∙◌, ap, subst, arith}
+use Rattle.std.proofs.Common.{inl, inr, ◌&&◌, ◌≡◌, ℕ, zero, suc, ◌+◌, ◌-◌, ◌≤◌, ◌<◌, Bool, true, false, List, [], ◌∷◌, ◌++◌, Option, Some, None, length, get_or, set, All, refl, sym, ◌∙◌, ap, subst, arith}
 use Rattle.std.specs.Prelude.{slice_get, ◌==◌, if◌then◌else◌}
 use Rattle.std.specs.Option.{IsSomeAnd}
 use Rattle.std.specs.List.{filter, last_or, range_with_len}
-use Rattle.std.proofs.lemmas.Bool.{and_parts}
+use Rattle.std.proofs.lemmas.Bool.{and_parts, and_from, cases_Bool}
 use Rattle.std.proofs.lemmas.List.{map_push, set-set, set-get_or, length_push, get_or_push, get_or_append_left}
 use Rattle.std.proofs.lemmas.List.Elements.{All-push}
 use Rattle.std.proofs.lemmas.List.Sums.{length-filter, count_by-le-length}
 use Rattle.std.proofs.lemmas.Option.{slice_get_within, get_or_from_slice_get}
+use Rattle.cfa.proofs.Eaches.{element_at}
 use Rattle.cfa.proofs.Exits.{taken}
 use Rattle.cfa.specs.declared.parts.Edge.{Edge}
 use Rattle.cfa.specs.declared.parts.GraphParts.{GraphParts}
@@ -18,12 +19,12 @@ use Rattle.graph_paths.specs.declared.walk.Walk.{Walk}
 use Rattle.graph_paths.specs.Ground.{IsGround, parts_of, part_in, is_first}
 use Rattle.graph_paths.specs.Paths.{is_end_node, leads_to, occurrences, is_path}
 use Rattle.graph_paths.specs.Searching.{is_way, IsSearch}
-use Rattle.graph_paths.specs.Walking.{AreDead, paths_behind, edges_of, row_after, row_of, from_place, remaining, IsPrefix, prefix_of, IsWalk, ahead}
-use Rattle.graph_paths.specs.Uses.{AreUses}
+use Rattle.graph_paths.specs.Walking.{paths_behind, edges_of, row_after, row_of, from_place, remaining, IsPrefix, prefix_of, IsWalk, ahead}
+use Rattle.graph_paths.specs.Uses.{AreLeft}
 use Rattle.graph_paths.proofs.Extensions.{own}
 use Rattle.graph_paths.proofs.Pending.{passed_over, forward, backward, nothing_left}
 use Rattle.graph_paths.proofs.Prefixes.{edge_with, has_by, occurrences-append, occurs_first}
-use Rattle.graph_paths.proofs.WalkLaws.{follows, in_row, prefix_push, prefix_pop, last_in_part, use_is, use_some, use_from, uses_push, uses_pop, used_up, behind_row, own_path, own_none, barren}
+use Rattle.graph_paths.proofs.WalkLaws.{follows, in_row, prefix_push, prefix_pop, last_in_part, used_up, behind_row, own_path, own_none, barren, left_push, left_pop}
 
 range_length : (a n : ℕ) → length (range_with_len a n) ≡ n
 range_length a zero = refl
@@ -70,27 +71,32 @@ module _ (g : Ground) (ground : IsGround g) where
       ∙ ap (λ xs. remaining (paths_behind parts a g.bound) (row_of parts a) xs (w.place + 1)) (sym steps)
       ∙ ap (remaining (paths_behind parts a g.bound) (row_of parts a) t.steps.items) (sym place)
 
-  -- an edge with no uses left is passed over
-  pub passed_used : (w t : Walk) (e : ℕ) → IsWalk g w → NextEdge w e → get_or w.left.items e 0 ≡ 0 → t.steps.items ≡ w.steps.items → t.place ≡ w.place + 1 → ahead g w ≡ ahead g t
-  passed_used w t e walk at none = passed w t e at (used_up parts a g.bound (prefix_of w) e (sym (walk.uses.each e (edge_within w e at)) ∙ none))
-
-  use_most : (b : Bool) (most n : ℕ) → (if b then most - n else 0) ≤ most
-  use_most true most n = omega arith
-  use_most false most n = omega arith
-
-  pub use_fits : (w : Walk) (e : ℕ) → IsWalk g w → NextEdge w e → get_or w.left.items e 0 ≤ g.bound
-  use_fits w e walk at = let is = walk.uses.each e (edge_within w e at) in let low = use_most (a.edge e) g.bound (occurrences e (prefix_of w)) in omega arith
-
   -- the nodes whose marks say so are ends
   end_marks : (n : ℕ) → is_end_node parts a n ≡ true → is_marked g.ends.items n ≡ true
   end_marks n h = ground.ends n (ground.within.nodes n (and_parts (a.node n) _ h).0) ∙ h
 
-  -- an edge that leads to a dead node is passed over
-  pub passed_dead : (w t : Walk) (e node : ℕ) → IsWalk g w → NextEdge w e → is_marked w.dead.items node ≡ true → IsSomeAnd (slice_get parts.edges e) (λ x. x.target ≡ node) → t.steps.items ≡ w.steps.items → t.place ≡ w.place + 1 → ahead g w ≡ ahead g t
-  passed_dead w t e node walk at dead to =
-      let some : (k : ℕ) → a.edge k ≡ true → occurrences k (prefix_of w ++ e ∷ []) < g.bound → 0 < get_or g.uses.items k 0 = λ k inside low.
-      let it = ground.uses.each k (ground.within.edges k inside) in let u = use_from parts a g.bound [] k inside (omega arith) in omega arith in
-      passed w t e at (barren parts a g.bound g.ends.items g.uses.items (prefix_of w) e node end_marks some to (walk.dead.each node dead))
+  -- an edge with no uses left is passed over
+  pub passed_used : (w t : Walk) (e : ℕ) → IsWalk g w → NextEdge w e → get_or w.left.items e 0 ≡ 0 → t.steps.items ≡ w.steps.items → t.place ≡ w.place + 1 → ahead g w ≡ ahead g t
+  passed_used w t e walk at none =
+      let there = element_at parts.edges e (edge_within w e at) in
+      passed w t e at (used_up parts a g.bound g.ends.items ground.living end_marks ground.lives g.uses.items w.left.items (prefix_of w) e there.0 ground.uses walk.uses there.1 none)
+
+  -- how often an edge may be taken in all
+  use_whole : (e : ℕ) (x : Edge) → slice_get parts.edges e ≡ Some x → 0 < get_or g.uses.items e 0 → (a.edge e ≡ true) × (get_or g.uses.items e 0 ≡ g.bound)
+  use_whole e x is some = elim (cases_Bool (a.edge e && is_marked ground.living x.target)) [
+    | inl useful ↦ ((and_parts (a.edge e) _ useful).0, ground.uses.each e x is ∙ ap (λ b. if b then g.bound else 0) useful)
+    | inr useless ↦ let e0 : get_or g.uses.items e 0 ≡ 0 = ground.uses.each e x is ∙ ap (λ b. if b then g.bound else 0) useless in absurd (omega arith)
+  ]
+
+  use_most : (b : Bool) (most : ℕ) → (if b then most else 0) ≤ most
+  use_most true most = omega arith
+  use_most false most = omega arith
+
+  whole_most : (e : ℕ) → e < length parts.edges → get_or g.uses.items e 0 ≤ g.bound
+  whole_most e lt = let there = element_at parts.edges e lt in let is = ground.uses.each e there.0 there.1 in let low = use_most (a.edge e && is_marked ground.living there.0.target) g.bound in omega arith
+
+  pub use_fits : (w : Walk) (e : ℕ) → IsWalk g w → NextEdge w e → get_or w.left.items e 0 ≤ g.bound
+  use_fits w e walk at = let sum = walk.uses.each e (edge_within w e at) in let low = whole_most e (edge_within w e at) in omega arith
 
   -- ---- a step forward
 
@@ -101,23 +107,25 @@ module _ (g : Ground) (ground : IsGround g) where
   longer w t e steps = ap edges_of steps ∙ map_push (λ (s : Step). s.edge) w.steps.items (record { edge = e; place = w.place })
 
   room : (w : Walk) (e : ℕ) → IsWalk g w → NextEdge w e → 0 < get_or w.left.items e 0 → (a.edge e ≡ true) × (occurrences e (prefix_of w) < g.bound)
-  room w e walk at some = use_some parts a g.bound (prefix_of w) e (let is = walk.uses.each e (edge_within w e at) in omega arith)
+  room w e walk at some =
+      let sum = walk.uses.each e (edge_within w e at) in
+      let there = element_at parts.edges e (edge_within w e at) in
+      let whole = use_whole e there.0 there.1 (omega arith) in
+      (whole.0, omega (arith, sum, some, whole.1))
 
   longer_prefix : (w : Walk) (e : ℕ) → IsWalk g w → NextEdge w e → 0 < get_or w.left.items e 0 → IsPrefix parts a g.bound (prefix_of w ++ e ∷ [])
   longer_prefix w e walk at some =
       let r = room w e walk at some in
       prefix_push parts a g.bound (prefix_of w) e walk.«prefix» (in_row parts a g.bound (last_or None (prefix_of w)) w.place e at) r.0 r.1
 
-  fewer_uses : (w : Walk) (e v : ℕ) → IsWalk g w → NextEdge w e → 0 < get_or w.left.items e 0 → v ≡ get_or w.left.items e 0 - 1 → AreUses parts a g.bound (prefix_of w ++ e ∷ []) (set w.left.items e v)
-  fewer_uses w e v walk at some is =
-      let r = room w e walk at some in
-      uses_push parts a g.bound (prefix_of w) w.left.items e v walk.uses (edge_within w e at) r.0 is
+  fewer_uses : (w : Walk) (e v : ℕ) → IsWalk g w → NextEdge w e → 0 < get_or w.left.items e 0 → v ≡ get_or w.left.items e 0 - 1 → AreLeft parts g.uses.items (set w.left.items e v) (prefix_of w ++ e ∷ [])
+  fewer_uses w e v walk at some is = left_push parts g.uses.items w.left.items (prefix_of w) e v walk.uses (edge_within w e at) some is
 
-  pub stepped : (w t : Walk) (e v : ℕ) → IsWalk g w → NextEdge w e → 0 < get_or w.left.items e 0 → v ≡ get_or w.left.items e 0 - 1 → Taken w t e → t.left.items ≡ set w.left.items e v → IsSearch parts t.search → AreDead g t.dead.items → IsWalk g t
-  stepped w t e v walk at some is steps left search dead =
+  pub stepped : (w t : Walk) (e v : ℕ) → IsWalk g w → NextEdge w e → 0 < get_or w.left.items e 0 → v ≡ get_or w.left.items e 0 - 1 → Taken w t e → t.left.items ≡ set w.left.items e v → IsSearch parts t.search → IsWalk g t
+  stepped w t e v walk at some is steps left search =
       let P : List ℕ → Type 0 = λ p. IsPrefix parts a g.bound p in
-      let U : List ℕ → Type 0 = λ p. AreUses parts a g.bound p t.left.items in
-      let L : List ℕ → Type 0 = λ xs. AreUses parts a g.bound (prefix_of w ++ e ∷ []) xs in
+      let U : List ℕ → Type 0 = λ p. AreLeft parts g.uses.items t.left.items p in
+      let L : List ℕ → Type 0 = λ xs. AreLeft parts g.uses.items xs (prefix_of w ++ e ∷ []) in
       let A : List Step → Type 0 = λ xs. All (λ (s : Step). s.place < length parts.edges) xs in
       let low = place_within w e at in
       record {
@@ -125,7 +133,6 @@ module _ (g : Ground) (ground : IsGround g) where
         uses = subst U (sym (longer w t e steps)) (subst L (sym left) (fewer_uses w e v walk at some is));
         places = subst A (sym steps) (All-push (λ (s : Step). s.place < length parts.edges) w.steps.items (record { edge = e; place = w.place }) walk.places low);
         search = search;
-        dead = dead;
       }
 
   -- what is ahead before and after a step forward
@@ -158,21 +165,23 @@ module _ (g : Ground) (ground : IsGround g) where
   pub passed_barren : (w t : Walk) (e v node : ℕ) (left : List ℕ) → IsWalk g w → NextEdge w e → 0 < get_or w.left.items e 0 → v ≡ get_or w.left.items e 0 - 1 → left ≡ set w.left.items e v
       → IsSomeAnd (slice_get parts.edges e) (λ x. x.target ≡ node) → ((way : List ℕ) → is_way parts g.ends.items left node way ≡ false) → t.steps.items ≡ w.steps.items → t.place ≡ w.place + 1 → ahead g w ≡ ahead g t
   passed_barren w t e v node left walk at some is after to none =
-      let U : List ℕ → Type 0 = λ xs. AreUses parts a g.bound (prefix_of w ++ e ∷ []) xs in
+      let U : List ℕ → Type 0 = λ xs. AreLeft parts g.uses.items xs (prefix_of w ++ e ∷ []) in
       let uses = subst U (sym after) (fewer_uses w e v walk at some is) in
-      let left_some : (k : ℕ) → a.edge k ≡ true → occurrences k (prefix_of w ++ e ∷ []) < g.bound → 0 < get_or left k 0 = λ k inside low.
-      let it = uses.each k (ground.within.edges k inside) in let u = use_from parts a g.bound (prefix_of w ++ e ∷ []) k inside low in omega arith in
-      passed w t e at (barren parts a g.bound g.ends.items left (prefix_of w) e node end_marks left_some to none)
+      let left_some : (k : ℕ) (x : Edge) → slice_get parts.edges k ≡ Some x → a.edge k ≡ true → is_marked ground.living x.target ≡ true → occurrences k (prefix_of w ++ e ∷ []) < g.bound → 0 < get_or left k 0 = λ k x there inside alive low.
+      let sum = uses.each k (ground.within.edges k inside) in
+      let whole : get_or g.uses.items k 0 ≡ g.bound = ground.uses.each k x there ∙ ap (λ b. if b then g.bound else 0) (and_from (a.edge k) (is_marked ground.living x.target) inside alive) in
+      omega arith in
+      passed w t e at (barren parts a g.bound g.ends.items ground.living end_marks ground.lives left (prefix_of w) e node left_some to none)
 
   -- the table of uses as it was
-  pub restored : (w t : Walk) (e u v : ℕ) → IsWalk g w → NextEdge w e → v ≡ get_or w.left.items e 0 → t.left.items ≡ set (set w.left.items e u) e v → t.steps.items ≡ w.steps.items → IsSearch parts t.search → AreDead g t.dead.items → IsWalk g t
-  restored w t e u v walk at is left steps search dead =
+  pub restored : (w t : Walk) (e u v : ℕ) → IsWalk g w → NextEdge w e → v ≡ get_or w.left.items e 0 → t.left.items ≡ set (set w.left.items e u) e v → t.steps.items ≡ w.steps.items → IsSearch parts t.search → IsWalk g t
+  restored w t e u v walk at is left steps search =
       let same : t.left.items ≡ w.left.items = left ∙ set-set w.left.items e u v ∙ ap (set w.left.items e) is ∙ set-get_or w.left.items e 0 in
       let P : List Step → Type 0 = λ xs. IsPrefix parts a g.bound (edges_of xs) in
-      let U : List Step → Type 0 = λ xs. AreUses parts a g.bound (edges_of xs) t.left.items in
-      let L : List ℕ → Type 0 = λ xs. AreUses parts a g.bound (prefix_of w) xs in
+      let U : List Step → Type 0 = λ xs. AreLeft parts g.uses.items t.left.items (edges_of xs) in
+      let L : List ℕ → Type 0 = λ xs. AreLeft parts g.uses.items xs (prefix_of w) in
       let A : List Step → Type 0 = λ xs. All (λ (s : Step). s.place < length parts.edges) xs in
-      record { «prefix» = subst P (sym steps) walk.«prefix»; uses = subst U (sym steps) (subst L (sym same) walk.uses); places = subst A (sym steps) walk.places; search = search; dead = dead }
+      record { «prefix» = subst P (sym steps) walk.«prefix»; uses = subst U (sym steps) (subst L (sym same) walk.uses); places = subst A (sym steps) walk.places; search = search }
 
   -- ---- a step back
 
@@ -183,8 +192,8 @@ module _ (g : Ground) (ground : IsGround g) where
     whole_prefix : IsPrefix parts a g.bound (prefix_of t ++ s.edge ∷ [])
     whole_prefix = let P : List ℕ → Type 0 = λ p. IsPrefix parts a g.bound p in subst P shorter walk.«prefix»
 
-    whole_uses : AreUses parts a g.bound (prefix_of t ++ s.edge ∷ []) w.left.items
-    whole_uses = let U : List ℕ → Type 0 = λ p. AreUses parts a g.bound p w.left.items in subst U shorter walk.uses
+    whole_uses : AreLeft parts g.uses.items w.left.items (prefix_of t ++ s.edge ∷ [])
+    whole_uses = let U : List ℕ → Type 0 = λ p. AreLeft parts g.uses.items w.left.items p in subst U shorter walk.uses
 
     last_part : a.edge s.edge ≡ true
     last_part = last_in_part parts a g.bound (prefix_of t) s.edge whole_prefix
@@ -206,22 +215,20 @@ module _ (g : Ground) (ground : IsGround g) where
     -- a use more fits
     pub use_low : get_or w.left.items s.edge 0 + 1 ≤ g.bound
     use_low =
-        let is = whole_uses.each s.edge last_within in
-        let rest = use_is parts a g.bound (prefix_of t ++ s.edge ∷ []) s.edge last_part in
+        let sum = whole_uses.each s.edge last_within in
+        let whole = whole_most s.edge last_within in
         let count = occurrences-append s.edge (prefix_of t) (s.edge ∷ []) in
         let one = occurs_first s.edge [] in
-        let low = whole_prefix.bounded s.edge in
         omega arith
 
-    pub walk_back : (v : ℕ) → v ≡ get_or w.left.items s.edge 0 + 1 → t.left.items ≡ set w.left.items s.edge v → IsSearch parts t.search → AreDead g t.dead.items → IsWalk g t
-    walk_back v is left search dead =
-        let L : List ℕ → Type 0 = λ xs. AreUses parts a g.bound (prefix_of t) xs in
+    pub walk_back : (v : ℕ) → v ≡ get_or w.left.items s.edge 0 + 1 → t.left.items ≡ set w.left.items s.edge v → IsSearch parts t.search → IsWalk g t
+    walk_back v is left search =
+        let L : List ℕ → Type 0 = λ xs. AreLeft parts g.uses.items xs (prefix_of t) in
         record {
           «prefix» = prefix_pop parts a g.bound (prefix_of t) s.edge whole_prefix;
-          uses = subst L (sym left) (uses_pop parts a g.bound (prefix_of t) w.left.items s.edge v whole_uses last_within last_part (whole_prefix.bounded s.edge) is);
+          uses = subst L (sym left) (left_pop parts g.uses.items w.left.items (prefix_of t) s.edge v whole_uses last_within is);
           places = λ i d lt. let low = all_places i d (let long = length_push t.steps.items s in omega arith) in let e = ap (λ (r : Step). r.place) (get_or_append_left t.steps.items (s ∷ []) d i lt) in omega arith;
           search = search;
-          dead = dead;
         }
 
     pub ahead_back : length (row_of parts a (prefix_of w)) ≤ w.place → t.place ≡ s.place + 1 → ahead g w ≡ ahead g t

@@ -1,12 +1,12 @@
 -- A target graph as a walk over its paths needs it.
-use Rattle.std.specs.Prelude.{◌≡◌, ℕ, ◌^◌, ◌<◌, Bool, ◌&&◌, List, [], length}
+use Rattle.std.specs.Prelude.{◌≡◌, ℕ, ◌^◌, ◌<◌, Bool, ◌&&◌, List, length}
 use Rattle.std.specs.List.{filter, range_with_len}
 use Rattle.cfa.specs.declared.parts.Edge.{Edge}
 use Rattle.cfa.specs.declared.parts.GraphParts.{GraphParts}
 use Rattle.filters.specs.Parts.{Part, IsWithin, part_of, edge_has, is_marked}
 use Rattle.graph_paths.specs.declared.ground.Ground.{Ground}
 use Rattle.graph_paths.specs.Paths.{is_start_node, is_end_node}
-use Rattle.graph_paths.specs.Uses.{AreUses}
+use Rattle.graph_paths.specs.Uses.{AreLiving, AreUses}
 
 -- a path may begin by the edge of this number
 abbrev pub is_first : GraphParts → Part → ℕ → Bool
@@ -30,4 +30,6 @@ pub record IsGround (g : Ground) : Type 0 where
   pub ends_size : length g.ends.items ≡ length (parts_of g).nodes
   pub ends : (n : ℕ) → n < length (parts_of g).nodes → is_marked g.ends.items n ≡ is_end_node (parts_of g) (part_in g) n
   pub firsts : g.firsts.items ≡ first_edges (parts_of g) (part_in g)
-  pub uses : AreUses (parts_of g) (part_in g) g.bound [] g.uses.items
+  pub living : List Bool
+  pub lives : AreLiving (parts_of g) (part_in g) g.ends.items living
+  pub uses : AreUses (parts_of g) (part_in g) living g.bound g.uses.items

@@ -5,5 +5,6 @@ pub mod Listing
 pub mod Outcome
 pub mod Paths
 pub mod Searching
+pub mod Spreading
 pub mod Uses
 pub mod Walking

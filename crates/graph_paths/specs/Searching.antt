@@ -27,10 +27,6 @@ pub record IsSearching (parts : GraphParts) (ends : List Bool) (left : List ℕ)
   pub inner : (n : ℕ) → is_met s n ≡ true → is_marked ends n ≡ false
   pub edges : (k : ℕ) (e : Edge) → slice_get parts.edges k ≡ Some e → 0 < slice_index left k → is_met s e.source ≡ true → (is_met s e.target ≡ true) ⊎ (Contains s.waiting.items k ⊎ arriving e.target)
 
--- no way leads from a node that was met to an end
-abbrev pub ClosedOff : GraphParts → List Bool → List ℕ → Search → Type 0
-ClosedOff parts ends left s = (n : ℕ) → is_met s n ≡ true → (way : List ℕ) → is_way parts ends left n way ≡ false
-
 -- the nodes that were met stay so
 abbrev pub KeepsMet : Search → Search → Type 0
 KeepsMet s t = (n : ℕ) → is_met s n ≡ true → is_met t n ≡ true

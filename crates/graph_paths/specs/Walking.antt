@@ -1,15 +1,15 @@
 -- A depth-first walk over the prefixes of paths.
-use Rattle.std.specs.Prelude.{◌≡◌, ℕ, ◌+◌, ◌-◌, ◌*◌, ◌<◌, ◌≤◌, Bool, true, false, List, [], ◌∷◌, ◌++◌, Option, None, Some, length, map, drop, if◌then◌else◌, All}
+use Rattle.std.specs.Prelude.{◌≡◌, ℕ, ◌+◌, ◌-◌, ◌*◌, ◌<◌, ◌≤◌, Bool, true, List, [], ◌∷◌, ◌++◌, Option, None, Some, length, map, drop, if◌then◌else◌, All}
 use Rattle.std.specs.List.{filter, flat_map, last_or, list_all, range_with_len}
 use Rattle.cfa.specs.declared.parts.GraphParts.{GraphParts}
-use Rattle.filters.specs.Parts.{Part, is_marked}
+use Rattle.filters.specs.Parts.{Part}
 use Rattle.graph_paths.specs.declared.ground.Ground.{Ground}
 use Rattle.graph_paths.specs.declared.walk.Step.{Step}
 use Rattle.graph_paths.specs.declared.walk.Walk.{Walk}
 use Rattle.graph_paths.specs.Ground.{first_edges, parts_of, part_in}
 use Rattle.graph_paths.specs.Paths.{begins_at_start, are_joined, is_path, leads_to, occurrences, ordered_lists}
-use Rattle.graph_paths.specs.Searching.{IsSearch, is_way}
-use Rattle.graph_paths.specs.Uses.{AreUses}
+use Rattle.graph_paths.specs.Searching.{IsSearch}
+use Rattle.graph_paths.specs.Uses.{AreLeft}
 
 -- ---- the lists behind a prefix
 
@@ -65,17 +65,11 @@ pub record IsPrefix (parts : GraphParts) (a : Part) (most : ℕ) (p : List ℕ) 
 abbrev pub prefix_of : Walk → List ℕ
 prefix_of w = edges_of w.steps.items
 
--- no way leads from these nodes to an end, whatever was taken before
-pub record AreDead (g : Ground) (dead : List Bool) : Type 0 where
-  pub size : length dead ≡ length (parts_of g).nodes
-  pub each : (n : ℕ) → is_marked dead n ≡ true → (way : List ℕ) → is_way (parts_of g) g.ends.items g.uses.items n way ≡ false
-
 pub record IsWalk (g : Ground) (w : Walk) : Type 0 where
   pub «prefix» : IsPrefix (parts_of g) (part_in g) g.bound (prefix_of w)
-  pub uses : AreUses (parts_of g) (part_in g) g.bound (prefix_of w) w.left.items
+  pub uses : AreLeft (parts_of g) g.uses.items w.left.items (prefix_of w)
   pub places : All (λ (s : Step). s.place < length (parts_of g).edges) w.steps.items
   pub search : IsSearch (parts_of g) w.search
-  pub dead : AreDead g w.dead.items
 
 -- the paths that a walk has still to list
 abbrev pub ahead : Ground → Walk → List (List ℕ)

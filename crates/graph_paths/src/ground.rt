@@ -1,12 +1,14 @@
 // What stays the same over a walk.
-ghost use Rattle.std.specs.Prelude.{◌≡◌, ◌<◌, ◌^◌, ℕ, [], length, IfOk};
+ghost use Rattle.std.specs.Prelude.{◌≡◌, ◌<◌, ◌^◌, ◌&&◌, ℕ, length, IfOk, slice_get, if◌then◌else◌};
+ghost use Rattle.std.specs.Option.{IsSomeAnd};
 ghost use Rattle.filters.specs.Parts.{IsWithin, part_of, is_marked};
 ghost use Rattle.graph_paths.specs.Ground.{IsGround, is_first, first_edges, parts_of};
 ghost use Rattle.graph_paths.specs.Uses.{AreUses};
 ghost use Rattle.graph_paths.specs.Paths.{is_start_node};
 
 use crate::borders::{Border, border_nodes};
-use crate::edge_ends::source_of;
+use crate::edge_ends::{source_of, target_of};
+use crate::living::living_nodes;
 use cfa::Graph;
 use filters::TargetGraph;
 use fq_core::Memory;
@@ -58,18 +60,34 @@ fn first_edges(
     Ok(firsts)
 }
 
+// How often an edge may be taken: as often as the bound says, if it is an edge of the part that leads to a living node.
+fn uses_of(graph: &Graph, target: &TargetGraph, living: &[bool], bound: u32, edge: u32) -> u32
+    requires edge { edge < length graph.now.edges }
+    requires size { length living.now ≡ length graph.now.nodes }
+    ensures { IsSomeAnd (slice_get graph.now.edges edge) (λ e. result ≡ (if (part_of target.now).edge edge && is_marked living.now e.target then bound else 0)) }
+{
+    let node = target_of(graph, edge);
+    if target.has_edge(edge) && living[node as usize] {
+        bound
+    } else {
+        0
+    }
+}
+
 fn all_uses(
     alloc: Global,
     graph: &Graph,
     target: &TargetGraph,
+    living: &[bool],
     bound: u32,
 ) -> Result<Vec<u32>, Memory>
-    requires { length graph.now.edges < 2 ^ 32 }
-    ensures { IfOk result (λ uses. AreUses graph.now (part_of target.now) bound [] uses.items) }
+    requires few { length graph.now.edges < 2 ^ 32 }
+    requires size { length living.now ≡ length graph.now.nodes }
+    ensures { IfOk result (λ uses. AreUses graph.now (part_of target.now) living.now bound uses.items) }
 {
     let mut uses = Vec::new(alloc);
     for edge in 0..graph.edges().len() as u32 {
-        uses.push(if target.has_edge(edge) { bound } else { 0 })?;
+        uses.push(uses_of(graph, target, living, bound, edge))?;
     }
     Ok(uses)
 }
@@ -91,7 +109,8 @@ impl<'a> Ground<'a> {
         let ends = border_nodes(alloc, graph, target, Border::End)?;
         let starts = border_nodes(alloc, graph, target, Border::Start)?;
         let firsts = first_edges(alloc, graph, target, &starts)?;
-        let uses = all_uses(alloc, graph, target, bound)?;
+        let living = living_nodes(alloc, graph, target, &ends)?;
+        let uses = all_uses(alloc, graph, target, &living, bound)?;
         Ok(Ground {
             graph,
             target,

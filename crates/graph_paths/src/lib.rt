@@ -12,6 +12,7 @@ mod fault;
 mod ground;
 pub mod laws;
 mod listing;
+mod living;
 mod search;
 mod walk;
 

@@ -1,7 +1,7 @@
 // Searches for a way to the end of a path.
 ghost use Rattle.std.specs.Prelude.{◌≡◌, ◌<◌, ◌≤◌, ◌⊎◌, ℕ, All, Contains, IfOk, OnOk, false, true, length, slice_index};
 ghost use Rattle.cfa.specs.Table.{outgoing_of};
-ghost use Rattle.graph_paths.specs.Searching.{ClosedOff, IsSearch, is_met, IsSearching, KeepsMet, KeepsMarks, HaveTables};
+ghost use Rattle.graph_paths.specs.Searching.{is_way, IsSearch, is_met, IsSearching, KeepsMet, KeepsMarks, HaveTables};
 ghost use Rattle.filters.specs.Parts.{is_marked};
 
 use crate::edge_ends::target_of;
@@ -141,14 +141,6 @@ impl Search {
         Ok(false)
     }
 
-    /// Whether the search that was made last has met a node.
-    pub(crate) fn has_met(&self, node: usize) -> bool
-        requires { node < length self.now.met.items }
-        ensures { result ≡ is_met self.now node }
-    {
-        self.met[node] == self.round
-    }
-
     /// Whether a way may lead from the node to which an edge leads, by edges with uses left, to an end. `false` says that
     /// none does.
     pub(crate) fn reaches_end(
@@ -163,8 +155,7 @@ impl Search {
         requires tables { HaveTables graph.now ends.now left.now }
         requires search { IsSearch graph.now self.old }
         ensures search { OnOk result (IsSearch graph.now self.new) }
-        ensures none { IfOk result (λ found. found ≡ false → ClosedOff graph.now ends.now left.now self.new) }
-        ensures from { IfOk result (λ found. found ≡ false → is_met self.new from ≡ true) }
+        ensures none { IfOk result (λ found. found ≡ false → (way : _) → is_way graph.now ends.now left.now from way ≡ false) }
     {
         if self.goes_on_by(by) || self.round == u64::MAX {
             return Ok(true);

@@ -2,8 +2,7 @@
 ghost use Rattle.std.specs.Prelude.{◌≡◌, ◌<◌, ◌≤◌, ◌++◌, ◌∷◌, [], Some, IfOk, OnOk, length, slice_get, if◌then◌else◌};
 ghost use Rattle.filters.specs.Parts.{part_of};
 ghost use Rattle.graph_paths.specs.Ground.{IsGround, parts_of, part_in};
-ghost use Rattle.graph_paths.specs.Searching.{IsSearch};
-ghost use Rattle.graph_paths.specs.Walking.{AreDead, IsWalk, IsAdvanced, ahead, prefix_of, row_of};
+ghost use Rattle.graph_paths.specs.Walking.{IsWalk, IsAdvanced, ahead, prefix_of, row_of};
 
 use crate::edge_ends::target_of;
 use crate::ground::Ground;
@@ -27,35 +26,6 @@ pub(crate) struct Walk {
     /// By edge, how often it may still be taken.
     pub(crate) left: Vec<u32>,
     pub(crate) search: Search,
-    /// By node, whether it is known that no way leads from it to an end, whatever was taken before.
-    pub(crate) dead: Vec<bool>,
-}
-
-// Marks the node to which an edge leads, and all that a search from there meets, if no way leads to an end, whatever was
-// taken before.
-fn bury(
-    search: &mut Search,
-    dead: &mut Vec<bool>,
-    ground: &Ground,
-    edge: u32,
-    node: u32,
-) -> Result<(), Memory>
-    requires ground { IsGround ground.now }
-    requires node { node < length (parts_of ground.now).nodes }
-    requires search { IsSearch (parts_of ground.now) search.old }
-    requires dead { AreDead ground.now dead.old.items }
-    ensures search { OnOk result (IsSearch (parts_of ground.now) search.new) }
-    ensures dead { OnOk result (AreDead ground.now dead.new.items) }
-{
-    if search.reaches_end(ground.graph, &ground.ends, &ground.uses, edge, node)? {
-        return Ok(());
-    }
-    for at in 0..dead.len() {
-        if search.has_met(at) {
-            dead[at] = true;
-        }
-    }
-    Ok(())
 }
 
 fn edge_at(row: &[u32], place: usize) -> Option<u32>
@@ -73,13 +43,11 @@ impl Walk {
     {
         let left = Vec::from_slice(alloc, &ground.uses)?;
         let search = Search::new(alloc, ground.graph)?;
-        let dead = vec![in alloc; false; ground.graph.nodes().len()]?;
         Ok(Walk {
             steps: Vec::new(alloc),
             place: 0,
             left,
             search,
-            dead,
         })
     }
 
@@ -101,7 +69,7 @@ impl Walk {
     // Takes an edge: it is the last of the prefix from now on.
     fn push(&mut self, edge: u32) -> Result<(), Memory>
         ensures steps { OnOk result (self.new.steps.items ≡ self.old.steps.items ++ record { edge = edge; place = self.old.place } ∷ []) }
-        ensures rest { OnOk result ((self.new.place ≡ 0) × (self.new.left ≡ self.old.left) × (self.new.search ≡ self.old.search) × (self.new.dead ≡ self.old.dead)) }
+        ensures rest { OnOk result ((self.new.place ≡ 0) × (self.new.left ≡ self.old.left) × (self.new.search ≡ self.old.search)) }
     {
         let place = self.place;
         self.steps.push(Step { edge, place })?;
@@ -124,10 +92,6 @@ impl Walk {
             self.place += 1;
             return Ok(false);
         }
-        if self.dead[node as usize] {
-            self.place += 1;
-            return Ok(false);
-        }
         self.left[at] -= 1;
         if ground.ends[node as usize] {
             self.search.forget_route();
@@ -142,7 +106,6 @@ impl Walk {
         } else {
             self.left[at] += 1;
             self.place += 1;
-            bury(&mut self.search, &mut self.dead, ground, edge, node)?;
         }
         Ok(false)
     }

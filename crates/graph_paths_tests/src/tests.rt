@@ -49,17 +49,18 @@ fn ladder(alloc: Global, count: u32) -> Result<Drawing, Memory> {
     Ok(drawing)
 }
 
-// 25 * 20 * 20 ways through three stairs, 66 edges in a row behind them, and a loop for ever that nothing leads to.
+// 25 * 20 * 20 ways through three stairs, and 66 edges in a row behind them, beside which 65 branches lead into a loop for
+// ever.
 fn large(alloc: Global) -> Result<Drawing, Memory> {
     let mut drawing = Drawing::new(alloc);
     let first = drawing.stairs(0, 25)?;
     let second = drawing.stairs(first, 20)?;
     let third = drawing.stairs(second, 20)?;
-    let last = drawing.row(third, 65)?;
+    let turn = drawing.node();
+    let last = drawing.row_beside(third, turn, 65)?;
     drawing.skip(last, 1)?;
-    let alone = drawing.node();
-    let end = drawing.row(alone, 39809)?;
-    drawing.skip(end, alone)?;
+    let end = drawing.row(turn, 39744)?;
+    drawing.skip(end, turn)?;
     Ok(drawing)
 }
 

@@ -83,6 +83,17 @@ impl Drawing {
         Ok(at)
     }
 
+    /// So many branches in a row from a node, of which each guard of truth leads to one other node. The node at their end.
+    pub fn row_beside(&mut self, source: u32, beside: u32, count: u32) -> Result<u32, Memory> {
+        let mut at = source;
+        for _ in 0..count {
+            let next = self.node();
+            self.branch(at, beside, next)?;
+            at = next;
+        }
+        Ok(at)
+    }
+
     /// So many branches in a row, each of which comes together again at once. The node at their end.
     pub fn ladder(&mut self, source: u32, count: u32) -> Result<u32, Memory> {
         let mut at = source;

@@ -4,7 +4,7 @@ use Rattle.graph_paths.proofs.SearchLaws.{no_way, followed, waiting_within}
 use Rattle.graph_paths.proofs.search.Search.reaches_end.Goals as goal
 
 pub returns-in-None-clause-none : goal.returns-in-None-clause-none
-returns-in-None-clause-none c = λ never. no_way c.args.graph.now c.args.ends.now c.args.left.now c.loop.self c.loop.invariant.state (nil_from_length c.loop.self.waiting.items (omega (arith, c.in-None.ensures.cases.0, c.loop.self.waiting.ok.0)))
+returns-in-None-clause-none c = λ never. no_way c.args.graph.now c.args.ends.now c.args.left.now c.loop.self c.loop.invariant.state (nil_from_length c.loop.self.waiting.items (omega (arith, c.in-None.ensures.cases.0, c.loop.self.waiting.ok.0))) c.args.from c.loop.invariant.from
 
 pub target_of-node-requires : goal.target_of-node-requires
 target_of-node-requires c = waiting_within c.args.graph.now c.args.ends.now c.args.left.now c.loop.self c.pop.new.self.items c.in-Some.edge c.loop.invariant.state c.in-Some.ensures.items

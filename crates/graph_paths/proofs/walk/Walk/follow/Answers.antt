@@ -1,11 +1,10 @@
-use Rattle.std.proofs.Common.{Bool, Vec, Global, false, subst, ◌+◌, ◌-◌, ◌<◌, length, set, refl, sym, ◌∙◌, ap, arith, get_or-set_same}
+use Rattle.std.proofs.Common.{false, subst, ◌+◌, ◌-◌, ◌<◌, length, set, refl, sym, ◌∙◌, ap, arith, get_or-set_same}
 use Rattle.std.proofs.Math.ListN.{length-set}
 use Rattle.std.proofs.lemmas.List.{get_or_read}
 use Rattle.graph_paths.proofs.SearchLaws.{keeps_search}
-use Rattle.graph_paths.proofs.Walks.{edge_within, place_within, passed_used, passed_dead, stepped, stepped_to_end, stepped_on, passed_barren, use_fits}
+use Rattle.graph_paths.proofs.Walks.{edge_within, place_within, passed_used, stepped, stepped_to_end, stepped_on, passed_barren, use_fits}
 use Rattle.graph_paths.specs.declared.search.Search.{Search}
 use Rattle.graph_paths.specs.Ground.{parts_of}
-use Rattle.graph_paths.specs.Walking.{AreDead}
 use Rattle.graph_paths.specs.Searching.{IsSearch, is_way}
 use Rattle.graph_paths.proofs.walk.Walk.follow.Goals as goal
 
@@ -25,16 +24,6 @@ returns-then-index-eq0-clause-next c =
     passed_used c.args.ground.now c.requires.ground w (record w { place = w.place + 1 }) c.args.edge c.requires.walk c.requires.edge
     (sym (get_or_read w.left.items c.args.edge c.index.result.now lt c.index.ensures 0) ∙ c.if-index-eq0.true) refl refl
 
-pub overflow_add-self-then-index : goal.overflow_add-self-then-index
-overflow_add-self-then-index c = omega (arith, place_within c.args.ground.now c.requires.ground c.args.self.now c.args.edge c.requires.edge, c.requires.ground.few)
-
-pub returns-then-index-clause-next : goal.returns-then-index-clause-next
-returns-then-index-clause-next c =
-    let w = c.args.self.now in
-    passed_dead c.args.ground.now c.requires.ground w (record w { place = w.place + 1 }) c.args.edge c.target_of-node.result c.requires.walk c.requires.edge
-    (sym (get_or_read w.dead.items c.target_of-node.result c.index-2.result.now (omega (arith, c.target_of-node.ensures.node, c.requires.walk.dead.size)) c.index-2.ensures false) ∙ c.if-index.true)
-    c.target_of-node.ensures.target refl refl
-
 pub index_mut-requires : goal.index_mut-requires
 index_mut-requires c = omega (arith, edge_within c.args.ground.now c.requires.ground c.args.self.now c.args.edge c.requires.edge, c.requires.walk.uses.size, c.args.self.now.left.ok.0)
 
@@ -46,23 +35,23 @@ overflow_sub-index_mut c =
     let second = get_or_read w.left.items c.args.edge c.index_mut.result.now lt c.index_mut.ensures.value 0 in
     omega (arith, first, second, c.if-index-eq0.false)
 
-pub returns-then-index-2-clause-walk : goal.returns-then-index-2-clause-walk
-returns-then-index-2-clause-walk c =
+pub returns-then-index-clause-walk : goal.returns-then-index-clause-walk
+returns-then-index-clause-walk c =
     let w = c.args.self.now in
     let lt : c.args.edge < length w.left.items = omega (arith, edge_within c.args.ground.now c.requires.ground w c.args.edge c.requires.edge, c.requires.walk.uses.size) in
     let first = get_or_read w.left.items c.args.edge c.index.result.now lt c.index.ensures 0 in
     let second = get_or_read w.left.items c.args.edge c.index_mut.result.now lt c.index_mut.ensures.value 0 in
     stepped c.args.ground.now c.requires.ground w _ c.args.edge (c.index_mut.result.now - 1) c.requires.walk c.requires.edge (omega (arith, first, c.if-index-eq0.false)) (ap (λ n. n - 1) second)
-    c.in_ok-push.ensures.steps (ap (λ v. v.items) c.in_ok-push.ensures.rest.1) (let S : Search → Type 0 = λ s. IsSearch (parts_of c.args.ground.now) s in subst S (sym c.in_ok-push.ensures.rest.2) (keeps_search c.args.ground.now.graph.now w.search c.forget_route.new.self c.requires.walk.search c.forget_route.ensures)) (let D : Vec Bool Global → Type 0 = λ d. AreDead c.args.ground.now d.items in subst D (sym c.in_ok-push.ensures.rest.3) c.requires.walk.dead)
+    c.in_ok-push.ensures.steps (ap (λ v. v.items) c.in_ok-push.ensures.rest.1) (let S : Search → Type 0 = λ s. IsSearch (parts_of c.args.ground.now) s in subst S (sym c.in_ok-push.ensures.rest.2) (keeps_search c.args.ground.now.graph.now w.search c.forget_route.new.self c.requires.walk.search c.forget_route.ensures))
 
-pub returns-then-index-2-clause-next : goal.returns-then-index-2-clause-next
-returns-then-index-2-clause-next c =
+pub returns-then-index-clause-next : goal.returns-then-index-clause-next
+returns-then-index-clause-next c =
     let w = c.args.self.now in
     let lt : c.args.edge < length w.left.items = omega (arith, edge_within c.args.ground.now c.requires.ground w c.args.edge c.requires.edge, c.requires.walk.uses.size) in
     let first = get_or_read w.left.items c.args.edge c.index.result.now lt c.index.ensures 0 in
     stepped_to_end c.args.ground.now c.requires.ground w c.push.new.self c.args.edge c.target_of-node.result c.requires.walk c.requires.edge (omega (arith, first, c.if-index-eq0.false)) c.in_ok-push.ensures.steps c.in_ok-push.ensures.rest.0
     c.target_of-node.ensures.target c.target_of-node.ensures.node
-    (sym (get_or_read c.args.ground.now.ends.items c.target_of-node.result c.index-3.result.now (omega (arith, c.target_of-node.ensures.node, c.requires.ground.ends_size)) c.index-3.ensures false) ∙ c.if-index-2.true)
+    (sym (get_or_read c.args.ground.now.ends.items c.target_of-node.result c.index-2.result.now (omega (arith, c.target_of-node.ensures.node, c.requires.ground.ends_size)) c.index-2.ensures false) ∙ c.if-index.true)
 
 pub index_mut-requires-else-branch : goal.index_mut-requires-else-branch
 index_mut-requires-else-branch c = omega (arith, edge_within c.args.ground.now c.requires.ground c.args.self.now c.args.edge c.requires.edge, c.requires.walk.uses.size, c.args.self.now.left.ok.0)
@@ -88,17 +77,17 @@ returns-in_ok-push-2-clause-walk c =
     let first = get_or_read w.left.items c.args.edge c.index.result.now lt c.index.ensures 0 in
     let second = get_or_read w.left.items c.args.edge c.index_mut.result.now lt c.index_mut.ensures.value 0 in
     stepped c.args.ground.now c.requires.ground w _ c.args.edge (c.index_mut.result.now - 1) c.requires.walk c.requires.edge (omega (arith, first, c.if-index-eq0.false)) (ap (λ n. n - 1) second)
-    c.in_ok-push-2.ensures.steps (ap (λ v. v.items) c.in_ok-push-2.ensures.rest.1) (let S : Search → Type 0 = λ s. IsSearch (parts_of c.args.ground.now) s in subst S (sym c.in_ok-push-2.ensures.rest.2) c.in_ok-reaches_end.ensures.search) (let D : Vec Bool Global → Type 0 = λ d. AreDead c.args.ground.now d.items in subst D (sym c.in_ok-push-2.ensures.rest.3) c.requires.walk.dead)
+    c.in_ok-push-2.ensures.steps (ap (λ v. v.items) c.in_ok-push-2.ensures.rest.1) (let S : Search → Type 0 = λ s. IsSearch (parts_of c.args.ground.now) s in subst S (sym c.in_ok-push-2.ensures.rest.2) c.in_ok-reaches_end.ensures.search)
 
 pub returns-in_ok-push-2-clause-next : goal.returns-in_ok-push-2-clause-next
 returns-in_ok-push-2-clause-next c =
     let w = c.args.self.now in
     stepped_on c.args.ground.now c.requires.ground w c.push-then-branch.new.self c.args.edge c.target_of-node.result c.requires.edge c.in_ok-push-2.ensures.steps c.in_ok-push-2.ensures.rest.0
     c.target_of-node.ensures.target c.target_of-node.ensures.node
-    (sym (get_or_read c.args.ground.now.ends.items c.target_of-node.result c.index-3.result.now (omega (arith, c.target_of-node.ensures.node, c.requires.ground.ends_size)) c.index-3.ensures false) ∙ c.if-index-2.false)
+    (sym (get_or_read c.args.ground.now.ends.items c.target_of-node.result c.index-2.result.now (omega (arith, c.target_of-node.ensures.node, c.requires.ground.ends_size)) c.index-2.ensures false) ∙ c.if-index.false)
 
-pub returns-in_ok-bury-clause-next : goal.returns-in_ok-bury-clause-next
-returns-in_ok-bury-clause-next c =
+pub returns-else-branch-clause-next : goal.returns-else-branch-clause-next
+returns-else-branch-clause-next c =
     let w = c.args.self.now in
     let lt : c.args.edge < length w.left.items = omega (arith, edge_within c.args.ground.now c.requires.ground w c.args.edge c.requires.edge, c.requires.walk.uses.size) in
     let first = get_or_read w.left.items c.args.edge c.index.result.now lt c.index.ensures 0 in
@@ -106,4 +95,4 @@ returns-in_ok-bury-clause-next c =
     passed_barren c.args.ground.now c.requires.ground w (record w { place = w.place + 1 }) c.args.edge (c.index_mut.result.now - 1) c.target_of-node.result (set w.left.items c.args.edge (c.index_mut.result.now - 1)) c.requires.walk c.requires.edge
     (omega (arith, first, c.if-index-eq0.false)) (ap (λ n. n - 1) second) refl c.target_of-node.ensures.target (λ way.
     ap (λ xs. is_way c.args.ground.now.graph.now xs (set w.left.items c.args.edge (c.index_mut.result.now - 1)) c.target_of-node.result way) (sym c.deref.ensures.value)
-    ∙ ap (λ xs. is_way c.args.ground.now.graph.now c.deref.result.now xs c.target_of-node.result way) (sym c.deref-2.ensures.value) ∙ c.in_ok-reaches_end.ensures.none c.if-branch.false c.target_of-node.result (c.in_ok-reaches_end.ensures.from c.if-branch.false) way) refl refl
+    ∙ ap (λ xs. is_way c.args.ground.now.graph.now c.deref.result.now xs c.target_of-node.result way) (sym c.deref-2.ensures.value) ∙ c.in_ok-reaches_end.ensures.none c.if-branch.false way) refl refl

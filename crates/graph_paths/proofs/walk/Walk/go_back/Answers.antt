@@ -33,7 +33,7 @@ returns-in-Some-clause-walk c =
     let t = record w { steps = c.pop.new.self } in
     let lt : c.in-Some.step.edge < length w.left.items = omega (arith, last_within c.args.ground.now c.requires.ground w t c.in-Some.step c.requires.walk c.in-Some.ensures.items, c.requires.walk.uses.size) in
     walk_back c.args.ground.now c.requires.ground w _ c.in-Some.step c.requires.walk c.in-Some.ensures.items (c.index_mut.result.now + 1)
-    (ap (λ n. n + 1) (get_or_read w.left.items c.in-Some.step.edge c.index_mut.result.now lt c.index_mut.ensures.value 0)) refl (keeps_search c.args.ground.now.graph.now w.search c.forget_route.new.self c.requires.walk.search c.forget_route.ensures) c.requires.walk.dead
+    (ap (λ n. n + 1) (get_or_read w.left.items c.in-Some.step.edge c.index_mut.result.now lt c.index_mut.ensures.value 0)) refl (keeps_search c.args.ground.now.graph.now w.search c.forget_route.new.self c.requires.walk.search c.forget_route.ensures)
 
 pub returns-in-Some-clause-next : goal.returns-in-Some-clause-next
 returns-in-Some-clause-next c = ahead_back c.args.ground.now c.requires.ground c.args.self.now (record c.args.self.now { steps = c.pop.new.self; place = c.in-Some.step.place + 1 }) c.in-Some.step c.requires.walk c.in-Some.ensures.items c.requires.end refl
