@@ -1,6 +1,7 @@
 // Goals.
 ghost use Rattle.std.specs.Prelude.{◌≡◌, IfOk};
 ghost use Rattle.goals.specs.Forms.{word_pattern};
+ghost use Rattle.goals.specs.GoalForm.{HasItsPattern};
 
 use crate::forms::word_pattern;
 use crate::goal_letter::GoalLetter;
@@ -57,5 +58,12 @@ impl Goal {
         ensures { IfOk result (λ p. p ≡ self.now.pattern) }
     {
         word_pattern(alloc, &self.quotes, &self.word)
+    }
+
+    /// A law of goals: the pattern is that of the word, where the quoted letters have some patterns.
+    pub fn pattern_is_of_word(&self)
+        ensures { HasItsPattern self.now }
+    {
+        let _word = &self.word;
     }
 }

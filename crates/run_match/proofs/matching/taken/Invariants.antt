@@ -1,0 +1,12 @@
+use Rattle.std.proofs.Common.{◌≡◌, ◌<◌, ◌≤◌, true, false, Bool, length}
+use Rattle.circuit.specs.Truth.{World}
+use Rattle.circuit.specs.declared.plain.Plain.{Plain}
+use Rattle.patterns.specs.Paths.{step_of, IsPath}
+use Rattle.automata.specs.Standing.{IsReach, IsSpent, Stands}
+use Rattle.run_match.proofs.Recorded.{steps_to}
+use Rattle.run_match.proofs.matching.taken.Given as goal
+
+abbrev pub invariant-loop-at : goal.invariant-loop-at
+invariant-loop-at l =
+    IsReach {T = Plain} {B = Bool} (λ t b. Unit {0}) false l.truth l.automaton l.reach
+    × Stands {T = Plain} {B = Bool} (λ t b w. b) l.truth l.automaton l.reach (λ w. steps_to (step_of l.path) l.at)

@@ -1,0 +1,5 @@
+pub mod Keys
+pub mod Going
+pub mod Steps
+pub mod Starts
+pub mod Cleared

@@ -1,0 +1,281 @@
+-- What each step of a walk adds.
+use Rattle.std.proofs.Common.{◌≡◌, ℕ, zero, suc, ◌+◌, ◌^◌, ◌≤◌, ◌<◌, ◌⊎◌, ◌↔◌, ◌==◌, inl, inr, Bool, true, false, List, [], ◌∷◌, length, get_or, drop, Option, Some, None, Result, Ok, Err, OnOk, refl, sym, ◌∙◌, ap, subst, arith, eqb-true}
+use Rattle.std.specs.Prelude.{slice_get, slice_index}
+use Rattle.std.specs.Int.{bit_at}
+use Rattle.std.specs.List.{Contains}
+use Rattle.std.proofs.lemmas.Bool.{cases_lt, false≢true}
+use Rattle.std.proofs.lemmas.Nat.Bits.{bit_at_above, bit_at-zero}
+use Rattle.patterns.specs.declared.path_view.PathView.{PathView}
+use Rattle.goals.specs.GoalForm.{GoalForm}
+use Rattle.goals.specs.Words.{Word}
+use Rattle.goals.specs.declared.goal_letter.GoalLetter.{GoalLetter}
+use Rattle.goals.specs.declared.goal_letter.GoalLetter.TheVariants.{Node, Edge, Predicate, Quoted}
+use Rattle.word_index.specs.Numbers.{Adds}
+use Rattle.word_index.specs.Order.{ranked, key_at, key_of}
+use Rattle.word_index.specs.Walks.{Goes, Walks}
+use Rattle.word_index.specs.Groups.{IsGroup, IsNarrowed, GoesOn, Continues, IsAny, IsEnd, IsLetter, IsPredicateBelow, IsNoEdge}
+use Rattle.word_index.specs.declared.group.Group.{Group}
+use Rattle.word_index.proofs.Keys.{no_key}
+use Rattle.word_index.proofs.Going.{past_staying, before_letter, first_goes, past_edge, at_end, ends_here}
+
+pub on_ok : {T E : Type 0} (r : Result T E) (A B : Type 0) → (A → B) → OnOk r A → OnOk r B
+on_ok (Ok x) A B f h = f h
+on_ok (Err e) A B f h = tt
+
+-- ---- sets of numbers
+
+pub adds_none : (P : ℕ → Type 0) (xs : List ℕ) → ((n : ℕ) → P n → ⊥) → Adds P xs xs
+adds_none P xs none n = (λ h. inl h, λ h. elim h [ inl x ↦ x | inr y ↦ absurd (none n y) ])
+
+pub adds_same : (P Q : ℕ → Type 0) (xs ys : List ℕ) → ((n : ℕ) → P n → Q n) → ((n : ℕ) → Q n → P n) → Adds P xs ys → Adds Q xs ys
+adds_same P Q xs ys to from h n = (
+  λ c. elim ((h n).0 c) [ inl x ↦ inl x | inr y ↦ inr (to n y) ],
+  λ c. elim c [ inl x ↦ (h n).1 (inl x) | inr y ↦ (h n).1 (inr (from n y)) ],
+)
+
+pub adds_both : (P Q : ℕ → Type 0) (xs ys zs : List ℕ) → Adds P xs ys → Adds Q ys zs → Adds (λ n. P n ⊎ Q n) xs zs
+adds_both P Q xs ys zs g h n = (
+  λ c. elim ((h n).0 c) [ inl x ↦ elim ((g n).0 x) [ inl y ↦ inl y | inr y ↦ inr (inl y) ] | inr x ↦ inr (inr x) ],
+  λ c. elim c [
+    | inl x ↦ (h n).1 (inl ((g n).1 (inl x)))
+    | inr x ↦ elim x [ inl y ↦ (h n).1 (inl ((g n).1 (inr y))) | inr y ↦ (h n).1 (inr y) ]
+  ],
+)
+
+-- ---- ranks
+
+-- the numbers of goals of these ranks
+abbrev pub RankNumbers : List ℕ → ℕ → ℕ → ℕ → Type 0
+RankNumbers order low high n = (r : ℕ) × ((low ≤ r) × ((r < high) × (n ≡ suc (slice_index order r))))
+
+pub ranks_none : (order : List ℕ) (low : ℕ) (xs : List ℕ) → Adds (RankNumbers order low low) xs xs
+ranks_none order low xs = adds_none _ xs (λ n (r, (from, (to, e))). absurd (omega arith))
+
+pub ranks_more : (order : List ℕ) (low rank number : ℕ) (xs ys zs : List ℕ) → low ≤ rank → number ≡ slice_index order rank + 1 → Adds (RankNumbers order low rank) xs ys → Adds (λ n. n ≡ number) ys zs → Adds (RankNumbers order low (rank + 1)) xs zs
+ranks_more order low rank number xs ys zs le is a b = adds_same _ (RankNumbers order low (rank + 1)) xs zs to from (adds_both _ _ xs ys zs a b)
+  where
+    to : (n : ℕ) → (RankNumbers order low rank n ⊎ (n ≡ number)) → RankNumbers order low (rank + 1) n
+    to n (inl (r, (f, (t, e)))) = (r, (f, (omega arith, e)))
+    to n (inr e) = (rank, (le, (omega arith, omega arith)))
+
+    from : (n : ℕ) → RankNumbers order low (rank + 1) n → (RankNumbers order low rank n ⊎ (n ≡ number))
+    from n (r, (f, (t, e))) = elim (cases_lt r rank) [
+      | inl below ↦ inl (r, (f, (below, e)))
+      | inr above ↦ let same : r ≡ rank = omega arith in let i : slice_index order r ≡ slice_index order rank = ap (slice_index order) same in inr (omega arith)
+    ]
+
+-- ---- steps of a walk
+
+module _ (goals : List GoalForm) (order : List ℕ) (path : PathView) (last : Bool) (g : Group) (at : ℕ) where
+  -- the same number, with another fact of how its word goes on
+  known_as : (H K : Option GoalLetter → Type 0) (n : ℕ) (c : Continues goals order path last H g at n) → K (slice_get (ranked goals order c.rank) g.depth) → Continues goals order path last K g at n
+  known_as H K n c k = record { rank = c.rank; from = c.from; below = c.below; is = c.is; head = k; goes = c.goes }
+
+  pub any_head : (H : Option GoalLetter → Type 0) (n : ℕ) → Continues goals order path last H g at n → Continues goals order path last IsAny g at n
+  any_head H n c = known_as H IsAny n c tt
+
+  -- where no walk may end, no word ends
+  pub no_ends : (xs : List ℕ) → last ≡ true → (at ≡ length path.edges → ⊥) → Adds (Continues goals order path last IsEnd g at) xs xs
+  no_ends xs is far = adds_none _ xs (λ n c. far (at_end path last (ranked goals order c.rank) g.depth at c.head c.goes is))
+
+  -- the words that end are those whose letter at the depth has no number
+  pub ends : (end : ℕ) (xs ys : List ℕ) → at ≤ length path.edges → (last ≡ true → at ≡ length path.edges) → end ≤ g.high
+      → ((r : ℕ) → g.low ≤ r → r < end → key_at goals order g.depth r < 1) → ((r : ℕ) → end ≤ r → r < g.high → 1 ≤ key_at goals order g.depth r)
+      → Adds (λ n. (r : ℕ) × ((g.low ≤ r) × ((r < end) × (n ≡ suc (slice_index order r))))) xs ys → Adds (Continues goals order path last IsEnd g at) xs ys
+  ends end xs ys within at_last le none some h =
+      adds_same _ (Continues goals order path last IsEnd g at) xs ys
+      (λ n (r, (from, (to, is))).
+      let e : slice_get (ranked goals order r) g.depth ≡ None = no_key (slice_get (ranked goals order r) g.depth) (none r from to) in
+      record { rank = r; from = from; below = omega arith; is = is; head = e; goes = ends_here path last (ranked goals order r) g.depth at e within at_last })
+      (λ n c.
+      let r : ℕ = c.rank in
+      let zero_key : key_at goals order g.depth c.rank ≡ 0 = ap key_of c.head in
+      let from : g.low ≤ c.rank = c.from in
+      let below : c.rank < g.high = c.below in
+      let to : c.rank < end = elim (cases_lt c.rank end) [ inl x ↦ x | inr y ↦ let z = some c.rank y below in absurd (omega arith) ] in
+      (c.rank, (from, (to, c.is))))
+      h
+
+  module _ (l : GoalLetter) (narrow : Group) (narrowed : IsNarrowed goals order l g narrow) (stays : Goes path l at at) where
+    staying_to : (n : ℕ) → Continues goals order path last IsAny narrow at n → Continues goals order path last (IsLetter l) g at n
+    staying_to n c =
+        let a : narrow.low ≤ c.rank = c.from in
+        let b : c.rank < narrow.high = c.below in
+        let f = narrowed.from in
+        let t = narrowed.to in
+        let e = narrowed.with_letter c.rank a b in
+        let deep : GoesOn path last (drop (suc g.depth) (ranked goals order c.rank)) at = subst (λ d. GoesOn path last (drop d (ranked goals order c.rank)) at) narrowed.deeper c.goes in
+        record { rank = c.rank; from = omega arith; below = omega arith; is = c.is; head = e; goes = before_letter path last (ranked goals order c.rank) g.depth at l at e stays deep }
+
+    staying_from : (n : ℕ) → Continues goals order path last (IsLetter l) g at n → Continues goals order path last IsAny narrow at n
+    staying_from n c =
+        let inside = narrowed.all_with_letter c.rank c.from c.below c.head in
+        let rest = past_staying path last (ranked goals order c.rank) g.depth at l c.head stays c.goes in
+        record { rank = c.rank; from = inside.0; below = inside.1; is = c.is; head = tt; goes = subst (λ d. GoesOn path last (drop d (ranked goals order c.rank)) at) (sym narrowed.deeper) rest }
+
+    -- what goes on with a letter that stays is what goes on past it
+    pub with_staying : (xs ys : List ℕ) → Adds (Continues goals order path last IsAny narrow at) xs ys → Adds (Continues goals order path last (IsLetter l) g at) xs ys
+    with_staying xs ys h = adds_same _ (Continues goals order path last (IsLetter l) g at) xs ys staying_to staying_from h
+
+    -- nothing, where no word goes on with it
+    pub with_none : (xs : List ℕ) → narrow.high ≤ narrow.low → Adds (Continues goals order path last (IsLetter l) g at) xs xs
+    with_none xs empty = adds_none _ xs (λ n c. let i = narrowed.all_with_letter c.rank c.from c.below c.head in let a = i.0 in let b = i.1 in absurd (omega arith))
+
+  -- ---- predicates
+
+  pub no_predicates : (xs : List ℕ) → Adds (Continues goals order path last (IsPredicateBelow 0) g at) xs xs
+  no_predicates xs = adds_none _ xs (λ n c. let h = c.head in let lt = h.1.0 in absurd (omega arith))
+
+  pub predicate_absent : (p : ℕ) (xs : List ℕ) (b : Bool) → b ≡ (bit_at (slice_index path.masks at) p == 1) → b ≡ false → Adds (Continues goals order path last (IsLetter (Predicate p)) g at) xs xs
+  predicate_absent p xs b e f = adds_none _ xs (λ n c. let h = first_goes path last (ranked goals order c.rank) g.depth at (Predicate p) c.head c.goes in false≢true (sym f ∙ e ∙ h.1.0.1))
+
+  predicate_holds : (p : ℕ) (w : Word) → slice_get w g.depth ≡ Some (Predicate p) → GoesOn path last (drop g.depth w) at → (bit_at (slice_index path.masks at) p == 1) ≡ true
+  predicate_holds p w e goes = let f = first_goes path last w g.depth at (Predicate p) e goes in f.1.0.1
+
+  more_to : (p n : ℕ) → (Continues goals order path last (IsPredicateBelow p) g at n ⊎ Continues goals order path last (IsLetter (Predicate p)) g at n) → Continues goals order path last (IsPredicateBelow (p + 1)) g at n
+  more_to p n (inl c) = known_as (IsPredicateBelow p) (IsPredicateBelow (p + 1)) n c (let h = c.head in let lt = h.1.0 in (h.0, (omega arith, h.1.1)))
+  more_to p n (inr c) = known_as (IsLetter (Predicate p)) (IsPredicateBelow (p + 1)) n c (p, (omega arith, c.head))
+
+  more_from : (p n : ℕ) → Continues goals order path last (IsPredicateBelow (p + 1)) g at n → (Continues goals order path last (IsPredicateBelow p) g at n ⊎ Continues goals order path last (IsLetter (Predicate p)) g at n)
+  more_from p n c =
+      let h = c.head in
+      let lt = h.1.0 in
+      elim (cases_lt h.0 p) [
+        | inl below ↦ inl (known_as (IsPredicateBelow (p + 1)) (IsPredicateBelow p) n c (h.0, (below, h.1.1)))
+        | inr above ↦ let e : h.0 ≡ p = omega arith in inr (known_as (IsPredicateBelow (p + 1)) (IsLetter (Predicate p)) n c (h.1.1 ∙ ap (λ q. Some (Predicate q)) e))
+      ]
+
+  -- one more predicate, which holds
+  pub predicate_more : (p : ℕ) (xs ys zs : List ℕ) → Adds (Continues goals order path last (IsPredicateBelow p) g at) xs ys → Adds (Continues goals order path last (IsLetter (Predicate p)) g at) ys zs
+      → Adds (Continues goals order path last (IsPredicateBelow (p + 1)) g at) xs zs
+  predicate_more p xs ys zs a b = adds_same _ (Continues goals order path last (IsPredicateBelow (p + 1)) g at) xs zs (more_to p) (more_from p) (adds_both _ _ xs ys zs a b)
+
+  -- where no bit is set none holds
+  pub none_hold : (p : ℕ) (xs : List ℕ) → slice_index path.masks at ≡ 0 → Adds (Continues goals order path last (IsPredicateBelow p) g at) xs xs
+  none_hold p xs zero_mask = adds_none _ xs (λ n c.
+      let h = c.head in
+      let bit = predicate_holds h.0 (ranked goals order c.rank) h.1.1 c.goes in
+      let one : bit_at (slice_index path.masks at) h.0 ≡ 1 = eqb-true _ 1 bit in
+      let none : bit_at (slice_index path.masks at) h.0 ≡ 0 = ap (λ m. bit_at m h.0) zero_mask ∙ bit_at-zero h.0 in
+      absurd (omega arith))
+
+  -- ---- all that stay
+
+  module _ (small : slice_index path.masks at < 2 ^ 64) where
+    stay_from : (n : ℕ) → Continues goals order path last IsNoEdge g at n
+        → ((Continues goals order path last IsEnd g at n ⊎ Continues goals order path last (IsLetter (Node (slice_index path.nodes at))) g at n) ⊎ Continues goals order path last (IsPredicateBelow 64) g at n)
+    stay_from n c = by_head (slice_get (ranked goals order c.rank) g.depth) refl c.head
+      where
+        by_head : (o : Option GoalLetter) → slice_get (ranked goals order c.rank) g.depth ≡ o → IsNoEdge o
+            → ((Continues goals order path last IsEnd g at n ⊎ Continues goals order path last (IsLetter (Node (slice_index path.nodes at))) g at n) ⊎ Continues goals order path last (IsPredicateBelow 64) g at n)
+        by_head None e h = inl (inl (known_as IsNoEdge IsEnd n c e))
+        by_head (Some (Node m)) e h =
+            let f = first_goes path last (ranked goals order c.rank) g.depth at (Node m) e c.goes in
+            inl (inr (known_as IsNoEdge (IsLetter (Node (slice_index path.nodes at))) n c (e ∙ ap (λ x. Some (Node x)) (sym f.1.0.1))))
+        by_head (Some (Edge m)) e h = absurd h
+        by_head (Some (Predicate p)) e h =
+            let bit = predicate_holds p (ranked goals order c.rank) e c.goes in
+            let one : bit_at (slice_index path.masks at) p ≡ 1 = eqb-true _ 1 bit in
+            let lt : p < 64 = elim (cases_lt p 64) [ inl x ↦ x | inr y ↦ let none = bit_at_above (slice_index path.masks at) 64 p small y in absurd (omega arith) ] in
+            inr (known_as IsNoEdge (IsPredicateBelow 64) n c (p, (lt, e)))
+        by_head (Some (Quoted q)) e h = let f = first_goes path last (ranked goals order c.rank) g.depth at (Quoted q) e c.goes in absurd f.1.0
+
+    stay_to : (n : ℕ) → ((Continues goals order path last IsEnd g at n ⊎ Continues goals order path last (IsLetter (Node (slice_index path.nodes at))) g at n) ⊎ Continues goals order path last (IsPredicateBelow 64) g at n)
+        → Continues goals order path last IsNoEdge g at n
+    stay_to n (inl (inl c)) = known_as IsEnd IsNoEdge n c (subst IsNoEdge (sym c.head) tt)
+    stay_to n (inl (inr c)) = known_as (IsLetter (Node (slice_index path.nodes at))) IsNoEdge n c (subst IsNoEdge (sym c.head) tt)
+    stay_to n (inr c) = let h = c.head in known_as (IsPredicateBelow 64) IsNoEdge n c (subst IsNoEdge (sym h.1.1) tt)
+
+    pub staying : (letter : GoalLetter) → letter ≡ Node (slice_index path.nodes at) → (xs ys zs us : List ℕ) → Adds (Continues goals order path last IsEnd g at) xs ys → Adds (Continues goals order path last (IsLetter letter) g at) ys zs
+        → Adds (Continues goals order path last (IsPredicateBelow 64) g at) zs us → Adds (Continues goals order path last IsNoEdge g at) xs us
+    staying letter e xs ys zs us a b c =
+        let b' : Adds (Continues goals order path last (IsLetter (Node (slice_index path.nodes at))) g at) ys zs = subst (λ l. Adds (Continues goals order path last (IsLetter l) g at) ys zs) e b in
+        adds_same _ (Continues goals order path last IsNoEdge g at) xs us stay_to stay_from (adds_both _ _ xs zs us (adds_both _ _ xs ys zs a b') c)
+
+  -- ---- edges
+
+  -- after the last state no word goes on with an edge
+  pub last_state : (xs ys : List ℕ) → length path.edges ≤ at → Adds (Continues goals order path last IsNoEdge g at) xs ys → Adds (Continues goals order path last IsAny g at) xs ys
+  last_state xs ys past h = adds_same _ (Continues goals order path last IsAny g at) xs ys (λ n c. known_as IsNoEdge IsAny n c tt) from h
+    where
+      from : (n : ℕ) → Continues goals order path last IsAny g at n → Continues goals order path last IsNoEdge g at n
+      from n c = by_head (slice_get (ranked goals order c.rank) g.depth) refl
+        where
+          by_head : (o : Option GoalLetter) → slice_get (ranked goals order c.rank) g.depth ≡ o → Continues goals order path last IsNoEdge g at n
+          by_head None e = known_as IsAny IsNoEdge n c (subst IsNoEdge (sym e) tt)
+          by_head (Some (Node m)) e = known_as IsAny IsNoEdge n c (subst IsNoEdge (sym e) tt)
+          by_head (Some (Edge m)) e = let f = past_edge path last (ranked goals order c.rank) g.depth at m e c.goes in let lt = f.1.1 in absurd (omega arith)
+          by_head (Some (Predicate p)) e = known_as IsAny IsNoEdge n c (subst IsNoEdge (sym e) tt)
+          by_head (Some (Quoted q)) e = known_as IsAny IsNoEdge n c (subst IsNoEdge (sym e) tt)
+
+  -- a group of which nothing is left
+  pub nothing_left : (H : Option GoalLetter → Type 0) (n : ℕ) → g.high ≤ g.low → Continues goals order path last H g at n → ⊥
+  nothing_left H n empty c = let a = c.from in let b = c.below in omega arith
+
+  module _ (edge : ℕ) (narrow : Group) (narrowed : IsNarrowed goals order (Edge edge) g narrow) (here : slice_index path.edges at ≡ edge) where
+    pub edge_to : (n : ℕ) → Continues goals order path last IsAny narrow (suc at) n → Continues goals order path last IsAny g at n
+    edge_to n c =
+        let a : narrow.low ≤ c.rank = c.from in
+        let b : c.rank < narrow.high = c.below in
+        let f = narrowed.from in
+        let t = narrowed.to in
+        let e = narrowed.with_letter c.rank a b in
+        let deep : GoesOn path last (drop (suc g.depth) (ranked goals order c.rank)) (suc at) = subst (λ d. GoesOn path last (drop d (ranked goals order c.rank)) (suc at)) narrowed.deeper c.goes in
+        record { rank = c.rank; from = omega arith; below = omega arith; is = c.is; head = tt; goes = before_letter path last (ranked goals order c.rank) g.depth at (Edge edge) (suc at) e (refl, here) deep }
+
+    pub edge_from : (n : ℕ) → Continues goals order path last IsAny g at n → (Continues goals order path last IsNoEdge g at n ⊎ Continues goals order path last IsAny narrow (suc at) n)
+    edge_from n c = by_head (slice_get (ranked goals order c.rank) g.depth) refl
+      where
+        by_head : (o : Option GoalLetter) → slice_get (ranked goals order c.rank) g.depth ≡ o → (Continues goals order path last IsNoEdge g at n ⊎ Continues goals order path last IsAny narrow (suc at) n)
+        by_head None e = inl (known_as IsAny IsNoEdge n c (subst IsNoEdge (sym e) tt))
+        by_head (Some (Node m)) e = inl (known_as IsAny IsNoEdge n c (subst IsNoEdge (sym e) tt))
+        by_head (Some (Edge m)) e =
+            let f = past_edge path last (ranked goals order c.rank) g.depth at m e c.goes in
+            let same : m ≡ edge = sym f.0 ∙ here in
+            let inside = narrowed.all_with_letter c.rank c.from c.below (e ∙ ap (λ x. Some (Edge x)) same) in
+            inr (record { rank = c.rank; from = inside.0; below = inside.1; is = c.is; head = tt; goes = subst (λ d. GoesOn path last (drop d (ranked goals order c.rank)) (suc at)) (sym narrowed.deeper) f.1.0 })
+        by_head (Some (Predicate p)) e = inl (known_as IsAny IsNoEdge n c (subst IsNoEdge (sym e) tt))
+        by_head (Some (Quoted q)) e = inl (known_as IsAny IsNoEdge n c (subst IsNoEdge (sym e) tt))
+
+-- ---- a walk from its beginning
+
+module _ (goals : List GoalForm) (order : List ℕ) (path : PathView) (last : Bool) (g0 : Group) (at0 : ℕ) (xs0 : List ℕ) where
+  -- what is known and what is still to come are together what is wanted
+  abbrev pub Same : Group → ℕ → List ℕ → Type 0
+  Same g at xs = (n : ℕ) → (Contains xs n ⊎ Continues goals order path last IsAny g at n) ↔ (Contains xs0 n ⊎ Continues goals order path last IsAny g0 at0 n)
+
+  pub same_first : Same g0 at0 xs0
+  same_first n = (λ h. h, λ h. h)
+
+  -- one edge further
+  pub same_more : (g narrow : Group) (at : ℕ) (letter : GoalLetter) (xs ys : List ℕ) → Same g at xs → Adds (Continues goals order path last IsNoEdge g at) xs ys
+      → letter ≡ Edge (slice_index path.edges at) → IsNarrowed goals order letter g narrow → Same narrow (at + 1) ys
+  same_more g narrow at letter xs ys same h e narrowed n =
+      let k : suc at ≡ at + 1 = omega arith in
+      let narrowed' : IsNarrowed goals order (Edge (slice_index path.edges at)) g narrow = subst (λ l. IsNarrowed goals order l g narrow) e narrowed in
+      subst (λ i. (Contains ys n ⊎ Continues goals order path last IsAny narrow i n) ↔ (Contains xs0 n ⊎ Continues goals order path last IsAny g0 at0 n)) k (
+        λ c. elim c [
+          | inl x ↦ elim ((h n).0 x) [ inl y ↦ (same n).0 (inl y) | inr y ↦ (same n).0 (inr (any_head goals order path last g at IsNoEdge n y)) ]
+          | inr x ↦ (same n).0 (inr (edge_to goals order path last g at (slice_index path.edges at) narrow narrowed' refl n x))
+        ],
+        λ c. elim ((same n).1 c) [
+          | inl x ↦ inl ((h n).1 (inl x))
+          | inr x ↦ elim (edge_from goals order path last g at (slice_index path.edges at) narrow narrowed' refl n x) [ inl y ↦ inl ((h n).1 (inr y)) | inr y ↦ inr y ]
+        ],
+      )
+
+  -- at the last state
+  pub same_last : (g : Group) (at : ℕ) (xs ys : List ℕ) → Same g at xs → Adds (Continues goals order path last IsNoEdge g at) xs ys → length path.edges ≤ at → Adds (Continues goals order path last IsAny g0 at0) xs0 ys
+  same_last g at xs ys same h past n =
+      let all = last_state goals order path last g at xs ys past h n in
+      (λ c. (same n).0 (all.0 c), λ c. all.1 ((same n).1 c))
+
+  -- where nothing is left
+  pub same_done : (g : Group) (at : ℕ) (xs : List ℕ) → Same g at xs → g.high ≤ g.low → Adds (Continues goals order path last IsAny g0 at0) xs0 xs
+  same_done g at xs same empty n = (
+    λ c. (same n).0 (inl c),
+    λ c. elim ((same n).1 c) [ inl x ↦ x | inr x ↦ absurd (nothing_left goals order path last g at IsAny n empty x) ],
+  )
+
+pub node_stays : (path : PathView) (at : ℕ) (letter : GoalLetter) → letter ≡ Node (slice_index path.nodes at) → Goes path letter at at
+node_stays path at letter e = subst (λ l. Goes path l at at) (sym e) (refl, refl)

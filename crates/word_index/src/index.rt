@@ -1,0 +1,101 @@
+// The index.
+ghost use Rattle.std.specs.Prelude.{◌≡◌, ℕ, true, All, IfOk, OnOk};
+ghost use Rattle.std.specs.List.{Contains};
+ghost use Rattle.word_index.specs.Numbers.{Adds};
+ghost use Rattle.word_index.specs.Order.{IsOrderOf};
+ghost use Rattle.word_index.specs.Walks.{HasGoalWalk, is_plain, word_at};
+
+use crate::group::Group;
+use crate::letters::is_plain;
+use crate::numbers::Numbers;
+use crate::walk::add_walks;
+use crate::words::{compared, word_at};
+use containers::Vector;
+use fq_core::Memory;
+use goals::Goal;
+use run_match::RunPath;
+use std::alloc::Global;
+
+/// The goals of a list whose words have letters, and no quoted ones, sorted by their words.
+#[derive(Debug, Drop)]
+pub struct WordIndex {
+    order: Vector<u32>,
+}
+
+impl WordIndex {
+    /// The index of these goals.
+    pub fn new(alloc: Global, goals: &[Goal]) -> Result<WordIndex, Memory>
+        ensures { IfOk result (λ index. IsOrderOf goals.now index.order) }
+    {
+        Ok(WordIndex {
+            order: Vector::from_vec(sorted_places(alloc, goals)?),
+        })
+    }
+
+    /// Adds the numbers, from 1, of the goals of the index whose words go along the path.
+    pub fn add_walks(
+        &self,
+        goals: &[Goal],
+        path: &RunPath,
+        first: bool,
+        last: bool,
+        numbers: &mut Numbers,
+    ) -> Result<(), Memory>
+        requires { IsOrderOf goals.now self.now.order }
+        ensures { OnOk result (Adds (HasGoalWalk goals.now first last path.now) numbers.old numbers.new) }
+    {
+        add_from_states(goals, &self.order, path, first, last, numbers)
+    }
+}
+
+/// Adds the goals of this order whose words go along the path.
+fn add_from_states(
+    goals: &[Goal],
+    order: &[u32],
+    path: &RunPath,
+    first: bool,
+    last: bool,
+    numbers: &mut Numbers,
+) -> Result<(), Memory>
+    requires { IsOrderOf goals.now order.now }
+    ensures { OnOk result (Adds (HasGoalWalk goals.now first last path.now) numbers.old numbers.new) }
+{
+    let all = Group {
+        low: 0,
+        high: order.len(),
+        depth: 0,
+    };
+    if first {
+        return add_walks(goals, order, path, last, all, 0, numbers);
+    }
+    for at in 0..path.nodes().len() {
+        add_walks(goals, order, path, last, all, at, numbers)?;
+    }
+    Ok(())
+}
+
+/// The places of the goals whose words have letters, and no quoted ones.
+fn plain_places(alloc: Global, goals: &[Goal]) -> Result<Vec<u32>, Memory>
+    ensures plain { IfOk result (λ places. All (λ p. is_plain (word_at goals.now p) ≡ true) places.items) }
+    ensures every { IfOk result (λ places. (p : ℕ) → is_plain (word_at goals.now p) ≡ true → Contains places.items p) }
+{
+    let mut places = Vec::new(alloc);
+    for place in 0..goals.len() {
+        if is_plain(goals[place].word()) {
+            if place > u32::MAX as usize {
+                return Err(Memory);
+            }
+            places.push(place as u32)?;
+        }
+    }
+    Ok(places)
+}
+
+/// The same, by the order of the words.
+fn sorted_places(alloc: Global, goals: &[Goal]) -> Result<Vec<u32>, Memory>
+    ensures { IfOk result (λ places. IsOrderOf goals.now places.items) }
+{
+    let mut places = plain_places(alloc, goals)?;
+    places.sort_unstable_by(|a, b| compared(word_at(goals, *a), word_at(goals, *b)));
+    Ok(places)
+}

@@ -1,0 +1,219 @@
+// Walks of sorted words along a path.
+ghost use Rattle.std.specs.Prelude.{◌≡◌, ◌==◌, ◌^◌, ℕ, ◌<◌, ◌≤◌, length, OnOk, slice_index, suc, true, false, IfOk, ◌+◌};
+ghost use Rattle.std.specs.Int.{bit_at};
+ghost use Rattle.patterns.specs.Paths.{IsPath};
+ghost use Rattle.word_index.specs.Groups.{Continues, IsAny, IsEnd, IsGroup, IsLetter, IsNoEdge, IsPredicateBelow};
+ghost use Rattle.word_index.specs.Numbers.{Adds};
+ghost use Rattle.word_index.specs.Walks.{Goes};
+
+use crate::group::Group;
+use crate::numbers::Numbers;
+use crate::ranges::{first_from, narrowed};
+use fq_core::Memory;
+use goals::{Goal, GoalLetter};
+use run_match::RunPath;
+
+/// The number, from 1, of the goal of a rank.
+fn number_at(order: &[u32], rank: usize) -> Result<u32, Memory>
+    ensures { IfOk result (λ number. number ≡ slice_index order.now rank + 1) }
+{
+    match order.get(rank).copied().unwrap_or(0).checked_add(1) {
+        Some(number) => Ok(number),
+        None => Err(Memory),
+    }
+}
+
+/// Adds the numbers of the goals of these ranks.
+fn add_ranks(order: &[u32], low: usize, high: usize, numbers: &mut Numbers) -> Result<(), Memory>
+    requires { low ≤ high }
+    ensures { OnOk result (Adds (λ n. (r : ℕ) × ((low ≤ r) × ((r < high) × (n ≡ suc (slice_index order.now r))))) numbers.old numbers.new) }
+{
+    for rank in low..high {
+        let number = number_at(order, rank)?;
+        numbers.add(number)?;
+    }
+    Ok(())
+}
+
+/// Whether a walk may end at a state.
+fn may_end(path: &RunPath, last: bool, at: usize) -> bool
+    ensures yes { result ≡ true → last ≡ true → at ≡ length path.now.edges }
+    ensures no { result ≡ false → (last ≡ true) × (¬ (at ≡ length path.now.edges)) }
+{
+    !last || at == path.edges().len()
+}
+
+/// Adds the goals of a group whose words end at its depth, if a walk may end at this state.
+fn add_ends(
+    goals: &[Goal],
+    order: &[u32],
+    path: &RunPath,
+    last: bool,
+    group: Group,
+    at: usize,
+    numbers: &mut Numbers,
+) -> Result<(), Memory>
+    requires group { IsGroup goals.now order.now group }
+    requires at { at ≤ length path.now.edges }
+    ensures { OnOk result (Adds (Continues goals.now order.now path.now last IsEnd group at) numbers.old numbers.new) }
+{
+    if may_end(path, last, at) {
+        let end = first_from(goals, order, group, 1);
+        add_ranks(order, group.low, end, numbers)?;
+    }
+    Ok(())
+}
+
+/// Adds the goals of a group whose words go on with a letter that stays at this state, and then go on.
+#[cycle(walk)]
+fn add_with(
+    goals: &[Goal],
+    order: &[u32],
+    path: &RunPath,
+    last: bool,
+    group: Group,
+    at: usize,
+    letter: GoalLetter,
+    numbers: &mut Numbers,
+) -> Result<(), Memory>
+    requires group { IsGroup goals.now order.now group }
+    requires at { at ≤ length path.now.edges }
+    requires stays { Goes path.now letter at at }
+    ensures { OnOk result (Adds (Continues goals.now order.now path.now last (IsLetter letter) group at) numbers.old numbers.new) }
+{
+    let narrow = narrowed(goals, order, group, letter)?;
+    if narrow.low < narrow.high {
+        add_walks(goals, order, path, last, narrow, at, numbers)?;
+    }
+    Ok(())
+}
+
+/// The letter of the node of a state.
+fn node_letter(path: &RunPath, at: usize) -> GoalLetter
+    ensures { result ≡ GoalLetter.Node (slice_index path.now.nodes at) }
+{
+    GoalLetter::Node(path.nodes().get(at).copied().unwrap_or(0))
+}
+
+/// The letter of the edge out of a state.
+fn edge_letter(path: &RunPath, at: usize) -> GoalLetter
+    ensures { result ≡ GoalLetter.Edge (slice_index path.now.edges at) }
+{
+    GoalLetter::Edge(path.edges().get(at).copied().unwrap_or(0))
+}
+
+/// Which predicates hold at a state.
+fn mask_at(path: &RunPath, at: usize) -> u64
+    ensures mask { result ≡ slice_index path.now.masks at }
+    ensures small { result < 2 ^ 64 }
+{
+    path.masks().get(at).copied().unwrap_or(0)
+}
+
+/// Whether a bit, counted from the lowest, is set.
+#[tactic(auto, using(std::proofs::lemmas::Nat::Bits::shr_and_one))]
+fn has_bit(mask: u64, bit: u32) -> bool
+    requires { bit < 64 }
+    ensures { result ≡ (bit_at mask bit == 1) }
+{
+    (mask >> bit) & 1 == 1
+}
+
+/// Adds the goals of a group whose words go on with a predicate that holds at this state, and then go on.
+#[cycle(walk)]
+fn add_with_predicate(
+    goals: &[Goal],
+    order: &[u32],
+    path: &RunPath,
+    last: bool,
+    group: Group,
+    at: usize,
+    number: u32,
+    numbers: &mut Numbers,
+) -> Result<(), Memory>
+    requires group { IsGroup goals.now order.now group }
+    requires at { at ≤ length path.now.edges }
+    requires number { number < 64 }
+    ensures { OnOk result (Adds (Continues goals.now order.now path.now last (IsLetter (GoalLetter.Predicate number)) group at) numbers.old numbers.new) }
+{
+    if !has_bit(mask_at(path, at), number) {
+        return Ok(());
+    }
+    let letter = GoalLetter::Predicate(number);
+    add_with(goals, order, path, last, group, at, letter, numbers)
+}
+
+/// The same for all predicates.
+#[cycle(walk)]
+fn add_with_predicates(
+    goals: &[Goal],
+    order: &[u32],
+    path: &RunPath,
+    last: bool,
+    group: Group,
+    at: usize,
+    numbers: &mut Numbers,
+) -> Result<(), Memory>
+    requires group { IsGroup goals.now order.now group }
+    requires at { at ≤ length path.now.edges }
+    ensures { OnOk result (Adds (Continues goals.now order.now path.now last (IsPredicateBelow 64) group at) numbers.old numbers.new) }
+{
+    if mask_at(path, at) == 0 {
+        return Ok(());
+    }
+    for number in 0..64u32 {
+        add_with_predicate(goals, order, path, last, group, at, number, numbers)?;
+    }
+    Ok(())
+}
+
+/// Adds the goals of a group whose words end at its depth, or go on with a letter that stays at this state.
+#[cycle(walk)]
+fn add_staying(
+    goals: &[Goal],
+    order: &[u32],
+    path: &RunPath,
+    last: bool,
+    group: Group,
+    at: usize,
+    numbers: &mut Numbers,
+) -> Result<(), Memory>
+    requires group { IsGroup goals.now order.now group }
+    requires at { at ≤ length path.now.edges }
+    ensures { OnOk result (Adds (Continues goals.now order.now path.now last IsNoEdge group at) numbers.old numbers.new) }
+{
+    add_ends(goals, order, path, last, group, at, numbers)?;
+    let node = node_letter(path, at);
+    add_with(goals, order, path, last, group, at, node, numbers)?;
+    let _mask = mask_at(path, at);
+    add_with_predicates(goals, order, path, last, group, at, numbers)
+}
+
+/// Adds the goals of a group whose words go on from this state to one at which a walk may end.
+#[cycle(walk)]
+pub(crate) fn add_walks(
+    goals: &[Goal],
+    order: &[u32],
+    path: &RunPath,
+    last: bool,
+    group: Group,
+    at: usize,
+    numbers: &mut Numbers,
+) -> Result<(), Memory>
+    requires group { IsGroup goals.now order.now group }
+    requires at { at ≤ length path.now.edges }
+    ensures { OnOk result (Adds (Continues goals.now order.now path.now last IsAny group at) numbers.old numbers.new) }
+{
+    let mut group = group;
+    let mut at = at;
+    while group.low < group.high {
+        add_staying(goals, order, path, last, group, at, numbers)?;
+        if at >= path.edges().len() {
+            return Ok(());
+        }
+        let edge = edge_letter(path, at);
+        group = narrowed(goals, order, group, edge)?;
+        at += 1;
+    }
+    Ok(())
+}
