@@ -1,0 +1,10 @@
+use Rattle.std.proofs.Common.{Bool, List, length}
+use Rattle.goals.specs.GoalForm.{GoalForm}
+use Rattle.word_index.specs.Numbers.{Adds}
+use Rattle.measurer.specs.Measured.{AreAutomata}
+use Rattle.measurer.proofs.Automata.{MatchedBefore}
+use Rattle.measurer.proofs.others.add_others.Given as goal
+
+abbrev pub invariant-loop-own : goal.invariant-loop-own
+invariant-loop-own l =
+    (goals : List GoalForm) (first last : Bool) → AreAutomata goals first last (length goals) l.automata → Adds (MatchedBefore goals first last l.path l.automata l.own-index) l.initial.numbers l.numbers

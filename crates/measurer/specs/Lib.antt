@@ -1,0 +1,5 @@
+pub mod Hits
+pub mod Firsts
+pub mod Noted
+pub mod Measured
+pub mod Measurers

@@ -1,0 +1,161 @@
+// The measurer.
+ghost use Rattle.std.specs.Prelude.{◌≡◌, ◌↔◌, ◌⊎◌, [], ◌∷◌, ◌++◌, List, ℕ, true, false, IfOk, OnOk, OnErr, slice_index};
+ghost use Rattle.std.specs.List.{Contains};
+ghost use Rattle.patterns.specs.Paths.{IsPath};
+ghost use Rattle.measurer.specs.Firsts.{first_hit, or_none};
+ghost use Rattle.word_index.specs.Numbers.{Adds};
+ghost use Rattle.word_index.specs.Walks.{HasGoalWalk};
+ghost use Rattle.measurer.specs.Hits.{AreHits, HasReturned, HitsNumber, path_in};
+ghost use Rattle.measurer.specs.Measured.{HasOtherMatch, IsFor};
+
+use crate::firsts::note;
+use crate::others::add_others;
+use crate::passing::meets_passing;
+use crate::tables::{Tables, tables_of};
+use containers::Vector;
+use fq_core::Memory;
+use goals::Plan;
+use path_runner::{PathRecord, RunEnd};
+use run_match::RunPath;
+use std::alloc::Global;
+use word_index::Numbers;
+
+/// Tells which goals of a plan recorded runs hit. Contracts see what plan it was made for (`IsMadeFor`) and the hits of each
+/// run so far (`hits_of`).
+#[derive(Drop)]
+pub struct Measurer {
+    tables: Tables,
+    /// The numbers of the goals that a run hits, while they are gathered.
+    numbers: Numbers,
+    hits: Vector<Vector<u32>>,
+    /// The number of the first run that hits a goal, by the goal's number, or 0.
+    firsts: Vec<u32>,
+    ghost first_runs: { (goal : ℕ) → or_none (slice_index firsts.items goal) ≡ first_hit hits goal },
+}
+
+impl Measurer {
+    ghost use Rattle.std.specs.Prelude.{◌≡◌, ◌↔◌, ◌⊎◌, [], ◌∷◌, ◌++◌, List, ℕ, true, false, IfOk, OnOk, OnErr, slice_index};
+    ghost use Rattle.patterns.specs.Paths.{IsPath};
+    ghost use Rattle.measurer.specs.Firsts.{first_hit, or_none};
+    ghost use Rattle.measurer.specs.Hits.{AreHits, path_in};
+    ghost use Rattle.measurer.specs.Measurers.{IsMadeFor, hits_of};
+
+    /// A measurer for the goals of a plan, without runs.
+    ///
+    /// # Errors
+    ///
+    /// Want of memory alone.
+    pub fn new(alloc: Global, plan: &Plan) -> Result<Measurer, Memory>
+        ensures plan { IfOk result (λ measurer. IsMadeFor plan.now measurer) }
+        ensures hits { IfOk result (λ measurer. hits_of measurer ≡ []) }
+    {
+        Ok(Measurer {
+            tables: tables_of(alloc, plan)?,
+            numbers: Numbers::new(alloc, plan.goals.len())?,
+            hits: Vector::new(alloc),
+            firsts: Vec::new(alloc),
+        })
+    }
+
+    /// Adds a run: appends the list of the goals that it hits, by their numbers from 1, in rising order. The list is empty
+    /// unless the run returned.
+    ///
+    /// # Errors
+    ///
+    /// Want of memory alone. Then the lists of hits are as they were.
+    pub fn add(&mut self, plan: &Plan, run: &PathRecord) -> Result<(), Memory>
+        requires plan { IsMadeFor plan.now self.old }
+        requires path { IsPath (path_in run.now) }
+        ensures plan { IsMadeFor plan.now self.new }
+        ensures hits { OnOk result ((last : List ℕ) × ((hits_of self.new ≡ hits_of self.old ++ last ∷ []) × AreHits plan.now run.now last)) }
+        ensures refused { OnErr result (hits_of self.new ≡ hits_of self.old) }
+    {
+        let alloc = self.hits.allocator();
+        gather(alloc, &self.tables, plan, run, &mut self.numbers)?;
+        let hits = self.numbers.rising(alloc)?;
+        note(&mut self.hits, &mut self.firsts, hits)
+    }
+
+    /// The goals that each added run hits, in the order in which the runs were added.
+    pub fn hits(&self) -> &[Vector<u32>]
+        ensures { result.now ≡ hits_of self.now }
+    {
+        self.hits.as_slice()
+    }
+
+    /// The number, from 1, of the first added run that hits the goal of this number. It takes constant time.
+    pub fn first(&self, goal: u32) -> Option<u32>
+        ensures { result ≡ first_hit (hits_of self.now) goal }
+    {
+        match self.firsts.get(goal as usize).copied() {
+            Some(0) | None => None,
+            Some(number) => Some(number),
+        }
+    }
+}
+
+/// Whether a run returned.
+fn has_returned(end: &RunEnd) -> bool
+    ensures yes { result ≡ true → HasReturned end.now }
+    ensures no { result ≡ false → ¬ HasReturned end.now }
+{
+    match end {
+        RunEnd::Returned { .. } => true,
+        RunEnd::Trapped(_) => false,
+        RunEnd::Blocked => false,
+        RunEnd::TooDeep => false,
+        RunEnd::Cut => false,
+    }
+}
+
+/// The path that a run took.
+fn path_in(run: &PathRecord) -> RunPath<'_>
+    requires { IsPath (path_in run.now) }
+    ensures { result ≡ path_in run.now }
+{
+    let nodes = run.nodes.as_slice();
+    let edges = run.edges.as_slice();
+    let masks = run.masks.as_slice();
+    RunPath::new(nodes, edges, masks)
+}
+
+/// Adds the numbers of the goals of whose patterns a path has a match.
+fn add_found(
+    alloc: Global,
+    tables: &Tables,
+    plan: &Plan,
+    path: &RunPath,
+    numbers: &mut Numbers,
+) -> Result<(), Memory>
+    requires { IsFor plan.now tables.now }
+    ensures { OnOk result (Adds (λ n. HasGoalWalk plan.now.goals plan.now.first plan.now.last path.now n ⊎ HasOtherMatch plan.now.goals plan.now.first plan.now.last path.now n) numbers.old numbers.new) }
+{
+    let goals = plan.goals.as_slice();
+    let index = &tables.index;
+    index.add_walks(goals, path, plan.first, plan.last, numbers)?;
+    let automata = tables.automata.as_slice();
+    add_others(alloc, automata, path, numbers)
+}
+
+/// Gathers the numbers of the goals that a run hits.
+fn gather(
+    alloc: Global,
+    tables: &Tables,
+    plan: &Plan,
+    run: &PathRecord,
+    numbers: &mut Numbers,
+) -> Result<(), Memory>
+    requires plan { IsFor plan.now tables.now }
+    requires path { IsPath (path_in run.now) }
+    ensures { OnOk result ((n : ℕ) → Contains numbers.new n ↔ HitsNumber plan.now run.now n) }
+{
+    numbers.clear();
+    if !has_returned(&run.end) {
+        return Ok(());
+    }
+    let path = path_in(run);
+    if !meets_passing(alloc, &tables.passing, &path)? {
+        return Ok(());
+    }
+    add_found(alloc, tables, plan, &path, numbers)
+}
