@@ -1,6 +1,6 @@
 -- Matches go forward, and depend on no state past their end.
-use Rattle.std.proofs.Common.{◌≡◌, ℕ, zero, suc, ◌≤◌, ◌⊎◌, inl, inr, true, Option, List, refl, sym, ◌∙◌, ap, subst, arith}
-use Rattle.patterns.specs.Match.{Step, Form, nothing, letter, dot, either, repeat, LetterMatch, Turns, AtMost, Match}
+use Rattle.std.proofs.Common.{◌≡◌, ℕ, zero, suc, ◌≤◌, inl, inr, true, subst, arith}
+use Rattle.patterns.specs.Match.{Step, Form, nothing, letter, dot, either, repeat, Turns, Match}
 
 turns_forward : (One : ℕ → ℕ → Type 0) → ((i j : ℕ) → One i j → i ≤ j) → (c i j : ℕ) → Turns One c i j → i ≤ j
 turns_forward One f zero i j h = omega arith

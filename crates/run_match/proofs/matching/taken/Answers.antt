@@ -1,4 +1,4 @@
-use Rattle.std.proofs.Common.{◌≡◌, ◌+◌, ◌<◌, ◌≤◌, Bool, true, [], length, refl, sym, ◌∙◌, ap, subst, arith}
+use Rattle.std.proofs.Common.{[], length, refl, ap, arith}
 use Rattle.run_match.proofs.Taken.{first_stands, more_stands, settled, all_taken}
 use Rattle.run_match.proofs.matching.taken.Goals as goal
 

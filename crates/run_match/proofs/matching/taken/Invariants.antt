@@ -1,8 +1,7 @@
-use Rattle.std.proofs.Common.{◌≡◌, ◌<◌, ◌≤◌, true, false, Bool, length}
-use Rattle.circuit.specs.Truth.{World}
+use Rattle.std.proofs.Common.{false, Bool}
 use Rattle.circuit.specs.declared.plain.Plain.{Plain}
-use Rattle.patterns.specs.Paths.{step_of, IsPath}
-use Rattle.automata.specs.Standing.{IsReach, IsSpent, Stands}
+use Rattle.patterns.specs.Paths.{step_of}
+use Rattle.automata.specs.Standing.{IsReach, Stands}
 use Rattle.run_match.proofs.Recorded.{steps_to}
 use Rattle.run_match.proofs.matching.taken.Given as goal
 
