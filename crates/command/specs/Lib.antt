@@ -13,5 +13,4 @@ pub mod Runs
 pub mod Said
 pub mod Sources
 pub mod Status
-pub mod Suite
 pub mod Words
