@@ -58,10 +58,9 @@ fn returned_word(end: &RunEnd) -> Option<u64>
 pub fn value_with_kind(kind: Option<Kind>, end: &RunEnd) -> Option<(Kind, u64)>
     ensures { option_map (λ value. number_of value.0 value.1) result ≡ end_value kind end.now }
 {
-    match (kind, returned_word(end)) {
-        (Some(kind), Some(word)) => Some((kind, word)),
-        _ => None,
-    }
+    let kind = kind?;
+    let word = returned_word(end)?;
+    Some((kind, word))
 }
 
 /// Appends the number that a word stands for in a kind.
@@ -75,14 +74,25 @@ pub fn push_value(text: &mut Vec<u8>, kind: Kind, word: u64) -> Result<(), Alloc
     }
 }
 
+// Appends a space and the number that a word stands for in a kind, where there is one.
+fn push_value_after(text: &mut Vec<u8>, value: Option<(Kind, u64)>) -> Result<(), AllocError>
+    ensures { OnOk result (text.new.items ≡ text.old.items ++ value_text (option_map (λ value. number_of value.0 value.1) value)) }
+{
+    match value {
+        Some((kind, word)) => {
+            text.extend_from_slice(b" ")?;
+            push_value(text, kind, word)?;
+            Ok(())
+        }
+        None => Ok(()),
+    }
+}
+
 /// Appends the words of an end, and its value where there is one.
 pub fn push_end(text: &mut Vec<u8>, kind: Option<Kind>, end: &RunEnd) -> Result<(), AllocError>
     ensures { OnOk result (text.new.items ≡ text.old.items ++ end_text kind end.now) }
 {
     text.extend_from_slice(end_name(end).as_bytes())?;
-    if let Some((kind, word)) = value_with_kind(kind, end) {
-        text.extend_from_slice(b" ")?;
-        push_value(text, kind, word)?;
-    }
+    push_value_after(text, value_with_kind(kind, end))?;
     Ok(())
 }

@@ -30,7 +30,8 @@ fn push_place(
 {
     text.extend_from_slice(text_at(files, file))?;
     text.extend_from_slice(b":")?;
-    push_number(text, line)
+    push_number(text, line)?;
+    Ok(())
 }
 
 fn push_node_place(text: &mut Vec<u8>, graph: &Graph, number: u32) -> Result<(), AllocError>
@@ -64,15 +65,15 @@ fn push_numbered(text: &mut Vec<u8>, mark: &[u8], number: u32) -> Result<(), All
 // A text between two marks.
 fn push_between(
     text: &mut Vec<u8>,
-    open: &[u8],
+    before: &[u8],
     inner: &[u8],
-    close: &[u8],
+    behind: &[u8],
 ) -> Result<(), AllocError>
-    ensures { OnOk result (text.new.items ≡ text.old.items ++ (open.now ++ inner.now ++ close.now)) }
+    ensures { OnOk result (text.new.items ≡ text.old.items ++ (before.now ++ inner.now ++ behind.now)) }
 {
-    text.extend_from_slice(open)?;
+    text.extend_from_slice(before)?;
     text.extend_from_slice(inner)?;
-    text.extend_from_slice(close)?;
+    text.extend_from_slice(behind)?;
     Ok(())
 }
 
@@ -87,11 +88,13 @@ fn push_letter(
     match letter {
         GoalLetter::Node(number) => {
             push_numbered(text, b"n", number)?;
-            push_node_place(text, graph, number)
+            push_node_place(text, graph, number)?;
+            Ok(())
         }
         GoalLetter::Edge(number) => {
             push_numbered(text, b"e", number)?;
-            push_edge_place(text, graph, number)
+            push_edge_place(text, graph, number)?;
+            Ok(())
         }
         GoalLetter::Predicate(number) => {
             push_between(text, b"{", text_at(&plan.predicates, number), b"}")
@@ -131,7 +134,8 @@ pub fn push_word(
         [] => Ok(()),
         [first, rest @ ..] => {
             push_letter(text, graph, plan, *first)?;
-            push_dotted(text, graph, plan, rest)
+            push_dotted(text, graph, plan, rest)?;
+            Ok(())
         }
     }
 }

@@ -60,12 +60,12 @@ fn push_answer(text: &mut Vec<u8>, answer: Answer) -> Result<(), AllocError>
         Answer::Covered { input } => {
             text.extend_from_slice(b"covered ")?;
             push_number(text, input)?;
+            Ok(())
         }
-        Answer::Missed => text.extend_from_slice(b"missed")?,
-        Answer::Refuted => text.extend_from_slice(b"refuted")?,
-        Answer::Undecided => text.extend_from_slice(b"undecided")?,
+        Answer::Missed => text.extend_from_slice(b"missed"),
+        Answer::Refuted => text.extend_from_slice(b"refuted"),
+        Answer::Undecided => text.extend_from_slice(b"undecided"),
     }
-    Ok(())
 }
 
 fn push_goal(
