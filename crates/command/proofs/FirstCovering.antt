@@ -6,7 +6,7 @@ use Rattle.std.specs.Option.{option_map_or}
 use Rattle.std.proofs.lemmas.Bool.{or_from}
 use Rattle.command.specs.declared.answer.Answer.TheVariants as answer
 use Rattle.command.specs.Measured.{answer_of, is_among}
-use Rattle.suite.specs.Suite.{is_hit}
+use Rattle.command.specs.Suite.{is_hit}
 
 record Found (test : List ℕ → Bool) (first place : ℕ) (hits : List (List ℕ)) : Type 0 where
   goals : List ℕ

@@ -3,8 +3,10 @@ pub mod Ended
 pub mod EntryLaws
 pub mod FirstCovering
 pub mod InputsLaws
+pub mod Irredundant
 pub mod MarksLaws
 pub mod ReadsLaws
 pub mod ReportLaws
 pub mod RunsLaws
+pub mod SuiteLaws
 pub mod WordsLaws

@@ -1,8 +1,8 @@
--- What follows from the definitions of measuring.
-use Rattle.std.specs.Prelude.{◌≡◌, ℕ, ◌-◌, ◌<◌, true, false, List, Some, slice_get, take}
+-- What follows from the definitions of measuring and of the reduced suite.
+use Rattle.std.specs.Prelude.{◌≡◌, ℕ, ◌-◌, ◌<◌, true, false, List, [], ◌∷◌, ◌++◌, Some, map, slice_get, take}
 use Rattle.command.specs.declared.answer.Answer.TheVariants as answer
 use Rattle.command.specs.Measured.{answer_of, is_among}
-use Rattle.suite.specs.Suite.{is_hit}
+use Rattle.command.specs.Suite.{is_hit, kept_from}
 
 -- an answer names an input that hits the goal, and none with a lower number does
 abbrev pub CoveredByTheFirst : Type 0
@@ -14,3 +14,15 @@ CoveredByTheFirst =
 -- a goal is missed where no input hits it
 abbrev pub MissedByAll : Type 0
 MissedByAll = (hits : List (List ℕ)) (goal : ℕ) → answer_of hits goal ≡ answer.Missed → is_hit hits goal ≡ false
+
+-- each goal that some input hits is hit by one that is kept
+abbrev pub KeptHitAll : Type 0
+KeptHitAll =
+    (hits : List (List ℕ)) (goal : ℕ) → is_hit hits goal ≡ true → is_hit (map (λ input. input.1) (kept_from [] 1 hits)) goal ≡ true
+
+-- each input that is kept hits a goal that no other input that is kept hits
+abbrev pub KeptAreNeeded : Type 0
+KeptAreNeeded =
+    (hits : List (List ℕ)) (front back : List (ℕ × List ℕ)) (input : ℕ × List ℕ) → kept_from [] 1 hits ≡ front ++ input ∷ back →
+    (goal : ℕ) × (is_among goal input.1 ≡ true)
+    × (is_hit (map (λ kept. kept.1) front) goal ≡ false) × (is_hit (map (λ kept. kept.1) back) goal ≡ false)

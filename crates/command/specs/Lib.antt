@@ -13,4 +13,5 @@ pub mod Runs
 pub mod Said
 pub mod Sources
 pub mod Status
+pub mod Suite
 pub mod Words

@@ -1,7 +1,7 @@
 -- What one input changes in the answers of goals.
-use Rattle.std.specs.Prelude.{ℕ, ◌&&◌, Bool, List, nat_lt, nat_le, if◌then◌else◌}
+use Rattle.std.specs.Prelude.{ℕ, ◌-◌, ◌&&◌, ◌||◌, Bool, false, List, nat_lt, nat_le, if◌then◌else◌, slice_index_or as get_or}
 use Rattle.std.specs.List.{list_all}
-use Rattle.command.specs.Measured.{is_among}
+use Rattle.command.specs.Measured.{is_among, is_covered}
 use Rattle.command.specs.declared.answer.Answer.{Answer}
 use Rattle.command.specs.declared.answer.Answer.TheVariants as answer
 
@@ -17,3 +17,13 @@ covered_first input (answer.Covered earlier) = answer.Covered earlier
 -- the answer of a goal, from the answer before an input that hits these
 abbrev pub marked : ℕ → List ℕ → ℕ → Answer → Answer
 marked input goals goal before = if is_among goal goals then covered_first input before else before
+
+-- the goal with this answer is covered by an input with a lower number
+abbrev pub is_before : ℕ → Answer → Bool
+is_before number (answer.Covered input) = nat_lt input number
+is_before number answer.Missed = false
+
+-- by the answers of all inputs, and by those of the later inputs that are kept, another input hits the goal as well
+abbrev pub is_elsewhere : ℕ → List Answer → List Answer → ℕ → Bool
+is_elsewhere number answers later goal =
+    is_before number (get_or answers (goal - 1) answer.Missed) || is_covered (get_or later (goal - 1) answer.Missed)

@@ -14,7 +14,7 @@ use Rattle.path_runner.specs.declared.path.RunEnd.{RunEnd}
 use Rattle.path_runner.specs.declared.path.RunEnd.TheVariants as ended
 use Rattle.command.specs.Measured.{answers_of, is_covered}
 use Rattle.command.specs.Runs.{all_hits, ends_of}
-use Rattle.suite.specs.Suite.{kept_of}
+use Rattle.command.specs.Suite.{kept_of}
 use Rattle.command.specs.declared.answer.Answer.{Answer}
 use Rattle.command.specs.declared.answer.Answer.TheVariants as answer
 

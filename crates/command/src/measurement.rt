@@ -8,11 +8,11 @@ use crate::entry::Entry;
 use crate::measurer::answers;
 use crate::report::measured_text;
 use crate::runs::run_all;
+use crate::suite::reduce;
 use c_meaning::Input;
 use cfa::Graph;
 use fq_core::Memory;
 use std::alloc::Global;
-use suite::reduce;
 
 /// The report of measuring these inputs.
 pub fn report(
@@ -29,7 +29,7 @@ pub fn report(
 {
     let made = run_all(alloc, graph, entry, inputs)?;
     let answers = answers(alloc, &made.hits, graph.edges().len() as u32)?;
-    let kept = reduce(alloc, &made.hits)?;
+    let kept = reduce(alloc, &made.hits, &answers)?;
     let text = measured_text(
         alloc,
         graph,
