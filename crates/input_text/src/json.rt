@@ -69,11 +69,7 @@ fn answers(alloc: Global, value: &Value) -> Result<Option<Vector<u64>>, AllocErr
 }
 
 // What an element of the array gives.
-fn input(
-    alloc: Global,
-    value: &Value,
-    parameters: u32,
-) -> Result<Result<Input, Misfit>, AllocError>
+fn input(alloc: Global, value: &Value, parameters: u32) -> Result<Result<Input, Misfit>, AllocError>
     ensures { IfOk result (λ part. part ≡ object_input parameters (view value.now)) }
 {
     let Some(words) = arguments(alloc, value)? else {

@@ -13,6 +13,6 @@ mod parts;
 mod printed;
 mod reading;
 
-pub use reading::inputs;
 pub use laws::accepted_texts_fit;
 pub use printed::input_json;
+pub use reading::inputs;

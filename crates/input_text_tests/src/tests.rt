@@ -61,7 +61,11 @@ fn lines(rt: HostRuntime) -> Result<(), Fail> {
         (" \t\r\n\n", 1, ""),
         ("5\n11\n", 1, "5 /;11 /;"),
         ("\n3 4\t5\r\n 0 4 5", 3, "3 4 5 /;0 4 5 /;"),
-        ("-1\n-9223372036854775808\n18446744073709551615", 1, "18446744073709551615 /;9223372036854775808 /;18446744073709551615 /;"),
+        (
+            "-1\n-9223372036854775808\n18446744073709551615",
+            1,
+            "18446744073709551615 /;9223372036854775808 /;18446744073709551615 /;",
+        ),
         ("5\n99999999999999999999", 1, "52 input 2"),
         ("-9223372036854775809", 1, "52 input 1"),
         ("18446744073709551616", 1, "52 input 1"),
@@ -74,7 +78,11 @@ fn lines(rt: HostRuntime) -> Result<(), Fail> {
         ("1\u{b}2", 1, "51 input 1"),
         ("{\"args\":[1]}", 1, "51 input 1"),
     ] {
-        assert_eq!(rt; reading(alloc, text.as_bytes(), parameters)?.as_str(), given, "at {text}");
+        assert_eq!(rt;
+            reading(alloc, text.as_bytes(), parameters)?.as_str(),
+            given,
+            "at {text}"
+        );
     }
     Ok(())
 }
@@ -85,8 +93,16 @@ fn json_texts(rt: HostRuntime) -> Result<(), Fail> {
     for (text, parameters, given) in [
         ("[]", 1, ""),
         (" \t\r\n[{\"args\":[]}]\n", 0, "/;"),
-        ("[{\"args\":[3],\"answers\":[1,0]},{\"args\":[-1]}]", 1, "3 /1 0 ;18446744073709551615 /;"),
-        ("[{\"other\":[[null]],\"args\":[18446744073709551615]}]", 1, "18446744073709551615 /;"),
+        (
+            "[{\"args\":[3],\"answers\":[1,0]},{\"args\":[-1]}]",
+            1,
+            "3 /1 0 ;18446744073709551615 /;",
+        ),
+        (
+            "[{\"other\":[[null]],\"args\":[18446744073709551615]}]",
+            1,
+            "18446744073709551615 /;",
+        ),
         ("[{\"args\":\"x\",\"args\":[1]}]", 1, "1 /;"),
         ("[{\"args\":[1],\"args\":\"x\"}]", 1, "51 input 1"),
         ("[{\"\\u0061rgs\":[1]}]", 1, "1 /;"),
@@ -104,7 +120,11 @@ fn json_texts(rt: HostRuntime) -> Result<(), Fail> {
         ("[] x", 1, "50 input 0"),
         ("[{\"args\":[01]}]", 1, "50 input 0"),
     ] {
-        assert_eq!(rt; reading(alloc, text.as_bytes(), parameters)?.as_str(), given, "at {text}");
+        assert_eq!(rt;
+            reading(alloc, text.as_bytes(), parameters)?.as_str(),
+            given,
+            "at {text}"
+        );
     }
     assert_eq!(rt; reading(alloc, b"[\"\xff\"]", 1)?.as_str(), "50 input 0");
     Ok(())
@@ -134,19 +154,32 @@ fn many_objects(alloc: Global, count: u32) -> Result<String, AllocError> {
 fn ten_thousand_inputs(rt: HostRuntime) -> Result<(), Fail> {
     let alloc = rt.alloc();
     let lines = many_lines(alloc, 10_000, "")?;
-    assert_eq!(rt; inputs(alloc, lines.as_bytes(), 1).map_or(0, |list| list.len()), 10_000);
+    assert_eq!(rt;
+        inputs(alloc, lines.as_bytes(), 1).map_or(0, |list| list.len()),
+        10_000
+    );
     let objects = many_objects(alloc, 10_000)?;
-    assert_eq!(rt; inputs(alloc, objects.as_bytes(), 1).map_or(0, |list| list.len()), 10_000);
+    assert_eq!(rt;
+        inputs(alloc, objects.as_bytes(), 1).map_or(0, |list| list.len()),
+        10_000
+    );
     for (last, given) in [
         ("5", "53 limit 10000"),
         ("x", "51 input 10001"),
         ("99999999999999999999", "52 input 10001"),
     ] {
         let lines = many_lines(alloc, 10_000, last)?;
-        assert_eq!(rt; reading(alloc, lines.as_bytes(), 1)?.as_str(), given, "at {last}");
+        assert_eq!(rt;
+            reading(alloc, lines.as_bytes(), 1)?.as_str(),
+            given,
+            "at {last}"
+        );
     }
     let objects = many_objects(alloc, 10_001)?;
-    assert_eq!(rt; reading(alloc, objects.as_bytes(), 1)?.as_str(), "53 limit 10000");
+    assert_eq!(rt;
+        reading(alloc, objects.as_bytes(), 1)?.as_str(),
+        "53 limit 10000"
+    );
     accepted_texts_fit();
     Ok(())
 }
@@ -172,7 +205,16 @@ fn printed_inputs(rt: HostRuntime) -> Result<(), Fail> {
         words: Vector::from_vec([u64::MAX, u64::MAX].to_vec(alloc)?),
         answers: Vector::new(alloc),
     };
-    let text = input_json(alloc, &low, &[int, unsigned_long], &[(unsigned_long, u64::MAX), (int, u64::MAX)])?.to_string(alloc)?;
-    assert_eq!(rt; text.as_str(), "{\"answers\":[18446744073709551615,-1],\"args\":[-1,18446744073709551615]}");
+    let text = input_json(
+        alloc,
+        &low,
+        &[int, unsigned_long],
+        &[(unsigned_long, u64::MAX), (int, u64::MAX)],
+    )?
+    .to_string(alloc)?;
+    assert_eq!(rt;
+        text.as_str(),
+        "{\"answers\":[18446744073709551615,-1],\"args\":[-1,18446744073709551615]}"
+    );
     Ok(())
 }

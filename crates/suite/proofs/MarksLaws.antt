@@ -1,16 +1,16 @@
 -- Laws of the first hits of goals, input by input.
 use Rattle.std.proofs.Common.{◌≡◌, ℕ, zero, suc, ◌+◌, ◌-◌, ◌<◌, ◌≤◌, Bool, true, false, cond, List, [], ◌∷◌, ◌++◌, length, map, take, set, get_or, option_map, slice_get, replicate, Some, None, refl, sym, ap, ◌∙◌, ◌≢◌, arith, add-zero, inl, inr}
-use Rattle.std.specs.Prelude.{Option, ◌==◌, ◌||◌}
+use Rattle.std.specs.Prelude.{Option, ◌==◌, ◌||◌, nat_lt}
 use Rattle.std.specs.List.{list_all, position_from, range_with_len}
 use Rattle.std.specs.Option.{option_map_or}
 use Rattle.std.proofs.lemmas.List.{length-take-le, take_more}
-use Rattle.std.proofs.lemmas.List.Folds.{list_all_at, list_any_more}
+use Rattle.std.proofs.lemmas.List.Folds.{list_all_at, list_all_more, list_any_more}
 use Rattle.std.proofs.lemmas.Bool.Decides.{eqb_tells}
-use Rattle.std.proofs.lemmas.Bool.{and_parts, eq-eqb, false≢true, leb-true, ltb-true, ne_eqb, true_from_ne_false}
+use Rattle.std.proofs.lemmas.Bool.{and_parts, eq-eqb, false≢true, lt-ltb, ltb-true, ne_eqb, true_from_ne_false}
 use Rattle.suite.specs.Marks.{are_goals, first_by, first_hit, first_hits, marked}
 use Rattle.suite.specs.Suite.{is_among}
 use Rattle.suite.specs.declared.first_hit.FirstHit.{FirstHit}
-use Rattle.suite.specs.declared.first_hit.FirstHit.TheVariants as first
+use Rattle.suite.specs.declared.first_hit.FirstHit.TheVariants as earliest
 
 -- ---- goals in range
 
@@ -24,6 +24,30 @@ list_all-get_or test xs i d all within =
 pub goal_in_range : (count : ℕ) (goals : List ℕ) (i : ℕ) → are_goals count goals ≡ true → i < length goals
     → get_or goals i 0 < count
 goal_in_range count goals i all within = ltb-true _ _ (list_all-get_or _ goals i 0 all within)
+
+-- goals below a count are below a greater one
+are_goals-more : (n m : ℕ) (goals : List ℕ) → n ≤ m → are_goals n goals ≡ true → are_goals m goals ≡ true
+are_goals-more n m [] more all = refl
+are_goals-more n m (goal ∷ goals) more all =
+    let parts = and_parts _ _ all in
+    let below : goal < n = ltb-true _ _ parts.0 in
+    rw (lt-ltb goal m (omega (arith, below)), are_goals-more n m goals more parts.1) refl
+
+all_goals-more : (n m : ℕ) (hits : List (List ℕ)) → n ≤ m → list_all (are_goals n) hits ≡ true → list_all (are_goals m) hits ≡ true
+all_goals-more n m [] more all = refl
+all_goals-more n m (goals ∷ hits) more all =
+    let parts = and_parts _ _ all in
+    rw (are_goals-more n m goals more parts.0, all_goals-more n m hits more parts.1) refl
+
+pub goals_counted : (n m : ℕ) (goals : List ℕ) (i : ℕ) → i < length goals → are_goals n (take i goals) ≡ true → n ≤ m → get_or goals i 0 < m
+    → are_goals m (take (i + 1) goals) ≡ true
+goals_counted n m goals i within all more here =
+    rw (list_all_more (λ goal. nat_lt goal m) goals i 0 within, are_goals-more n m (take i goals) more all, lt-ltb _ _ here) refl
+
+pub lists_counted : (n m : ℕ) (hits : List (List ℕ)) (i : ℕ) (d : List ℕ) → i < length hits → list_all (are_goals n) (take i hits) ≡ true → n ≤ m
+    → are_goals m (get_or hits i d) ≡ true → list_all (are_goals m) (take (i + 1) hits) ≡ true
+lists_counted n m hits i d within all more here =
+    rw (list_all_more (are_goals m) hits i d within, all_goals-more n m (take i hits) more all, here) refl
 
 -- ---- one more input
 
@@ -39,11 +63,11 @@ position_from-push test n (h ∷ hits) goals =
     ]
 
 first_step : (found : Option ℕ) (here : Bool) (m n : ℕ) → m ≡ n
-    → option_map_or first.By (option_map_or Some found (cond here (Some m) None)) first.Never
-    ≡ cond here (first_by n (option_map_or first.By found first.Never)) (option_map_or first.By found first.Never)
+    → option_map_or earliest.By (option_map_or Some found (cond here (Some m) None)) earliest.Never
+    ≡ cond here (first_by n (option_map_or earliest.By found earliest.Never)) (option_map_or earliest.By found earliest.Never)
 first_step (Some j) true m n same = refl
 first_step (Some j) false m n same = refl
-first_step None true m n same = ap first.By same
+first_step None true m n same = ap earliest.By same
 first_step None false m n same = refl
 
 -- one more input marks its goals
@@ -104,8 +128,8 @@ slice_get-set_other (x ∷ xs) (suc p) zero y other = refl
 slice_get-set_other (x ∷ xs) (suc p) (suc k) y other = slice_get-set_other xs p k y (λ same. other (ap suc same))
 
 first_twice : (input : ℕ) (before : FirstHit) → first_by input (first_by input before) ≡ first_by input before
-first_twice input first.Never = refl
-first_twice input (first.By earlier) = refl
+first_twice input earliest.Never = refl
+first_twice input (earliest.By earlier) = refl
 
 first_marked : (input : ℕ) (goals : List ℕ) (goal : ℕ) (before : FirstHit)
     → first_by input (marked input goals goal before) ≡ first_by input before
@@ -171,9 +195,9 @@ marked_more initial firsts goals i input was within room so_far here k =
 
 -- ---- before the first input
 
-never_from : (first count : ℕ) → replicate count first.Never ≡ map (first_hit []) (range_with_len first count)
+never_from : (first count : ℕ) → replicate count earliest.Never ≡ map (first_hit []) (range_with_len first count)
 never_from first zero = refl
-never_from first (suc count) = ap (λ rest. first.Never ∷ rest) (never_from (first + 1) count)
+never_from first (suc count) = ap (λ rest. earliest.Never ∷ rest) (never_from (first + 1) count)
 
-pub first_hits-none : (count : ℕ) → replicate count first.Never ≡ first_hits [] count
+pub first_hits-none : (count : ℕ) → replicate count earliest.Never ≡ first_hits [] count
 first_hits-none count = never_from 0 count

@@ -13,7 +13,7 @@ use Rattle.suite.specs.Marks.{are_goals, first_hit, first_hits, is_before, is_el
 use Rattle.suite.proofs.MarksLaws.{first_hits-push}
 use Rattle.suite.specs.Suite.{is_among, is_hit, kept_from}
 use Rattle.suite.specs.declared.first_hit.FirstHit.{FirstHit}
-use Rattle.suite.specs.declared.first_hit.FirstHit.TheVariants as first
+use Rattle.suite.specs.declared.first_hit.FirstHit.TheVariants as earliest
 
 -- what is kept of the inputs from a place on
 abbrev pub kept_at : List (List ℕ) → ℕ → List (ℕ × List ℕ)
@@ -25,23 +25,23 @@ goal_lists = map (λ input. input.1)
 -- ---- what the first hits tell of the inputs
 
 position_from-above : (test : List ℕ → Bool) (n m : ℕ) (hits : List (List ℕ)) → m ≤ n
-    → is_before m (option_map_or first.By (position_from test n hits) first.Never) ≡ false
+    → is_before m (option_map_or earliest.By (position_from test n hits) earliest.Never) ≡ false
 position_from-above test n m [] above = refl
 position_from-above test n m (h ∷ hits) above =
-    elim (test h) as (λ b. is_before m (option_map_or first.By (cond b (Some n) (position_from test (n + 1) hits)) first.Never) ≡ false) [
+    elim (test h) as (λ b. is_before m (option_map_or earliest.By (cond b (Some n) (position_from test (n + 1) hits)) earliest.Never) ≡ false) [
       | true ↦ le-ltb n m above
       | false ↦ position_from-above test (n + 1) m hits (omega arith)
     ]
 
 before_from : (test : List ℕ → Bool) (n p : ℕ) (hits : List (List ℕ))
-    → is_before (n + p) (option_map_or first.By (position_from test n hits) first.Never) ≡ list_any test (take p hits)
+    → is_before (n + p) (option_map_or earliest.By (position_from test n hits) earliest.Never) ≡ list_any test (take p hits)
 before_from test n zero hits = position_from-above test n (n + 0) hits (omega arith)
 before_from test n (suc p) [] = refl
 before_from test n (suc p) (h ∷ hits) =
     let count : n + 1 + p ≡ n + suc p = omega arith in
     let rest = before_from test (n + 1) p hits in
     elim (test h)
-    as (λ b. is_before (n + suc p) (option_map_or first.By (cond b (Some n) (position_from test (n + 1) hits)) first.Never) ≡ (b || list_any test (take p hits))) [
+    as (λ b. is_before (n + suc p) (option_map_or earliest.By (cond b (Some n) (position_from test (n + 1) hits)) earliest.Never) ≡ (b || list_any test (take p hits))) [
       | true ↦ lt-ltb n (n + suc p) (omega arith)
       | false ↦ rw count at rest
     ]
@@ -51,10 +51,10 @@ first_before : (hits : List (List ℕ)) (p goal : ℕ) → is_before (p + 1) (fi
 first_before hits p goal = let shift : 1 + p ≡ p + 1 = omega arith in let h = before_from (is_among goal) 1 p hits in rw shift at h
 
 found_from : (test : List ℕ → Bool) (n : ℕ) (hits : List (List ℕ))
-    → is_found (option_map_or first.By (position_from test n hits) first.Never) ≡ list_any test hits
+    → is_found (option_map_or earliest.By (position_from test n hits) earliest.Never) ≡ list_any test hits
 found_from test n [] = refl
 found_from test n (h ∷ hits) =
-    elim (test h) as (λ b. is_found (option_map_or first.By (cond b (Some n) (position_from test (n + 1) hits)) first.Never) ≡ (b || list_any test hits)) [
+    elim (test h) as (λ b. is_found (option_map_or earliest.By (cond b (Some n) (position_from test (n + 1) hits)) earliest.Never) ≡ (b || list_any test hits)) [
       | true ↦ refl
       | false ↦ found_from test (n + 1) hits
     ]
@@ -76,8 +76,8 @@ elsewhere_is : (hits lists : List (List ℕ)) (count p goal : ℕ) → goal < co
     → is_elsewhere (p + 1) (first_hits hits count) (first_hits (reverse lists) count) goal ≡ (is_hit (take p hits) goal || is_hit lists goal)
 elsewhere_is hits lists count p goal within =
     rw (
-      get_or-first_hits hits count goal first.Never within,
-      get_or-first_hits (reverse lists) count goal first.Never within,
+      get_or-first_hits hits count goal earliest.Never within,
+      get_or-first_hits (reverse lists) count goal earliest.Never within,
       first_before hits p goal,
       found_from (is_among goal) 1 (reverse lists),
       list_any-reverse (is_among goal) lists,

@@ -4,11 +4,9 @@ ghost use Rattle.suite.specs.Laws.{KeptAreNeeded, KeptHitAll};
 /// The reduced suite hits each goal that some input hits.
 pub fn kept_hit_all()
     ensures { KeptHitAll }
-{
-}
+{}
 
 /// The reduced suite is irredundant: each of its inputs hits a goal that no other of them hits.
 pub fn kept_are_needed()
     ensures { KeptAreNeeded }
-{
-}
+{}

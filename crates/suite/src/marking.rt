@@ -1,5 +1,5 @@
 // The first hits of goals, input by input.
-ghost use Rattle.std.specs.Prelude.{◌≡◌, ℕ, ◌+◌, ◌<◌, ◌≤◌, ◌^◌, Bool, IfOk, IsTrue, length, option_map, slice_get};
+ghost use Rattle.std.specs.Prelude.{◌≡◌, ℕ, ◌<◌, ◌≤◌, ◌^◌, IfOk, IsTrue, length, option_map, slice_get, vec_len};
 ghost use Rattle.std.specs.List.{list_all};
 ghost use Rattle.suite.specs.Marks.{are_goals, first_by, first_hits, is_found, marked};
 
@@ -42,7 +42,8 @@ pub fn first_hits(
 ) -> Result<Vec<FirstHit>, AllocError>
     requires few { length hits.now < 2 ^ 32 }
     requires goals { IsTrue (list_all (are_goals count) hits.now) }
-    ensures { IfOk result (λ firsts. firsts.items ≡ first_hits hits.now count) }
+    ensures firsts { IfOk result (λ firsts. firsts.items ≡ first_hits hits.now count) }
+    ensures many { IfOk result (λ firsts. vec_len firsts ≡ count) }
 {
     let mut firsts = vec![in alloc; FirstHit::Never; count]?;
     for (place, goals) in hits.iter().enumerate() {
@@ -51,7 +52,21 @@ pub fn first_hits(
     Ok(firsts)
 }
 
-// One more than the greatest of these goals and of a count.
+// The greater of a count and of one more than a goal.
+fn count_of(count: usize, goal: u32) -> usize
+    requires { count ≤ 2 ^ 32 }
+    ensures most { result ≤ 2 ^ 32 }
+    ensures least { count ≤ result }
+    ensures goal { goal < result }
+{
+    if goal as usize >= count {
+        goal as usize + 1
+    } else {
+        count
+    }
+}
+
+// The greatest of a count and of one more than each of these goals.
 fn count_with(count: usize, goals: &[u32]) -> usize
     requires { count ≤ 2 ^ 32 }
     ensures most { result ≤ 2 ^ 32 }
@@ -60,9 +75,7 @@ fn count_with(count: usize, goals: &[u32]) -> usize
 {
     let mut most = count;
     for goal in goals {
-        if *goal as usize >= most {
-            most = *goal as usize + 1;
-        }
+        most = count_of(most, *goal);
     }
     most
 }

@@ -1,0 +1,46 @@
+-- What is printed as JSON has no float.
+use Rattle.std.proofs.Common.{◌≡◌, ℕ, ℤ, pos, negsuc, false, List, [], ◌∷◌, map, refl}
+use Rattle.std.specs.Prelude.{Option, None, Some}
+use Rattle.c_values.specs.declared.kinds.Kind.{Kind}
+use Rattle.cfa.specs.declared.parts.GraphParts.{GraphParts}
+use Rattle.goals.specs.declared.answer.Answer.{Answer}
+use Rattle.goals.specs.declared.answer.Answer.TheVariants as answer
+use Rattle.goals.specs.declared.plan.Plan.{Plan}
+use Rattle.goals.specs.GoalForm.{GoalForm}
+use Rattle.path_runner.specs.declared.path.RunEnd.{RunEnd}
+use Rattle.serde_json.specs.Data.{Data}
+use Rattle.serde_json.specs.View.{items_of}
+use Rattle.serde_json.specs.Written.{has_float, items_have_float, members_have_float}
+use Rattle.report.specs.Ends.{end_value, result_kind}
+use Rattle.report.specs.Json.{count_data, end_data, goal_data, goals_data, measured_data, value_member}
+use Rattle.report.specs.Letters.{word_text}
+
+items_no_float : {X : Type 0} (f : X → Data) → ((x : X) → has_float (f x) ≡ false) → (xs : List X) → items_have_float (items_of (map f xs)) ≡ false
+items_no_float f none [] = refl
+items_no_float f none (x ∷ xs) = rw (none x, items_no_float f none xs) refl
+
+value_no_float : (value : Option ℤ) → members_have_float (value_member value) ≡ false
+value_no_float None = refl
+value_no_float (Some (pos n)) = refl
+value_no_float (Some (negsuc n)) = refl
+
+goal_no_float : (said : Answer) (text : List ℕ) → has_float (goal_data said text) ≡ false
+goal_no_float (answer.Covered input) text = refl
+goal_no_float answer.Missed text = refl
+goal_no_float answer.Refuted text = refl
+goal_no_float answer.Undecided text = refl
+
+goals_no_float : (graph : GraphParts) (plan : Plan) (answers : List Answer) (goals : List GoalForm) → items_have_float (items_of (goals_data graph plan answers goals)) ≡ false
+goals_no_float graph plan [] goals = refl
+goals_no_float graph plan (said ∷ answers) [] = refl
+goals_no_float graph plan (said ∷ answers) (goal ∷ goals) =
+    rw (goal_no_float said (word_text graph plan goal.word), goals_no_float graph plan answers goals) refl
+
+pub measured_no_float : (graph : GraphParts) (plan : Plan) (entry : ℕ) (ends : List RunEnd) (answers : List Answer) (kept : List ℕ)
+    → has_float (measured_data graph plan entry ends answers kept) ≡ false
+measured_no_float graph plan entry ends answers kept =
+    rw (
+      goals_no_float graph plan answers plan.goals,
+      items_no_float (end_data (result_kind graph entry)) (λ run_end. value_no_float (end_value (result_kind graph entry) run_end)) ends,
+      items_no_float count_data (λ n. refl) kept,
+    ) refl

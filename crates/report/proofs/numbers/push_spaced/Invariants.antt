@@ -1,0 +1,7 @@
+use Rattle.std.proofs.Common.{◌≡◌, ◌++◌, drop}
+use Rattle.report.specs.Texts.{spaced}
+use Rattle.report.proofs.numbers.push_spaced.Given as goal
+
+abbrev pub invariant-loop-number : goal.invariant-loop-number
+invariant-loop-number l =
+    l.text.items ++ spaced (drop l.number-index l.numbers) ≡ l.initial.text.items ++ spaced l.numbers

@@ -1,0 +1,4 @@
+pub mod Ends
+pub mod Json
+pub mod Letters
+pub mod Texts
