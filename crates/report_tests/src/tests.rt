@@ -71,10 +71,13 @@ fn a_measured_graph(rt: HostRuntime) -> Result<(), Fail> {
         Answer::Covered { input: 2 },
         Answer::Covered { input: 1 },
     ];
-    let Ok((text, line)) = measured(alloc, &graph, "cover EDGES(ID)", &ends, &answers, &[1, 2]) else {
+    let Ok((text, line)) = measured(alloc, &graph, "cover EDGES(ID)", &ends, &answers, &[1, 2])
+    else {
         return Err(Fail::from("no text"));
     };
-    assert_eq!(rt; text.as_slice(), b"goals 4 inputs 2
+    assert_eq!(rt;
+        text.as_slice(),
+        b"goals 4 inputs 2
 input 1 returned 0
 input 2 returned 1
 goal 1 covered 2 e0@a.c:2
@@ -83,20 +86,29 @@ goal 3 covered 2 e2@a.c:3
 goal 4 covered 1 e3@a.c:5
 suite 1 2
 covered 4 of 4
-".as_slice());
-    assert_eq!(rt; line.as_slice(), b"{\"covered\":4,\"goals\":[{\"answer\":\"covered\",\"input\":2,\"text\":\"e0@a.c:2\"},{\"answer\":\"covered\",\"input\":1,\"text\":\"e1@a.c:2\"},{\"answer\":\"covered\",\"input\":2,\"text\":\"e2@a.c:3\"},{\"answer\":\"covered\",\"input\":1,\"text\":\"e3@a.c:5\"}],\"inputs\":[{\"end\":\"returned\",\"value\":0},{\"end\":\"returned\",\"value\":1}],\"suite\":[1,2]}\n".as_slice());
+"
+            .as_slice()
+    );
+    assert_eq!(rt;
+        line.as_slice(),
+        b"{\"covered\":4,\"goals\":[{\"answer\":\"covered\",\"input\":2,\"text\":\"e0@a.c:2\"},{\"answer\":\"covered\",\"input\":1,\"text\":\"e1@a.c:2\"},{\"answer\":\"covered\",\"input\":2,\"text\":\"e2@a.c:3\"},{\"answer\":\"covered\",\"input\":1,\"text\":\"e3@a.c:5\"}],\"inputs\":[{\"end\":\"returned\",\"value\":0},{\"end\":\"returned\",\"value\":1}],\"suite\":[1,2]}\n".as_slice()
+    );
     let missed = [Answer::Missed; 4];
     let Ok((text, _line)) = measured(alloc, &graph, "cover EDGES(ID)", &[], &missed, &[]) else {
         return Err(Fail::from("no text"));
     };
-    assert_eq!(rt; text.as_slice(), b"goals 4 inputs 0
+    assert_eq!(rt;
+        text.as_slice(),
+        b"goals 4 inputs 0
 goal 1 missed e0@a.c:2
 goal 2 missed e1@a.c:2
 goal 3 missed e2@a.c:3
 goal 4 missed e3@a.c:5
 suite
 covered 0 of 4
-".as_slice());
+"
+            .as_slice()
+    );
     Ok(())
 }
 
@@ -121,7 +133,9 @@ fn ends_and_answers(rt: HostRuntime) -> Result<(), Fail> {
     let Ok((text, line)) = measured(alloc, &graph, "cover NODES(ID)", &ends, &answers, &[1]) else {
         return Err(Fail::from("no text"));
     };
-    assert_eq!(rt; text.as_slice(), b"goals 2 inputs 9
+    assert_eq!(rt;
+        text.as_slice(),
+        b"goals 2 inputs 9
 input 1 returned
 input 2 trapped zero-divisor
 input 3 trapped overflow-divisor
@@ -135,8 +149,13 @@ goal 1 covered 1 n0@b\xff.c:1
 goal 2 missed n1@b\xff.c:1
 suite 1
 covered 1 of 2
-".as_slice());
-    assert_eq!(rt; line.as_slice(), b"{\"covered\":1,\"goals\":[{\"answer\":\"covered\",\"input\":1,\"text\":\"n0@b?.c:1\"},{\"answer\":\"missed\",\"text\":\"n1@b?.c:1\"}],\"inputs\":[{\"end\":\"returned\"},{\"end\":\"trapped zero-divisor\"},{\"end\":\"trapped overflow-divisor\"},{\"end\":\"trapped index\"},{\"end\":\"trapped shift\"},{\"end\":\"trapped assert\"},{\"end\":\"blocked\"},{\"end\":\"too-deep\"},{\"end\":\"cut\"}],\"suite\":[1]}\n".as_slice());
+"
+            .as_slice()
+    );
+    assert_eq!(rt;
+        line.as_slice(),
+        b"{\"covered\":1,\"goals\":[{\"answer\":\"covered\",\"input\":1,\"text\":\"n0@b?.c:1\"},{\"answer\":\"missed\",\"text\":\"n1@b?.c:1\"}],\"inputs\":[{\"end\":\"returned\"},{\"end\":\"trapped zero-divisor\"},{\"end\":\"trapped overflow-divisor\"},{\"end\":\"trapped index\"},{\"end\":\"trapped shift\"},{\"end\":\"trapped assert\"},{\"end\":\"blocked\"},{\"end\":\"too-deep\"},{\"end\":\"cut\"}],\"suite\":[1]}\n".as_slice()
+    );
     Ok(())
 }
 
@@ -156,11 +175,15 @@ fn runs(rt: HostRuntime) -> Result<(), Fail> {
     let Ok(text) = runs_text(alloc, &graph, 0, &runs) else {
         return Err(Fail::from("no text"));
     };
-    assert_eq!(rt; text.as_slice(), b"input 1 returned 0 edges 1 3
+    assert_eq!(rt;
+        text.as_slice(),
+        b"input 1 returned 0 edges 1 3
 input 2 returned 1 edges 0 2
 input 3 returned -2147483648 edges
 input 4 cut edges 1
-".as_slice());
+"
+            .as_slice()
+    );
     Ok(())
 }
 
@@ -172,7 +195,8 @@ fn listed(alloc: Global, graph: &Graph, query: &str) -> Result<Vec<u8>, Fault> {
 #[test]
 fn goals_of_queries(rt: HostRuntime) -> Result<(), Fail> {
     let alloc = rt.alloc();
-    let conditions = "int f(int a, int b, int c) {\n  if (a > 0 && b > 0 && c > 0) {\n    return 1;\n  }\n  return 0;\n}\n";
+    let conditions =
+        "int f(int a, int b, int c) {\n  if (a > 0 && b > 0 && c > 0) {\n    return 1;\n  }\n  return 0;\n}\n";
     let Ok(graph) = graph(alloc, b"q.c", conditions) else {
         return Err(Fail::from("no graph"));
     };
@@ -212,7 +236,9 @@ fn goals_in_two_sources(rt: HostRuntime) -> Result<(), Fail> {
     let Ok(text) = listed(alloc, &graph, "cover EDGES(ID)") else {
         return Err(Fail::from("no text"));
     };
-    assert_eq!(rt; text.as_slice(), b"goals 8
+    assert_eq!(rt;
+        text.as_slice(),
+        b"goals 8
 goal 1 e0@p1.c:1
 goal 2 e1@p2.c:2
 goal 3 e2@p2.c:3
@@ -221,7 +247,9 @@ goal 5 e4@p2.c:4
 goal 6 e5@p2.c:4
 goal 7 e6@p2.c:4
 goal 8 e7@p2.c:6
-".as_slice());
+"
+            .as_slice()
+    );
     Ok(())
 }
 
@@ -243,11 +271,30 @@ fn ten_thousand_goals(rt: HostRuntime) -> Result<(), Fail> {
         return Err(Fail::from("no graph"));
     };
     let answers = vec![in alloc; Answer::Covered { input: 1 }; 10_000]?;
-    let Ok((text, line)) = measured(alloc, &graph, "cover EDGES(ID)", &[returned(0)], &answers, &[1]) else {
+    let Ok((text, line)) = measured(
+        alloc,
+        &graph,
+        "cover EDGES(ID)",
+        &[returned(0)],
+        &answers,
+        &[1],
+    ) else {
         return Err(Fail::from("no text"));
     };
-    assert!(rt; text.as_slice().starts_with(b"goals 10000 inputs 1\ninput 1 returned\ngoal 1 covered 1 e0@l.c:2\n"));
-    assert!(rt; text.as_slice().ends_with(b"goal 10000 covered 1 e9999@l.c:10001\nsuite 1\ncovered 10000 of 10000\n"));
-    assert!(rt; line.as_slice().ends_with(b"\"text\":\"e9999@l.c:10001\"}],\"inputs\":[{\"end\":\"returned\"}],\"suite\":[1]}\n"));
+    assert!(rt;
+        text.as_slice().starts_with(
+            b"goals 10000 inputs 1\ninput 1 returned\ngoal 1 covered 1 e0@l.c:2\n"
+        )
+    );
+    assert!(rt;
+        text.as_slice().ends_with(
+            b"goal 10000 covered 1 e9999@l.c:10001\nsuite 1\ncovered 10000 of 10000\n"
+        )
+    );
+    assert!(rt;
+        line.as_slice().ends_with(
+            b"\"text\":\"e9999@l.c:10001\"}],\"inputs\":[{\"end\":\"returned\"}],\"suite\":[1]}\n"
+        )
+    );
     Ok(())
 }
