@@ -10,4 +10,4 @@ returns-clause-refuses c =
     refuses c.args.graph.now c.args.query.now.predicates (c.one_outcome.ensures c.args.graph.now c.args.query.now.predicates) c.predicates_of.result c.predicates_of.ensures
 
 pub returns-clause-fits : goal.returns-clause-fits
-returns-clause-fits c = fits c.predicates_fit.ensures c.args.graph.now c.args.query.now.predicates c.predicates_of.result c.well_formed.ensures c.predicates_of.ensures
+returns-clause-fits c = fits c.predicates_fit.ensures c.args.graph.now c.args.query.now.predicates c.predicates_of.result c.well_formed-2.ensures c.predicates_of.ensures
