@@ -7,7 +7,7 @@ use Rattle.fq_core.specs.declared.refusal.Place.{Place}
 use Rattle.fq_core.specs.declared.refusal.Place.TheVariants as place
 use Rattle.fq_core.specs.declared.refusal.Refusal.{Refusal}
 use Rattle.c_lex.specs.declared.token.SourceText.{SourceText}
-use Rattle.c_parse.specs.Expression.{IsUnlessMemory, refusal}
+use Rattle.fq_core.specs.Refusals.{IsUnlessMemory, refusal}
 use Rattle.cfa.specs.declared.parts.GraphParts.{GraphParts}
 use Rattle.c_lex.specs.Lexed.{Answers}
 use Rattle.c_parse.specs.declared.unit.Item.{Item}

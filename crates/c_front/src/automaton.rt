@@ -2,7 +2,7 @@
 ghost use Rattle.std.specs.Prelude.{◌≡◌, ◌<◌, ◌^◌, ℕ, Ok, IfOk, IsErrOf, length};
 ghost use Rattle.fq_core.specs.declared.refusal.Place.{Place};
 ghost use Rattle.c_lex.specs.Lexed.{AreSmall};
-ghost use Rattle.c_parse.specs.Expression.{IsUnlessMemory, refusal};
+ghost use Rattle.fq_core.specs.Refusals.{IsUnlessMemory, refusal};
 ghost use Rattle.cfa.specs.Contexts.{IsOnce};
 ghost use Rattle.cfa.specs.declared.parts.GraphParts.{GraphParts};
 ghost use Rattle.c_front.specs.Automata.{HasCode, IsAutomatonOf, IsRefused, IsUnitOf, names_of};

@@ -24,7 +24,8 @@ use Rattle.c_lex.specs.declared.token.SourceText.{SourceText}
 use Rattle.std.specs.declared.alloc.Global.{Global}
 use Rattle.std.specs.Prelude.{Vec}
 use Rattle.c_lex.specs.Taking as taking
-use Rattle.c_lex.specs.Taking.{TokenTaken, DirectiveTaken, LexemeTaken, TextTaken, refusal}
+use Rattle.fq_core.specs.Refusals.{refusal}
+use Rattle.c_lex.specs.Taking.{TokenTaken, DirectiveTaken, LexemeTaken, TextTaken}
 
 after_nothing : (o : Outcome) → after [] o ≡ o
 after_nothing (accepted us m r) = refl

@@ -15,7 +15,8 @@ use Rattle.c_lex.specs.Macros.{place_of, list_at, Expands, nothing, stays, is_re
 use Rattle.c_lex.specs.Lexed.{the_limit}
 use Rattle.c_lex.specs.Expanding.{ExpandsTo}
 use Rattle.c_lex.specs.Taking as taking
-use Rattle.c_lex.specs.Taking.{TokenTaken, PlainTaken, refusal, place_of_span}
+use Rattle.fq_core.specs.Refusals.{refusal}
+use Rattle.c_lex.specs.Taking.{TokenTaken, PlainTaken, place_of_span}
 use Rattle.c_lex.proofs.TakingLaws.{found, unknown}
 
 pub token_memory : (table : List Macro) (bytes : List ℕ) (span : Span) (old new : List Token) (replaced : ℕ) (r : Result ℕ Fault) → IsErrAnd r (λ e. e ≡ fault.Memory) → TokenTaken table bytes span old replaced new r

@@ -5,6 +5,7 @@ use Rattle.fq_core.specs.declared.refusal.Place.{Place}
 use Rattle.fq_core.specs.declared.refusal.Place.TheVariants as place
 use Rattle.fq_core.specs.declared.refusal.Fault.{Fault}
 use Rattle.fq_core.specs.declared.refusal.Fault.TheVariants as fault
+use Rattle.fq_core.specs.Refusals.{refusal}
 use Rattle.c_lex.specs.declared.cut.Mode.TheVariants as mode
 use Rattle.c_lex.specs.declared.cut.Lexeme.{Lexeme}
 use Rattle.c_lex.specs.declared.directive.Directive.TheVariants as says
@@ -19,9 +20,6 @@ use Rattle.c_lex.specs.Macros.{macro_of, Expands, Loops}
 use Rattle.c_lex.specs.Lexed.{most, IsWithin, token_at, the_limit, Outcome, accepted, refused, after, Reads, ReadsText}
 use Rattle.c_lex.specs.declared.table.Table.{Table}
 use Rattle.c_lex.specs.Table.{IsIndexed}
-
-abbrev pub refusal : ℕ → Place → Fault
-refusal code place = fault.Refused (record { code = code; place = place })
 
 abbrev pub place_of_span : Span → Place
 place_of_span span = place.Source span.file span.line

@@ -1,6 +1,6 @@
 // Refusals.
 ghost use Rattle.std.specs.Prelude.{◌≡◌};
-ghost use Rattle.c_lex.specs.Taking.{refusal};
+ghost use Rattle.fq_core.specs.Refusals.{refusal};
 
 use fq_core::{Fault, Place, Refusal};
 

@@ -9,13 +9,15 @@ use Rattle.c_parse.specs.declared.sign.Terminal.{Terminal}
 use Rattle.c_parse.specs.declared.expr.ExprTree.{ExprTree}
 use Rattle.c_parse.specs.declared.unit.Item.{Item}
 use Rattle.c_parse.specs.declared.unit.Unit.{Unit as Whole}
-use Rattle.c_parse.specs.Expression.{refusal, IsExpression, IsRefusedExpression}
+use Rattle.fq_core.specs.Refusals.{refusal}
+use Rattle.c_parse.specs.Expression.{IsExpression, IsRefusedExpression}
 use Rattle.c_parse.specs.UnitForm.{IsUnit, IsRefusedUnit}
 use Rattle.c_parse.specs.Outcome.{early_cause, by_early, by_rest, or_syntax, if_unsequenced, expression_outcome, unit_outcome}
 use Rattle.c_parse.specs.Reading.{whole_at}
 use Rattle.c_parse.specs.ReadingItems.{items_at}
 use Rattle.c_parse.specs.Laws.{HasOneOutcome}
-use Rattle.c_parse.proofs.OutcomeLaws.{accepted, accepts, refused, refuses, same_refusal}
+use Rattle.fq_core.proofs.RefusalLaws.{same_refusal}
+use Rattle.c_parse.proofs.OutcomeLaws.{accepted, accepts, refused, refuses}
 use Rattle.c_parse.proofs.UnitOutcome.{unit_accepted, unit_accepts, unit_refused, unit_refuses}
 
 -- what a computed outcome decides

@@ -1,14 +1,14 @@
 -- What is answered, and why.
-use Rattle.std.proofs.Common.{◌≡◌, ℕ, Bool, true, false, List, Option, Some, None, Result, Ok, Err, refl, sym, ap, subst, ◌∙◌}
-use Rattle.std.specs.Prelude.{IfOk, IsErrOf}
+use Rattle.std.proofs.Common.{◌≡◌, ℕ, Bool, true, false, List, Option, Some, None, Ok, Err, refl, sym, subst, ◌∙◌}
 use Rattle.fq_core.specs.declared.refusal.Place.{Place}
 use Rattle.fq_core.specs.declared.refusal.Place.TheVariants as place
-use Rattle.fq_core.specs.declared.refusal.Fault.{Fault}
 use Rattle.fq_core.specs.declared.refusal.Fault.TheVariants as fault
 use Rattle.c_parse.specs.declared.sign.Terminal.{Terminal}
 use Rattle.c_parse.specs.declared.expr.ExprTree.{ExprTree}
 use Rattle.c_parse.specs.Limits.{first_foreign, first_passed}
-use Rattle.c_parse.specs.Expression.{line_of, refusal, IsWithin, IsRefusedEarly, out_of_profile, too_deep, Spells, IsExpression, IsRefusedExpression, early, no_expression, IsUnlessMemory}
+use Rattle.fq_core.specs.Refusals.{refusal}
+use Rattle.fq_core.proofs.RefusalLaws.{same_refusal}
+use Rattle.c_parse.specs.Expression.{line_of, IsWithin, IsRefusedEarly, out_of_profile, too_deep, Spells, IsExpression, IsRefusedExpression, early, no_expression}
 use Rattle.c_parse.specs.Outcome.{early_of, early_cause, by_early, or_syntax, if_unsequenced, expression_outcome}
 use Rattle.c_parse.specs.Reading.{whole_at}
 use Rattle.c_parse.specs.SequencePoints.{has_sequence_point}
@@ -37,22 +37,6 @@ early-some ts c e = at (first_foreign ts) (first_passed ts) refl refl e
 pub some-early : {ts : List Terminal} {code : ℕ} {p : Place} → IsRefusedEarly ts code p → early_cause ts ≡ Some (code, p)
 some-early (out_of_profile t f) = rw f refl
 some-early (too_deep n f l) = rw (f, l) refl
-
-code_in : {X : Type 0} → Result X Fault → ℕ
-code_in (Err (fault.Refused r)) = r.code
-code_in _ = 0
-
-place_in : {X : Type 0} → Result X Fault → Place
-place_in (Err (fault.Refused r)) = r.place
-place_in _ = place.Nowhere
-
--- a refusal tells its code and its place
-pub same_refusal : {X : Type 0} (a b : ℕ) (p q : Place) (P : ℕ → Place → Type 0) → (let x : Result X Fault = Err (refusal a p) in let y : Result X Fault = Err (refusal b q) in x ≡ y) → P a p → P b q
-unfolding code_in place_in
-same_refusal {X} a b p q P e h =
-    let one : a ≡ b = ap (code_in {X = X}) e in
-    let two : p ≡ q = ap (place_in {X = X}) e in
-    rw (← one, ← two) h
 
 -- ---- expressions
 
@@ -106,24 +90,3 @@ refuses {ts} (no_expression w none_spelled) = at (if_unsequenced (whole_at ts)) 
     at : (o : Option ExprTree) → if_unsequenced (whole_at ts) ≡ o → by_early (early_cause ts) (or_syntax (if_unsequenced (whole_at ts)) place.Nowhere) ≡ Err (refusal 20 place.Nowhere)
     at None g = rw (within-none ts w, g) refl
     at (Some t) g = absurd (none_spelled t (read_spells ts t g))
-
--- ---- what a call promises whose answer is the outcome, unless memory ran out
-
-module _ {X : Type 0} (result : Result X Fault) (outcome : Result X Fault) (is : IsUnlessMemory result outcome) where
-  pub ok-is : {P : X → Type 0} → ((x : X) → outcome ≡ Ok x → P x) → IfOk result P
-  ok-is {P} f = at result is
-    where
-      at : (r : Result X Fault) → IsUnlessMemory r outcome → IfOk r P
-      at (Ok x) e = f x e
-      at (Err e) h = tt
-
-  pub err-is : (code : ℕ) (p : Place) → IsErrOf result (refusal code p) → outcome ≡ Err (refusal code p)
-  err-is code p failed = at result is failed
-    where
-      at : (r : Result X Fault) → IsUnlessMemory r outcome → IsErrOf r (refusal code p) → outcome ≡ Err (refusal code p)
-      at (Ok x) e failed = absurd cc
-      at (Err fault.Memory) e failed = absurd cc
-      at (Err (fault.Refused r)) e failed = e ∙ cc
-
-  pub answer-is : (answer : Result X Fault) → outcome ≡ answer → IsUnlessMemory result answer
-  answer-is answer e = subst (λ (o : Result X Fault). IsUnlessMemory result o) e is

@@ -5,11 +5,13 @@ use Rattle.c_parse.specs.declared.sign.Terminal.{Terminal}
 use Rattle.c_parse.specs.declared.unit.Item.{Item}
 use Rattle.c_parse.specs.declared.unit.Unit.{Unit as Whole}
 use Rattle.c_parse.specs.Items.{DerivesItems}
-use Rattle.c_parse.specs.Expression.{line_of, refusal}
+use Rattle.fq_core.specs.Refusals.{refusal}
+use Rattle.c_parse.specs.Expression.{line_of}
 use Rattle.c_parse.specs.UnitForm.{IsUnit, IsRefusedUnit, early, no_item}
 use Rattle.c_parse.specs.Outcome.{early_cause, by_early, by_rest, unit_outcome}
 use Rattle.c_parse.specs.ReadingItems.{items_at}
-use Rattle.c_parse.proofs.OutcomeLaws.{early-none, within-none, early-some, some-early, same_refusal}
+use Rattle.fq_core.proofs.RefusalLaws.{same_refusal}
+use Rattle.c_parse.proofs.OutcomeLaws.{early-none, within-none, early-some, some-early}
 use Rattle.c_parse.proofs.UnitLaws.{all_derive, rest_ends, derived_are_read, end_is_read}
 
 pub unit_accepted : (ts : List Terminal) (u : Whole) → unit_outcome ts ≡ Ok u → IsUnit ts u.items

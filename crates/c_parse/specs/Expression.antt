@@ -1,9 +1,7 @@
 -- Which tokens are an expression, and why others are refused.
-use Rattle.std.specs.Prelude.{◌≡◌, ℕ, false, List, Some, None, Result, Ok, Err}
+use Rattle.std.specs.Prelude.{◌≡◌, ℕ, false, List, Some, None}
 use Rattle.fq_core.specs.declared.refusal.Place.{Place}
 use Rattle.fq_core.specs.declared.refusal.Place.TheVariants as place
-use Rattle.fq_core.specs.declared.refusal.Fault.{Fault}
-use Rattle.fq_core.specs.declared.refusal.Fault.TheVariants as fault
 use Rattle.c_parse.specs.declared.sign.Terminal.{Terminal}
 use Rattle.c_parse.specs.declared.expr.ExprTree.{ExprTree}
 use Rattle.c_parse.specs.Grammar.{DerivesChoice}
@@ -13,10 +11,6 @@ use Rattle.c_parse.specs.SequencePoints.{has_sequence_point}
 -- the line of a token, as the place of a refusal
 abbrev pub line_of : Terminal → Place
 line_of t = place.Source t.span.file t.span.line
-
--- the refusal of a code and a place
-abbrev pub refusal : ℕ → Place → Fault
-refusal code p = fault.Refused (record { code = code; place = p })
 
 -- tokens of the profile, within the limits
 pub record IsWithin (ts : List Terminal) : Type 0 where
@@ -43,9 +37,3 @@ pub record IsExpression (ts : List Terminal) (t : ExprTree) : Type 0 where
 pub data IsRefusedExpression (ts : List Terminal) : ℕ → Place → Type 0 where
   early : {code : ℕ} {p : Place} → IsRefusedEarly ts code p → IsRefusedExpression ts code p
   no_expression : IsWithin ts → ((t : ExprTree) → Spells ts t → ⊥) → IsRefusedExpression ts 20 place.Nowhere
-
--- the call answers this, unless memory ran out
-abbrev pub IsUnlessMemory : {X : Type 0} → Result X Fault → Result X Fault → Type 0
-IsUnlessMemory (Ok x) answer = answer ≡ Ok x
-IsUnlessMemory (Err fault.Memory) answer = Unit {0}
-IsUnlessMemory (Err (fault.Refused r)) answer = answer ≡ Err (fault.Refused r)

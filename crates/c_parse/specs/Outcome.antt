@@ -6,7 +6,8 @@ use Rattle.fq_core.specs.declared.refusal.Fault.{Fault}
 use Rattle.c_parse.specs.declared.sign.Terminal.{Terminal}
 use Rattle.c_parse.specs.declared.expr.ExprTree.{ExprTree}
 use Rattle.c_parse.specs.Limits.{first_foreign, first_passed}
-use Rattle.c_parse.specs.Expression.{line_of, refusal}
+use Rattle.fq_core.specs.Refusals.{refusal}
+use Rattle.c_parse.specs.Expression.{line_of}
 use Rattle.c_parse.specs.declared.unit.Item.{Item}
 use Rattle.c_parse.specs.declared.unit.Unit.{Unit as Whole}
 use Rattle.c_parse.specs.Reading.{whole_at}

@@ -3,7 +3,8 @@ ghost use Rattle.std.specs.Prelude.{◌≡◌, ℕ, List, map, option_map, Ok, E
 ghost use Rattle.fq_core.specs.declared.refusal.Place.{Place};
 ghost use Rattle.c_parse.specs.declared.expr.ExprTree.{ExprTree};
 ghost use Rattle.c_parse.specs.Signs.{terminal_of};
-ghost use Rattle.c_parse.specs.Expression.{refusal, IsExpression, IsRefusedExpression, IsUnlessMemory};
+ghost use Rattle.fq_core.specs.Refusals.{refusal, IsUnlessMemory};
+ghost use Rattle.c_parse.specs.Expression.{IsExpression, IsRefusedExpression};
 ghost use Rattle.c_parse.specs.declared.unit.Item.{Item};
 ghost use Rattle.c_parse.specs.UnitForm.{IsUnit, IsRefusedUnit};
 ghost use Rattle.c_parse.specs.Outcome.{early_cause, by_rest, expression_outcome, unit_outcome};

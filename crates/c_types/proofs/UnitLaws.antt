@@ -5,8 +5,8 @@ use Rattle.std.specs.Prelude.{Ok, Err}
 use Rattle.std.proofs.lemmas.List.{drop_more, drop_all}
 use Rattle.fq_core.specs.declared.span.Span.{Span}
 use Rattle.fq_core.specs.declared.refusal.Place.{Place}
-use Rattle.c_parse.specs.Expression.{refusal}
-use Rattle.c_parse.proofs.OutcomeLaws.{same_refusal}
+use Rattle.fq_core.specs.Refusals.{refusal}
+use Rattle.fq_core.proofs.RefusalLaws.{same_refusal}
 use Rattle.c_values.specs.declared.kinds.Kind.{Kind}
 use Rattle.c_parse.specs.declared.expr.Ident.{Ident}
 use Rattle.c_parse.specs.declared.expr.ExprTree.{ExprTree}

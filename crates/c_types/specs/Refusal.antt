@@ -4,7 +4,7 @@ use Rattle.fq_core.specs.declared.refusal.Place.{Place}
 use Rattle.fq_core.specs.declared.refusal.Place.TheVariants as place
 use Rattle.fq_core.specs.declared.refusal.Fault.{Fault}
 use Rattle.c_parse.specs.declared.unit.Item.{Item}
-use Rattle.c_parse.specs.Expression.{refusal}
+use Rattle.fq_core.specs.Refusals.{refusal}
 use Rattle.typed_trees.specs.declared.unit.Typed.{Typed}
 use Rattle.expression_types.specs.declared.faults.Found.{Found}
 use Rattle.expression_types.specs.Faults.{IsFirst, first_of}

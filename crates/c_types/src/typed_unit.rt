@@ -1,7 +1,7 @@
 // The typing of a whole unit.
 ghost use Rattle.std.specs.Prelude.{◌≡◌, ℕ, List, [], Option, None, Ok, IfOk, IsErrOf};
 ghost use Rattle.fq_core.specs.declared.refusal.Place.{Place};
-ghost use Rattle.c_parse.specs.Expression.{refusal, IsUnlessMemory};
+ghost use Rattle.fq_core.specs.Refusals.{refusal, IsUnlessMemory};
 ghost use Rattle.expression_types.specs.Faults.{first_of};
 ghost use Rattle.c_types.specs.Refusal.{IsRefused, IsTyped, place_of_fault, refusal_of, outcome};
 ghost use Rattle.c_types.specs.Units.{faults_of, typed_of};

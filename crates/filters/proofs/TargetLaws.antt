@@ -8,17 +8,8 @@ use Rattle.cfa.specs.declared.parts.GraphParts.{GraphParts}
 use Rattle.cfa.specs.declared.parts.Node.{Node}
 use Rattle.filters.specs.declared.marks.Marks.{Marks}
 use Rattle.filters.specs.declared.target_graph.TargetGraph.{TargetGraph}
-use Rattle.filters.specs.Parts.{Part, is_among, is_marked, marked, part_of, whole, IsFull, IsWithin}
+use Rattle.filters.specs.Parts.{Part, is_marked, marked, part_of, whole, IsFull, IsWithin}
 use Rattle.filters.proofs.PartsLaws.{part_equal}
-
-pub target_is : (t : TargetGraph) (m : Marks) (ns es : List Bool) → ns ≡ m.nodes.items → es ≡ m.edges.items → is_among t.nodes ≡ is_marked ns → is_among t.edges ≡ is_marked es → part_of t ≡ marked m
-target_is t m ns es p q h g = part_equal (part_of t) (marked m) (λ n. ap (λ f. f n) (h ∙ ap is_marked p)) (λ k. ap (λ f. f k) (g ∙ ap is_marked q))
-
-pub marks_part : (m : Marks) (t : TargetGraph) (ns es : List ℕ) → ns ≡ t.nodes → es ≡ t.edges → is_marked m.nodes.items ≡ is_among ns → is_marked m.edges.items ≡ is_among es → marked m ≡ part_of t
-marks_part m t ns es p q h g = part_equal (marked m) (part_of t) (λ n. ap (λ f. f n) (h ∙ ap is_among p)) (λ k. ap (λ f. f k) (g ∙ ap is_among q))
-
-pub below_count : (numbers own : List ℕ) (n : ℕ) → own ≡ numbers → ((k : ℕ) → is_among numbers k ≡ true → k < n) → (k : ℕ) → is_among own k ≡ true → k < n
-below_count numbers own n e h k q = h k (ap (λ xs. is_among xs k) (sym e) ∙ q)
 
 in_table : (xs : List Bool) (n k : ℕ) → length xs ≡ n → get_or xs k false ≡ true → k < n
 in_table xs n k size h = elim (cases_lt k n) [

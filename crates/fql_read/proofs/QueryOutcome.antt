@@ -8,9 +8,11 @@ use Rattle.fq_core.specs.declared.refusal.Fault.{Fault}
 use Rattle.fq_core.specs.declared.refusal.Fault.TheVariants as fault
 use Rattle.fql_tokens.specs.declared.token.Token.{Token}
 use Rattle.fql_tokens.specs.Cuts.{Cutting, accepted, stopped, with_token, Cuts, ends, a_blank, a_token, unknown}
-use Rattle.fql_tokens.specs.Accepted.{refusal, AreTokens, IsRefusedText, IsUnlessMemory}
+use Rattle.fq_core.specs.Refusals.{refusal, IsUnlessMemory}
+use Rattle.fql_tokens.specs.Accepted.{AreTokens, IsRefusedText}
 use Rattle.fql_tokens.specs.Outcome.{text_outcome}
-use Rattle.fql_tokens.proofs.OutcomeLaws.{same_refusal, text_accepted, text_accepts, text_refused, text_refuses}
+use Rattle.fq_core.proofs.RefusalLaws.{same_refusal}
+use Rattle.fql_tokens.proofs.OutcomeLaws.{text_accepted, text_accepts, text_refused, text_refuses}
 use Rattle.fql_tokens.specs.declared.first.Mode.{Mode}
 use Rattle.fql_tokens.proofs.Sizes.{token_fits}
 use Rattle.fql_read.specs.declared.query.Query.{Query}

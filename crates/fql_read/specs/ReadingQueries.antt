@@ -7,7 +7,7 @@ use Rattle.fql_tokens.specs.declared.token.Mark.TheVariants as marks
 use Rattle.fql_tokens.specs.declared.token.Keyword.{Keyword}
 use Rattle.fql_tokens.specs.declared.token.Keyword.TheVariants as keywords
 use Rattle.fql_tokens.specs.declared.token.Token.{Token}
-use Rattle.fql_tokens.specs.Accepted.{refusal}
+use Rattle.fq_core.specs.Refusals.{refusal}
 use Rattle.fql_tokens.specs.Outcome.{text_outcome}
 use Rattle.fql_read.specs.declared.operator.Part.{Part}
 use Rattle.fql_read.specs.declared.operator.Part.TheVariants as part

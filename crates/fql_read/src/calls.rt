@@ -1,7 +1,7 @@
 // The call of the crate.
 ghost use Rattle.std.specs.Prelude.{◌≡◌, ℕ, Ok, Err, IfOk, IsErrOf};
 ghost use Rattle.fq_core.specs.declared.refusal.Place.{Place};
-ghost use Rattle.fql_tokens.specs.Accepted.{IsUnlessMemory, refusal};
+ghost use Rattle.fq_core.specs.Refusals.{IsUnlessMemory, refusal};
 ghost use Rattle.fql_read.specs.declared.query.Query.{Query};
 ghost use Rattle.fql_read.specs.Asks.{Asks, IsRefusedQuery};
 ghost use Rattle.fql_read.specs.ReadingQueries.{query_outcome};

@@ -1,6 +1,6 @@
 // Reading whole queries.
 ghost use Rattle.std.specs.Prelude.{◌≡◌, ◌≤◌, length, Ok, Err, IfOk, MatchOption};
-ghost use Rattle.fql_tokens.specs.Accepted.{IsUnlessMemory};
+ghost use Rattle.fq_core.specs.Refusals.{IsUnlessMemory};
 ghost use Rattle.fql_read.specs.Gives.{Gives};
 ghost use Rattle.fql_read.specs.Tables.{keyword_in};
 ghost use Rattle.fql_read.specs.QueryForm.{predicates_of};

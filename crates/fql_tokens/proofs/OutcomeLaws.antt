@@ -1,6 +1,6 @@
 -- What is answered, and why.
-use Rattle.std.proofs.Common.{◌≡◌, ℕ, ◌≤◌, ◌<◌, Bool, true, false, List, length, Result, Ok, Err, refl, sym, ap, subst, ◌∙◌}
-use Rattle.std.specs.Prelude.{IfOk, IsErrOf, nat_le}
+use Rattle.std.proofs.Common.{◌≡◌, ℕ, ◌≤◌, ◌<◌, Bool, true, false, List, length, Result, Ok, Err, refl, sym, subst, ◌∙◌}
+use Rattle.std.specs.Prelude.{nat_le}
 use Rattle.std.proofs.lemmas.Bool.{le-leb, lt-leb, leb-true, leb-false}
 use Rattle.fq_core.specs.declared.refusal.Place.{Place}
 use Rattle.fq_core.specs.declared.refusal.Place.TheVariants as place
@@ -9,25 +9,11 @@ use Rattle.fq_core.specs.declared.refusal.Fault.TheVariants as fault
 use Rattle.fql_tokens.specs.declared.token.Token.{Token}
 use Rattle.fql_tokens.specs.Cuts.{Cutting, accepted, stopped, IsCut}
 use Rattle.fql_tokens.specs.Limits.{most_bytes, most_brackets, is_too_deep}
-use Rattle.fql_tokens.specs.Accepted.{refusal, AreTokens, IsRefusedText, too_long, no_token, too_deep, IsUnlessMemory}
+use Rattle.fq_core.specs.Refusals.{refusal}
+use Rattle.fq_core.proofs.RefusalLaws.{same_refusal}
+use Rattle.fql_tokens.specs.Accepted.{AreTokens, IsRefusedText, too_long, no_token, too_deep}
 use Rattle.fql_tokens.specs.Outcome.{cutting, by_depth, text_outcome}
 use Rattle.fql_tokens.proofs.Cutting.{whole_is_cut, cutting_cuts}
-
-code_in : {X : Type 0} → Result X Fault → ℕ
-code_in (Err (fault.Refused r)) = r.code
-code_in _ = 0
-
-place_in : {X : Type 0} → Result X Fault → Place
-place_in (Err (fault.Refused r)) = r.place
-place_in _ = place.Nowhere
-
--- a refusal tells its code and its place
-pub same_refusal : {X : Type 0} (a b : ℕ) (p q : Place) (P : ℕ → Place → Type 0) → (let x : Result X Fault = Err (refusal a p) in let y : Result X Fault = Err (refusal b q) in x ≡ y) → P a p → P b q
-unfolding code_in place_in
-same_refusal {X} a b p q P e h =
-    let one : a ≡ b = ap (code_in {X = X}) e in
-    let two : p ≡ q = ap (place_in {X = X}) e in
-    rw (← one, ← two) h
 
 is_short : (text : List ℕ) → nat_le (length text) most_bytes ≡ true → length text ≤ most_bytes
 is_short text e = leb-true (length text) most_bytes e
@@ -96,24 +82,3 @@ one_list text ts us a b = let e : Ok ts ≡ Ok us = sym (text_accepts text ts a)
   where
     same_ok : (ts us : List Token) → (let x : Result (List Token) Fault = Ok ts in let y : Result (List Token) Fault = Ok us in x ≡ y) → ts ≡ us
     same_ok ts us e = cc
-
--- ---- what a call promises whose answer is the outcome, unless memory ran out
-
-module _ {X : Type 0} (result : Result X Fault) (outcome : Result X Fault) (is : IsUnlessMemory result outcome) where
-  pub ok-is : {P : X → Type 0} → ((x : X) → outcome ≡ Ok x → P x) → IfOk result P
-  ok-is {P} f = at result is
-    where
-      at : (r : Result X Fault) → IsUnlessMemory r outcome → IfOk r P
-      at (Ok x) e = f x e
-      at (Err e) h = tt
-
-  pub err-is : (code : ℕ) (p : Place) → IsErrOf result (refusal code p) → outcome ≡ Err (refusal code p)
-  err-is code p failed = at result is failed
-    where
-      at : (r : Result X Fault) → IsUnlessMemory r outcome → IsErrOf r (refusal code p) → outcome ≡ Err (refusal code p)
-      at (Ok x) e failed = absurd cc
-      at (Err fault.Memory) e failed = absurd cc
-      at (Err (fault.Refused r)) e failed = e ∙ cc
-
-  pub answer-is : (answer : Result X Fault) → outcome ≡ answer → IsUnlessMemory result answer
-  answer-is answer e = subst (λ (o : Result X Fault). IsUnlessMemory result o) e is

@@ -1,16 +1,10 @@
 -- Which tokens a query has, and why one is refused before its tokens are read.
-use Rattle.std.specs.Prelude.{◌≡◌, ℕ, ◌≤◌, ◌<◌, true, false, List, length, Result, Ok, Err}
+use Rattle.std.specs.Prelude.{◌≡◌, ℕ, ◌≤◌, ◌<◌, true, false, List, length}
 use Rattle.fq_core.specs.declared.refusal.Place.{Place}
 use Rattle.fq_core.specs.declared.refusal.Place.TheVariants as place
-use Rattle.fq_core.specs.declared.refusal.Fault.{Fault}
-use Rattle.fq_core.specs.declared.refusal.Fault.TheVariants as fault
 use Rattle.fql_tokens.specs.declared.token.Token.{Token}
 use Rattle.fql_tokens.specs.Cuts.{accepted, stopped, IsCut}
 use Rattle.fql_tokens.specs.Limits.{most_bytes, most_brackets, is_too_deep}
-
--- the refusal of a code and a place
-abbrev pub refusal : ℕ → Place → Fault
-refusal code p = fault.Refused (record { code = code; place = p })
 
 -- these are the tokens of a query, and it is within the limits
 pub record AreTokens (text : List ℕ) (tokens : List Token) : Type 0 where
@@ -24,9 +18,3 @@ pub data IsRefusedText (text : List ℕ) : ℕ → Place → Type 0 where
   too_long : most_bytes < length text → IsRefusedText text 63 (place.Limit most_bytes)
   no_token : (column : ℕ) → length text ≤ most_bytes → IsCut text (stopped column) → IsRefusedText text 60 (place.Query column)
   too_deep : (tokens : List Token) → length text ≤ most_bytes → IsCut text (accepted tokens) → is_too_deep tokens ≡ true → IsRefusedText text 63 (place.Limit most_brackets)
-
--- the call answers this, unless memory ran out
-abbrev pub IsUnlessMemory : {X : Type 0} → Result X Fault → Result X Fault → Type 0
-IsUnlessMemory (Ok x) answer = answer ≡ Ok x
-IsUnlessMemory (Err fault.Memory) answer = Unit {0}
-IsUnlessMemory (Err (fault.Refused r)) answer = answer ≡ Err (fault.Refused r)

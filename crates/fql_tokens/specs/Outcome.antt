@@ -10,7 +10,7 @@ use Rattle.fql_tokens.specs.declared.first.Beginning.TheVariants as begins
 use Rattle.fql_tokens.specs.First.{beginning}
 use Rattle.fql_tokens.specs.Cuts.{Cutting, accepted, stopped, after, with_token}
 use Rattle.fql_tokens.specs.Limits.{most_bytes, most_brackets, is_too_deep}
-use Rattle.fql_tokens.specs.Accepted.{refusal}
+use Rattle.fq_core.specs.Refusals.{refusal}
 
 -- the next token or blank, and then what a reader of the rest gives
 abbrev pub Reader : Type 0

@@ -1,7 +1,7 @@
 // The pass along a query.
 ghost use Rattle.std.specs.Prelude.{◌≡◌, ◌≤◌, length};
 ghost use Rattle.fql_tokens.specs.Cuts.{after};
-ghost use Rattle.fql_tokens.specs.Accepted.{IsUnlessMemory};
+ghost use Rattle.fq_core.specs.Refusals.{IsUnlessMemory};
 ghost use Rattle.fql_tokens.specs.Outcome.{cutting, by_cutting};
 
 use crate::first::{Beginning, Mode, rest_of, what_begins};

@@ -2,7 +2,8 @@
 ghost use Rattle.std.specs.Prelude.{◌≡◌, ℕ, List, Ok, Err, IfOk, IsErrOf};
 ghost use Rattle.fq_core.specs.declared.refusal.Place.{Place};
 ghost use Rattle.fql_tokens.specs.declared.token.Token.{Token};
-ghost use Rattle.fql_tokens.specs.Accepted.{AreTokens, IsRefusedText, IsUnlessMemory, refusal};
+ghost use Rattle.fq_core.specs.Refusals.{IsUnlessMemory, refusal};
+ghost use Rattle.fql_tokens.specs.Accepted.{AreTokens, IsRefusedText};
 ghost use Rattle.fql_tokens.specs.Outcome.{text_outcome};
 
 use crate::cut::cut;

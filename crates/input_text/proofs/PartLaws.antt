@@ -5,7 +5,8 @@ use Rattle.c_meaning.specs.declared.input.Input.{Input}
 use Rattle.fq_core.specs.declared.refusal.Fault.{Fault}
 use Rattle.fq_core.specs.declared.refusal.Fault.TheVariants as fault
 use Rattle.input_text.specs.declared.misfit.Misfit.{Misfit}
-use Rattle.input_text.specs.Outcome.{IfRefused, Outcome, after, numbered}
+use Rattle.fq_core.specs.Refusals.{IfRefused}
+use Rattle.input_text.specs.Outcome.{Outcome, after, numbered}
 
 -- a part that is refused, after these inputs
 pub refused_here : (f : Fault) (n : ℕ) (inputs : List Input) (part : Result Input Misfit) (parts : List (Result Input Misfit)) (whole : Outcome)

@@ -1,8 +1,6 @@
 -- What a text of inputs is answered with: its inputs, or the refusal of it.
-use Rattle.std.specs.Prelude.{◌≡◌, ℕ, ◌+◌, List, [], ◌∷◌, ◌++◌, Result, Ok, Err, nat_le, if◌then◌else◌, ⊤}
+use Rattle.std.specs.Prelude.{ℕ, ◌+◌, List, [], ◌∷◌, ◌++◌, Result, Ok, Err, nat_le, if◌then◌else◌}
 use Rattle.c_meaning.specs.declared.input.Input.{Input}
-use Rattle.fq_core.specs.declared.refusal.Fault.{Fault}
-use Rattle.fq_core.specs.declared.refusal.Fault.TheVariants as fault
 use Rattle.fq_core.specs.declared.refusal.Place.{Place}
 use Rattle.fq_core.specs.declared.refusal.Place.TheVariants as place
 use Rattle.fq_core.specs.declared.refusal.Refusal.{Refusal}
@@ -37,8 +35,3 @@ numbered number (Err misfit ∷ parts) = refused_at (misfit_code misfit) (place.
 numbered number (Ok input ∷ parts) =
     if nat_le number most_inputs then after (input ∷ []) (numbered (number + 1) parts)
     else refused_at 53 (place.Limit most_inputs)
-
--- a fact about the refusal, where a call answers one
-abbrev pub IfRefused : Fault → (Refusal → Type 0) → Type 0
-IfRefused (fault.Refused refusal) P = P refusal
-IfRefused fault.Memory P = ⊤

@@ -6,7 +6,8 @@ ghost use Rattle.input_text.specs.Inputs.{inputs_of_array};
 ghost use Rattle.input_text.specs.Json.{answers_of, arguments_of, array_of, json_of, object_input, object_parts, word_of, words_of, words_of_items};
 ghost use Rattle.fq_core.specs.declared.refusal.Fault.TheVariants as fault;
 ghost use Rattle.fq_core.specs.declared.refusal.Place.TheVariants as place;
-ghost use Rattle.input_text.specs.Outcome.{IfRefused, numbered};
+ghost use Rattle.fq_core.specs.Refusals.{IfRefused};
+ghost use Rattle.input_text.specs.Outcome.{numbered};
 
 use crate::misfit::Misfit;
 use crate::parts::add;

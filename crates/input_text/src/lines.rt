@@ -4,7 +4,8 @@ ghost use Rattle.std.specs.List.{list_any, slice_split};
 ghost use Rattle.std.specs.Option.{option_map_or};
 ghost use Rattle.fq_core.specs.Word.{word_of_text};
 ghost use Rattle.input_text.specs.Lines.{is_blank, is_no_number, line_input, line_parts, lines_of, misfit_in, parts_of_lines, texts_in, words_in};
-ghost use Rattle.input_text.specs.Outcome.{IfRefused, after, most_inputs, numbered};
+ghost use Rattle.fq_core.specs.Refusals.{IfRefused};
+ghost use Rattle.input_text.specs.Outcome.{after, most_inputs, numbered};
 
 use crate::misfit::Misfit;
 use crate::parts::add;

@@ -2,7 +2,8 @@
 ghost use Rattle.std.specs.Prelude.{◌≡◌, ◌+◌, ◌≤◌, ◌∷◌, ◌++◌, List, Result, Err, IfErr, OnOk, vec_len};
 ghost use Rattle.c_meaning.specs.declared.input.Input.{Input};
 ghost use Rattle.input_text.specs.declared.misfit.Misfit.{Misfit};
-ghost use Rattle.input_text.specs.Outcome.{IfRefused, after, misfit_code, most_inputs, numbered};
+ghost use Rattle.fq_core.specs.Refusals.{IfRefused};
+ghost use Rattle.input_text.specs.Outcome.{after, misfit_code, most_inputs, numbered};
 
 use crate::misfit::Misfit as Wrong;
 use c_meaning::Input as Given;

@@ -2,7 +2,8 @@
 ghost use Rattle.std.specs.Prelude.{◌≡◌, ◌==◌, ◌≤◌, IfErr, IfOk, Err, Ok, All, find, not, length};
 ghost use Rattle.input_text.specs.Inputs.{begins_array, inputs_of, is_space};
 ghost use Rattle.input_text.specs.Laws.{HasWords};
-ghost use Rattle.input_text.specs.Outcome.{IfRefused, most_inputs};
+ghost use Rattle.fq_core.specs.Refusals.{IfRefused};
+ghost use Rattle.input_text.specs.Outcome.{most_inputs};
 
 use crate::json::inputs_in_json;
 use crate::lines::inputs_in_lines;

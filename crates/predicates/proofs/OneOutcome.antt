@@ -8,7 +8,7 @@ use Rattle.fq_core.specs.declared.refusal.Place.{Place}
 use Rattle.fq_core.specs.declared.refusal.Place.TheVariants as place
 use Rattle.fq_core.specs.declared.refusal.Refusal.{Refusal}
 use Rattle.c_parse.specs.declared.expr.ExprTree.{ExprTree}
-use Rattle.c_parse.specs.Expression.{IsUnlessMemory, refusal}
+use Rattle.fq_core.specs.Refusals.{IsUnlessMemory, refusal}
 use Rattle.c_parse.specs.Laws.{HasOneOutcome}
 use Rattle.cfa.specs.declared.parts.GraphParts.{GraphParts}
 use Rattle.cfa.specs.declared.state.Predicates.{Predicates}

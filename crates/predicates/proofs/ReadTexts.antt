@@ -13,7 +13,8 @@ use Rattle.c_lex.specs.Lexed as tokens
 use Rattle.c_lex.specs.OneReading.{OneReading, SomeReading}
 use Rattle.c_parse.specs.declared.expr.ExprTree.{ExprTree}
 use Rattle.c_parse.specs.declared.sign.Terminal.{Terminal}
-use Rattle.c_parse.specs.Expression.{IsExpression, IsRefusedExpression, refusal}
+use Rattle.fq_core.specs.Refusals.{refusal}
+use Rattle.c_parse.specs.Expression.{IsExpression, IsRefusedExpression}
 use Rattle.c_parse.specs.Laws as parse
 use Rattle.c_parse.specs.Signs.{terminal_of}
 use Rattle.predicates.specs.Laws.{IsReadOnce}

@@ -1,7 +1,7 @@
 // The call of the crate.
 ghost use Rattle.std.specs.Prelude.{◌≡◌, ℕ, Ok, Err, IfOk};
 ghost use Rattle.fq_core.specs.declared.refusal.Place.{Place};
-ghost use Rattle.c_parse.specs.Expression.{IsUnlessMemory, refusal};
+ghost use Rattle.fq_core.specs.Refusals.{IsUnlessMemory, refusal};
 ghost use Rattle.cfa.specs.declared.state.Predicates.{Predicates};
 ghost use Rattle.cfa.specs.Predicates.{IsPredicates};
 ghost use Rattle.predicates.specs.Outcome.{ArePredicatesOf, IsOutcome, IsRefused};

@@ -1,7 +1,7 @@
 use Rattle.std.proofs.Common.{ap, ◌∙◌}
 use Rattle.std.specs.Prelude.{Err}
 use Rattle.c_lex.specs.Cuts.{place_of_lexeme}
-use Rattle.c_lex.specs.Taking.{refusal}
+use Rattle.fq_core.specs.Refusals.{refusal}
 use Rattle.c_lex.proofs.LexerLaws.{token_taken, directive_taken, directive_refused, unknown_refused, open_refused, span_here, line_here, same_lexeme}
 use Rattle.c_lex.proofs.lexer.take_lexeme.Goals as goal
 

@@ -1,6 +1,7 @@
 use Rattle.std.proofs.Common.{ap, sym, ◌∙◌, subst, ℕ, List}
 use Rattle.c_lex.specs.Constants.{token_kind}
-use Rattle.c_lex.specs.Taking.{TokenTaken, refusal, too_wide}
+use Rattle.fq_core.specs.Refusals.{refusal}
+use Rattle.c_lex.specs.Taking.{TokenTaken, too_wide}
 use Rattle.c_lex.proofs.TakenLaws.{token_memory, plain_taken}
 use Rattle.c_lex.proofs.take.take_token.Goals as goal
 

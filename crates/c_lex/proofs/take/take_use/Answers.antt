@@ -1,5 +1,5 @@
 use Rattle.std.proofs.Common.{ap, ◌∙◌}
-use Rattle.c_lex.specs.Taking.{refusal}
+use Rattle.fq_core.specs.Refusals.{refusal}
 use Rattle.c_lex.proofs.TakingLaws.{found}
 use Rattle.c_lex.proofs.TakenLaws.{token_memory, use_done, use_loops, use_passed}
 use Rattle.c_lex.proofs.take.take_use.Goals as goal

@@ -1,8 +1,9 @@
 use Rattle.std.proofs.Common.{map, Ok, Err}
 use Rattle.c_parse.specs.Signs.{terminal_of}
-use Rattle.c_parse.specs.Expression.{refusal}
+use Rattle.fq_core.specs.Refusals.{refusal}
 use Rattle.c_parse.specs.Outcome.{expression_outcome}
-use Rattle.c_parse.proofs.OutcomeLaws.{accepted, accepts, refused, refuses, ok-is, err-is, answer-is}
+use Rattle.fq_core.proofs.RefusalLaws.{ok-is, err-is, answer-is}
+use Rattle.c_parse.proofs.OutcomeLaws.{accepted, accepts, refused, refuses}
 use Rattle.c_parse.proofs.calls.expression.Goals as goal
 
 pub returns-clause-accepted : goal.returns-clause-accepted

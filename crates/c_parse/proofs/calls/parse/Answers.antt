@@ -1,8 +1,8 @@
 use Rattle.std.proofs.Common.{map, Ok, Err}
 use Rattle.c_parse.specs.Signs.{terminal_of}
-use Rattle.c_parse.specs.Expression.{refusal}
+use Rattle.fq_core.specs.Refusals.{refusal}
 use Rattle.c_parse.specs.Outcome.{unit_outcome}
-use Rattle.c_parse.proofs.OutcomeLaws.{ok-is, err-is, answer-is}
+use Rattle.fq_core.proofs.RefusalLaws.{ok-is, err-is, answer-is}
 use Rattle.c_parse.proofs.UnitOutcome.{unit_accepted, unit_accepts, unit_refused, unit_refuses}
 use Rattle.c_parse.proofs.calls.parse.Goals as goal
 

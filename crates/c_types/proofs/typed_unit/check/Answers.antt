@@ -1,5 +1,5 @@
 use Rattle.std.proofs.Common.{Ok}
-use Rattle.c_parse.proofs.OutcomeLaws.{ok-is, err-is, answer-is}
+use Rattle.fq_core.proofs.RefusalLaws.{ok-is, err-is, answer-is}
 use Rattle.c_types.specs.Refusal.{outcome}
 use Rattle.c_types.specs.Units.{typed_of}
 use Rattle.c_types.proofs.UnitLaws.{accepted, accepts, refused}

@@ -1,6 +1,6 @@
 use Rattle.std.proofs.Common.{Ok, Err}
-use Rattle.fql_tokens.specs.Accepted.{refusal}
-use Rattle.fql_tokens.proofs.OutcomeLaws.{ok-is, err-is, answer-is}
+use Rattle.fq_core.specs.Refusals.{refusal}
+use Rattle.fq_core.proofs.RefusalLaws.{ok-is, err-is, answer-is}
 use Rattle.fql_read.specs.ReadingQueries.{query_outcome}
 use Rattle.fql_read.proofs.QueryOutcome.{query_accepted, query_accepts, query_refused, query_refuses}
 use Rattle.fql_read.proofs.UsableLaws.{asks_usable}

@@ -1,7 +1,8 @@
 use Rattle.std.proofs.Common.{Ok, Err}
-use Rattle.fql_tokens.specs.Accepted.{refusal}
+use Rattle.fq_core.specs.Refusals.{refusal}
 use Rattle.fql_tokens.specs.Outcome.{text_outcome}
-use Rattle.fql_tokens.proofs.OutcomeLaws.{text_accepted, text_accepts, text_refused, text_refuses, ok-is, err-is, answer-is}
+use Rattle.fq_core.proofs.RefusalLaws.{ok-is, err-is, answer-is}
+use Rattle.fql_tokens.proofs.OutcomeLaws.{text_accepted, text_accepts, text_refused, text_refuses}
 use Rattle.fql_tokens.proofs.tokens.query_tokens.Goals as goal
 
 pub returns-clause-accepted : goal.returns-clause-accepted
