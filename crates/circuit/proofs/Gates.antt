@@ -1,11 +1,11 @@
 -- One more gate, and what the wires hold then.
-use Rattle.std.proofs.Common.{subst, ◌≡◌, ℕ, zero, suc, ◌+◌, ◌≤◌, ◌<◌, Bool, true, false, not, ◌&&◌, ◌||◌, if◌then◌else◌, List, [], ◌∷◌, ◌++◌, length, get_or, take, refl, sym, ◌∙◌, ap, arith, length-append}
-use Rattle.std.proofs.lemmas.List.{take_more}
-use Rattle.circuit.specs.Truth.{World, Extends}
+use Rattle.std.proofs.Common.{subst, ◌≡◌, ℕ, zero, suc, ◌+◌, ◌≤◌, ◌<◌, ◌^◌, Bool, true, false, not, ◌&&◌, ◌||◌, if◌then◌else◌, List, [], ◌∷◌, ◌++◌, length, get_or, take, drop, refl, sym, ◌∙◌, ap, arith, append_assoc, length-append}
+use Rattle.std.proofs.lemmas.List.{append-nil, take_more, take-append-drop, length-take-le}
+use Rattle.circuit.specs.Truth.{World, Extends, extends_self, extends_again}
 use Rattle.circuit.specs.declared.lit.Lit.{Lit}
 use Rattle.circuit.specs.declared.lit.Gate.{Gate}
 use Rattle.circuit.specs.declared.lit.Gate.TheVariants.{Input, And}
-use Rattle.circuit.specs.Wires.{lit_value, gate_value, held_from, held, lit_holds, IsWire, input_count, PartsUpTo, PartsLieBelow}
+use Rattle.circuit.specs.Wires.{lit_value, gate_value, held_from, held, lit_holds, IsWire, input_count, PartsUpTo, PartsLieBelow, HasNumber, InputsAreNumbered, IsCircuit}
 
 pub held_more : (below : List Bool) (gates : List Gate) (g : Gate) (w : World) → held_from below (gates ++ g ∷ []) w ≡ held_from below gates w ++ gate_value (held_from below gates w) w g ∷ []
 held_more below [] g w = refl
@@ -105,3 +105,97 @@ below_more below (x ∷ gates) g h k = let e : below + suc (length gates) ≡ su
 pub held_next : (gates : List Gate) (i : ℕ) (d : Gate) (w : World) → i < length gates
     → held (take (i + 1) gates) w ≡ held (take i gates) w ++ gate_value (held (take i gates) w) w (get_or gates i d) ∷ []
 held_next gates i d w lt = ap (λ gs. held gs w) (take_more gates i d lt) ∙ held_more (true ∷ []) (take i gates) (get_or gates i d) w
+
+input_count-append : (xs ys : List Gate) → input_count (xs ++ ys) ≡ input_count xs + input_count ys
+input_count-append [] ys = omega arith
+input_count-append (Input k ∷ xs) ys = omega (arith, input_count-append xs ys)
+input_count-append (And left right ∷ xs) ys = input_count-append xs ys
+
+numbered_more : (below : ℕ) (gates : List Gate) (g : Gate) → InputsAreNumbered below gates → HasNumber (input_count gates + below) g → InputsAreNumbered below (gates ++ g ∷ [])
+numbered_more below [] g h k = let e : 0 + below ≡ below = omega arith in (subst (λ n. HasNumber n g) e k, tt)
+numbered_more below (Input number ∷ gates) g h k =
+    let e : (1 + input_count gates) + below ≡ input_count gates + (1 + below) = omega arith in
+    (h.0, numbered_more (1 + below) gates g h.1 (subst (λ n. HasNumber n g) e k))
+numbered_more below (And left right ∷ gates) g h k =
+    let e : input_count gates + below ≡ input_count gates + (0 + below) = omega arith in
+    (h.0, numbered_more (0 + below) gates g h.1 (subst (λ n. HasNumber n g) e k))
+
+-- one more gate of lower wires, an input with the next number if it is one
+pub circuit_more : (gates : List Gate) (g : Gate) → IsCircuit gates → length gates < 2 ^ 30 → PartsUpTo (length gates) g → HasNumber (input_count gates) g → IsCircuit (gates ++ g ∷ [])
+circuit_more gates g h room parts number =
+    let e : 0 + length gates ≡ length gates = omega arith in
+    let f : input_count gates + 0 ≡ input_count gates = omega arith in
+    record {
+      few = omega (arith, length-append gates (g ∷ []));
+      below = below_more 0 gates g h.below (subst (λ n. PartsUpTo n g) (sym e) parts);
+      numbered = numbered_more 0 gates g h.numbered (subst (λ n. HasNumber n g) (sym f) number);
+    }
+
+below_at : (below : ℕ) (gates : List Gate) (k : ℕ) (d : Gate) → PartsLieBelow below gates → k < length gates → PartsUpTo (k + below) (get_or gates k d)
+below_at below [] k d h lt = absurd (omega arith)
+below_at below (g ∷ gates) zero d h lt = let e : 0 + below ≡ below = omega arith in subst (λ n. PartsUpTo n g) (sym e) h.0
+below_at below (g ∷ gates) (suc k) d h lt =
+    let e : k + suc below ≡ suc k + below = omega arith in
+    subst (λ n. PartsUpTo n (get_or gates k d)) e (below_at (suc below) gates k d h.1 (omega arith))
+
+numbered_at : (below : ℕ) (gates : List Gate) (k : ℕ) (d : Gate) → InputsAreNumbered below gates → k < length gates → HasNumber (input_count (take k gates) + below) (get_or gates k d)
+numbered_at below [] k d h lt = absurd (omega arith)
+numbered_at below (g ∷ gates) zero d h lt = let e : 0 + below ≡ below = omega arith in subst (λ n. HasNumber n g) (sym e) h.0
+numbered_at below (g ∷ gates) (suc k) d h lt =
+    let n = input_count (g ∷ []) + below in
+    let e : input_count (take k gates) + (input_count (g ∷ []) + below) ≡ input_count (g ∷ take k gates) + below =
+    omega (arith, input_count-append (g ∷ []) (take k gates)) in
+    subst (λ n. HasNumber n (get_or gates k d)) e (numbered_at n gates k d h.1 (omega arith))
+
+-- what is known of a gate of a circuit
+pub record GateAt (gates : List Gate) (k : ℕ) (g : Gate) : Type 0 where
+  pub parts : PartsUpTo k g
+  pub number : HasNumber (input_count (take k gates)) g
+
+pub gate_at : (gates : List Gate) (k : ℕ) (d : Gate) → IsCircuit gates → k < length gates → GateAt gates k (get_or gates k d)
+gate_at gates k d h lt =
+    let e : k + 0 ≡ k = omega arith in
+    let f : input_count (take k gates) + 0 ≡ input_count (take k gates) = omega arith in
+    record {
+      parts = subst (λ n. PartsUpTo n (get_or gates k d)) e (below_at 0 gates k d h.below lt);
+      number = subst (λ n. HasNumber n (get_or gates k d)) f (numbered_at 0 gates k d h.numbered lt);
+    }
+
+-- ---- a cut
+
+below_first : (below : ℕ) (xs ys : List Gate) → PartsLieBelow below (xs ++ ys) → PartsLieBelow below xs
+below_first below [] ys h = tt
+below_first below (x ∷ xs) ys h = (h.0, below_first (suc below) xs ys h.1)
+
+numbered_first : (below : ℕ) (xs ys : List Gate) → InputsAreNumbered below (xs ++ ys) → InputsAreNumbered below xs
+numbered_first below [] ys h = tt
+numbered_first below (x ∷ xs) ys h = (h.0, numbered_first (input_count (x ∷ []) + below) xs ys h.1)
+
+extend_by : (gates more : List Gate) → Extends IsWire lit_holds gates (gates ++ more)
+extend_by gates [] = subst (Extends IsWire lit_holds gates) (sym (append-nil gates)) (extends_self gates)
+extend_by gates (g ∷ more) =
+    subst (Extends IsWire lit_holds gates) (append_assoc gates (g ∷ []) more)
+    (extends_again (gates_extend gates g) (extend_by (gates ++ g ∷ []) more))
+
+-- the first gates, and what their wires hold
+pub record AfterCut (old new : List Gate) (wires : ℕ) : Type 0 where
+  pub circuit : IsCircuit new
+  pub kept : (l : Lit) → l.wire ≤ wires → (w : World) → lit_holds new l w ≡ lit_holds old l w
+  pub inputs : input_count new ≡ input_count old
+
+pub after_cut : (old new : List Gate) (wires : ℕ) → new ≡ take wires old → IsCircuit old → wires ≤ length old → input_count (drop wires old) ≡ 0 → AfterCut old new wires
+after_cut old new wires e h le none =
+    let parts : take wires old ++ drop wires old ≡ old = take-append-drop wires old in
+    let size : length (take wires old) ≡ wires = length-take-le wires old le in
+    let longer : Extends IsWire lit_holds (take wires old) old = subst (Extends IsWire lit_holds (take wires old)) parts (extend_by (take wires old) (drop wires old)) in
+    let count = ap input_count (sym parts) ∙ input_count-append (take wires old) (drop wires old) in
+    let whole : IsCircuit (take wires old ++ drop wires old) = subst IsCircuit (sym parts) h in
+    subst (λ gates. AfterCut old gates wires) (sym e) (record {
+      circuit = record {
+        few = (let f = h.few in omega arith);
+        below = below_first 0 (take wires old) (drop wires old) whole.below;
+        numbered = numbered_first 0 (take wires old) (drop wires old) whole.numbered;
+      };
+      kept = λ l small w. sym (longer.same l (omega arith) w);
+      inputs = omega arith;
+    })

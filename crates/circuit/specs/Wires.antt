@@ -1,5 +1,5 @@
 -- What the literals of a circuit hold in a world.
-use Rattle.std.specs.Prelude.{ℕ, suc, ◌+◌, ◌≤◌, Bool, true, false, not, ◌&&◌, if◌then◌else◌, List, [], ◌∷◌, ◌++◌, length, slice_index_or}
+use Rattle.std.specs.Prelude.{ℕ, suc, ◌≡◌, ◌+◌, ◌≤◌, ◌^◌, Bool, true, false, not, ◌&&◌, if◌then◌else◌, List, [], ◌∷◌, ◌++◌, length, slice_index_or}
 use Rattle.circuit.specs.Truth.{World}
 use Rattle.circuit.specs.declared.lit.Lit.{Lit}
 use Rattle.circuit.specs.declared.lit.Gate.{Gate}
@@ -46,3 +46,19 @@ PartsUpTo wire (And left right) = (left.wire ≤ wire) × (right.wire ≤ wire)
 abbrev pub PartsLieBelow : ℕ → List Gate → Type 0
 PartsLieBelow below [] = Unit {0}
 PartsLieBelow below (g ∷ gates) = PartsUpTo below g × PartsLieBelow (suc below) gates
+
+-- an input has this number
+abbrev pub HasNumber : ℕ → Gate → Type 0
+HasNumber n (Input number) = number ≡ n
+HasNumber n (And left right) = Unit {0}
+
+-- the number of each input is how many inputs are below, where so many are below the first gate
+abbrev pub InputsAreNumbered : ℕ → List Gate → Type 0
+InputsAreNumbered below [] = Unit {0}
+InputsAreNumbered below (g ∷ gates) = HasNumber below g × InputsAreNumbered (input_count (g ∷ []) + below) gates
+
+-- at most 2^30 gates, each of lower wires, with the inputs numbered in their order
+pub record IsCircuit (gates : List Gate) : Type 0 where
+  pub few : length gates ≤ 2 ^ 30
+  pub below : PartsLieBelow 0 gates
+  pub numbered : InputsAreNumbered 0 gates

@@ -1,6 +1,6 @@
-ghost use Rattle.std.specs.Prelude.{◌≡◌, ◌∷◌, [], ◌++◌, ◌+◌, ◌≤◌, ◌<◌, ◌^◌, ◌&&◌, ◌||◌, List, Bool, true, false, not, length, IfOk, OnErr, OnOk, slice_index_or};
+ghost use Rattle.std.specs.Prelude.{◌≡◌, ◌∷◌, [], ◌++◌, ◌+◌, ◌-◌, ◌≤◌, ◌<◌, ◌^◌, ◌&&◌, ◌||◌, List, Bool, true, false, not, length, take, drop, IfOk, OnErr, OnOk, Some, slice_get, slice_index_or};
 ghost use Rattle.circuit.specs.Truth.{World, Extends};
-ghost use Rattle.circuit.specs.Wires.{IsWire, PartsUpTo, gate_value, held, input_count, lit_holds, lit_value};
+ghost use Rattle.circuit.specs.Wires.{HasNumber, IsWire, PartsUpTo, gate_value, held, input_count, lit_holds, lit_value};
 
 use crate::lit::{Gate, Lit};
 use crate::truth::{Memory, Truth};
@@ -15,15 +15,15 @@ pub struct Circuit {
 }
 
 impl Model for Circuit {
-    ghost use Rattle.std.specs.Prelude.{◌≡◌, List};
+    ghost use Rattle.std.specs.Prelude.{◌≡◌, ◌≤◌, ◌^◌, List, length};
     ghost use Rattle.circuit.specs.declared.lit.Gate.{Gate};
-    ghost use Rattle.circuit.specs.Wires.{PartsLieBelow, input_count};
+    ghost use Rattle.circuit.specs.Wires.{IsCircuit, input_count};
 
     ghost Value = { List Gate };
 
     ghost view = { λ it. it.gates.items };
 
-    ghost invariant = { λ it. (it.inputs ≡ input_count it.gates.items) × PartsLieBelow 0 it.gates.items };
+    ghost invariant = { λ it. (it.inputs ≡ input_count it.gates.items) × IsCircuit it.gates.items };
 }
 
 impl Circuit {
@@ -38,7 +38,7 @@ impl Circuit {
     }
 
     /// A new input. In a world it is the value at the place of its number, which counts inputs from 0.
-    #[tactic(auto, using(crate::proofs::Gates::after_gate, crate::proofs::Gates::input_count_more, crate::proofs::Gates::input_count_within, crate::proofs::Gates::below_more))]
+    #[tactic(auto, using(crate::proofs::Gates::after_gate, crate::proofs::Gates::input_count_more, crate::proofs::Gates::input_count_within, crate::proofs::Gates::circuit_more))]
     pub fn input(&mut self) -> Result<Lit, Memory>
         requires room { length self.old < 2 ^ 30 }
         ensures older { Extends IsWire lit_holds self.old self.new }
@@ -71,8 +71,39 @@ impl Circuit {
         Ok(lit_value(&wires, lit))
     }
 
+    /// How many wires are used. They are numbered from 1, and the constant isn't counted.
+    pub fn wires(&self) -> u32
+        ensures { result ≡ length self.now }
+    {
+        self.gates.len() as u32
+    }
+
+    /// What makes a wire. Inputs are numbered from 0 in order of their wires.
+    #[tactic(auto, using(crate::proofs::Gates::gate_at))]
+    pub fn gate(&self, wire: u32) -> Gate
+        requires some { 0 < wire }
+        requires within { wire ≤ length self.now }
+        ensures value { slice_get self.now (wire - 1) ≡ Some result }
+        ensures parts { PartsUpTo (wire - 1) result }
+        ensures number { HasNumber (input_count (take (wire - 1) self.now)) result }
+    {
+        self.gates[wire as usize - 1]
+    }
+
+    /// Drops the wires after this many.
+    #[tactic(auto, using(crate::proofs::Gates::after_cut))]
+    pub fn cut(&mut self, wires: u32)
+        requires within { wires ≤ length self.old }
+        requires inputs_stay { input_count (drop wires self.old) ≡ 0 }
+        ensures gates { self.new ≡ take wires self.old }
+        ensures kept { (l : Lit) → l.wire ≤ wires → (w : World) → lit_holds self.new l w ≡ lit_holds self.old l w }
+        ensures inputs { input_count self.new ≡ input_count self.old }
+    {
+        self.gates.truncate(wires as usize);
+    }
+
     /// A wire that holds where both literals do.
-    #[tactic(auto, using(crate::proofs::Gates::after_gate, crate::proofs::Gates::input_count_same, crate::proofs::Gates::below_more))]
+    #[tactic(auto, using(crate::proofs::Gates::after_gate, crate::proofs::Gates::input_count_same, crate::proofs::Gates::circuit_more))]
     fn conjunction(&mut self, left: Lit, right: Lit) -> Result<u32, Memory>
         requires left { IsWire self.old left }
         requires right { IsWire self.old right }

@@ -4,7 +4,8 @@
 //! make a bit of others. Its law, the contract of the trait, is that in every world the new bit holds as its parts do, and
 //! that every older bit is one still and holds as before, also where a gate found no memory. Whoever is generic over a
 //! `Truth` is proved once for runs that were recorded ([`Plain`]) and for runs that a circuit describes ([`Circuit`],
-//! an and-inverter graph: gates after Tseitin 1968, inputs and conjunctions with signs).
+//! an and-inverter graph: gates after Tseitin 1968, inputs and conjunctions with signs). A circuit shows its gates by
+//! the numbers of their wires, and later wires can be cut off.
 //!
 //! The definitions are in specs/: `Truth` (worlds, and what a change of a truth leaves as it was), `Wires` (what a
 //! circuit's literals hold in a world) and `Bits` (rows of bits over gates). The crate stands on std alone.

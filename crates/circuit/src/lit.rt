@@ -1,3 +1,5 @@
+ghost use Rattle.std.specs.Prelude.{◌≡◌};
+
 /// A wire of a circuit with a sign. Wire 0 is the constant yes.
 #[derive(Clone, Copy, Debug, PartialEq, Eq, Drop)]
 pub struct Lit {
@@ -17,6 +19,20 @@ impl Lit {
         wire: 0,
         negated: true,
     };
+
+    /// The wire: 0 for the constant, and otherwise one that a gate makes.
+    pub fn wire(self) -> u32
+        ensures { result ≡ self.wire }
+    {
+        self.wire
+    }
+
+    /// Whether the literal holds where the wire doesn't.
+    pub fn negated(self) -> bool
+        ensures { result ≡ self.negated }
+    {
+        self.negated
+    }
 }
 
 /// What makes a wire.

@@ -3,7 +3,7 @@ ghost use Rattle.std.specs.Prelude.{◌≡◌, ◌+◌, ◌<◌, ◌^◌, IfOk, 
 ghost use Rattle.std.specs.List.{list_all};
 ghost use Rattle.circuit.specs.Truth.{World, Extends, HasRoom};
 
-use circuit::{Circuit, Lit, Memory, Plain, Truth};
+use circuit::{Circuit, Gate, Lit, Memory, Plain, Truth};
 use std::alloc::Global;
 use std::test::Fail;
 
@@ -97,5 +97,26 @@ fn long_chain(rt: HostRuntime) -> Result<(), Fail> {
     }
     assert!(rt; circuit.value(last, &[true])?);
     assert!(rt; !circuit.value(last, &[false])?);
+    Ok(())
+}
+
+// Of the two inputs' conjunction and its negation, what the wires are and what is left after a cut.
+#[test]
+fn gates_by_wire(rt: HostRuntime) -> Result<(), Fail> {
+    let mut circuit = Circuit::new(rt.alloc());
+    let a = circuit.input()?;
+    let b = circuit.input()?;
+    assert_eq!(rt; circuit.wires(), 2);
+    let both = circuit.and(a, b)?;
+    let not_both = circuit.not(both)?;
+    assert!(rt; !both.negated() && not_both.negated() && Lit::NO.negated());
+    assert_eq!(rt; Lit::NO.wire(), 0);
+    assert_eq!(rt; circuit.wires(), 3);
+    assert_eq!(rt; not_both.wire(), 3);
+    assert_eq!(rt; circuit.gate(2), Gate::Input { number: 1 });
+    assert_eq!(rt; circuit.gate(3), Gate::And { left: a, right: b });
+    circuit.cut(2);
+    assert_eq!(rt; circuit.wires(), 2);
+    assert!(rt; circuit.value(b, &[false, true])?);
     Ok(())
 }
