@@ -1,3 +1,4 @@
 pub mod Matches
 pub mod Recorded
 pub mod Taken
+pub mod LaterMatches

@@ -2,7 +2,7 @@
 use Rattle.std.proofs.Common.{◌≡◌, ℕ, zero, suc, ◌≤◌, inl, inr, true, subst, arith}
 use Rattle.patterns.specs.Match.{Step, Form, nothing, letter, dot, either, repeat, Turns, Match}
 
-turns_forward : (One : ℕ → ℕ → Type 0) → ((i j : ℕ) → One i j → i ≤ j) → (c i j : ℕ) → Turns One c i j → i ≤ j
+pub turns_forward : (One : ℕ → ℕ → Type 0) → ((i j : ℕ) → One i j → i ≤ j) → (c i j : ℕ) → Turns One c i j → i ≤ j
 turns_forward One f zero i j h = omega arith
 turns_forward One f (suc c) i j (m, (g, h)) = let a = turns_forward One f c i m g in let b = f m j h in omega arith
 

@@ -1,6 +1,7 @@
 // Recorded paths.
-ghost use Rattle.std.specs.Prelude.{◌≡◌, ◌-◌, length, slice_index};
+ghost use Rattle.std.specs.Prelude.{◌≡◌, ◌-◌, ◌≤◌, length, slice_index};
 ghost use Rattle.patterns.specs.Paths.{IsPath};
+ghost use Rattle.run_match.specs.Later.{path_from};
 
 use crate::recorded_step::RecordedStep;
 use std::marker::Model;
@@ -60,6 +61,18 @@ impl<'a> RunPath<'a> {
         ensures path { IsPath self.now }
     {
         self.masks
+    }
+
+    /// The path from the state of this number, from 0, on.
+    pub fn starting_at(&self, start: usize) -> RunPath<'a>
+        requires { start ≤ length self.now.edges }
+        ensures { result ≡ path_from start self.now }
+    {
+        RunPath {
+            nodes: &self.nodes[start..],
+            edges: &self.edges[start..],
+            masks: &self.masks[start..],
+        }
     }
 
     /// What is known at the state of this number, from 0, and of the edge into it.
