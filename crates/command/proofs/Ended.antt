@@ -1,10 +1,14 @@
 -- How a refusal ends a run.
-use Rattle.std.proofs.Common.{ℕ, List, [], None, Some, inl, inr, refl, sym, append-nil}
-use Rattle.std.specs.Prelude.{Option}
+use Rattle.std.proofs.Common.{◌≡◌, ℕ, List, [], None, Some, inl, inr, refl, sym, subst, append-nil}
+use Rattle.std.specs.Prelude.{Option, MatchOption}
 use Rattle.std.specs.Io.KnownBytes.{Appends, Keeps}
 use Rattle.fq_core.specs.declared.refusal.Refusal.{Refusal}
 use Rattle.command.specs.declared.status.Status.{Status}
 use Rattle.command.specs.declared.status.Status.TheVariants as status
+use Rattle.command_words.specs.Reading.{Text}
+use Rattle.command_words.specs.Request.{Asked, request_of}
+use Rattle.command.specs.Due.{IsDue, IsDueOf, usage}
+use Rattle.command.specs.Reads.{Reads}
 use Rattle.command.specs.Refusal.{said_by}
 use Rattle.command.specs.Said.{Said}
 use Rattle.command.specs.Run.{Ends, GainsNone, Refuses, Writes, writes}
@@ -36,3 +40,13 @@ pub ends_refused : {S : Type 0} (taken : S → Option (List ℕ)) (faults : S �
     → Ends due s (writes taken faults o o) err
 ends_refused taken faults o due sources refusal s err is refuses =
     ends due sources refusal s (writes taken faults o o) err is (Keeps-refl (taken o)) refuses
+
+-- ---- by the words
+
+module _ (r : Reads) (words : List Text) where
+  pub due_asked : (asked : Asked) → request_of words ≡ Some asked → (s : Status) (out err : Writes) → Ends (IsDueOf r asked) s out err → Ends (IsDue r words) s out err
+  due_asked asked some s out err ended =
+      subst (λ (o : Option Asked). Ends (λ said. MatchOption o (said ≡ usage) (λ a. IsDueOf r a said)) s out err) (sym some) ended
+
+  pub due_usage : request_of words ≡ None → IsDue r words usage
+  due_usage none = rw none refl

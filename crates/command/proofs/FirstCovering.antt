@@ -4,9 +4,9 @@ use Rattle.std.specs.Prelude.{Option}
 use Rattle.std.specs.List.{list_any, position_from}
 use Rattle.std.specs.Option.{option_map_or}
 use Rattle.std.proofs.lemmas.Bool.{or_from}
-use Rattle.command.specs.declared.answer.Answer.TheVariants as answer
-use Rattle.command.specs.Measured.{answer_of, is_among}
-use Rattle.command.specs.Suite.{is_hit}
+use Rattle.goals.specs.declared.answer.Answer.TheVariants as answer
+use Rattle.measurer.specs.Firsts.{has_number}
+use Rattle.command.specs.Measured.{answer_of}
 
 record Found (test : List ℕ → Bool) (first place : ℕ) (hits : List (List ℕ)) : Type 0 where
   goals : List ℕ
@@ -55,11 +55,11 @@ is_none None is = refl
 is_none (Some place) is = cc
 
 pub covered_by_the_first : (hits : List (List ℕ)) (goal input : ℕ) → answer_of hits goal ≡ answer.Covered input
-    → (goals : List ℕ) × (0 < input) × (slice_get hits (input - 1) ≡ Some goals) × (is_among goal goals ≡ true)
-    × (is_hit (take (input - 1) hits) goal ≡ false)
+    → (goals : List ℕ) × (0 < input) × (slice_get hits (input - 1) ≡ Some goals) × (has_number goal goals ≡ true)
+    × (list_any (has_number goal) (take (input - 1) hits) ≡ false)
 covered_by_the_first hits goal input is =
-    let there = found (is_among goal) 1 input hits (is_some _ input is) in
+    let there = found (has_number goal) 1 input hits (is_some _ input is) in
     (there.goals, there.from, there.here, there.passes, there.none_before)
 
-pub missed_by_all : (hits : List (List ℕ)) (goal : ℕ) → answer_of hits goal ≡ answer.Missed → is_hit hits goal ≡ false
-missed_by_all hits goal is = missing (is_among goal) 1 hits (is_none _ is)
+pub missed_by_all : (hits : List (List ℕ)) (goal : ℕ) → answer_of hits goal ≡ answer.Missed → list_any (has_number goal) hits ≡ false
+missed_by_all hits goal is = missing (has_number goal) 1 hits (is_none _ is)

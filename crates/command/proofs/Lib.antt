@@ -2,11 +2,7 @@ pub mod DueLaws
 pub mod Ended
 pub mod EntryLaws
 pub mod FirstCovering
-pub mod InputsLaws
-pub mod Irredundant
-pub mod MarksLaws
+pub mod MeasuredLaws
+pub mod PlannedLaws
 pub mod ReadsLaws
-pub mod ReportLaws
-pub mod RunsLaws
-pub mod SuiteLaws
-pub mod WordsLaws
+pub mod RecordedLaws

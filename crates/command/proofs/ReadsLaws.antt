@@ -1,7 +1,7 @@
 -- Laws of what is read.
 use Rattle.std.proofs.Common.{◌≡◌, ℕ, zero, suc, ◌+◌, ◌-◌, ◌^◌, ◌<◌, ◌≤◌, List, [], ◌∷◌, ◌++◌, length, take, drop, get_or, refl, sym, ap, subst, ◌∙◌, arith}
-use Rattle.std.specs.Prelude.{Option, IfSome, String, string_bytes}
-use Rattle.std.specs.declared.alloc.Global.{Global}
+use denote.Ref.{Bor}
+use Rattle.std.specs.Prelude.{Option, IfSome}
 use Rattle.std.proofs.lemmas.List.{drop_more, map-append, take_more, take-append-drop}
 use Rattle.fq_core.specs.declared.refusal.Fault.{Fault}
 use Rattle.fq_core.specs.declared.refusal.Fault.TheVariants as fault
@@ -9,10 +9,11 @@ use Rattle.fq_core.specs.declared.refusal.Place.TheVariants as place
 use Rattle.fq_core.specs.declared.refusal.Refusal.{Refusal}
 use Rattle.fq_io.specs.Counts.{Rose, RosePast}
 use Rattle.c_lex.specs.declared.token.SourceText.{SourceText}
+use Rattle.command.proofs.MeasuredLaws.{zip_push}
 use Rattle.command.specs.Reads.{HasFailedAt, IsPast, Reads}
-use Rattle.command.specs.Refusal.{IfRefused}
+use Rattle.fq_core.specs.Refusals.{IfRefused}
 use Rattle.command.specs.Sources.{AreRead, IsRead, IsReadUpTo, IsUnread, fails, is_past, most_source}
-use Rattle.command.specs.Words.{bytes_of}
+use Rattle.command_words.specs.Request.{texts_at}
 
 -- what holds of a refusal tells another thing of it
 pub refused_map : (f : Fault) {P Q : Refusal → Type 0} → IfRefused f P → ((x : Refusal) → P x → Q x) → IfRefused f Q
@@ -21,15 +22,15 @@ refused_map fault.Memory p tells = tt
 
 -- ---- one source
 
-pub unread_failed : (r : Reads) (file : List ℕ) (f : Fault) → IfRefused f (λ x. x ≡ record { code = 7; place = place.FileName file })
-    → IfRefused f (λ _. HasFailedAt r file) → IfRefused f (IsUnread r file)
-unread_failed r file (fault.Refused x) is failed = subst (IsUnread r file) (sym is) (fails failed)
-unread_failed r file fault.Memory is failed = tt
+pub unread_failed : (r : Reads) (limit : ℕ) (file : List ℕ) (f : Fault) → IfRefused f (λ x. x ≡ record { code = 7; place = place.FileName file })
+    → HasFailedAt r file → IfRefused f (IsUnread r limit file)
+unread_failed r limit file (fault.Refused x) is failed = subst (IsUnread r limit file) (sym is) (fails failed)
+unread_failed r limit file fault.Memory is failed = tt
 
-pub unread_past : (r : Reads) (file : List ℕ) (f : Fault) → IfRefused f (λ x. x ≡ record { code = 16; place = place.FileName file })
-    → IsPast r most_source file → IfRefused f (IsUnread r file)
-unread_past r file (fault.Refused x) is past = subst (IsUnread r file) (sym is) (is_past past)
-unread_past r file fault.Memory is past = tt
+pub unread_past : (r : Reads) (limit : ℕ) (file : List ℕ) (f : Fault) → IfRefused f (λ x. x ≡ record { code = 16; place = place.FileName file })
+    → IsPast r limit file → IfRefused f (IsUnread r limit file)
+unread_past r limit file (fault.Refused x) is past = subst (IsUnread r limit file) (sym is) (is_past past)
+unread_past r limit file fault.Memory is past = tt
 
 -- ---- what happened after some reads happened since before them
 
@@ -55,18 +56,11 @@ module _ (holds held : List ℕ → Option (List ℕ)) (last : Option (Option (L
     received = rose_since limit past.received;
   }
 
-  pub unread_since : (file : List ℕ) (x : Refusal) → IsUnread late file x → IsUnread whole file x
-  unread_since file x (fails failed) = fails (failed_since file failed)
-  unread_since file x (is_past past) = is_past (past_since most_source file past)
+  pub unread_since : (limit : ℕ) (file : List ℕ) (x : Refusal) → IsUnread late limit file x → IsUnread whole limit file x
+  unread_since limit file x (fails failed) = fails (failed_since file failed)
+  unread_since limit file x (is_past past) = is_past (past_since limit file past)
 
 -- ---- one source after another
-
-zip_push : (holds : List ℕ → Option (List ℕ)) (files : List (List ℕ)) (texts : List SourceText) (file : List ℕ) (text : SourceText)
-    → AreRead holds files texts → IsRead holds file text → AreRead holds (files ++ file ∷ []) (texts ++ text ∷ [])
-zip_push holds [] [] file text all one = (one, tt)
-zip_push holds [] (t ∷ texts) file text all one = absurd all
-zip_push holds (f ∷ files) [] file text all one = absurd all
-zip_push holds (f ∷ files) (t ∷ texts) file text all one = (all.0, zip_push holds files texts file text all.1 one)
 
 pub zip_length : (holds : List ℕ → Option (List ℕ)) (files : List (List ℕ)) (texts : List SourceText) → AreRead holds files texts → length texts ≡ length files
 zip_length holds [] [] all = refl
@@ -82,28 +76,28 @@ zip_short holds (f ∷ files) [] all i d within = absurd all
 zip_short holds (f ∷ files) (t ∷ texts) all zero d within = let short = all.0.short in omega (arith, short)
 zip_short holds (f ∷ files) (t ∷ texts) all (suc i) d within = zip_short holds files texts all.1 i d (omega arith)
 
-module _ (names : List (String Global)) (i : ℕ) (d : String Global) (within : i < length names) where
+module _ (names : List (Bor (List ℕ))) (i : ℕ) (d : Bor (List ℕ)) (within : i < length names) where
   -- the name of the next file
-  bytes_more : bytes_of (take (i + 1) names) ≡ bytes_of (take i names) ++ string_bytes (get_or names i d) ∷ []
-  bytes_more = rw (take_more names i d within) (map-append string_bytes (take i names) (get_or names i d ∷ []))
+  bytes_more : texts_at (take (i + 1) names) ≡ texts_at (take i names) ++ (get_or names i d).now ∷ []
+  bytes_more = rw (take_more names i d within) (map-append (λ (text : Bor (List ℕ)). text.now) (take i names) (get_or names i d ∷ []))
 
-  bytes_parts : bytes_of names ≡ bytes_of (take i names) ++ string_bytes (get_or names i d) ∷ bytes_of (drop (i + 1) names)
+  bytes_parts : texts_at names ≡ texts_at (take i names) ++ (get_or names i d).now ∷ texts_at (drop (i + 1) names)
   bytes_parts =
-      ap bytes_of (sym (take-append-drop i names)) ∙ map-append string_bytes (take i names) (drop i names)
+      ap texts_at (sym (take-append-drop i names)) ∙ map-append (λ (text : Bor (List ℕ)). text.now) (take i names) (drop i names)
       ∙ rw (drop_more names i d within) refl
 
   pub read_more : (holds : List ℕ → Option (List ℕ)) (texts new : List SourceText) (text : SourceText) → new ≡ texts ++ text ∷ []
-      → AreRead holds (bytes_of (take i names)) texts → IsRead holds (string_bytes (get_or names i d)) text
-      → AreRead holds (bytes_of (take (i + 1) names)) new
-  read_more holds texts new text is all one = rw (is, bytes_more) (zip_push holds (bytes_of (take i names)) texts _ text all one)
+      → AreRead holds (texts_at (take i names)) texts → IsRead holds (get_or names i d).now text
+      → AreRead holds (texts_at (take (i + 1) names)) new
+  read_more holds texts new text is all one = rw (is, bytes_more) (zip_push (IsRead holds) (texts_at (take i names)) texts _ text all one)
 
   -- the next one isn't read
-  pub read_up_to : (r : Reads) (texts : List SourceText) (x : Refusal) → AreRead r.holds (bytes_of (take i names)) texts
-      → IsUnread r (string_bytes (get_or names i d)) x → IsReadUpTo r (bytes_of names) x
+  pub read_up_to : (r : Reads) (texts : List SourceText) (x : Refusal) → AreRead r.holds (texts_at (take i names)) texts
+      → IsUnread r most_source (get_or names i d).now x → IsReadUpTo r (texts_at names) x
   read_up_to r texts x all unread = record {
-    front = bytes_of (take i names);
-    file = string_bytes (get_or names i d);
-    back = bytes_of (drop (i + 1) names);
+    front = texts_at (take i names);
+    file = (get_or names i d).now;
+    back = texts_at (drop (i + 1) names);
     parts = bytes_parts;
     texts = texts;
     before = all;

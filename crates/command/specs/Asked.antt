@@ -1,6 +1,14 @@
--- What is asked, as the code has it.
-use Rattle.command.specs.declared.words.Measurement as code
-use Rattle.command.specs.Words.{Measurement, bytes_of}
+-- The sources of a request.
+use Rattle.std.specs.Prelude.{List, []}
+use Rattle.command_words.specs.Reading.{Text}
+use Rattle.command_words.specs.Request.{Asked, measure, generate, goals, runs, prove, check, sample}
 
-abbrev pub asked : code.Measurement → Measurement
-asked m = record { entry = m.entry.now; query = m.query.now; inputs = m.inputs.now; sources = bytes_of m.sources.now }
+-- the names of the sources' files
+abbrev pub sources_of : Asked → List Text
+sources_of (measure m) = m.sources
+sources_of (generate m) = m.sources
+sources_of (goals m) = m.sources
+sources_of (runs m) = m.sources
+sources_of (prove m) = m.sources
+sources_of (check m) = m.sources
+sources_of (sample size) = []

@@ -1,19 +1,25 @@
 -- What is due: what the program says, by its words and by the files that they name.
-use Rattle.std.specs.Prelude.{◌≡◌, ◌⊎◌, ℕ, List, [], MatchBool, MatchOption, codes, length}
-use Rattle.std.specs.Option.{option_map_or}
-use Rattle.std.specs.Str.{bytes_eq}
+use Rattle.std.specs.Prelude.{◌≡◌, ◌⊎◌, ℕ, List, [], MatchOption, length}
 use Rattle.fq_core.specs.declared.refusal.Place.TheVariants as place
 use Rattle.fq_core.specs.declared.refusal.Refusal.{Refusal}
-use Rattle.cfa.specs.declared.parts.Function.{Function}
 use Rattle.cfa.specs.declared.parts.GraphParts.{GraphParts}
-use Rattle.command.specs.Inputs.{inputs_of, most_bytes}
-use Rattle.command.specs.Reads.{HasFailedAt, IsPast, Reads, Sees}
+use Rattle.cfa.specs.declared.state.Predicates.{Predicates}
+use Rattle.c_meaning.specs.declared.input.Input.{Input}
+use Rattle.goals.specs.declared.plan.Plan.{Plan}
+use Rattle.report.specs.Texts.{goals_text}
+use Rattle.command_words.specs.Reading.{Text}
+use Rattle.command_words.specs.Request.{Asked, measure, generate, goals, runs, prove, check, sample, Measuring, Listing, Running, request_of}
+use Rattle.command.specs.Inputs.{AreInputsOf}
+use Rattle.command.specs.Inputs as inputs
+use Rattle.command.specs.Measured.{IsMeasured}
+use Rattle.command.specs.Queries.{IsPlanned}
+use Rattle.command.specs.Queries as queries
+use Rattle.command.specs.Reads.{Reads}
+use Rattle.command.specs.Recorded.{recorded}
 use Rattle.command.specs.Refusal.{said_by}
-use Rattle.command.specs.Report.{report_of}
-use Rattle.command.specs.Runs.{entry_of}
+use Rattle.command.specs.Runs.{EntryFunction, entry_of}
 use Rattle.command.specs.Said.{Said, answered}
 use Rattle.command.specs.Sources.{AreRefused, HaveAutomaton, IsReadUpTo}
-use Rattle.command.specs.Words.{Measurement, measurement_of}
 
 -- ---- refusals without a place
 
@@ -28,40 +34,65 @@ usage = nowhere 2
 abbrev pub no_such_entry : Said
 no_such_entry = nowhere 36
 
--- the query or the inputs need what isn't built yet
+-- the command isn't built yet
 abbrev pub not_built : Said
 not_built = nowhere 1
 
--- ---- what is due
+-- ---- the stages of a command. Each says its refusal, or leads to what is due of what it gives
 
 -- a refusal that is P is said, where the sources have these names
-abbrev pub SaysOf : List (List ℕ) → (Refusal → Type 0) → Said → Type 0
-SaysOf sources P said = (refusal : Refusal) × P refusal × (said ≡ said_by sources refusal)
+abbrev pub Says : List Text → (Refusal → Type 0) → Said → Type 0
+Says sources P said = (refusal : Refusal) × P refusal × (said ≡ said_by sources refusal)
 
--- the inputs of a text are measured, where it has the form
-abbrev pub measured : GraphParts → Function → List ℕ → Said
-measured graph entry bytes =
-    option_map_or (λ inputs. answered (report_of graph entry inputs)) (inputs_of (length entry.parameters) bytes) not_built
+-- the sources: one isn't read, they are refused, or they have this automaton
+abbrev pub OfSources : Reads → List Text → (GraphParts → Said → Type 0) → Said → Type 0
+OfSources r sources Then said =
+    Says sources (IsReadUpTo r sources) said
+    ⊎ (Says sources (AreRefused r.holds sources) said
+    ⊎ ((graph : GraphParts) × HaveAutomaton r.holds sources graph × Then graph said))
 
--- by the file of inputs: its read fails, it is too long, or it has these bytes
-abbrev pub IsDueOfInputs : Reads → Measurement → GraphParts → Function → Said → Type 0
-IsDueOfInputs r asked graph entry said =
-    (HasFailedAt r asked.inputs × (said ≡ said_by asked.sources (record { code = 7; place = place.FileName asked.inputs })))
-    ⊎ ((IsPast r most_bytes asked.inputs × (said ≡ not_built))
-    ⊎ ((bytes : List ℕ) × Sees r.holds asked.inputs bytes × (said ≡ measured graph entry bytes)))
+-- the entry: no run can begin at a function of this name, or one can at this one
+abbrev pub OfEntry : GraphParts → Text → (EntryFunction → Said → Type 0) → Said → Type 0
+OfEntry graph name Then said = MatchOption (entry_of graph name) (said ≡ no_such_entry) (λ entry. Then entry said)
 
--- by the automaton: a run can begin at the entry, and the query asks for all edges
-abbrev pub IsDueOfGraph : Reads → Measurement → GraphParts → Said → Type 0
-IsDueOfGraph r asked graph said = MatchOption (entry_of graph asked.entry) (said ≡ no_such_entry)
-    (λ entry. MatchBool (bytes_eq asked.query (codes "cover EDGES(ID)")) (IsDueOfInputs r asked graph entry said) (said ≡ not_built))
+-- the query: it is refused, or has these predicates and this plan
+abbrev pub OfQuery : List Text → GraphParts → Text → (Predicates → Plan → Said → Type 0) → Said → Type 0
+OfQuery sources graph query Then said =
+    Says sources (queries.IsRefused graph query) said
+    ⊎ ((p : Predicates) × ((plan : Plan) × IsPlanned graph query p plan × Then p plan said))
 
--- by the sources: one isn't read, they are refused, or they have this automaton
-abbrev pub IsDueOfSources : Reads → Measurement → Said → Type 0
-IsDueOfSources r asked said =
-    SaysOf asked.sources (IsReadUpTo r asked.sources) said
-    ⊎ (SaysOf asked.sources (AreRefused r.holds asked.sources) said
-    ⊎ ((graph : GraphParts) × HaveAutomaton r.holds asked.sources graph × IsDueOfGraph r asked graph said))
+-- the file of inputs: it isn't read or is refused, or has these inputs, of so many words each
+abbrev pub OfInputs : Reads → List Text → Text → ℕ → (List Input → Said → Type 0) → Said → Type 0
+OfInputs r sources file parameters Then said =
+    Says sources (inputs.AreRefused r file parameters) said
+    ⊎ ((given : List Input) × AreInputsOf r file parameters given × Then given said)
 
--- by the words
-abbrev pub IsDue : Reads → List (List ℕ) → Said → Type 0
-IsDue r words said = MatchOption (measurement_of words) (said ≡ usage) (λ asked. IsDueOfSources r asked said)
+-- ---- what is due of each command
+
+-- by the sources' automaton
+abbrev pub IsDueOfGoals : Listing → GraphParts → Said → Type 0
+IsDueOfGoals m graph said = OfQuery m.sources graph m.query (λ p plan said. said ≡ answered (goals_text graph plan)) said
+
+module _ (r : Reads) where
+  abbrev pub IsDueOfMeasure : Measuring → GraphParts → Said → Type 0
+  IsDueOfMeasure m graph said =
+      OfEntry graph m.entry (λ entry. OfQuery m.sources graph m.query (λ p plan.
+      OfInputs r m.sources m.inputs (length entry.function.parameters) (IsMeasured graph entry p plan m.steps m.json))) said
+
+  abbrev pub IsDueOfRuns : Running → GraphParts → Said → Type 0
+  IsDueOfRuns m graph said =
+      OfEntry graph m.entry (λ entry. OfInputs r m.sources m.inputs (length entry.function.parameters) (λ given said. said ≡ recorded graph entry m.steps given)) said
+
+  -- by what is asked
+  abbrev pub IsDueOf : Asked → Said → Type 0
+  IsDueOf (measure m) said = OfSources r m.sources (IsDueOfMeasure m) said
+  IsDueOf (goals m) said = OfSources r m.sources (IsDueOfGoals m) said
+  IsDueOf (runs m) said = OfSources r m.sources (IsDueOfRuns m) said
+  IsDueOf (generate m) said = said ≡ not_built
+  IsDueOf (prove m) said = said ≡ not_built
+  IsDueOf (check m) said = said ≡ not_built
+  IsDueOf (sample size) said = said ≡ not_built
+
+  -- by the words
+  abbrev pub IsDue : List Text → Said → Type 0
+  IsDue words said = MatchOption (request_of words) (said ≡ usage) (λ asked. IsDueOf asked said)

@@ -1,10 +1,8 @@
 -- The status and the line of a refusal.
-use Rattle.std.specs.Prelude.{ℕ, ◌==◌, List, [], ◌∷◌, ◌++◌, codes, if◌then◌else◌, unwrap_or, slice_get, ⊤}
+use Rattle.std.specs.Prelude.{ℕ, Bool, ◌==◌, List, [], ◌∷◌, ◌++◌, codes, if◌then◌else◌, unwrap_or, slice_get}
 use Rattle.std.specs.List.{list_any}
 use Rattle.std.specs.Fmt.{decimal}
 use Rattle.fq_core.specs.Code.{name_of_code}
-use Rattle.fq_core.specs.declared.refusal.Fault.{Fault}
-use Rattle.fq_core.specs.declared.refusal.Fault.TheVariants as fault
 use Rattle.fq_core.specs.declared.refusal.Place.{Place}
 use Rattle.fq_core.specs.declared.refusal.Place.TheVariants as place
 use Rattle.fq_core.specs.declared.refusal.Refusal.{Refusal}
@@ -12,20 +10,32 @@ use Rattle.command.specs.declared.status.Status.{Status}
 use Rattle.command.specs.declared.status.Status.TheVariants as status
 use Rattle.command.specs.Said.{Said, refused}
 
--- the codes of what is refused in a source or of the entry, and those of a counted quantity that passes its limit
+-- The codes of what is refused in a source or of the entry; in the query or of a goal's number; in the inputs; and those of
+-- a counted quantity that passes its limit.
 abbrev pub source_codes : List ℕ
 source_codes = 10 ∷ 11 ∷ 12 ∷ 13 ∷ 14 ∷ 20 ∷ 21 ∷ 29 ∷ 30 ∷ 31 ∷ 32 ∷ 33 ∷ 35 ∷ 36 ∷ 38 ∷ 39 ∷ []
 
+abbrev pub query_codes : List ℕ
+query_codes = 60 ∷ 61 ∷ 62 ∷ 64 ∷ 65 ∷ 66 ∷ 70 ∷ 72 ∷ 74 ∷ []
+
+abbrev pub input_codes : List ℕ
+input_codes = 50 ∷ 51 ∷ 52 ∷ []
+
 abbrev pub limit_codes : List ℕ
-limit_codes = 15 ∷ 16 ∷ 22 ∷ 34 ∷ 37 ∷ 41 ∷ []
+limit_codes = 15 ∷ 16 ∷ 22 ∷ 34 ∷ 37 ∷ 41 ∷ 53 ∷ 54 ∷ 63 ∷ 67 ∷ 71 ∷ 73 ∷ []
+
+abbrev pub is_among_codes : List ℕ → ℕ → Bool
+is_among_codes known code = list_any (λ c. c == code) known
 
 -- The status that a code ends in. Each other code is that of what isn't built.
 abbrev pub status_of : ℕ → Status
 status_of code =
     if code == 2 then status.Usage
     else if code == 7 then status.ReadFault
-    else if list_any (λ c. c == code) source_codes then status.SourceRefused
-    else if list_any (λ c. c == code) limit_codes then status.Limit
+    else if is_among_codes source_codes code then status.SourceRefused
+    else if is_among_codes query_codes code then status.QueryRefused
+    else if is_among_codes input_codes code then status.InputRefused
+    else if is_among_codes limit_codes code then status.Limit
     else status.NotBuilt
 
 -- a place, after a space, where the sources have these names
@@ -47,8 +57,3 @@ line_of sources refusal =
 -- what a refusal says, where the sources have these names
 unfoldable pub said_by : List (List ℕ) → Refusal → Said
 said_by sources refusal = refused (status_of refusal.code) (line_of sources refusal)
-
--- P holds of the refusal, where the fault is one
-abbrev pub IfRefused : Fault → (Refusal → Type 0) → Type 0
-IfRefused (fault.Refused refusal) P = P refusal
-IfRefused fault.Memory P = ⊤

@@ -1,4 +1,4 @@
--- The sources that the words name, and their automaton.
+-- The files that the words name: what is read of them, and the automaton of the sources.
 use Rattle.std.specs.Prelude.{◌≡◌, ◌≤◌, ◌++◌, ◌∷◌, ℕ, List, Option, length}
 use Rattle.std.specs.List.{AllZip}
 use Rattle.fq_core.specs.declared.refusal.Place.TheVariants as place
@@ -7,6 +7,15 @@ use Rattle.c_lex.specs.declared.token.SourceText.{SourceText}
 use Rattle.cfa.specs.declared.parts.GraphParts.{GraphParts}
 use Rattle.c_front.specs.Automata.{IsAutomatonOf, IsRefused}
 use Rattle.command.specs.Reads.{HasFailedAt, IsPast, Reads, Sees}
+
+-- ---- one file
+
+-- a file isn't read: its read failed, or it has more bytes than it may have
+pub data IsUnread (r : Reads) (limit : ℕ) (file : List ℕ) : Refusal → Type 0 where
+  fails : HasFailedAt r file → IsUnread r limit file (record { code = 7; place = place.FileName file })
+  is_past : IsPast r limit file → IsUnread r limit file (record { code = 16; place = place.FileName file })
+
+-- ---- sources
 
 -- the bytes of a source, at most: 4 MiB
 abbrev pub most_source : ℕ
@@ -22,11 +31,6 @@ pub record IsRead (holds : List ℕ → Option (List ℕ)) (file : List ℕ) (te
 abbrev pub AreRead : (List ℕ → Option (List ℕ)) → List (List ℕ) → List SourceText → Type 0
 AreRead holds files texts = AllZip (IsRead holds) files texts
 
--- a file isn't read: its read failed, or it has more bytes than a source may have
-pub data IsUnread (r : Reads) (file : List ℕ) : Refusal → Type 0 where
-  fails : HasFailedAt r file → IsUnread r file (record { code = 7; place = place.FileName file })
-  is_past : IsPast r most_source file → IsUnread r file (record { code = 16; place = place.FileName file })
-
 -- one of the files isn't read, and those before it are
 pub record IsReadUpTo (r : Reads) (files : List (List ℕ)) (refusal : Refusal) : Type 0 where
   pub front : List (List ℕ)
@@ -35,7 +39,7 @@ pub record IsReadUpTo (r : Reads) (files : List (List ℕ)) (refusal : Refusal) 
   pub parts : files ≡ front ++ file ∷ back
   pub texts : List SourceText
   pub before : AreRead r.holds front texts
-  pub unread : IsUnread r file refusal
+  pub unread : IsUnread r most_source file refusal
 
 -- the files are read, and have this automaton
 pub record HaveAutomaton (holds : List ℕ → Option (List ℕ)) (files : List (List ℕ)) (graph : GraphParts) : Type 0 where

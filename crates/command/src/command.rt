@@ -1,13 +1,16 @@
 // The top call.
-ghost use Rattle.std.specs.Prelude.{◌≡◌, drop};
-ghost use Rattle.command.specs.Due.{IsDue};
+ghost use Rattle.std.specs.Prelude.{◌≡◌};
+ghost use Rattle.command_words.specs.Reading.{texts};
+ghost use Rattle.command_words.specs.Request.{asked, texts_at};
+ghost use Rattle.command.specs.Asked.{sources_of};
+ghost use Rattle.command.specs.Due.{IsDue, IsDueOf};
 ghost use Rattle.command.specs.Reads.{reads};
 ghost use Rattle.command.specs.Run.{Ends, Refuses, writes};
-ghost use Rattle.command.specs.Words.{bytes_of};
 
 use crate::Status;
 use crate::refusal::{refusal_line, refused_status};
-use crate::session::answer;
+use crate::session::{answer, nowhere};
+use command_words::{Refused, Request, request};
 use fq_core::{Fault, Refusal};
 use fq_io::{Files, Sink, SinkFault, write_all};
 use std::alloc::Global;
@@ -20,33 +23,56 @@ pub fn run<F: Files, O: Sink, E: Sink>(
     out: &mut O,
     err: &mut E,
 ) -> Status
-    ensures { Ends (IsDue (reads F.holds F.last_failed F.faults F.received files.old files.new) (bytes_of words.now))
+    ensures { Ends (IsDue (reads F.holds F.last_failed F.faults F.received files.old files.new) (texts words.now))
         result (writes O.taken O.faults out.old out.new) (writes E.taken E.faults err.old err.new) }
 {
-    match answer(alloc, words, files) {
+    match request(alloc, words) {
+        Ok(request) => serve(alloc, &request, files, out, err),
+        Err(Refused::Usage) => refuse(alloc, &[], &nowhere(2), err),
+        Err(Refused::Memory) => Status::Memory,
+    }
+}
+
+// Does what a request asks for.
+fn serve<F: Files, O: Sink, E: Sink>(
+    alloc: Global,
+    request: &Request,
+    files: &mut F,
+    out: &mut O,
+    err: &mut E,
+) -> Status
+    ensures { Ends (IsDueOf (reads F.holds F.last_failed F.faults F.received files.old files.new) (asked request.now))
+        result (writes O.taken O.faults out.old out.new) (writes E.taken E.faults err.old err.new) }
+{
+    match answer(alloc, request, files) {
         Ok(text) => match write_all(out, &text) {
             Ok(()) => Status::Done,
             Err(SinkFault::Failed) => Status::WriteFault,
             Err(SinkFault::Memory) => Status::Memory,
         },
-        Err(Fault::Refused(refusal)) => refuse(alloc, source_names(words), &refusal, err),
+        Err(Fault::Refused(refusal)) => refuse(alloc, sources_of(request), &refusal, err),
         Err(Fault::Memory) => Status::Memory,
     }
 }
 
-fn source_names(words: &[String]) -> &[String]
-    ensures { bytes_of result.now ≡ drop 4 (bytes_of words.now) }
+// The names of a request's sources.
+fn sources_of<'a>(request: &'a Request<'a>) -> &'a [&'a str]
+    ensures { texts_at result.now ≡ sources_of (asked request.now) }
 {
-    if words.len() < 4 {
-        &words[words.len()..]
-    } else {
-        &words[4..]
+    match request {
+        Request::Measure(request) => &request.sources,
+        Request::Generate(request) => &request.sources,
+        Request::Goals(request) => &request.sources,
+        Request::Runs(request) => &request.sources,
+        Request::Prove(request) => &request.sources,
+        Request::Check(request) => &request.sources,
+        Request::Sample(_) => &[],
     }
 }
 
 // Writes the refusal's line.
-fn refuse<E: Sink>(alloc: Global, sources: &[String], refusal: &Refusal, err: &mut E) -> Status
-    ensures { Refuses (bytes_of sources.now) refusal.now result (writes E.taken E.faults err.old err.new) }
+fn refuse<E: Sink>(alloc: Global, sources: &[&str], refusal: &Refusal, err: &mut E) -> Status
+    ensures { Refuses (texts_at sources.now) refusal.now result (writes E.taken E.faults err.old err.new) }
 {
     let Ok(line) = refusal_line(alloc, sources, refusal) else {
         return Status::Memory;

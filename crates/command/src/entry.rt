@@ -1,5 +1,6 @@
 // The entry.
 ghost use Rattle.std.specs.Prelude.{◌≡◌, [], IfSome, Some, option_map, slice_get};
+ghost use Rattle.command.specs.Entries.{seen};
 ghost use Rattle.command.specs.Runs.{entry_of};
 
 use cfa::{Function, Graph};
@@ -13,7 +14,7 @@ pub struct Entry<'a> {
 
 /// The function of this name at which a run can begin, where there is one.
 pub fn entry_named<'a>(graph: &'a Graph, name: &[u8]) -> Option<Entry<'a>>
-    ensures entry { option_map (λ entry. entry.function.now) result ≡ entry_of graph.now name.now }
+    ensures entry { option_map seen result ≡ entry_of graph.now name.now }
     ensures number { IfSome result (λ entry. slice_get graph.now.functions entry.number ≡ Some entry.function.now) }
     ensures startable { IfSome result (λ entry. entry.function.now.arrays ≡ []) }
 {

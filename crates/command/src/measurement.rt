@@ -1,42 +1,132 @@
-// The report that is asked.
-ghost use Rattle.std.specs.Prelude.{◌≡◌, ◌<◌, ◌^◌, [], IfOk, Some, length, slice_get};
+// The report of measuring inputs.
+ghost use Rattle.std.specs.Prelude.{◌≡◌, ◌+◌, ◌<◌, ◌^◌, IfOk, Some, length, slice_get};
 ghost use Rattle.std.specs.List.{All};
+ghost use Rattle.cfa.specs.Predicates.{IsPredicates};
 ghost use Rattle.c_meaning.specs.Starts.{CanStart};
-ghost use Rattle.command.specs.Report.{report_of};
+ghost use Rattle.measurer.specs.Measurers.{hits_of};
+ghost use Rattle.command.specs.Entries.{seen};
+ghost use Rattle.command.specs.Measured.{AreAllHits, IsMeasured, answers_of};
+ghost use Rattle.command.specs.Runs.{ends_of, run_of, runs_of};
+ghost use Rattle.command.specs.Said.{answered};
 
 use crate::entry::Entry;
-use crate::measurer::answers;
-use crate::report::measured_text;
-use crate::runs::run_all;
-use crate::suite::reduce;
+use crate::planned::Planned;
 use c_meaning::Input;
-use cfa::Graph;
+use cfa::{Graph, Predicates};
 use fq_core::Memory;
+use goals::Answer;
+use measurer::Measurer;
+use path_runner::{PathRecord, RunEnd, trace_run};
+use report::{measured_json, measured_text};
 use std::alloc::Global;
+use suite::reduce;
 
-/// The report of measuring these inputs.
+/// The path of an input's run, up to its end or so many edges.
+pub fn run_of(
+    alloc: Global,
+    graph: &Graph,
+    entry: &Entry,
+    predicates: &Predicates,
+    steps: u32,
+    input: &Input,
+) -> Result<PathRecord, Memory>
+    requires number { slice_get graph.now.functions entry.now.number ≡ Some entry.now.function.now }
+    requires start { CanStart entry.now.function.now input.now.words }
+    requires predicates { IsPredicates graph.now predicates.now }
+    ensures { IfOk result (λ run. run ≡ run_of graph.now entry.now.function.now predicates.now steps input.now) }
+{
+    trace_run(alloc, graph, entry.number, input, predicates, steps as u64)
+}
+
+/// How the runs of inputs end, and the goals that each hits.
+#[derive(Drop)]
+struct Measured {
+    ends: Vec<RunEnd>,
+    measurer: Measurer,
+}
+
+// Runs each input from the entry. One run is recorded at a time.
+fn measure_all(
+    alloc: Global,
+    graph: &Graph,
+    entry: &Entry,
+    planned: &Planned,
+    steps: u32,
+    inputs: &[Input],
+) -> Result<Measured, Memory>
+    requires number { slice_get graph.now.functions entry.now.number ≡ Some entry.now.function.now }
+    requires start { All (λ input. CanStart entry.now.function.now input.words) inputs.now }
+    requires predicates { IsPredicates graph.now planned.now.predicates }
+    ensures ends { IfOk result (λ made. made.ends.items ≡ ends_of (runs_of graph.now entry.now.function.now planned.now.predicates steps inputs.now)) }
+    ensures hits { IfOk result (λ made. AreAllHits planned.now.plan (runs_of graph.now entry.now.function.now planned.now.predicates steps inputs.now) (hits_of made.measurer)) }
+{
+    let mut measurer = Measurer::new(alloc, &planned.plan)?;
+    let mut ends = Vec::new(alloc);
+    for input in inputs {
+        let run = run_of(alloc, graph, entry, &planned.predicates, steps, input)?;
+        measurer.add(&planned.plan, &run)?;
+        ends.push(run.end)?;
+    }
+    Ok(Measured { ends, measurer })
+}
+
+// The answer of each goal.
+fn answers(alloc: Global, measurer: &Measurer, count: u32) -> Result<Vec<Answer>, Memory>
+    ensures { IfOk result (λ answers. answers.items ≡ answers_of (hits_of measurer.now) count) }
+{
+    let mut answers = Vec::new(alloc);
+    for place in 0..count {
+        let answer = match measurer.first(place + 1) {
+            Some(input) => Answer::Covered { input },
+            None => Answer::Missed,
+        };
+        answers.push(answer)?;
+    }
+    Ok(answers)
+}
+
+/// The report of measuring these inputs, each run being cut after so many edges.
 pub fn report(
     alloc: Global,
     graph: &Graph,
     entry: &Entry,
+    planned: &Planned,
+    steps: u32,
+    json: bool,
     inputs: &[Input],
 ) -> Result<Vec<u8>, Memory>
     requires few { length inputs.now < 2 ^ 32 }
-    requires edges { length graph.now.edges < 2 ^ 32 }
     requires number { slice_get graph.now.functions entry.now.number ≡ Some entry.now.function.now }
     requires start { All (λ input. CanStart entry.now.function.now input.words) inputs.now }
-    ensures { IfOk result (λ text. text.items ≡ report_of graph.now entry.now.function.now inputs.now) }
+    requires predicates { IsPredicates graph.now planned.now.predicates }
+    ensures { IfOk result (λ text. IsMeasured graph.now (seen entry.now) planned.now.predicates planned.now.plan steps json inputs.now (answered text.items)) }
 {
-    let made = run_all(alloc, graph, entry, inputs)?;
-    let answers = answers(alloc, &made.hits, graph.edges().len() as u32)?;
-    let kept = reduce(alloc, &made.hits, &answers)?;
-    let text = measured_text(
-        alloc,
-        graph,
-        entry.function.result,
-        &made.ends,
-        &answers,
-        &kept,
-    )?;
-    Ok(text)
+    let made = measure_all(alloc, graph, entry, planned, steps, inputs)?;
+    let plan = &planned.plan;
+    let Ok(count) = u32::try_from(plan.goals.len()) else {
+        return Err(Memory);
+    };
+    let answers = answers(alloc, &made.measurer, count)?;
+    let kept = reduce(alloc, made.measurer.hits())?;
+    if json {
+        measured_json(
+            alloc,
+            graph,
+            plan,
+            entry.number,
+            &made.ends,
+            &answers,
+            &kept,
+        )
+    } else {
+        measured_text(
+            alloc,
+            graph,
+            plan,
+            entry.number,
+            &made.ends,
+            &answers,
+            &kept,
+        )
+    }
 }

@@ -2,7 +2,7 @@
 ghost use Rattle.std.specs.Prelude.{◌≡◌, ◌++◌, [], IfOk, OnOk, slice_get, unwrap_or};
 ghost use Rattle.std.specs.Fmt.{decimal};
 ghost use Rattle.command.specs.Refusal.{line_of, place_text, status_of};
-ghost use Rattle.command.specs.Words.{bytes_of};
+ghost use Rattle.command_words.specs.Request.{texts_at};
 
 use crate::Status;
 use fq_core::{Place, Refusal, code_name};
@@ -16,7 +16,9 @@ pub fn refused_status(code: u16) -> Status
         2 => Status::Usage,
         7 => Status::ReadFault,
         10..=14 | 20 | 21 | 29..=33 | 35 | 36 | 38 | 39 => Status::SourceRefused,
-        15 | 16 | 22 | 34 | 37 | 41 => Status::Limit,
+        60..=62 | 64..=66 | 70 | 72 | 74 => Status::QueryRefused,
+        50..=52 => Status::InputRefused,
+        15 | 16 | 22 | 34 | 37 | 41 | 53 | 54 | 63 | 67 | 71 | 73 => Status::Limit,
         _ => Status::NotBuilt,
     }
 }
@@ -36,8 +38,8 @@ fn push_number(
 }
 
 // A source's name, or nothing past the last source.
-fn source_name(sources: &[String], file: u32) -> &[u8]
-    ensures { result.now ≡ unwrap_or (slice_get (bytes_of sources.now) file) [] }
+fn source_name<'a>(sources: &[&'a str], file: u32) -> &'a [u8]
+    ensures { result.now ≡ unwrap_or (slice_get (texts_at sources.now) file) [] }
 {
     match sources.get(file as usize) {
         Some(name) => name.as_bytes(),
@@ -48,10 +50,10 @@ fn source_name(sources: &[String], file: u32) -> &[u8]
 fn push_place(
     alloc: Global,
     line: &mut Vec<u8>,
-    sources: &[String],
+    sources: &[&str],
     place: &Place,
 ) -> Result<(), AllocError>
-    ensures { OnOk result (line.new.items ≡ line.old.items ++ place_text (bytes_of sources.now) place.now) }
+    ensures { OnOk result (line.new.items ≡ line.old.items ++ place_text (texts_at sources.now) place.now) }
 {
     match place {
         Place::Nowhere => Ok(()),
@@ -75,10 +77,10 @@ fn push_place(
 /// The line that tells of a refusal, where the sources have these names.
 pub fn refusal_line(
     alloc: Global,
-    sources: &[String],
+    sources: &[&str],
     refusal: &Refusal,
 ) -> Result<Vec<u8>, AllocError>
-    ensures { IfOk result (λ line. line.items ≡ line_of (bytes_of sources.now) refusal.now) }
+    ensures { IfOk result (λ line. line.items ≡ line_of (texts_at sources.now) refusal.now) }
 {
     let mut line = Vec::new(alloc);
     push_number(alloc, &mut line, "error ", refusal.code as u64)?;

@@ -1,117 +1,151 @@
-// From the words to the text that they ask for.
-ghost use Rattle.std.specs.Prelude.{◌≡◌, ◌≤◌, ◌<◌, ◌^◌, [], Some, drop, IfOk, IfErr, length, slice_get};
+// From a request to the text that it asks for.
+ghost use Rattle.std.specs.Prelude.{◌≡◌, ◌<◌, Some, IfOk, IfErr, length};
 ghost use Rattle.fq_core.specs.declared.refusal.Place.TheVariants as place;
-ghost use Rattle.command.specs.Asked.{asked};
-ghost use Rattle.command.specs.Due.{IsDue, IsDueOfGraph, IsDueOfInputs, IsDueOfSources};
+ghost use Rattle.command_words.specs.Request.{asked, listing, measuring, running};
+ghost use Rattle.command.specs.Asked.{sources_of};
+ghost use Rattle.command.specs.Due.{IsDueOf, IsDueOfGoals, IsDueOfMeasure, IsDueOfRuns, OfSources};
 ghost use Rattle.command.specs.Reads.{reads};
-ghost use Rattle.command.specs.Refusal.{IfRefused, said_by};
+ghost use Rattle.fq_core.specs.Refusals.{IfRefused};
+ghost use Rattle.command.specs.Refusal.{said_by};
 ghost use Rattle.command.specs.Said.{answered};
-ghost use Rattle.command.specs.Words.{bytes_of};
 
 use crate::entry::{Entry, entry_named};
-use crate::input_text::inputs;
+use crate::inputs::read_inputs;
 use crate::measurement::report;
-use crate::sources::{automaton, read};
-use crate::words::{Measurement, asked_measurement};
+use crate::planned::plan_query;
+use crate::recorded::list;
+use crate::sources::automaton;
 use cfa::Graph;
-use fq_core::{Fault, Place, Refusal};
+use command_words::{Goals, Measure, Request, Runs};
+use fq_core::{Fault, Memory, Place, Refusal};
 use fq_io::Files;
+use report::goals_text;
 use std::alloc::Global;
 
-const QUERY: &str = "cover EDGES(ID)";
-
-const MOST_INPUT_BYTES: u64 = 65_536;
-
-// A refusal without a place.
-fn nowhere(code: u16) -> Fault
-    ensures { IfRefused result (λ refusal. refusal ≡ record { code = code; place = place.Nowhere }) }
+/// A refusal without a place.
+pub fn nowhere(code: u16) -> Refusal
+    ensures { result ≡ record { code = code; place = place.Nowhere } }
 {
-    Fault::Refused(Refusal {
+    Refusal {
         code,
         place: Place::Nowhere,
-    })
+    }
 }
 
-// The report of measuring the inputs.
-fn measure_inputs<F: Files>(
+// How many parameters the entry has.
+fn parameters(entry: &Entry) -> Result<u32, Memory>
+    ensures { IfOk result (λ count. count ≡ length entry.now.function.now.parameters) }
+{
+    match u32::try_from(entry.function.parameters.len()) {
+        Ok(count) => Ok(count),
+        Err(_) => Err(Memory),
+    }
+}
+
+// The report of measuring inputs over an automaton.
+fn measure_graph<F: Files>(
     alloc: Global,
-    measurement: &Measurement,
+    request: &Measure,
     graph: &Graph,
-    entry: &Entry,
     files: &mut F,
 ) -> Result<Vec<u8>, Fault>
-    requires edges { length graph.now.edges < 2 ^ 32 }
-    requires number { slice_get graph.now.functions entry.now.number ≡ Some entry.now.function.now }
-    requires startable { entry.now.function.now.arrays ≡ [] }
-    ensures ok { IfOk result (λ text. IsDueOfInputs (reads F.holds F.last_failed F.faults F.received files.old files.new)
-        (asked measurement.now) graph.now entry.now.function.now (answered (text.items))) }
+    ensures ok { IfOk result (λ text. IsDueOfMeasure (reads F.holds F.last_failed F.faults F.received files.old files.new)
+        (measuring request.now) graph.now (answered text.items)) }
     ensures err { IfErr result (λ fault. IfRefused fault (λ refusal.
-        IsDueOfInputs (reads F.holds F.last_failed F.faults F.received files.old files.new)
-        (asked measurement.now) graph.now entry.now.function.now (said_by (asked measurement.now).sources refusal))) }
+        IsDueOfMeasure (reads F.holds F.last_failed F.faults F.received files.old files.new)
+        (measuring request.now) graph.now (said_by (measuring request.now).sources refusal))) }
 {
-    let Some(bytes) = read(alloc, files, measurement.inputs, MOST_INPUT_BYTES)? else {
-        return Err(nowhere(1));
+    let Some(entry) = entry_named(graph, request.entry.as_bytes()) else {
+        return Err(Fault::Refused(nowhere(36)));
     };
-    let Some(inputs) = inputs(alloc, &bytes, entry.function.parameters.len())? else {
-        return Err(nowhere(1));
-    };
-    let text = report(alloc, graph, entry, &inputs)?;
+    let planned = plan_query(alloc, graph, request.query)?;
+    let inputs = read_inputs(alloc, files, request.inputs, parameters(&entry)?)?;
+    let text = report(
+        alloc,
+        graph,
+        &entry,
+        &planned,
+        request.steps,
+        request.json,
+        &inputs,
+    )?;
     Ok(text)
 }
 
-// The report on an automaton, where a run can begin at the entry and the query asks for all edges.
-fn measure_graph<F: Files>(
+fn measure<F: Files>(alloc: Global, request: &Measure, files: &mut F) -> Result<Vec<u8>, Fault>
+    ensures ok { IfOk result (λ text. let r = reads F.holds F.last_failed F.faults F.received files.old files.new in
+        OfSources r (measuring request.now).sources (IsDueOfMeasure r (measuring request.now)) (answered text.items)) }
+    ensures err { IfErr result (λ fault. IfRefused fault (λ refusal. let r = reads F.holds F.last_failed F.faults F.received files.old files.new in
+        OfSources r (measuring request.now).sources (IsDueOfMeasure r (measuring request.now)) (said_by (measuring request.now).sources refusal))) }
+{
+    let graph = automaton(alloc, files, &request.sources)?;
+    measure_graph(alloc, request, &graph, files)
+}
+
+// The list of goals over an automaton.
+fn goals_of_graph(alloc: Global, request: &Goals, graph: &Graph) -> Result<Vec<u8>, Fault>
+    ensures ok { IfOk result (λ text. IsDueOfGoals (listing request.now) graph.now (answered text.items)) }
+    ensures err { IfErr result (λ fault. IfRefused fault (λ refusal. IsDueOfGoals (listing request.now) graph.now (said_by (listing request.now).sources refusal))) }
+{
+    let planned = plan_query(alloc, graph, request.query)?;
+    let text = goals_text(alloc, graph, &planned.plan)?;
+    Ok(text)
+}
+
+fn goals<F: Files>(alloc: Global, request: &Goals, files: &mut F) -> Result<Vec<u8>, Fault>
+    ensures ok { IfOk result (λ text. OfSources (reads F.holds F.last_failed F.faults F.received files.old files.new)
+        (listing request.now).sources (IsDueOfGoals (listing request.now)) (answered text.items)) }
+    ensures err { IfErr result (λ fault. IfRefused fault (λ refusal. OfSources (reads F.holds F.last_failed F.faults F.received files.old files.new)
+        (listing request.now).sources (IsDueOfGoals (listing request.now)) (said_by (listing request.now).sources refusal))) }
+{
+    let graph = automaton(alloc, files, &request.sources)?;
+    goals_of_graph(alloc, request, &graph)
+}
+
+// The list of runs over an automaton.
+fn runs_of_graph<F: Files>(
     alloc: Global,
-    measurement: &Measurement,
+    request: &Runs,
     graph: &Graph,
     files: &mut F,
 ) -> Result<Vec<u8>, Fault>
-    requires { length graph.now.edges < 2 ^ 32 }
-    ensures ok { IfOk result (λ text. IsDueOfGraph (reads F.holds F.last_failed F.faults F.received files.old files.new)
-        (asked measurement.now) graph.now (answered (text.items))) }
+    ensures ok { IfOk result (λ text. IsDueOfRuns (reads F.holds F.last_failed F.faults F.received files.old files.new)
+        (running request.now) graph.now (answered text.items)) }
     ensures err { IfErr result (λ fault. IfRefused fault (λ refusal.
-        IsDueOfGraph (reads F.holds F.last_failed F.faults F.received files.old files.new)
-        (asked measurement.now) graph.now (said_by (asked measurement.now).sources refusal))) }
+        IsDueOfRuns (reads F.holds F.last_failed F.faults F.received files.old files.new)
+        (running request.now) graph.now (said_by (running request.now).sources refusal))) }
 {
-    let Some(entry) = entry_named(graph, measurement.entry.as_bytes()) else {
-        return Err(nowhere(36));
+    let Some(entry) = entry_named(graph, request.entry.as_bytes()) else {
+        return Err(Fault::Refused(nowhere(36)));
     };
-    if measurement.query != QUERY {
-        return Err(nowhere(1));
-    }
-    measure_inputs(alloc, measurement, graph, &entry, files)
+    let inputs = read_inputs(alloc, files, request.inputs, parameters(&entry)?)?;
+    list(alloc, graph, &entry, request.steps, &inputs)
 }
 
-// The report on the sources' automaton.
-fn measure_sources<F: Files>(
-    alloc: Global,
-    measurement: &Measurement,
-    files: &mut F,
-) -> Result<Vec<u8>, Fault>
-    ensures ok { IfOk result (λ text. IsDueOfSources (reads F.holds F.last_failed F.faults F.received files.old files.new)
-        (asked measurement.now) (answered (text.items))) }
-    ensures err { IfErr result (λ fault. IfRefused fault (λ refusal.
-        IsDueOfSources (reads F.holds F.last_failed F.faults F.received files.old files.new)
-        (asked measurement.now) (said_by (asked measurement.now).sources refusal))) }
+fn runs<F: Files>(alloc: Global, request: &Runs, files: &mut F) -> Result<Vec<u8>, Fault>
+    ensures ok { IfOk result (λ text. let r = reads F.holds F.last_failed F.faults F.received files.old files.new in
+        OfSources r (running request.now).sources (IsDueOfRuns r (running request.now)) (answered text.items)) }
+    ensures err { IfErr result (λ fault. IfRefused fault (λ refusal. let r = reads F.holds F.last_failed F.faults F.received files.old files.new in
+        OfSources r (running request.now).sources (IsDueOfRuns r (running request.now)) (said_by (running request.now).sources refusal))) }
 {
-    // A source's number has 32 bits.
-    if measurement.sources.len() > u32::MAX as usize {
-        return Err(Fault::Memory);
-    }
-    let graph = automaton(alloc, files, measurement.sources)?;
-    measure_graph(alloc, measurement, &graph, files)
+    let graph = automaton(alloc, files, &request.sources)?;
+    runs_of_graph(alloc, request, &graph, files)
 }
 
-/// The text that the words ask for, or why there is none.
-pub fn answer<F: Files>(alloc: Global, words: &[String], files: &mut F) -> Result<Vec<u8>, Fault>
-    ensures ok { IfOk result (λ text. IsDue (reads F.holds F.last_failed F.faults F.received files.old files.new)
-        (bytes_of words.now) (answered (text.items))) }
+/// The text that a request asks for, or why there is none.
+pub fn answer<F: Files>(alloc: Global, request: &Request, files: &mut F) -> Result<Vec<u8>, Fault>
+    ensures ok { IfOk result (λ text. IsDueOf (reads F.holds F.last_failed F.faults F.received files.old files.new)
+        (asked request.now) (answered text.items)) }
     ensures err { IfErr result (λ fault. IfRefused fault (λ refusal.
-        IsDue (reads F.holds F.last_failed F.faults F.received files.old files.new)
-        (bytes_of words.now) (said_by (drop 4 (bytes_of words.now)) refusal))) }
+        IsDueOf (reads F.holds F.last_failed F.faults F.received files.old files.new)
+        (asked request.now) (said_by (sources_of (asked request.now)) refusal))) }
 {
-    match asked_measurement(words) {
-        Some(measurement) => measure_sources(alloc, &measurement, files),
-        None => Err(nowhere(2)),
+    match request {
+        Request::Measure(request) => measure(alloc, request, files),
+        Request::Goals(request) => goals(alloc, request, files),
+        Request::Runs(request) => runs(alloc, request, files),
+        Request::Generate(_) | Request::Prove(_) | Request::Check(_) | Request::Sample(_) => {
+            Err(Fault::Refused(nowhere(1)))
+        }
     }
 }

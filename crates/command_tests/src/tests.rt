@@ -266,33 +266,70 @@ fn refusals(rt: HostRuntime) -> Result<(), Fail> {
     Ok(())
 }
 
+// What is refused of the inputs and of the query, each before what comes after it.
 #[test]
-fn what_is_not_built(rt: HostRuntime) -> Result<(), Fail> {
+fn refusals_of_inputs_and_queries(rt: HostRuntime) -> Result<(), Fail> {
     let alloc = rt.alloc();
-    let want = (Status::NotBuilt, "", "error 1 NotBuilt\n");
-    for inputs in [
-        "1 2\n",
-        "x\n",
-        "+1\n",
-        "18446744073709551616\n",
-        "[1]",
-        "1\x0b\n",
-        "\u{a0}1",
+    for (inputs, status, line) in [
+        ("[1", Status::InputRefused, "error 50 NotJson input 0\n"),
+        ("1\n1 2\n", Status::InputRefused, "error 51 Shape input 2\n"),
+        (
+            "18446744073709551616\n",
+            Status::InputRefused,
+            "error 52 Range input 1\n",
+        ),
     ] {
-        compare_source(&rt, alloc, A_C, inputs, want)?;
+        compare_source(&rt, alloc, A_C, inputs, (status, "", line))?;
     }
-    // Another query is told before the inputs are read, and after the entry is looked up.
-    for (entry, want) in [
-        ("f", want),
-        ("g", (Status::SourceRefused, "", "error 36 NoSuchEntry\n")),
+    for (query, status, line) in [
+        (
+            "cover ?",
+            Status::QueryRefused,
+            "error 60 Lexical query:7\n",
+        ),
+        (
+            "cover",
+            Status::QueryRefused,
+            "error 61 QuerySyntax query\n",
+        ),
+        (
+            "cover ID*",
+            Status::QueryRefused,
+            "error 62 StarOutsideQuotes query:9\n",
+        ),
+        (
+            "cover PATHS(ID,0)",
+            Status::QueryRefused,
+            "error 64 BadNumber query:16\n",
+        ),
+        (
+            "cover {x +}",
+            Status::QueryRefused,
+            "error 65 PredicateSyntax query\n",
+        ),
+        (
+            "cover {y == 1} + @FUNC(g)",
+            Status::QueryRefused,
+            "error 66 PredicateNowhere query\n",
+        ),
+        (
+            "cover @FUNC(g)",
+            Status::QueryRefused,
+            "error 70 NoSuchName query:7\n",
+        ),
+        (
+            "cover SETMINUS(ID,ID)",
+            Status::QueryRefused,
+            "error 72 NoGoals query\n",
+        ),
     ] {
-        let words = ["measure", entry, "cover NODES(ID)", "no.txt", "a.c"];
-        compare(&rt, alloc, &words, &[("a.c", A_C)], want)?;
+        let words = ["measure", "f", query, "no.txt", "a.c"];
+        compare(&rt, alloc, &words, &[("a.c", A_C)], (status, "", line))?;
     }
     Ok(())
 }
 
-// A source of 4 MiB, and inputs of 65,536 bytes in 10,000 lines, are within their limits; one more of each isn't.
+// A source of 4 MiB is within its limit, and one byte more isn't; nor are 10,001 inputs.
 #[test]
 fn limits(rt: HostRuntime) -> Result<(), Fail> {
     let alloc = rt.alloc();
@@ -304,18 +341,12 @@ fn limits(rt: HostRuntime) -> Result<(), Fail> {
     source.push_str("\n")?;
     let long = (Status::Limit, "", "error 16 FileTooLong a.c\n");
     compare_source(&rt, alloc, source.as_str(), "5\n11\n", long)?;
-    let want = (Status::NotBuilt, "", "error 1 NotBuilt\n");
-    let mut inputs = String::from_str(alloc, "5\n11")?;
-    let blanks = vec![in alloc; b' '; 65_532]?;
-    inputs.push_str(str::from_utf8(&blanks)?)?;
-    compare_source(&rt, alloc, A_C, inputs.as_str(), done)?;
-    inputs.push_str("\n")?;
-    compare_source(&rt, alloc, A_C, inputs.as_str(), want)?;
     let mut inputs = String::new(alloc);
     for _ in 0..10_001 {
         inputs.push_str("1\n")?;
     }
-    compare_source(&rt, alloc, A_C, inputs.as_str(), want)?;
+    let many = (Status::Limit, "", "error 53 TooManyInputs limit 10000\n");
+    compare_source(&rt, alloc, A_C, inputs.as_str(), many)?;
     Ok(())
 }
 
@@ -355,45 +386,88 @@ fn several_sources(rt: HostRuntime) -> Result<(), Fail> {
     Ok(())
 }
 
+// The lists of goals and of runs, a passing clause, and the report as JSON.
 #[test]
-fn words_that_are_no_command(rt: HostRuntime) -> Result<(), Fail> {
+fn other_commands(rt: HostRuntime) -> Result<(), Fail> {
     let alloc = rt.alloc();
-    for texts in [
-        ["measure", "f", "", "", ""].as_slice(),
-        &["measure", "f"],
-        &[],
-        &["Measure", "f", QUERY, "in.txt", "a.c"],
-        &["measure", "f", QUERY, "in.txt", "a.c", "-b.c"],
-        &["measure", "-f", QUERY, "in.txt", "a.c"],
-        &["measure", "f", QUERY, "in.txt", "-"],
+    let entries = [("p1.c", P1_C), ("p2.c", P2_C), ("in.txt", "9\n2\n")];
+    for (words, out) in [
+        (
+            ["goals", "cover @CALL(g) -> @EXIT(f)", "p1.c", "p2.c"].as_slice(),
+            "goals 1\ngoal 1 e4@p2.c:4 . \"ID*\" . e7@p2.c:6\n",
+        ),
+        (
+            &["runs", "f", "in.txt", "p1.c", "p2.c"],
+            "input 1 returned 9 edges 1 2 4 0 5 6 7\ninput 2 returned 0 edges 1 3 7\n",
+        ),
+        (
+            &["runs", "--steps", "3", "f", "in.txt", "p1.c", "p2.c"],
+            "input 1 cut edges 1 2 4\ninput 2 returned 0 edges 1 3 7\n",
+        ),
+        (
+            &[
+                "measure",
+                "f",
+                "cover {y == 9} passing ^NOT(@CALL(g))*$",
+                "in.txt",
+                "p1.c",
+                "p2.c",
+            ],
+            "goals 1 inputs 2\ninput 1 returned 9\ninput 2 returned 0\ngoal 1 missed {y == 9}\nsuite\ncovered 0 of 1\n",
+        ),
+        (
+            &[
+                "measure",
+                "f",
+                "cover @CALL(g)",
+                "in.txt",
+                "p1.c",
+                "p2.c",
+                "--json",
+            ],
+            "{\"covered\":1,\"goals\":[{\"answer\":\"covered\",\"input\":1,\"text\":\"e4@p2.c:4\"}],\"inputs\":[{\"end\":\"returned\",\"value\":9},{\"end\":\"returned\",\"value\":0}],\"suite\":[1]}\n",
+        ),
     ] {
-        let usage = texts.len() != 5 || texts[4] != "";
-        let mut files = files(alloc, &[("a.c", A_C), ("in.txt", "1")], &[])?;
-        let mut out = VecSink::new(alloc);
-        let mut err = VecSink::new(alloc);
-        let status = run(alloc, &words(alloc, texts)?, &mut files, &mut out, &mut err);
-        let want = if usage {
-            (Status::Usage, "error 2 Usage\n")
-        } else {
-            (Status::ReadFault, "error 7 ReadFault \n")
-        };
-        assert_eq!(rt; status, want.0);
-        assert_eq!(rt; out.taken(), "".as_bytes());
-        assert_eq!(rt; err.taken(), want.1.as_bytes());
+        compare(&rt, alloc, words, &entries, (Status::Done, out, ""))?;
     }
     Ok(())
 }
 
-// The source is read first, and then the inputs; each read fails in turn.
+// Words that ask for a command that isn't built, or for nothing.
+#[test]
+fn words_without_an_answer(rt: HostRuntime) -> Result<(), Fail> {
+    let alloc = rt.alloc();
+    let usage = (Status::Usage, "", "error 2 Usage\n");
+    let not_built = (Status::NotBuilt, "", "error 1 NotBuilt\n");
+    for (words, want) in [
+        (["generate", "f", QUERY, "a.c"].as_slice(), not_built),
+        (&["prove", "f", QUERY, "1", "a.c"], not_built),
+        (&["check", "f", QUERY, "1", "a.cert", "a.c"], not_built),
+        (&["sample", "1"], not_built),
+        (&["measure", "f"], usage),
+        (&[], usage),
+        (&["Measure", "f", QUERY, "in.txt", "a.c"], usage),
+        (&["measure", "f", QUERY, "in.txt", "a.c", "-b.c"], usage),
+        (&["measure", "f", QUERY, "in.txt", "-"], usage),
+        (&["goals", QUERY, "a.c", "--steps", "1"], usage),
+    ] {
+        compare(&rt, alloc, words, &[("a.c", A_C)], want)?;
+    }
+    Ok(())
+}
+
+// The sources are read first, and then the inputs; each read fails in turn.
 #[test]
 fn a_read_fails(rt: HostRuntime) -> Result<(), Fail> {
     let alloc = rt.alloc();
+    let entries = [("p1.c", P1_C), ("p2.c", P2_C), ("in.txt", "9\n2\n")];
     for (failing, want) in [
-        (0, "error 7 ReadFault a.c\n"),
-        (1, "error 7 ReadFault in.txt\n"),
+        (0, "error 7 ReadFault p1.c\n"),
+        (1, "error 7 ReadFault p2.c\n"),
+        (2, "error 7 ReadFault in.txt\n"),
     ] {
-        let mut files = files(alloc, &[("a.c", A_C), ("in.txt", "1")], &[failing])?;
-        let words = words(alloc, &["measure", "f", QUERY, "in.txt", "a.c"])?;
+        let mut files = files(alloc, &entries, &[failing])?;
+        let words = words(alloc, &["measure", "f", QUERY, "in.txt", "p1.c", "p2.c"])?;
         let mut out = VecSink::new(alloc);
         let mut err = VecSink::new(alloc);
         let status = run(alloc, &words, &mut files, &mut out, &mut err);
@@ -408,7 +482,7 @@ fn a_read_fails(rt: HostRuntime) -> Result<(), Fail> {
 fn a_write_fails_in_mid_stream(rt: HostRuntime) -> Result<(), Fail> {
     let alloc = rt.alloc();
     let script = [Take::AtMost(10), Take::Fail];
-    for (query, out_text, err_text) in [(QUERY, "goals 4 in", ""), ("cover", "", "error 1 No")] {
+    for (query, out_text, err_text) in [(QUERY, "goals 4 in", ""), ("cover", "", "error 61 Q")] {
         let mut files = files(alloc, &[("a.c", A_C), ("in.txt", "5\n11\n")], &[])?;
         let words = words(alloc, &["measure", "f", query, "in.txt", "a.c"])?;
         let mut out = MemorySink::new(alloc, script.to_vec(alloc)?);
@@ -476,12 +550,12 @@ fn memory_refused(rt: HostRuntime) -> Result<(), Fail> {
 fn memory_refused_to_a_refusal(rt: HostRuntime) -> Result<(), Fail> {
     let mut out = VecSink::new(rt.alloc());
     let mut err = VecSink::new(rt.alloc());
-    let line = "error 1 NotBuilt\n";
+    let line = "error 61 QuerySyntax query\n";
     let status = answer_of(&rt, "cover", &mut out, &mut err)?;
     if status == Status::Memory {
         assert!(rt; line.as_bytes().starts_with(err.taken()));
     } else {
-        assert_eq!(rt; status, Status::NotBuilt);
+        assert_eq!(rt; status, Status::QueryRefused);
         assert_eq!(rt; err.taken(), line.as_bytes());
     }
     assert_eq!(rt; out.taken(), "".as_bytes());

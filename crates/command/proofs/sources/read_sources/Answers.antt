@@ -6,14 +6,13 @@ use Rattle.command.proofs.sources.read_sources.Goals as goal
 pub returns-in_err-text-clause-unread : goal.returns-in_err-text-clause-unread
 returns-in_err-text-clause-unread g c =
     let p = err_from_is_err_and c.from_residual.result c.from_residual.ensures.1 in
-    let named = rw (c.as_str.ensures.value, c.name-item.is) at c.in_err-text.ensures.unread in
-    rw (p.1, p.2) (refused_map c.in_err-text.field-0.0 named (λ x unread.
+    rw (p.1, p.2) (refused_map c.in_err-text.field-0.0 c.in_err-text.ensures.unread (λ x unread.
     read_up_to c.args.names.now c.loop-name.name-index _ c.loop-name-test.true _ _ x c.loop-name.invariant.read
-    (unread_since _ _ _ _ _ _ _ _ _ c.loop-name.invariant.same_files c.loop-name.invariant.no_fault c.loop-name.invariant.received _ x unread)))
+    (unread_since _ _ _ _ _ _ _ _ _ c.loop-name.invariant.same_files c.loop-name.invariant.no_fault c.loop-name.invariant.received _ _ x unread)))
 
 pub loop-name-preserved : goal.loop-name-preserved
 loop-name-preserved g c =
-    let one = rw (c.as_str.ensures.value, c.name-item.is, c.loop-name.invariant.same_files) at c.in_ok-text.ensures.read in
+    let one = rw c.loop-name.invariant.same_files at c.in_ok-text.ensures.read in
     record {
       same_files = c.in_ok-text.ensures.same_files ∙ c.loop-name.invariant.same_files;
       no_fault = c.in_ok-text.ensures.no_fault ∙ c.loop-name.invariant.no_fault;

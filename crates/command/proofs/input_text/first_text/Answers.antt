@@ -1,9 +1,0 @@
-use Rattle.std.proofs.Common.{sym, ◌∙◌}
-use Rattle.command.proofs.InputsLaws.{part_found, part_missing}
-use Rattle.command.proofs.input_text.first_text.Goals as goal
-
-pub returns-in-Some-clause-parts : goal.returns-in-Some-clause-parts
-returns-in-Some-clause-parts c = part_found _ _ _ (sym c.blank.ensures ∙ c.in-Some.is)
-
-pub returns-in-None-clause-parts : goal.returns-in-None-clause-parts
-returns-in-None-clause-parts c = part_missing _ _ (sym c.blank.ensures ∙ c.in-None.is)

@@ -1,6 +1,0 @@
-use Rattle.command.proofs.InputsLaws.{word_missing}
-use Rattle.command.proofs.input_text.words.Goals as goal
-
-pub returns-in_default : goal.returns-in_default
-returns-in_default c =
-    word_missing _ _ _ _ _ _ c.loop-text-test.true c.word_of.ensures c.in_default.not-Number c.loop-text.invariant
