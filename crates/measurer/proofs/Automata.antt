@@ -14,7 +14,8 @@ use Rattle.run_match.specs.Segments.{HasSegment}
 use Rattle.word_index.specs.Numbers.{Adds}
 use Rattle.word_index.specs.Walks.{is_plain}
 use Rattle.word_index.proofs.Steps.{adds_none, adds_same, adds_both}
-use Rattle.measurer.specs.Measured.{IsAutomatonOf, AreAutomata, HasOtherMatch}
+use Rattle.measurer.specs.Measured.{IsMadeOf, IsAutomatonOf, AreAutomata, HasOtherMatch}
+use Rattle.measurer.specs.Openings.{IsOpening}
 use Rattle.measurer.specs.declared.tables.GoalAutomaton.{GoalAutomaton}
 
 -- ---- the element at a place of a list
@@ -81,14 +82,13 @@ module _ (goals : List GoalForm) (first last : Bool) where
   }
 
   -- of the others
-  pub goal_added : (count : ℕ) (goal : GoalForm) (all : List GoalAutomaton) (own : GoalAutomaton) → slice_get goals count ≡ Some goal → is_plain goal.word ≡ false → own.number ≡ count + 1 → IsOf own.automaton (form goal.pattern) first last
+  pub goal_added : (count : ℕ) (goal : GoalForm) (all : List GoalAutomaton) (own : GoalAutomaton) → slice_get goals count ≡ Some goal → own.number ≡ count + 1 → IsMadeOf goal first last own
       → AreAutomata goals first last count all → AreAutomata goals first last (count + 1) (all ++ own ∷ [])
-  goal_added count goal all own e other is of h =
+  goal_added count goal all own e is of h =
       let number : own.number ≡ suc count = omega arith in
-      let at : IsSomeAnd (Some goal) (λ goal. (is_plain goal.word ≡ false) × IsOf own.automaton (form goal.pattern) first last) = (other, of) in
       let mine : IsAutomatonOf goals first last count own = record {
         is = number;
-        goal = subst (λ o. IsSomeAnd o (λ goal. (is_plain goal.word ≡ false) × IsOf own.automaton (form goal.pattern) first last)) (sym e) at;
+        goal = subst (λ o. IsSomeAnd o (λ goal. IsMadeOf goal first last own)) (sym e) of;
       } in
       record {
         each = λ k one f. elim (get_push_cases all own one k f) [
@@ -108,22 +108,26 @@ abbrev pub MatchedBefore : List GoalForm → Bool → Bool → PathView → List
 MatchedBefore goals first last path all count n =
     (k : ℕ) × ((own : GoalAutomaton) × ((k < count) × ((slice_get all k ≡ Some own) × ((n ≡ own.number) × HasOtherMatch goals first last path n))))
 
+-- the answer for an automaton: whether the path has a match
+abbrev pub Says : PathView → GoalAutomaton → Bool → Type 0
+Says path own b = (pattern : Form Letter) (first last : Bool) → IsOf own.automaton pattern first last → IsOpening own.opening first pattern → (b ≡ true) ↔ HasSegment first last pattern path
+
 module _ (goals : List GoalForm) (first last : Bool) (path : PathView) (all : List GoalAutomaton) (made : AreAutomata goals first last (length goals) all) where
   pub none_matched : (xs : List ℕ) → Adds (MatchedBefore goals first last path all 0) xs xs
   none_matched xs = adds_none _ xs (λ n (k, (own, (lt, rest))). absurd (omega arith))
 
   -- what the automaton of a goal says
   pub automaton_says : (own : GoalAutomaton) (k : ℕ) (b : Bool) → slice_get all k ≡ Some own
-      → ((pattern : Form Letter) (f l : Bool) → IsOf own.automaton pattern f l → (b ≡ true) ↔ HasSegment f l pattern path) → (b ≡ true) ↔ HasOtherMatch goals first last path own.number
+      → Says path own b → (b ≡ true) ↔ HasOtherMatch goals first last path own.number
   automaton_says own k b e says = let r = made.each k own e in by_goal r.0 r.1.is (slice_get goals r.0) refl r.1.goal
     where
-      by_goal : (place : ℕ) → own.number ≡ suc place → (o : Option GoalForm) → slice_get goals place ≡ o → IsSomeAnd o (λ goal. (is_plain goal.word ≡ false) × IsOf own.automaton (form goal.pattern) first last)
+      by_goal : (place : ℕ) → own.number ≡ suc place → (o : Option GoalForm) → slice_get goals place ≡ o → IsSomeAnd o (λ goal. IsMadeOf goal first last own)
           → (b ≡ true) ↔ HasOtherMatch goals first last path own.number
       by_goal place is None f h = absurd h
       by_goal place is (Some goal) f h =
-          let s = says (form goal.pattern) first last h.1 in (
+          let s = says (form goal.pattern) first last h.automaton h.opening in (
             λ t.
-                let at : IsSomeAnd (Some goal) (λ goal. (is_plain goal.word ≡ false) × HasSegment first last (form goal.pattern) path) = (h.0, s.0 t) in
+                let at : IsSomeAnd (Some goal) (λ goal. (is_plain goal.word ≡ false) × HasSegment first last (form goal.pattern) path) = (h.other, s.0 t) in
                 record { place = place; is = is; goal = subst (λ o. IsSomeAnd o (λ goal. (is_plain goal.word ≡ false) × HasSegment first last (form goal.pattern) path)) (sym f) at },
             λ m.
                 let here : own.number ≡ suc m.place = m.is in
@@ -148,12 +152,12 @@ module _ (goals : List GoalForm) (first last : Bool) (path : PathView) (all : Li
       ]
 
   -- one more automaton that accepts
-  pub accepted_more : (count : ℕ) (own : GoalAutomaton) (b : Bool) → slice_get all count ≡ Some own → ((pattern : Form Letter) (f l : Bool) → IsOf own.automaton pattern f l → (b ≡ true) ↔ HasSegment f l pattern path) → b ≡ true
+  pub accepted_more : (count : ℕ) (own : GoalAutomaton) (b : Bool) → slice_get all count ≡ Some own → Says path own b → b ≡ true
       → (xs ys zs : List ℕ) → Adds (MatchedBefore goals first last path all count) xs ys → Adds (λ n. n ≡ own.number) ys zs → Adds (MatchedBefore goals first last path all (count + 1)) xs zs
   accepted_more count own b e says t xs ys zs = more_matched count own e ((automaton_says own count b e says).0 t) xs ys zs
 
   -- one more that doesn't
-  pub refused_more : (count : ℕ) (own : GoalAutomaton) (b : Bool) → slice_get all count ≡ Some own → ((pattern : Form Letter) (f l : Bool) → IsOf own.automaton pattern f l → (b ≡ true) ↔ HasSegment f l pattern path) → b ≡ false
+  pub refused_more : (count : ℕ) (own : GoalAutomaton) (b : Bool) → slice_get all count ≡ Some own → Says path own b → b ≡ false
       → (xs ys : List ℕ) → Adds (MatchedBefore goals first last path all count) xs ys → Adds (MatchedBefore goals first last path all (count + 1)) xs ys
   refused_more count own b e says t xs ys a = adds_same _ (MatchedBefore goals first last path all (count + 1)) xs ys to from a
     where

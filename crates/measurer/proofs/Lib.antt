@@ -1,4 +1,6 @@
 pub mod Words
+pub mod WordOpenings
+pub mod FirstPlaces
 pub mod Gathered
 pub mod Automata
 pub mod FirstRuns

@@ -39,7 +39,7 @@ module _ (qs : List Pattern) (path : PathView) where
     λ (e, s). inl (sym e, member_one n (slice_index path.nodes j) (ap (slice_index path.nodes) e ∙ s)),
   )
 
-  edge_walk : (n i j : ℕ) → LetterMatch (step_of path) (letter.Edges (n ∷ [])) i j ↔ Goes path (Edge n) i j
+  pub edge_walk : (n i j : ℕ) → LetterMatch (step_of path) (letter.Edges (n ∷ [])) i j ↔ Goes path (Edge n) i j
   edge_walk n i j = (
     λ h. elim h [
       | inl x ↦ absurd (false≢true x.1)

@@ -1,5 +1,6 @@
 pub mod Hits
 pub mod Firsts
 pub mod Noted
+pub mod Openings
 pub mod Measured
 pub mod Measurers

@@ -12,13 +12,20 @@ use Rattle.goals.specs.declared.plan.Plan.{Plan}
 use Rattle.run_match.specs.Segments.{HasSegment}
 use Rattle.word_index.specs.Order.{IsOrderOf}
 use Rattle.word_index.specs.Walks.{is_plain}
+use Rattle.measurer.specs.Openings.{IsOpening}
 use Rattle.measurer.specs.declared.tables.GoalAutomaton.{GoalAutomaton}
 use Rattle.measurer.specs.declared.tables.Tables.{Tables}
 
--- the automaton of the goal at a place, which isn't one of the index
+-- the automaton of this goal, which isn't one of the index, and the edge that its matches take first
+pub record IsMadeOf (goal : GoalForm) (first last : Bool) (own : GoalAutomaton) : Type 0 where
+  pub other : is_plain goal.word ≡ false
+  pub automaton : IsOf own.automaton (form goal.pattern) first last
+  pub opening : IsOpening own.opening first (form goal.pattern)
+
+-- the automaton of the goal at a place
 pub record IsAutomatonOf (goals : List GoalForm) (first last : Bool) (place : ℕ) (own : GoalAutomaton) : Type 0 where
   pub is : own.number ≡ suc place
-  pub goal : IsSomeAnd (slice_get goals place) (λ goal. (is_plain goal.word ≡ false) × IsOf own.automaton (form goal.pattern) first last)
+  pub goal : IsSomeAnd (slice_get goals place) (λ goal. IsMadeOf goal first last own)
 
 -- each of them is the automaton of a goal, and each goal at a place below this one that isn't one of the index has one
 pub record AreAutomata (goals : List GoalForm) (first last : Bool) (count : ℕ) (all : List GoalAutomaton) : Type 0 where

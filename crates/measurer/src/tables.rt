@@ -4,7 +4,9 @@ ghost use Rattle.patterns.specs.Letters.{form};
 ghost use Rattle.automata.specs.Standing.{IsOf};
 ghost use Rattle.goals.specs.GoalForm.{GoalForm, HasItsPattern};
 ghost use Rattle.measurer.specs.Measured.{AreAutomata, IsFor, IsPassingAutomaton};
+ghost use Rattle.measurer.specs.Openings.{IsOpening};
 
+use crate::openings::opening_of;
 use automata::{Nfa, build};
 use containers::Vector;
 use fq_core::Memory;
@@ -13,10 +15,12 @@ use patterns::{Letter, Pattern};
 use std::alloc::Global;
 use word_index::{WordIndex, is_plain};
 
-/// The automaton of a goal, with the goal's number, from 1.
+/// The automaton of a goal, with the goal's number, from 1, and the edge that each match takes first, where that is known and
+/// matches may begin anywhere.
 #[derive(Debug, Drop)]
 pub struct GoalAutomaton {
     pub(crate) number: u32,
+    pub(crate) opening: Option<u32>,
     pub(crate) automaton: Nfa<Letter>,
 }
 
@@ -90,13 +94,17 @@ fn goal_automaton(
 ) -> Result<GoalAutomaton, Memory>
     ensures number { IfOk result (λ own. own.number ≡ place + 1) }
     ensures automaton { IfOk result (λ own. IsOf own.automaton (form goal.now.pattern) first last) }
+    ensures opening { IfOk result (λ own. IsOpening own.opening first (form goal.now.pattern)) }
 {
     if place >= u32::MAX as usize {
         return Err(Memory);
     }
+    goal.pattern_is_of_word();
     let pattern = goal.pattern(alloc)?;
+    let opening = opening_of(goal.word(), first);
     Ok(GoalAutomaton {
         number: place as u32 + 1,
+        opening,
         automaton: automaton_of(alloc, &pattern, first, last)?,
     })
 }

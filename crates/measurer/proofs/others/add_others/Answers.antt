@@ -1,23 +1,8 @@
-use Rattle.std.proofs.Common.{◌≡◌, ◌+◌, length, sym, subst, arith}
-use Rattle.word_index.specs.Numbers.{Adds}
-use Rattle.measurer.proofs.Automata.{MatchedBefore, get_some, accepted_more, refused_more, all_matched}
+use Rattle.std.proofs.Common.{◌∙◌, sym, subst}
+use Rattle.measurer.specs.Openings.{AreFirstPlaces}
 use Rattle.measurer.proofs.others.add_others.Goals as goal
-use Rattle.measurer.proofs.others.add_others.Goals.{then-branch+in_ok-add, else-branch}
 
-pub loop-own-preserved : goal.loop-own-preserved
-loop-own-preserved c = λ goals first last made.
-    let e = get_some c.args.automata.now c.loop-own.own-index c.own-item.result c.loop-own-test.true c.own-item.is in
-    let inv = c.loop-own.invariant goals first last made in
-    elim c.if-branch.branch [
-      | then-branch+in_ok-add w ↦ subst (Adds (MatchedBefore goals first last c.args.path.now c.args.automata.now (c.loop-own.own-index + 1)) c.args.numbers.now) (sym w.numbers-is)
-          (accepted_more goals first last c.args.path.now c.args.automata.now made c.loop-own.own-index c.own-item.result c.in_ok-has_match.field-0 e c.in_ok-has_match.ensures w.if-branch.true _ _ _ inv w.in_ok-add.ensures)
-      | else-branch w ↦ subst (Adds (MatchedBefore goals first last c.args.path.now c.args.automata.now (c.loop-own.own-index + 1)) c.args.numbers.now) (sym w.numbers-is)
-          (refused_more goals first last c.args.path.now c.args.automata.now made c.loop-own.own-index c.own-item.result c.in_ok-has_match.field-0 e c.in_ok-has_match.ensures w.if-branch.false _ _ inv)
-    ]
-
-pub returns : goal.returns
-returns c = λ goals first last made.
-    let past = c.loop-own-test.false in
-    let end = c.loop-own.auto.own-index-end in
-    let size : c.loop-own.own-index ≡ length c.args.automata.now = omega arith in
-    all_matched goals first last c.args.path.now c.args.automata.now made c.loop-own.own-index _ _ size (c.loop-own.invariant goals first last made)
+pub add_matched-requires : goal.add_matched-requires
+add_matched-requires c =
+    let made = subst (λ p. AreFirstPlaces c.edges-edges.result.now p) (sym c.deref.ensures.value) c.in_ok-places.ensures in
+    subst (λ e. AreFirstPlaces e c.deref.result.now) c.edges-edges.ensures.edges made

@@ -3,7 +3,7 @@ use Rattle.goals.specs.GoalForm.{GoalForm}
 use Rattle.word_index.specs.Numbers.{Adds}
 use Rattle.measurer.specs.Measured.{AreAutomata}
 use Rattle.measurer.proofs.Automata.{MatchedBefore}
-use Rattle.measurer.proofs.others.add_others.Given as goal
+use Rattle.measurer.proofs.others.add_matched.Given as goal
 
 abbrev pub invariant-loop-own : goal.invariant-loop-own
 invariant-loop-own l =
