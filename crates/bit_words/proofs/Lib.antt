@@ -1,0 +1,16 @@
+pub mod Steps
+pub mod Truths
+pub mod Digits
+pub mod RowLemmas
+pub mod SumLemmas
+pub mod Values
+pub mod Results
+pub mod BitLemmas
+pub mod Compare
+pub mod ShiftLemmas
+pub mod Moved
+pub mod StageLemmas
+pub mod ProductLemmas
+pub mod SignLemmas
+pub mod DivisionLemmas
+pub mod QuotientLemmas

@@ -1,0 +1,5 @@
+pub mod Words
+pub mod Rows
+pub mod Weights
+pub mod Biases
+pub mod Signs
