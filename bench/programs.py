@@ -15,6 +15,32 @@ def built(name):
     return os.path.join(folder, "out", name)
 
 
+def program():
+    """The path of the program, which is built first where it must be; the variable FSHELL may name another one."""
+    path = os.environ.get("FSHELL", os.path.join(ROOT, "bin", "fshell"))
+    subprocess.run([path], stdout=subprocess.DEVNULL, stderr=subprocess.DEVNULL)
+    return path
+
+
+def refused(words, folder=None, stack=None):
+    """How a program ends that writes one line at most: the line, its processor time, and the most bytes that it held.
+
+    The line is that of its standard error, and where a signal ended it, the signal's number. The stack may grow to so
+    many bytes, where they are given.
+    """
+    def limit():
+        hard = resource.getrlimit(resource.RLIMIT_STACK)[1]
+        resource.setrlimit(resource.RLIMIT_STACK, (stack, hard))
+    with subprocess.Popen(words, cwd=folder, stdout=subprocess.DEVNULL, stderr=subprocess.PIPE, text=True,
+                          preexec_fn=limit if stack else None) as child:
+        line = child.stderr.read().strip()
+        status, usage = os.wait4(child.pid, 0)[1:]
+        child.returncode = os.waitstatus_to_exitcode(status)
+    if child.returncode < 0:
+        line = f"signal {-child.returncode}"
+    return line, usage.ru_utime + usage.ru_stime, usage.ru_maxrss * 1024
+
+
 def seconds(words, folder=None, runs=3):
     """How long a program takes with its start, the best of so many runs."""
     best = None
