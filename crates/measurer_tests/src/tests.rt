@@ -4,13 +4,16 @@ ghost use Rattle.patterns.specs.Paths.{IsPath};
 ghost use Rattle.measurer.specs.Hits.{path_in};
 ghost use Rattle.measurer.specs.Measurers.{IsMadeFor};
 
+mod compared;
 mod plans;
+mod slow;
+mod traced;
 
 use fq_core::Memory;
 use goals::Plan;
 use measurer::Measurer;
 use path_runner::{PathRecord, RunEnd, Trap};
-use plans::{plan, run};
+use plans::{RETURNS, plan, run};
 use std::alloc::Global;
 use std::fmt::Write;
 use std::test::Fail;
@@ -24,14 +27,6 @@ int f(int x) {
     y = g(x);
   }
   return y;
-}";
-
-// Nodes 0 (entry), 1 (exit), 2, 3; e0: 0 to 3, true; e1: 0 to 2, false; e2: 3 to 1; e3: 2 to 1.
-const RETURNS: &str = "int f(int x) {
-  if (x > 10) {
-    return 1;
-  }
-  return 0;
 }";
 
 // The run on 9 of f, where bit 0 holds once y is set.
@@ -76,17 +71,11 @@ fn add(measurer: &mut Measurer, plan: &Plan, run: &PathRecord) -> Result<(), Mem
     Ok(())
 }
 
-// The hits of the runs for a query, with a semicolon behind those of each run.
-fn hits_text(
-    alloc: Global,
-    source: &str,
-    query: &str,
-    runs: &[PathRecord],
-) -> Result<String, Fail> {
-    let plan = plan(alloc, source, query)?;
-    let mut measurer = Measurer::new(alloc, &plan)?;
+// The hits of the runs for a plan, with a semicolon behind those of each run.
+pub(crate) fn hits_of(alloc: Global, plan: &Plan, runs: &[PathRecord]) -> Result<String, Fail> {
+    let mut measurer = Measurer::new(alloc, plan)?;
     'added: for run in runs {
-        add(&mut measurer, &plan, run)?;
+        add(&mut measurer, plan, run)?;
     }
     let mut text = String::new(alloc);
     for hits in measurer.hits() {
@@ -96,6 +85,17 @@ fn hits_text(
         text.push_str(";")?;
     }
     Ok(text)
+}
+
+// The same for a query over a source.
+fn hits_text(
+    alloc: Global,
+    source: &str,
+    query: &str,
+    runs: &[PathRecord],
+) -> Result<String, Fail> {
+    let plan = plan(alloc, source, query)?;
+    hits_of(alloc, &plan, runs)
 }
 
 #[test]
