@@ -1,15 +1,24 @@
 // Sources with the nodes and edges that they are lowered to.
+mod carried;
+mod expressions;
+mod statements;
+
 use c_lex::{SourceText, are_small, tokens};
 use c_lower::make_parts;
 use c_parse::parse;
 use c_types::check;
-use cfa::{Edge, GraphParts, Node, Operation};
+use carried::CARRIED;
+use cfa::{Edge, GraphParts, Node, Operation, Scope};
 use containers::Vector;
+use expressions::EXPRESSIONS;
 use fq_core::{Fault, Name};
+use statements::STATEMENTS;
 use std::alloc::Global;
 use std::fmt::Write;
 use std::test::Fail;
 use typed_trees::Typed;
+
+type Case = (&'static str, &'static str);
 
 fn typed_of(alloc: Global, source: &str) -> Result<Typed, Fault> {
     let name = Name::new(alloc, b"t.c")?;
@@ -84,14 +93,73 @@ fn show(text: &mut String, parts: &GraphParts) -> Result<(), Fail> {
     Ok(())
 }
 
+fn parts_of(alloc: Global, source: &str) -> Result<GraphParts, Fail> {
+    let Ok(typed) = typed_of(alloc, source) else {
+        return Err(Fail::from("refused"));
+    };
+    let Ok(parts) = make_parts(alloc, &typed, Vector::new(alloc)) else {
+        return Err(Fail::from("not lowered"));
+    };
+    Ok(parts)
+}
+
 fn graph_text(alloc: Global, source: &str) -> Result<String, Fail> {
     let mut text = String::new(alloc);
-    match typed_of(alloc, source) {
-        Ok(typed) => match make_parts(alloc, &typed, Vector::new(alloc)) {
-            Ok(parts) => show(&mut text, &parts)?,
-            Err(stop) => write!(text, "{stop:?}")?,
-        },
-        Err(_fault) => text.push_str("refused")?,
+    show(&mut text, &parts_of(alloc, source)?)?;
+    Ok(text)
+}
+
+fn as_text(name: &Name) -> &str {
+    std::str::from_utf8(name.bytes()).unwrap_or("?")
+}
+
+fn show_names(text: &mut String, names: &[Name]) -> Result<(), Fail> {
+    for (i, name) in names.iter().enumerate() {
+        if i > 0 {
+            text.push_str(",")?;
+        }
+        text.push_str(as_text(name))?;
+    }
+    Ok(())
+}
+
+// What an edge carries: its function, the kind of its statement, the names that it writes and those that it reads, and
+// its label.
+fn show_carried(text: &mut String, edge: &Edge) -> Result<(), Fail> {
+    write!(text, "{}{:?} ", edge.function, edge.statement)?;
+    show_names(text, &edge.writes)?;
+    text.push_str("<")?;
+    show_names(text, &edge.reads)?;
+    if let Some(label) = &edge.label {
+        write!(text, " :{}", as_text(label))?;
+    }
+    text.push_str("; ")?;
+    Ok(())
+}
+
+fn show_scope(text: &mut String, scope: &Scope) -> Result<(), Fail> {
+    let mut begun = false;
+    for variable in scope.variables.iter() {
+        if begun {
+            text.push_str(" ")?;
+        }
+        text.push_str(as_text(&variable.name))?;
+        begun = true;
+    }
+    text.push_str("; ")?;
+    Ok(())
+}
+
+// What the edges of a source carry, and the names in its scopes.
+fn carried_text(alloc: Global, source: &str) -> Result<String, Fail> {
+    let parts = parts_of(alloc, source)?;
+    let mut text = String::new(alloc);
+    for edge in parts.edges.iter() {
+        show_carried(&mut text, edge)?;
+    }
+    text.push_str("| ")?;
+    for scope in parts.scopes.iter() {
+        show_scope(&mut text, scope)?;
     }
     Ok(text)
 }
@@ -160,6 +228,26 @@ fn units(rt: HostRuntime) -> Result<(), Fail> {
     for (source, expected) in rows {
         let text = graph_text(rt.alloc(), source)?;
         assert_eq!(rt; text.as_str(), expected, "in {source}");
+    }
+    Ok(())
+}
+
+#[test]
+fn rows_of_the_table(rt: HostRuntime) -> Result<(), Fail> {
+    for cases in [STATEMENTS.as_slice(), EXPRESSIONS.as_slice()] {
+        for (source, expected) in cases {
+            let text = graph_text(rt.alloc(), source)?;
+            assert_eq!(rt; text.as_str(), *expected, "in {source}");
+        }
+    }
+    Ok(())
+}
+
+#[test]
+fn what_is_carried(rt: HostRuntime) -> Result<(), Fail> {
+    for (source, expected) in CARRIED.as_slice() {
+        let text = carried_text(rt.alloc(), source)?;
+        assert_eq!(rt; text.as_str(), *expected, "in {source}");
     }
     Ok(())
 }
