@@ -1,0 +1,422 @@
+-- Expressions that meet the rules, by their forms: what the rules ask of the parts, what each form weighs and what it
+-- comes to.
+use Rattle.std.proofs.Common.{◌≡◌, ℕ, ◌+◌, ◌^◌, ◌<◌, ◌≤◌, Bool, true, false, cond, List, [], Option, Some, None, length, get_or, refl, sym, ap, subst, ◌∙◌, rules, pos, ⊎_elim, arith}
+use Rattle.std.specs.Prelude.{Result, Ok, Err, IsTrue, IfOk, ◌&&◌, ◌==◌, nat_lt, slice_index, slice_get, ok_or, option_and_then, if◌then◌else◌}
+use Rattle.std.specs.Option.{is_some}
+use Rattle.std.specs.Result.{result_ok}
+use Rattle.std.proofs.lemmas.Bool.{eqb-true, leb-true, ltb-true, lt-ltb, le-ltb, cases_lt}
+use Rattle.std.proofs.lemmas.List.Elements.{AllZip-get_or, length_all_zip}
+use Rattle.std.proofs.lemmas.Option.{get_or_from_slice_get, slice_get_within}
+use Rattle.c_values.specs.declared.kinds.Kind.{Kind}
+use Rattle.c_values.specs.declared.operators.BinaryOp.{BinaryOp}
+use Rattle.c_values.specs.declared.operators.UnaryOp.{UnaryOp}
+use Rattle.c_values.specs.Kind.{IsKind, IsValue, is_kind, is_value, converted, wrapped}
+use Rattle.c_values.specs.Operations.{unary_kind, unary_value, binary_kind, binary_value, is_shift}
+use Rattle.c_values.proofs.Fitting.{and_left, and_right}
+use Rattle.cfa.specs.declared.expr.ArrayPlace.{ArrayPlace}
+use Rattle.cfa.specs.declared.expr.ArrayPlace.TheVariants as array
+use Rattle.cfa.specs.declared.expr.CellPlace.{CellPlace, the_lemmas}
+use Rattle.cfa.specs.declared.expr.CellPlace.TheVariants as place
+use Rattle.cfa.specs.declared.expr.Expr.{Expr}
+use Rattle.cfa.specs.declared.expr.Expr.TheVariants as expr
+use Rattle.cfa.specs.declared.state.Frame.{Frame}
+use Rattle.cfa.specs.declared.state.Trap.{Trap}
+use Rattle.cfa.specs.declared.state.Trap.TheVariants as trap
+use Rattle.cfa.specs.Kinds.{same_kind, same_sign, kind_of}
+use Rattle.cfa.specs.Rules.{Room, has_kind, right_fits, kind_if, is_length, array_fits, checked_kind, expr_fits, place_fits}
+use Rattle.cfa.specs.Values.{after_value, is_index, array_start, element_at, valued, value_of, cell_of, operator_trap}
+use Rattle.cfa.proofs.ExprKinds.{agrees}
+use Rattle.cfa.proofs.Indexes.{indexes_of_elements}
+use Rattle.sym_expr.proofs.OutcomeLemmas.{after_one, after_two}
+use Rattle.sym_expr.specs.Stores.{HasRoom, FitsWithin, PlaceFitsWithin}
+use Rattle.sym_expr.specs.Weights.{unary_weight, binary_weight, element_weight, weight_of, place_weight}
+
+-- ---- options and kinds
+
+kept_if : (t : Bool) (kind : Kind) → IsTrue (is_some (kind_if t kind)) → IsTrue t
+kept_if true kind h = refl
+kept_if false kind h = absurd (cc)
+
+same_sign_is : (a b : Bool) → IsTrue (same_sign a b) → a ≡ b
+same_sign_is true true h = refl
+same_sign_is true false h = absurd (cc)
+same_sign_is false true h = absurd (cc)
+same_sign_is false false h = refl
+
+abbrev kind_made : ℕ → Bool → Kind
+kind_made width signed = record { width = width; signed = signed }
+
+same_kind_is : (a b : Kind) → IsTrue (same_kind a b) → a ≡ b
+same_kind_is a b h =
+    let width = eqb-true a.width b.width (and_left (a.width == b.width) (same_sign a.signed b.signed) h) in
+    let signed = same_sign_is a.signed b.signed (and_right (a.width == b.width) (same_sign a.signed b.signed) h) in
+    ap (λ n. kind_made n a.signed) width ∙ ap (kind_made b.width) signed
+
+has_kind_is : (o : Option Kind) (kind : Kind) → IsTrue (has_kind o kind) → o ≡ Some kind
+has_kind_is None kind h = absurd (cc)
+has_kind_is (Some own) kind h = ap Some (same_kind_is own kind h)
+
+some_is : {A : Type 0} (o : Option A) → IsTrue (is_some o) → (x : A) × (o ≡ Some x)
+some_is None h = absurd (cc)
+some_is (Some x) h = (x, refl)
+
+is_fit : {o : Option Kind} {kind : Kind} → o ≡ Some kind → IsTrue (is_some o)
+is_fit e = rw e refl
+
+-- ---- what the rules ask of the parts
+
+module _ (room : Room) where
+  constant_rule : (n : ℕ) (kind : Kind) → checked_kind room (expr.Constant n kind) ≡ kind_if (is_value kind n) kind
+  unfolding checked_kind
+  constant_rule n kind = search (rules, the_lemmas)
+
+  pub constant_kept : (n : ℕ) (kind : Kind) → IsTrue (expr_fits room (expr.Constant n kind)) → IsValue kind n
+  constant_kept n kind h = kept_if (is_value kind n) kind (rw (constant_rule n kind) at h)
+
+  load_rule : (p : CellPlace) (kind : Kind) → checked_kind room (expr.Load p kind) ≡ kind_if (place_fits room p && is_kind kind) kind
+  unfolding checked_kind place_fits
+  load_rule p kind = search (rules, the_lemmas)
+
+  load_kept : (p : CellPlace) (kind : Kind) → IsTrue (expr_fits room (expr.Load p kind)) → IsTrue (place_fits room p && is_kind kind)
+  load_kept p kind h = kept_if (place_fits room p && is_kind kind) kind (rw (load_rule p kind) at h)
+
+  pub load_place : (p : CellPlace) (kind : Kind) → IsTrue (expr_fits room (expr.Load p kind)) → IsTrue (place_fits room p)
+  load_place p kind h = and_left (place_fits room p) (is_kind kind) (load_kept p kind h)
+
+  pub load_kind : (p : CellPlace) (kind : Kind) → IsTrue (expr_fits room (expr.Load p kind)) → IsKind kind
+  load_kind p kind h = and_right (place_fits room p) (is_kind kind) (load_kept p kind h)
+
+  convert_rule : (a : Expr) (kind : Kind) → checked_kind room (expr.Convert a kind) ≡ kind_if (is_some (checked_kind room a) && is_kind kind) kind
+  unfolding checked_kind
+  convert_rule a kind = search (rules, the_lemmas)
+
+  convert_kept : (a : Expr) (kind : Kind) → IsTrue (expr_fits room (expr.Convert a kind)) → IsTrue (expr_fits room a && is_kind kind)
+  convert_kept a kind h = kept_if (expr_fits room a && is_kind kind) kind (rw (convert_rule a kind) at h)
+
+  pub convert_operand : (a : Expr) (kind : Kind) → IsTrue (expr_fits room (expr.Convert a kind)) → IsTrue (expr_fits room a)
+  convert_operand a kind h = and_left (expr_fits room a) (is_kind kind) (convert_kept a kind h)
+
+  pub convert_kind : (a : Expr) (kind : Kind) → IsTrue (expr_fits room (expr.Convert a kind)) → IsKind kind
+  convert_kind a kind h = and_right (expr_fits room a) (is_kind kind) (convert_kept a kind h)
+
+  unary_rule : (op : UnaryOp) (a : Expr) (kind : Kind) → (k : Kind) × (checked_kind room (expr.Unary op a kind) ≡ kind_if (has_kind (checked_kind room a) kind) k)
+  unfolding checked_kind
+  unary_rule op a kind = (unary_kind op kind, search (rules, the_lemmas))
+
+  unary_is : (op : UnaryOp) (a : Expr) (kind : Kind) → IsTrue (expr_fits room (expr.Unary op a kind)) → checked_kind room a ≡ Some kind
+  unary_is op a kind h =
+      let r = unary_rule op a kind in has_kind_is (checked_kind room a) kind (kept_if (has_kind (checked_kind room a) kind) r.0 (rw r.1 at h))
+
+  pub unary_operand : (op : UnaryOp) (a : Expr) (kind : Kind) → IsTrue (expr_fits room (expr.Unary op a kind)) → IsTrue (expr_fits room a)
+  unary_operand op a kind h = is_fit (unary_is op a kind h)
+
+  binary_rule : (op : BinaryOp) (a b : Expr) (kind : Kind) → (k : Kind) × (checked_kind room (expr.Binary op a b kind) ≡ kind_if (has_kind (checked_kind room a) kind && right_fits op (checked_kind room b) kind) k)
+  unfolding checked_kind
+  binary_rule op a b kind = (binary_kind op kind, search (rules, the_lemmas))
+
+  binary_kept : (op : BinaryOp) (a b : Expr) (kind : Kind) → IsTrue (expr_fits room (expr.Binary op a b kind)) → IsTrue (has_kind (checked_kind room a) kind && right_fits op (checked_kind room b) kind)
+  binary_kept op a b kind h = let r = binary_rule op a b kind in kept_if _ r.0 (rw r.1 at h)
+
+  binary_left_is : (op : BinaryOp) (a b : Expr) (kind : Kind) → IsTrue (expr_fits room (expr.Binary op a b kind)) → checked_kind room a ≡ Some kind
+  binary_left_is op a b kind h =
+      has_kind_is (checked_kind room a) kind (and_left (has_kind (checked_kind room a) kind) (right_fits op (checked_kind room b) kind) (binary_kept op a b kind h))
+
+  right_is : (shifts : Bool) (o : Option Kind) (kind : Kind) → IsTrue (if shifts then is_some o else has_kind o kind) → IsTrue (is_some o) × (shifts ≡ false → o ≡ Some kind)
+  right_is true o kind h = (h, λ e. absurd (cc))
+  right_is false o kind h = (is_fit (has_kind_is o kind h), λ e. has_kind_is o kind h)
+
+  binary_right_is : (op : BinaryOp) (a b : Expr) (kind : Kind) → IsTrue (expr_fits room (expr.Binary op a b kind)) → IsTrue (expr_fits room b) × (is_shift op ≡ false → checked_kind room b ≡ Some kind)
+  binary_right_is op a b kind h =
+      right_is (is_shift op) (checked_kind room b) kind (and_right (has_kind (checked_kind room a) kind) (right_fits op (checked_kind room b) kind) (binary_kept op a b kind h))
+
+  pub binary_left : (op : BinaryOp) (a b : Expr) (kind : Kind) → IsTrue (expr_fits room (expr.Binary op a b kind)) → IsTrue (expr_fits room a)
+  binary_left op a b kind h = is_fit (binary_left_is op a b kind h)
+
+  pub binary_right : (op : BinaryOp) (a b : Expr) (kind : Kind) → IsTrue (expr_fits room (expr.Binary op a b kind)) → IsTrue (expr_fits room b)
+  binary_right op a b kind h = (binary_right_is op a b kind h).0
+
+  element_rule : (a : ArrayPlace) (i : Expr) (n : ℕ) → place_fits room (place.Element a i n) ≡ (expr_fits room i && array_fits room a n)
+  unfolding checked_kind place_fits
+  element_rule a i n = search (rules, the_lemmas)
+
+  element_kept : (a : ArrayPlace) (i : Expr) (n : ℕ) → IsTrue (place_fits room (place.Element a i n)) → IsTrue (expr_fits room i && array_fits room a n)
+  element_kept a i n h = rw (element_rule a i n) at h
+
+  pub element_index : (a : ArrayPlace) (i : Expr) (n : ℕ) → IsTrue (place_fits room (place.Element a i n)) → IsTrue (expr_fits room i)
+  element_index a i n h = and_left (expr_fits room i) (array_fits room a n) (element_kept a i n h)
+
+  pub element_array : (a : ArrayPlace) (i : Expr) (n : ℕ) → IsTrue (place_fits room (place.Element a i n)) → IsTrue (array_fits room a n)
+  element_array a i n h = and_right (expr_fits room i) (array_fits room a n) (element_kept a i n h)
+
+-- ---- what they come to
+
+module _ (room : Room) (cells : List ℕ) (frame : Frame) where
+  -- the kind of an expression that meets the rules, and the kind at which it is evaluated
+  pub evaluated_at : (e : Expr) → IsTrue (expr_fits room e) → (valued cells frame e).kind ≡ kind_of e
+  evaluated_at e h =
+      let k = some_is (checked_kind room e) h in
+      (agrees room cells frame e).evaluated k.0 k.1 ∙ sym ((agrees room cells frame e).kind k.0 k.1)
+
+  -- what it comes to is a value of its kind
+  pub comes_to : (e : Expr) (r : Result ℕ Trap) → IsTrue (expr_fits room e) → r ≡ value_of cells frame e → IfOk r (λ v. IsValue (kind_of e) v)
+  comes_to e (Err t) h is = tt
+  comes_to e (Ok v) h is =
+      let k = some_is (checked_kind room e) h in
+      subst (λ q. IsValue q v) (sym ((agrees room cells frame e).kind k.0 k.1)) ((agrees room cells frame e).value k.0 v k.1 (sym is))
+
+  comes_to_at : (e : Expr) (kind : Kind) (r : Result ℕ Trap) → checked_kind room e ≡ Some kind → r ≡ value_of cells frame e → IfOk r (λ v. IsValue kind v)
+  comes_to_at e kind r k is =
+      subst (λ q. IfOk r (λ v. IsValue q v)) ((agrees room cells frame e).kind kind k) (comes_to e r (is_fit k) is)
+
+  -- ---- constants
+
+  pub constant_value : (n : ℕ) (kind : Kind) → value_of cells frame (expr.Constant n kind) ≡ Ok n
+  unfolding valued
+  constant_value n kind = search (rules, the_lemmas)
+
+  -- ---- loads
+
+  pub load_value : (p : CellPlace) (kind : Kind) → value_of cells frame (expr.Load p kind) ≡ after_value (cell_of cells frame p) (λ c. Ok (wrapped kind (pos (slice_index cells c))))
+  unfolding valued cell_of
+  load_value p kind = search (rules, the_lemmas)
+
+  -- ---- conversions
+
+  convert_step : (a : Expr) (kind : Kind) → value_of cells frame (expr.Convert a kind) ≡ after_value (value_of cells frame a) (λ v. Ok (converted (valued cells frame a).kind kind v))
+  unfolding valued
+  convert_step a kind = search (rules, the_lemmas)
+
+  pub convert_value : (a : Expr) (kind : Kind) → IsTrue (expr_fits room (expr.Convert a kind)) → value_of cells frame (expr.Convert a kind) ≡ after_value (value_of cells frame a) (λ v. Ok (converted (kind_of a) kind v))
+  convert_value a kind h =
+      convert_step a kind ∙ ap (λ k. after_value (value_of cells frame a) (λ v. Ok (converted k kind v))) (evaluated_at a (convert_operand room a kind h))
+
+  -- ---- operators with one operand
+
+  pub unary_of_kind : (op : UnaryOp) (a : Expr) (kind : Kind) (r : Result ℕ Trap) → IsTrue (expr_fits room (expr.Unary op a kind)) → r ≡ value_of cells frame a → IfOk r (λ v. IsValue kind v)
+  unary_of_kind op a kind r h is = comes_to_at a kind r (unary_is room op a kind h) is
+
+  pub unary_step : (op : UnaryOp) (a : Expr) (kind : Kind) → value_of cells frame (expr.Unary op a kind) ≡ after_value (value_of cells frame a) (λ v. Ok (unary_value op kind v))
+  unfolding valued
+  unary_step op a kind = search (rules, the_lemmas)
+
+  -- ---- operators with two operands
+
+  pub binary_left_of_kind : (op : BinaryOp) (a b : Expr) (kind : Kind) (r : Result ℕ Trap) → IsTrue (expr_fits room (expr.Binary op a b kind)) → r ≡ value_of cells frame a → IfOk r (λ v. IsValue kind v)
+  binary_left_of_kind op a b kind r h is = comes_to_at a kind r (binary_left_is room op a b kind h) is
+
+  pub binary_same : (op : BinaryOp) (a b : Expr) (kind : Kind) → IsTrue (expr_fits room (expr.Binary op a b kind)) → is_shift op ≡ false → kind_of b ≡ kind
+  binary_same op a b kind h s = (agrees room cells frame b).kind kind ((binary_right_is room op a b kind h).1 s)
+
+  binary_step : (op : BinaryOp) (a b : Expr) (kind : Kind) → value_of cells frame (expr.Binary op a b kind) ≡ after_value (value_of cells frame a) (λ v. after_value (value_of cells frame b) (λ w. ok_or (binary_value op kind (valued cells frame b).kind v w) (operator_trap op kind w)))
+  unfolding valued
+  binary_step op a b kind = search (rules, the_lemmas)
+
+  pub binary_comes : (op : BinaryOp) (a b : Expr) (kind : Kind) → IsTrue (expr_fits room (expr.Binary op a b kind)) → value_of cells frame (expr.Binary op a b kind) ≡ after_value (value_of cells frame a) (λ v. after_value (value_of cells frame b) (λ w. ok_or (binary_value op kind (kind_of b) v w) (operator_trap op kind w)))
+  binary_comes op a b kind h =
+      binary_step op a b kind
+      ∙ ap (λ k. after_value (value_of cells frame a) (λ v. after_value (value_of cells frame b) (λ w. ok_or (binary_value op kind k v w) (operator_trap op kind w)))) (evaluated_at b (binary_right room op a b kind h))
+
+  -- ---- places
+
+  pub global_cell : (n : ℕ) → cell_of cells frame (place.Global n) ≡ Ok n
+  unfolding cell_of
+  global_cell n = search (rules, the_lemmas)
+
+  pub local_cell : (n : ℕ) → cell_of cells frame (place.Local n) ≡ Ok (frame.base + n)
+  unfolding cell_of
+  local_cell n = search (rules, the_lemmas)
+
+  element_step : (a : ArrayPlace) (i : Expr) (n : ℕ) → cell_of cells frame (place.Element a i n) ≡ after_value (value_of cells frame i) (λ v. element_at cells frame a n (valued cells frame i).kind v)
+  unfolding cell_of valued
+  element_step a i n = search (rules, the_lemmas)
+
+  pub element_cell : (a : ArrayPlace) (i : Expr) (n : ℕ) → IsTrue (place_fits room (place.Element a i n)) → cell_of cells frame (place.Element a i n) ≡ after_value (value_of cells frame i) (λ v. element_at cells frame a n (kind_of i) v)
+  element_cell a i n h =
+      element_step a i n ∙ ap (λ k. after_value (value_of cells frame i) (λ v. element_at cells frame a n k v)) (evaluated_at i (element_index room a i n h))
+
+-- ---- what they weigh
+
+pub weight_constant : (n : ℕ) (kind : Kind) → weight_of (expr.Constant n kind) ≡ 0
+unfolding weight_of
+weight_constant n kind = search (rules, the_lemmas)
+
+pub weight_load : (p : CellPlace) (kind : Kind) → weight_of (expr.Load p kind) ≡ place_weight p kind.width
+unfolding weight_of place_weight
+weight_load p kind = search (rules, the_lemmas)
+
+pub weight_convert : (a : Expr) (kind : Kind) → weight_of (expr.Convert a kind) ≡ weight_of a
+unfolding weight_of
+weight_convert a kind = search (rules, the_lemmas)
+
+pub weight_unary : (op : UnaryOp) (a : Expr) (kind : Kind) → weight_of (expr.Unary op a kind) ≡ weight_of a + unary_weight op kind.width
+unfolding weight_of
+weight_unary op a kind = search (rules, the_lemmas)
+
+pub weight_binary : (op : BinaryOp) (a b : Expr) (kind : Kind) → weight_of (expr.Binary op a b kind) ≡ weight_of a + weight_of b + binary_weight op kind.width
+unfolding weight_of
+weight_binary op a b kind = search (rules, the_lemmas)
+
+pub weight_global : (n width : ℕ) → place_weight (place.Global n) width ≡ 0
+unfolding place_weight
+weight_global n width = search (rules, the_lemmas)
+
+pub weight_local : (n width : ℕ) → place_weight (place.Local n) width ≡ 0
+unfolding place_weight
+weight_local n width = search (rules, the_lemmas)
+
+pub weight_element : (a : ArrayPlace) (i : Expr) (n width : ℕ) → place_weight (place.Element a i n) width ≡ weight_of i + element_weight n width
+unfolding weight_of place_weight
+weight_element a i n width = search (rules, the_lemmas)
+
+-- ---- their kinds
+
+pub kind_constant : (n : ℕ) (kind : Kind) → kind_of (expr.Constant n kind) ≡ kind
+kind_constant n kind = search (rules, the_lemmas)
+
+pub kind_load : (p : CellPlace) (kind : Kind) → kind_of (expr.Load p kind) ≡ kind
+kind_load p kind = search (rules, the_lemmas)
+
+pub kind_convert : (a : Expr) (kind : Kind) → kind_of (expr.Convert a kind) ≡ kind
+kind_convert a kind = search (rules, the_lemmas)
+
+pub kind_unary : (op : UnaryOp) (a : Expr) (kind : Kind) → kind_of (expr.Unary op a kind) ≡ unary_kind op kind
+kind_unary op a kind = search (rules, the_lemmas)
+
+pub kind_binary : (op : BinaryOp) (a b : Expr) (kind : Kind) → kind_of (expr.Binary op a b kind) ≡ binary_kind op kind
+kind_binary op a b kind = search (rules, the_lemmas)
+
+-- ---- elements
+
+length_is : (o : Option ℕ) (n : ℕ) → IsTrue (is_length o n) → o ≡ Some n
+length_is None n h = absurd (cc)
+length_is (Some m) n h = ap Some (eqb-true m n h)
+
+-- an array that meets the rules lies, whole, within the cells
+pub array_within : (count : ℕ) (frame : Frame) (room : Room) (cells : List ℕ) (a : ArrayPlace) (n : ℕ) → HasRoom count frame room → IsTrue (array_fits room a n) → array_start cells frame a + n ≤ count
+array_within count frame room cells (array.Global first) n r h = omega (arith, r.globals, leb-true (first + n) room.globals h)
+array_within count frame room cells (array.Local first) n r h = omega (arith, r.locals, leb-true (first + n) room.cells h)
+array_within count frame room cells (array.Lent p) n r h =
+    let is = length_is (slice_get room.arrays p) n h in
+    let same = length_all_zip (λ start length. start + length ≤ count) frame.arrays room.arrays r.arrays in
+    let lt : p < length frame.arrays = omega (arith, same, slice_get_within room.arrays p n is) in
+    let fact = AllZip-get_or (λ start length. start + length ≤ count) frame.arrays room.arrays p 0 0 r.arrays lt in
+    let own : get_or room.arrays p 0 ≡ n = get_or_from_slice_get room.arrays p n 0 is in
+    omega (arith, fact, own)
+
+-- an index names an element exactly where its pattern is below the length
+index_test : (count i : ℕ) (kind : Kind) → count < 2 ^ 32 → IsValue kind i → is_index count kind i ≡ nat_lt i count
+index_test count i kind small of_kind = ⊎_elim
+    (λ lt. (indexes_of_elements count i kind (omega arith) of_kind).1 lt ∙ sym (lt-ltb i count lt))
+    (λ le. no (is_index count kind i) (λ e. (let lt = (indexes_of_elements count i kind (omega arith) of_kind).0 e in omega arith)) ∙ sym (le-ltb i count le))
+    (cases_lt i count)
+  where
+    no : (b : Bool) → (b ≡ true → ⊥) → b ≡ false
+    no true h = absurd (h refl)
+    no false h = refl
+
+-- what is loaded of an index that has a value, or of its trap
+element_outcome : (cells : List ℕ) (frame : Frame) (a : ArrayPlace) (n : ℕ) (own kind : Kind) (v : Result ℕ Trap) → n < 2 ^ 32 → IfOk v (λ i. IsValue own i)
+    → result_ok (after_value (after_value v (λ i. element_at cells frame a n own i)) (λ c. Ok (wrapped kind (pos (slice_index cells c)))))
+    ≡ option_and_then (λ i. if nat_lt i n then Some (wrapped kind (pos (slice_index cells (array_start cells frame a + i)))) else None) (result_ok v)
+element_outcome cells frame a n own kind (Err t) small of_kind = refl
+element_outcome cells frame a n own kind (Ok i) small of_kind = by_test (is_index n own i) (nat_lt i n) (index_test n i own small of_kind)
+  where
+    by_test : (t u : Bool) → t ≡ u
+        → result_ok (after_value (if t then Ok (array_start cells frame a + i) else Err trap.Index) (λ c. Ok (wrapped kind (pos (slice_index cells c)))))
+        ≡ (if u then Some (wrapped kind (pos (slice_index cells (array_start cells frame a + i)))) else None)
+    by_test true true e = refl
+    by_test true false e = absurd (cc)
+    by_test false true e = absurd (cc)
+    by_test false false e = refl
+
+module _ (room : Room) (cells : List ℕ) (frame : Frame) where
+  pub global_outcome : (n : ℕ) (kind : Kind) → result_ok (value_of cells frame (expr.Load (place.Global n) kind)) ≡ Some (wrapped kind (pos (slice_index cells n)))
+  global_outcome n kind = ap result_ok (load_value room cells frame (place.Global n) kind ∙ ap (λ r. after_value r (λ c. Ok (wrapped kind (pos (slice_index cells c))))) (global_cell room cells frame n))
+
+  pub local_outcome : (n : ℕ) (kind : Kind) → result_ok (value_of cells frame (expr.Load (place.Local n) kind)) ≡ Some (wrapped kind (pos (slice_index cells (frame.base + n))))
+  local_outcome n kind = ap result_ok (load_value room cells frame (place.Local n) kind ∙ ap (λ r. after_value r (λ c. Ok (wrapped kind (pos (slice_index cells c))))) (local_cell room cells frame n))
+
+  pub loaded_outcome : (a : ArrayPlace) (i : Expr) (n : ℕ) (kind : Kind) → n < 2 ^ 32 → IsTrue (place_fits room (place.Element a i n))
+      → result_ok (value_of cells frame (expr.Load (place.Element a i n) kind))
+      ≡ option_and_then (λ v. if nat_lt v n then Some (wrapped kind (pos (slice_index cells (array_start cells frame a + v)))) else None) (result_ok (value_of cells frame i))
+  loaded_outcome a i n kind small h =
+      ap result_ok (load_value room cells frame (place.Element a i n) kind ∙ ap (λ r. after_value r (λ c. Ok (wrapped kind (pos (slice_index cells c))))) (element_cell room cells frame a i n h))
+      ∙ element_outcome cells frame a n (kind_of i) kind (value_of cells frame i) small (comes_to room cells frame i (value_of cells frame i) (element_index room a i n h) refl)
+
+-- ---- the parts of an expression over a store
+
+module _ (count : ℕ) (frame : Frame) where
+  pub fits_constant : (n : ℕ) (kind : Kind) → FitsWithin count frame (expr.Constant n kind) → IsValue kind n
+  fits_constant n kind f = constant_kept f.room n kind f.fits
+
+  pub fits_place : (p : CellPlace) (kind : Kind) → FitsWithin count frame (expr.Load p kind) → PlaceFitsWithin count frame p
+  fits_place p kind f = record { room = f.room; has = f.has; fits = load_place f.room p kind f.fits }
+
+  pub fits_load : (p : CellPlace) (kind : Kind) → FitsWithin count frame (expr.Load p kind) → IsKind kind
+  fits_load p kind f = load_kind f.room p kind f.fits
+
+  pub fits_converted : (a : Expr) (kind : Kind) → FitsWithin count frame (expr.Convert a kind) → FitsWithin count frame a
+  fits_converted a kind f = record { room = f.room; has = f.has; fits = convert_operand f.room a kind f.fits }
+
+  pub fits_convert : (a : Expr) (kind : Kind) → FitsWithin count frame (expr.Convert a kind) → IsKind kind
+  fits_convert a kind f = convert_kind f.room a kind f.fits
+
+  pub fits_operand : (op : UnaryOp) (a : Expr) (kind : Kind) → FitsWithin count frame (expr.Unary op a kind) → FitsWithin count frame a
+  fits_operand op a kind f = record { room = f.room; has = f.has; fits = unary_operand f.room op a kind f.fits }
+
+  pub operand_kind : (op : UnaryOp) (a : Expr) (kind : Kind) → FitsWithin count frame (expr.Unary op a kind) → kind_of a ≡ kind
+  operand_kind op a kind f = (agrees f.room [] frame a).kind kind (unary_is f.room op a kind f.fits)
+
+  pub fits_left : (op : BinaryOp) (a b : Expr) (kind : Kind) → FitsWithin count frame (expr.Binary op a b kind) → FitsWithin count frame a
+  fits_left op a b kind f = record { room = f.room; has = f.has; fits = binary_left f.room op a b kind f.fits }
+
+  pub fits_right : (op : BinaryOp) (a b : Expr) (kind : Kind) → FitsWithin count frame (expr.Binary op a b kind) → FitsWithin count frame b
+  fits_right op a b kind f = record { room = f.room; has = f.has; fits = binary_right f.room op a b kind f.fits }
+
+  pub left_kind : (op : BinaryOp) (a b : Expr) (kind : Kind) → FitsWithin count frame (expr.Binary op a b kind) → kind_of a ≡ kind
+  left_kind op a b kind f = (agrees f.room [] frame a).kind kind (binary_left_is f.room op a b kind f.fits)
+
+  pub right_kind : (op : BinaryOp) (a b : Expr) (kind : Kind) → FitsWithin count frame (expr.Binary op a b kind) → is_shift op ≡ false → kind_of b ≡ kind
+  right_kind op a b kind f = binary_same f.room [] frame op a b kind f.fits
+
+  pub fits_index : (a : ArrayPlace) (i : Expr) (n : ℕ) → PlaceFitsWithin count frame (place.Element a i n) → FitsWithin count frame i
+  fits_index a i n f = record { room = f.room; has = f.has; fits = element_index f.room a i n f.fits }
+
+  pub fits_array : (cells : List ℕ) (a : ArrayPlace) (i : Expr) (n : ℕ) → PlaceFitsWithin count frame (place.Element a i n) → array_start cells frame a + n ≤ count
+  fits_array cells a i n f = array_within count frame f.room cells a n f.has (element_array f.room a i n f.fits)
+
+  place_global : (room : Room) (n : ℕ) → place_fits room (place.Global n) ≡ nat_lt n room.globals
+  unfolding place_fits
+  place_global room n = search (rules, the_lemmas)
+
+  place_local : (room : Room) (n : ℕ) → place_fits room (place.Local n) ≡ nat_lt n room.cells
+  unfolding place_fits
+  place_local room n = search (rules, the_lemmas)
+
+  pub fits_global : (n : ℕ) → PlaceFitsWithin count frame (place.Global n) → n < count
+  fits_global n f = let lt = ltb-true n f.room.globals (sym (place_global f.room n) ∙ f.fits) in omega (arith, f.has.globals)
+
+  pub fits_local : (n : ℕ) → PlaceFitsWithin count frame (place.Local n) → frame.base + n < count
+  fits_local n f = let lt = ltb-true n f.room.cells (sym (place_local f.room n) ∙ f.fits) in omega (arith, f.has.locals)
+
+-- ---- what a form comes to, from what its parts come to
+
+module _ (count : ℕ) (frame : Frame) (cells : List ℕ) where
+  pub constant_outcome : (n : ℕ) (kind : Kind) → FitsWithin count frame (expr.Constant n kind) → result_ok (value_of cells frame (expr.Constant n kind)) ≡ Some n
+  constant_outcome n kind f = ap result_ok (constant_value f.room cells frame n kind)
+
+  pub convert_outcome : (a : Expr) (kind : Kind) (t : Bool) (x y : ℕ) → FitsWithin count frame (expr.Convert a kind) → cond t (Some x) None ≡ result_ok (value_of cells frame a) → y ≡ converted (kind_of a) kind x
+      → cond t (Some y) None ≡ result_ok (value_of cells frame (expr.Convert a kind))
+  convert_outcome a kind t x y f is made =
+      after_one (value_of cells frame a) t x y (converted (kind_of a) kind) is made ∙ ap result_ok (sym (convert_value f.room cells frame a kind f.fits))
+
+  pub unary_outcome : (op : UnaryOp) (a : Expr) (kind : Kind) (t : Bool) (x y : ℕ) → FitsWithin count frame (expr.Unary op a kind) → cond t (Some x) None ≡ result_ok (value_of cells frame a) → y ≡ unary_value op kind x
+      → cond t (Some y) None ≡ result_ok (value_of cells frame (expr.Unary op a kind))
+  unary_outcome op a kind t x y f is made =
+      after_one (value_of cells frame a) t x y (unary_value op kind) is made ∙ ap result_ok (sym (unary_step f.room cells frame op a kind))
+
+  pub binary_outcome : (op : BinaryOp) (a b : Expr) (kind : Kind) (o p : Option ℕ) → FitsWithin count frame (expr.Binary op a b kind) → o ≡ result_ok (value_of cells frame a) → p ≡ result_ok (value_of cells frame b)
+      → option_and_then (λ x. option_and_then (λ y. binary_value op kind (kind_of b) x y) p) o ≡ result_ok (value_of cells frame (expr.Binary op a b kind))
+  binary_outcome op a b kind o p f left right =
+      after_two (value_of cells frame a) (value_of cells frame b) o p (λ x y. binary_value op kind (kind_of b) x y) (λ x y. operator_trap op kind y) left right
+      ∙ ap result_ok (sym (binary_comes f.room cells frame op a b kind f.fits))

@@ -1,0 +1,18 @@
+//! Expressions over words of bits: the value of an expression of C as literals of a circuit.
+//!
+//! [`translate`] makes the word that an expression comes to and a literal that says whether its evaluation doesn't trap.
+//! In every world the two tell exactly what `cfa` says of the expression's value over the cells that the store's words
+//! are in that world. The wires used are at most 31 per unit of the expression's weight, which specs/Weights.antt
+//! defines. It stands on `bit_words` for the operations on words, on `cfa` for expressions and their values, and on
+//! `circuit`.
+#![tactic(auto)]
+
+mod elements;
+mod gates;
+mod operators;
+mod patterns;
+mod store;
+mod translation;
+
+pub use store::SymStore;
+pub use translation::translate;
