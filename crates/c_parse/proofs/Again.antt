@@ -40,7 +40,7 @@ begins _ = false
 abbrev pub Begins : List Terminal → Type 0
 Begins xs = BeginsBy begins xs
 
-Derives_begins : {k : ℕ} {t : ExprTree} {xs : List Terminal} → Derives k t xs → Begins xs
+pub Derives_begins : {k : ℕ} {t : ExprTree} {xs : List Terminal} → Derives k t xs → Begins xs
 Derives_begins a_number = record { head = _; others = _; is = refl; fits = refl }
 Derives_begins a_name = record { head = _; others = _; is = refl; fits = refl }
 Derives_begins (an_element q r d) = record { head = _; others = _; is = refl; fits = refl }

@@ -28,6 +28,7 @@ use Rattle.c_parse.specs.ReadingItems.{is_shared, is_of_functions, is_before, st
 use Rattle.c_parse.proofs.Again.{Stays, Stays_mark}
 use Rattle.c_parse.proofs.TakesStatements.{type_first}
 use Rattle.c_parse.proofs.AgainParts.{choice_in_again, separated_again, bracketed_again, declarators_again, declarators_begin, no_type_first, consts_again, type_at_again, type_no_const}
+use Rattle.c_parse.proofs.AgreeStatements.{body_unbounded}
 use Rattle.c_parse.proofs.AgainStatements.{body_again}
 
 -- ---- the words in front
@@ -123,7 +124,8 @@ end_again (declared p) rest = refl
 end_again (defined {ts = ts} p q d) rest =
     let all : List Terminal = ts ++ mark marks.CloseBrace q ∷ rest in
     let e : body_at (statement_at (suc (length all))) (length all) all ≡ Some (_, mark marks.CloseBrace q ∷ rest) = body_again d (suc (length all)) (length all) (mark marks.CloseBrace q ∷ rest) (omega (arith, length-append ts (mark marks.CloseBrace q ∷ rest))) (omega (arith, length-append ts (mark marks.CloseBrace q ∷ rest))) refl in
-    rw (append_assoc, e) refl
+    let f = body_unbounded (suc (length all)) (length all) all (omega arith) in
+    rw (append_assoc, ← f, e) refl
 
 function_again : (p q : Span) (result : Option Kind) (name : Ident) (ps : List Parameter) (o : Option Body) (ts us rest : List Terminal) → DerivesParameters ps ts → DerivesEnd o us
     → function_at p result name (mark marks.Open q ∷ (ts ++ (us ++ rest))) ≡ Some (item.Function p result name ps o, rest)

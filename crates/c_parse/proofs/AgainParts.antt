@@ -24,14 +24,15 @@ use Rattle.c_parse.specs.Grammar.{Text, mark, name_token, end, word, DerivesChoi
 use Rattle.c_parse.specs.Separated.{DerivesSeparated, the_only, the_only_with_comma, and_others}
 use Rattle.c_parse.specs.Declarations.{DerivesType, a_type, DerivesBracketed, no_bracket, in_brackets, DerivesFirst, no_first, one_first, some_first, DerivesDeclarator, a_declarator, DerivesDeclarators}
 use Rattle.c_parse.specs.Statements.{AreConsts, no_const, a_const, a_place, DerivesSimple, an_assignment, a_step_after, a_step_before, a_bare_run, a_run, DerivesLocal, a_local, DerivesOptional, no_choice, some_choice, DerivesBegin, begins_not, begins_simple, begins_local, DerivesNext, no_next, a_next, DerivesLabel, a_case, a_default, DerivesLabels, last_label, more_labels}
-use Rattle.c_parse.specs.Reading.{Read, is_mark, is_type, starts, starts_type, infix_of, type_at}
+use Rattle.c_parse.specs.Reading.{expr_in, Read, is_mark, is_type, starts, starts_type, infix_of, type_at}
 use Rattle.c_parse.specs.ReadingStatements.{choice_in, separated_at, bracketed_at, first_at, declarator_at, declarators_at, past_consts, starts_local, local_at, changed_at, named_at, stepped_at, simple_at, test_at, optional_at, begin_at, next_at, starts_label, label_at, labels_at}
+use Rattle.c_parse.proofs.Agree.{arguments_unbounded}
 use Rattle.c_parse.proofs.Again.{Stays, Stays_mark, choice_again, arguments_again, Choice_begins, Arguments_begin, type_again}
 use Rattle.c_parse.proofs.Firsts.{BeginsBy, BeginsBy-append, not_first}
 use Rattle.c_parse.proofs.TakesStatements.{type_first}
 
 pub choice_in_again : {t : ExprTree} {xs : List Terminal} → DerivesChoice t xs → (rest : List Terminal) → Stays rest → choice_in (xs ++ rest) ≡ Some (t, rest)
-unfolding choice_in
+unfolding choice_in expr_in
 choice_in_again {t} {xs} d rest stays = choice_again d (suc (length (xs ++ rest))) rest (omega (arith, length-append xs rest)) stays
 
 pub test_again : (p q : Span) (c : ExprTree) (xs rest : List Terminal) → DerivesChoice c xs → test_at (mark marks.Open p ∷ (xs ++ mark marks.Close q ∷ rest)) ≡ Some (c, rest)
@@ -223,7 +224,8 @@ unfolding named_at
 run_again p q r w args ts rest d =
     let bare = not_first marks.Close refl ts (mark marks.Close r ∷ rest) (Arguments_begin d) in
     let e = arguments_again d (suc (suc (length (ts ++ mark marks.Close r ∷ rest)))) (length (ts ++ mark marks.Close r ∷ rest)) r rest (omega (arith, length-append ts (mark marks.Close r ∷ rest))) (omega (arith, length-append ts (mark marks.Close r ∷ rest))) in
-    rw (append_assoc, bare, e) refl
+    let f = arguments_unbounded (suc (suc (length (ts ++ mark marks.Close r ∷ rest)))) (length (ts ++ mark marks.Close r ∷ rest)) (ts ++ mark marks.Close r ∷ rest) (omega arith) in
+    rw (append_assoc, bare, ← f, e) refl
 
 -- a simple statement begins with a name, or with the mark of a step
 pub data IsRead (s : Statement) (xs rest : List Terminal) : Type 0 where

@@ -20,6 +20,7 @@ use Rattle.c_parse.specs.Declarations.{a_type}
 use Rattle.c_parse.specs.Statements.{no_const, a_const, DerivesSimple, DerivesLocal, a_local, DerivesOptional, DerivesBegin, DerivesNext, DerivesLabels, DerivesStatement, a_block, an_empty, a_simple, a_label, an_if, a_while, a_do, a_for, a_switch, a_break, a_continue, a_return, an_assert, an_assume, DerivesBody, no_more, local_then, statement_then, DerivesArms, an_arm, no_else, an_else, else_if, DerivesGroups, no_group, a_group}
 use Rattle.c_parse.specs.Reading.{Read, ◌>>=◌, is_mark, starts, expect}
 use Rattle.c_parse.specs.ReadingStatements.{starts_local, local_at, stepped_at, starts_label, labels_at, Reads, one_at, ends_body, body_at, groups_at, arms_at, do_at, for_at, switch_at, return_at, assert_at, assume_at, statement_of_mark, labelled_at, statement_by, statement_at}
+use Rattle.c_parse.proofs.Steps.{starts-false}
 use Rattle.c_parse.proofs.Again.{Stays_mark}
 use Rattle.c_parse.proofs.Firsts.{BeginsBy, BeginsBy-append, some_first as first_there, not_first}
 use Rattle.c_parse.proofs.TakesStatements.{Closed}
@@ -288,7 +289,7 @@ label_no_close (t ∷ ts) e = at t.sign e
     at (sign.Mark _) e = refl
     at _ e = refl
 
-labels_there : {ls : List CaseLabel} {xs : List Terminal} → DerivesLabels ls xs → 0 < length xs
+pub labels_there : {ls : List CaseLabel} {xs : List Terminal} → DerivesLabels ls xs → 0 < length xs
 labels_there {xs = xs} d = at xs (labels_start d [])
   where
     at : (xs : List Terminal) → starts_label (xs ++ []) ≡ true → 0 < length xs
@@ -342,7 +343,7 @@ mutual
       at_arms (statement_at n) m _ _ (omega arith) (λ k e. no_else_again (statement_at n) k p q _ _ xs ys rest c (at_statement n _ _ (omega arith) (λ h f. statement_by_again d h rest (omega (arith, length-append {A = Terminal})) (λ opens. closed refl))) (closed refl))
   arms_again (an_arm {xs = xs} {ys = ys} p q c d fits (an_else {ts = ts} u other o)) n m rest le lm closed =
       at_arms (statement_at n) m _ _ (omega arith) (λ k e. else_again (statement_at n) k p q u _ _ _ xs ys ts rest c
-      (at_statement n _ _ (omega arith) (λ h f. statement_by_again d h (mark marks.Else u ∷ (ts ++ rest)) (omega (arith, length-append {A = Terminal})) (λ opens. let h = fits opens in absurd cc))) (no_if ts rest (statement_begins o) other) (at_statement n _ _ (omega arith) (λ h f. statement_by_again o h rest (omega (arith, length-append {A = Terminal})) closed)))
+      (at_statement n _ _ (omega arith) (λ h f. statement_by_again d h (mark marks.Else u ∷ (ts ++ rest)) (omega (arith, length-append {A = Terminal})) (λ opens. let h = fits opens in absurd cc))) (no_if ts rest (statement_begins o) (starts-false marks.If ts other)) (at_statement n _ _ (omega arith) (λ h f. statement_by_again o h rest (omega (arith, length-append {A = Terminal})) closed)))
   arms_again (an_arm {xs = xs} {ys = ys} p q c d fits (else_if {ts = ts} u v ds)) n m rest le lm closed =
       at_arms (statement_at n) m _ _ (omega arith) (λ k e. else_if_again (statement_at n) k p q u v _ _ _ _ xs ys ts rest c
       (at_statement n _ _ (omega arith) (λ h f. statement_by_again d h (mark marks.Else u ∷ mark marks.If v ∷ (ts ++ rest)) (omega (arith, length-append {A = Terminal})) (λ opens. let h = fits opens in absurd cc))) (arms_again ds n k rest (omega (arith, length-append {A = Terminal})) (omega (arith, length-append {A = Terminal})) closed))

@@ -11,7 +11,8 @@ use Rattle.c_parse.specs.Gives.{Fails}
 use Rattle.c_parse.specs.Trees.{tree}
 use Rattle.c_parse.specs.Grammar.{place_of}
 use Rattle.c_parse.specs.Choices.{closed}
-use Rattle.c_parse.specs.Reading.{Read, ◌>>=◌, starts, tail, expect, level_by, choice_by, expr_at}
+use Rattle.c_parse.specs.Reading.{Read, ◌>>=◌, starts, tail, expect, level_by, choice_by, expr_in}
+use Rattle.c_parse.proofs.Agree.{choice_unbounded}
 
 pub closed_last : (cs : List OpenChoice) (c : OpenChoice) (last : ExprTree) → closed (cs ++ c ∷ []) last ≡ closed cs (tree c.span (form.Choice c.test c.yes last))
 unfolding closed
@@ -32,41 +33,39 @@ unfolding closed
 within_none None = refl
 within_none (Some x) = refl
 
-module _ (left : ℕ) (outer : List OpenChoice) (rest : List Terminal) (total : Read ExprTree) (so_far : within outer (choice_by (expr_at left) rest) ≡ total) where
-  pub test_fails : (e : Stop) → Fails e (level_by (expr_at left) 1 rest) → Fails e total
+module _ (outer : List OpenChoice) (rest : List Terminal) (total : Read ExprTree) (so_far : within outer (choice_by expr_in rest) ≡ total) where
+  pub test_fails : (e : Stop) → Fails e (level_by expr_in 1 rest) → Fails e total
   unfolding choice_by
   test_fails Memory h = tt
   test_fails Syntax h = sym so_far ∙ rw h refl
 
-  module _ (test : ExprTree) (after : List Terminal) (first : level_by (expr_at left) 1 rest ≡ Some (test, after)) where
+  module _ (test : ExprTree) (after : List Terminal) (first : level_by expr_in 1 rest ≡ Some (test, after)) where
     pub no_choice : starts marks.Question after ≡ false → total ≡ Some (closed outer test, after)
     unfolding choice_by
     no_choice q = sym so_far ∙ rw (first, q) refl
 
     module _ (question : starts marks.Question after ≡ true) where
-      pub second_fails : (e : Stop) → Fails e (expr_at left 0 (tail after)) → Fails e total
+      pub second_fails : (e : Stop) → Fails e (expr_in 0 (tail after)) → Fails e total
       unfolding choice_by
       second_fails Memory h = tt
       second_fails Syntax h = sym so_far ∙ rw (first, question, h) refl
 
-      module _ (yes : ExprTree) (behind : List Terminal) (second : expr_at left 0 (tail after) ≡ Some (yes, behind)) where
+      module _ (yes : ExprTree) (behind : List Terminal) (second : expr_in 0 (tail after) ≡ Some (yes, behind)) where
         pub colon_fails : (e : Stop) → Fails e (expect marks.Colon behind) → Fails e total
         unfolding choice_by
         colon_fails Memory h = tt
         colon_fails Syntax h = sym so_far ∙ rw (first, question, second, h) refl
 
         module _ (next : List Terminal) (colon : expect marks.Colon behind ≡ Some next) where
-          third : total ≡ within outer (expr_at left 0 next >>= λ b. Some (tree (place_of rest) (form.Choice test yes b.0), b.1))
+          third : total ≡ within outer (expr_in 0 next >>= λ b. Some (tree (place_of rest) (form.Choice test yes b.0), b.1))
           unfolding choice_by
           third = sym so_far ∙ rw (first, question, second, colon) refl
 
-          pub runs_out : left ≡ 0 → total ≡ None
-          unfolding expr_at
-          runs_out e = third ∙ rw e refl
-
-          pub goes_on : (n : ℕ) → left ≡ suc n → within (outer ++ record { span = place_of rest; test = test; yes = yes } ∷ []) (choice_by (expr_at n) next) ≡ total
-          unfolding expr_at
-          goes_on n e = regroup (choice_by (expr_at n) next) ∙ sym (third ∙ rw e refl)
+          pub goes_on : within (outer ++ record { span = place_of rest; test = test; yes = yes } ∷ []) (choice_by expr_in next) ≡ total
+          goes_on =
+              regroup (choice_by expr_in next)
+              ∙ ap (λ (o : Read ExprTree). within outer (o >>= λ b. Some (tree (place_of rest) (form.Choice test yes b.0), b.1))) (sym (choice_unbounded next))
+              ∙ sym third
             where
               regroup : (read : Read ExprTree) → within (outer ++ record { span = place_of rest; test = test; yes = yes } ∷ []) read ≡ within outer (read >>= λ b. Some (tree (place_of rest) (form.Choice test yes b.0), b.1))
               regroup None = refl

@@ -2,6 +2,8 @@ pub mod Again
 pub mod AgainItems
 pub mod AgainParts
 pub mod AgainStatements
+pub mod Agree
+pub mod AgreeStatements
 pub mod Choices
 pub mod Firsts
 pub mod LimitsLaws
@@ -11,6 +13,8 @@ pub mod LoopsStatements
 pub mod OneOutcome
 pub mod OpenStatements
 pub mod OutcomeLaws
+pub mod Shorter
+pub mod ShorterStatements
 pub mod Steps
 pub mod Takes
 pub mod TakesItems

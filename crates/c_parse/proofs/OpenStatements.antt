@@ -20,11 +20,14 @@ use Rattle.c_parse.specs.Gives.{Fails}
 use Rattle.c_parse.specs.Grammar.{Text, name_token}
 use Rattle.c_parse.specs.StatementTrees.{statement}
 use Rattle.c_parse.specs.Reading.{Read, ◌>>=◌, starts, tail, expect}
-use Rattle.c_parse.specs.ReadingStatements.{named_at, test_at, optional_at, begin_at, next_at, Reads, arms_at, do_at, for_at, statement_of_mark, statement_by, statement_at}
+use Rattle.c_parse.specs.ReadingStatements.{named_at, test_at, optional_at, begin_at, next_at, Reads, arms_at, do_at, for_at, statement_of_mark, statement_by, statement_in}
 use Rattle.c_parse.specs.OpenStatements.{open_statement, opens, for_part, part_of_mark, do_end, Arms, behind_arms, resume, progress_at, finished}
 use Rattle.c_parse.proofs.Steps.{then_some, starts-true, expect_takes}
 use Rattle.c_parse.proofs.Takes.{Takes, length-parts}
-use Rattle.c_parse.proofs.TakesStatements.{test_takes, optional_takes, begin_takes, next_takes, named_takes, statement_first, of_mark_takes, statement_takes}
+use Rattle.c_parse.proofs.TakesStatements.{optional_takes, begin_takes, next_takes, named_takes, statement_first, of_mark_takes, statement_in_takes}
+use Rattle.c_parse.proofs.Agree.{tail_most}
+use Rattle.c_parse.proofs.AgreeStatements.{reads_most, arms_enough, statement_unbounded}
+use Rattle.c_parse.proofs.Shorter.{test_less, test_fewer}
 
 -- ---- what is read leaves fewer tokens
 
@@ -36,12 +39,6 @@ expect_shorter m ts = IfSome_then (expect m ts) (expect_takes m ts) (λ rest e. 
 
 pub starts_shorter : (m : Mark) (ts : List Terminal) → starts m ts ≡ true → length (tail ts) + 1 ≤ length ts
 starts_shorter m ts e = let a = starts-true m ts e in let n = ap length a.1 in omega arith
-
-test_shorter : (ts : List Terminal) → IfSome (test_at ts) (λ x. length x.1 + 1 ≤ length ts)
-test_shorter ts = IfSome_then (test_at ts) (test_takes ts) (λ x d. let n = simp length-append at (ap length d.parts) in omega arith)
-
-pub test_takes_some : (ts rest : List Terminal) (c : ExprTree) → test_at ts ≡ Some (c, rest) → length rest + 1 ≤ length ts
-test_takes_some ts rest c e = let h = test_shorter ts in rw e at h
 
 for_shorter : (ts : List Terminal) → IfSome (for_part ts) (λ x. length x.1 ≤ length ts)
 unfolding for_part
@@ -55,8 +52,8 @@ for_shorter ts =
     omega (arith, taken a i.1 d, taken i.1 c.1 f, taken b j.1 h)))))))
 
 part_shorter : (m : Mark) (ts : List Terminal) → IfSome (part_of_mark m ts) (λ x. length x.1 ≤ length ts)
-part_shorter marks.If ts = then_some (test_at ts) _ _ (test_shorter ts) (λ c d. omega arith)
-part_shorter marks.While ts = then_some (test_at ts) _ _ (test_shorter ts) (λ c d. omega arith)
+part_shorter marks.If ts = then_some (test_at ts) _ _ (test_less ts) (λ c d. omega arith)
+part_shorter marks.While ts = then_some (test_at ts) _ _ (test_less ts) (λ c d. omega arith)
 part_shorter marks.Do ts = omega arith
 part_shorter marks.For ts = for_shorter ts
 part_shorter _ ts = tt
@@ -64,9 +61,9 @@ part_shorter _ ts = tt
 pub part_takes : (m : Mark) (ts rest : List Terminal) (f : OpenForm) → part_of_mark m ts ≡ Some (f, rest) → length rest ≤ length ts
 part_takes m ts rest f e = let h = part_shorter m ts in rw e at h
 
-pub whole_takes : (n : ℕ) (m : Mark) (p : Span) (ts rest : List Terminal) (s : Statement) → statement_of_mark (statement_at n) m p ts ≡ Some (s, rest) → length rest ≤ length ts
-whole_takes n m p ts rest s e =
-    let h = of_mark_takes (statement_at n) (statement_takes n) m p ts in
+pub whole_takes : (m : Mark) (p : Span) (ts rest : List Terminal) (s : Statement) → statement_of_mark statement_in m p ts ≡ Some (s, rest) → length rest ≤ length ts
+whole_takes m p ts rest s e =
+    let h = of_mark_takes statement_in statement_in_takes m p ts in
     let d = rw e at h in
     let first = statement_first d.1.fact in
     let front = ap length first.is in
@@ -88,7 +85,7 @@ do_takes_end p s whole ts rest e = let h = shorter in rw e at h
     shorter : IfSome (do_end p s ts) (λ x. length x.1 ≤ length ts)
     shorter =
         then_some (expect marks.While ts) _ _ (expect_shorter marks.While ts) (λ a f.
-        then_some (test_at a) _ _ (test_shorter a) (λ c g.
+        then_some (test_at a) _ _ (test_less a) (λ c g.
         then_some (expect marks.Semicolon c.1) _ _ (expect_shorter marks.Semicolon c.1) (λ b h. omega arith)))
 
 -- ---- a statement is what is read up to a part of it, and resumed
@@ -101,45 +98,57 @@ in_branches : {A B : Type 0} (b : Bool) (x y : Option A) (g : A → Option B) (u
 in_branches true x y g u v d e = d
 in_branches false x y g u v d e = e
 
--- an arm is read up to its test
-pub arms_by_parts : (r : Reads) (p : Span) (arms : Arms) (n : ℕ) (ts rest : List Terminal) (c : ExprTree) → test_at ts ≡ Some (c, rest)
-    → (arms_at r (suc n) ts >>= λ x. Some (statement p (form.If (arms ++ x.0.0) x.0.1), x.1)) ≡ progress_at r (progress.Part (open_statement p (begun.Arm arms c n))) rest
-unfolding arms_at behind_arms
-arms_by_parts r p arms n ts rest c e =
-    rw e (in_steps (r rest) _ _ _ (λ s.
-    in_branches (starts marks.Else s.1) _ _ _ _ _
-    (in_branches (starts marks.If (tail s.1)) _ _ _ _ _
-    (in_steps (arms_at r n (tail (tail s.1))) _ _ _ (λ x. ap (λ (all : Arms). Some (statement p (form.If all x.0.1), x.1)) (sym (append_assoc arms ((c, s.0) ∷ []) x.0.0))))
-    (in_steps (r (tail s.1)) _ _ _ (λ o. refl)))
-    refl))
-
--- behind `else if` another arm is read up to its test
-pub else_if_by_parts : (r : Reads) (p : Span) (arms : Arms) (left k : ℕ) (ts rest : List Terminal) (c : ExprTree) → starts marks.Else ts ≡ true → starts marks.If (tail ts) ≡ true → left ≡ suc k → test_at (tail (tail ts)) ≡ Some (c, rest)
-    → behind_arms r p arms left ts ≡ progress_at r (progress.Part (open_statement p (begun.Arm arms c k))) rest
-unfolding behind_arms
-else_if_by_parts r p arms left k ts rest c e f d t = rw (e, f, d) (arms_by_parts r p arms k (tail (tail ts)) rest c t)
-
-pub else_if_shorter : (ts rest : List Terminal) (c : ExprTree) → starts marks.Else ts ≡ true → test_at (tail (tail ts)) ≡ Some (c, rest) → length rest + 1 ≤ length ts
-else_if_shorter ts rest c e t = omega (arith, starts_shorter marks.Else ts e, test_takes_some (tail (tail ts)) rest c t, tail_shorter (tail ts))
-  where
-    tail_shorter : (us : List Terminal) → length (tail us) ≤ length us
-    tail_shorter [] = omega arith
-    tail_shorter (u ∷ us) = omega arith
+in_steps_from : {A B C : Type 0} (o : Option A) (f : A → Option B) (g : B → Option C) (h : A → Option C) → ((x : A) → o ≡ Some x → (f x >>= g) ≡ h x) → ((o >>= f) >>= g) ≡ (o >>= h)
+in_steps_from None f g h e = refl
+in_steps_from (Some x) f g h e = e x refl
 
 no_arms : (r : Reads) (n : ℕ) (ts : List Terminal) → test_at ts ≡ None → arms_at r n ts ≡ None
 unfolding arms_at
 no_arms r zero ts e = refl
 no_arms r (suc n) ts e = rw e refl
 
-if_by_parts : (r : Reads) (p : Span) (ts : List Terminal) → statement_of_mark r marks.If p ts ≡ (part_of_mark marks.If ts >>= λ x. progress_at r (progress.Part (open_statement p x.0)) x.1)
-if_by_parts r p ts = at (test_at ts) refl
+-- an arm is read up to its test
+arms_by_parts : (p : Span) (arms : Arms) (ts rest : List Terminal) (c : ExprTree) → test_at ts ≡ Some (c, rest)
+    → (arms_at statement_in (length ts) ts >>= λ x. Some (statement p (form.If (arms ++ x.0.0) x.0.1), x.1)) ≡ progress_at statement_in (progress.Part (open_statement p (begun.Arm arms c))) rest
+unfolding arms_at behind_arms
+arms_by_parts p arms ts rest c e =
+    let l = test_fewer ts rest c e in
+    let k : length ts ≡ suc (length ts - 1) = omega arith in
+    ap (λ (n : ℕ). arms_at statement_in n ts >>= λ x. Some (statement p (form.If (arms ++ x.0.0) x.0.1), x.1)) k ∙
+    rw e (in_steps_from (statement_in rest) _ _ _ (λ s f.
+    let few = reads_most statement_in statement_in_takes rest s f in
+    in_branches (starts marks.Else s.1) _ _ _ _ _
+    (in_branches (starts marks.If (tail s.1)) _ _ _ _ _
+    (in_steps (arms_at statement_in (length ts - 1) (tail (tail s.1))) _ _ (λ x. Some (statement p (form.If ((arms ++ (c, s.0) ∷ []) ++ x.0.0) x.0.1), x.1)) (λ x. ap (λ (all : Arms). Some (statement p (form.If all x.0.1), x.1)) (sym (append_assoc arms ((c, s.0) ∷ []) x.0.0)))
+    ∙ ap (λ (o : Read (Arms × Option Statement)). o >>= λ x. Some (statement p (form.If ((arms ++ (c, s.0) ∷ []) ++ x.0.0) x.0.1), x.1))
+    (arms_enough statement_in statement_in_takes (length ts - 1) (length s.1) (tail (tail s.1)) (omega (arith, few, l, tail_most s.1, tail_most (tail s.1))) (omega (arith, tail_most s.1, tail_most (tail s.1)))))
+    (in_steps (statement_in (tail s.1)) _ _ _ (λ o. refl)))
+    refl))
+
+-- behind `else if` another arm is read up to its test
+pub else_if_by_parts : (p : Span) (arms : Arms) (ts rest : List Terminal) (c : ExprTree) → starts marks.Else ts ≡ true → starts marks.If (tail ts) ≡ true → test_at (tail (tail ts)) ≡ Some (c, rest)
+    → behind_arms statement_in p arms ts ≡ progress_at statement_in (progress.Part (open_statement p (begun.Arm arms c))) rest
+unfolding behind_arms
+else_if_by_parts p arms ts rest c e f t =
+    rw (e, f) (ap (λ (o : Read (Arms × Option Statement)). o >>= λ x. Some (statement p (form.If (arms ++ x.0.0) x.0.1), x.1))
+    (arms_enough statement_in statement_in_takes (length ts) (length (tail (tail ts))) (tail (tail ts)) (omega (arith, tail_most ts, tail_most (tail ts))) (omega arith))
+    ∙ arms_by_parts p arms (tail (tail ts)) rest c t)
+
+-- behind `else if` no arm is read without a test
+pub else_if_fails : (e : Stop) (p : Span) (arms : Arms) (ts : List Terminal) → starts marks.Else ts ≡ true → starts marks.If (tail ts) ≡ true → Fails e (test_at (tail (tail ts))) → Fails e (behind_arms statement_in p arms ts)
+unfolding behind_arms
+else_if_fails Memory p arms ts e f h = tt
+else_if_fails Syntax p arms ts e f h = rw (e, f, no_arms statement_in (length ts) (tail (tail ts)) h) refl
+
+pub else_if_shorter : (ts rest : List Terminal) (c : ExprTree) → starts marks.Else ts ≡ true → test_at (tail (tail ts)) ≡ Some (c, rest) → length rest + 1 ≤ length ts
+else_if_shorter ts rest c e t = omega (arith, starts_shorter marks.Else ts e, test_fewer (tail (tail ts)) rest c t, tail_most (tail ts))
+
+if_by_parts : (p : Span) (ts : List Terminal) → statement_of_mark statement_in marks.If p ts ≡ (part_of_mark marks.If ts >>= λ x. progress_at statement_in (progress.Part (open_statement p x.0)) x.1)
+if_by_parts p ts = at (test_at ts) refl
   where
-    at : (o : Read ExprTree) → test_at ts ≡ o → statement_of_mark r marks.If p ts ≡ (part_of_mark marks.If ts >>= λ x. progress_at r (progress.Part (open_statement p x.0)) x.1)
-    at None e = rw (e, no_arms r (length ts) ts e) refl
-    at (Some c) e =
-        let l = test_takes_some ts c.1 c.0 e in
-        let k : length ts ≡ suc (length ts - 1) = omega arith in
-        rw e (ap (λ (n : ℕ). arms_at r n ts >>= λ x. Some (statement p (form.If x.0.0 x.0.1), x.1)) k ∙ arms_by_parts r p [] (length ts - 1) ts c.1 c.0 e)
+    at : (o : Read ExprTree) → test_at ts ≡ o → statement_of_mark statement_in marks.If p ts ≡ (part_of_mark marks.If ts >>= λ x. progress_at statement_in (progress.Part (open_statement p x.0)) x.1)
+    at None e = rw (e, no_arms statement_in (length ts) ts e) refl
+    at (Some c) e = rw e (arms_by_parts p [] ts c.1 c.0 e)
 
 for_by_parts : (r : Reads) (p : Span) (ts : List Terminal) → (for_part ts >>= λ x. progress_at r (progress.Part (open_statement p x.0)) x.1) ≡ for_at r p ts
 unfolding for_part for_at
@@ -151,82 +160,69 @@ for_by_parts r p ts =
     in_steps (next_at b) _ _ _ (λ j.
     in_steps (expect marks.Close j.1) _ _ _ (λ d. refl))))))
 
-by_parts : (r : Reads) (m : Mark) (p : Span) (ts : List Terminal) → opens m ≡ true → statement_of_mark r m p ts ≡ (part_of_mark m ts >>= λ x. progress_at r (progress.Part (open_statement p x.0)) x.1)
+by_parts : (m : Mark) (p : Span) (ts : List Terminal) → opens m ≡ true → statement_of_mark statement_in m p ts ≡ (part_of_mark m ts >>= λ x. progress_at statement_in (progress.Part (open_statement p x.0)) x.1)
 unfolding do_at do_end
-by_parts r marks.If p ts e = if_by_parts r p ts
-by_parts r marks.While p ts e = sym (in_steps (test_at ts) _ _ _ (λ c. refl))
-by_parts r marks.Do p ts e = refl
-by_parts r marks.For p ts e = sym (for_by_parts r p ts)
-by_parts r _ p ts e = absurd cc
+by_parts marks.If p ts e = if_by_parts p ts
+by_parts marks.While p ts e = sym (in_steps (test_at ts) _ _ _ (λ c. refl))
+by_parts marks.Do p ts e = refl
+by_parts marks.For p ts e = sym (for_by_parts statement_in p ts)
+by_parts _ p ts e = absurd cc
 
-pub part_begun : (r : Reads) (m : Mark) (p : Span) (ts rest : List Terminal) (f : OpenForm) → opens m ≡ true → part_of_mark m ts ≡ Some (f, rest) → statement_of_mark r m p ts ≡ progress_at r (progress.Part (open_statement p f)) rest
-part_begun r m p ts rest f two e = by_parts r m p ts two ∙ rw e refl
+pub part_begun : (m : Mark) (p : Span) (ts rest : List Terminal) (f : OpenForm) → opens m ≡ true → part_of_mark m ts ≡ Some (f, rest) → statement_of_mark statement_in m p ts ≡ progress_at statement_in (progress.Part (open_statement p f)) rest
+part_begun m p ts rest f two e = by_parts m p ts two ∙ rw e refl
 
-pub part_fails : (e : Stop) (r : Reads) (m : Mark) (p : Span) (ts : List Terminal) → opens m ≡ true → Fails e (part_of_mark m ts) → Fails e (statement_of_mark r m p ts)
-part_fails Memory r m p ts two h = tt
-part_fails Syntax r m p ts two h = by_parts r m p ts two ∙ rw h refl
+pub part_fails : (e : Stop) (m : Mark) (p : Span) (ts : List Terminal) → opens m ≡ true → Fails e (part_of_mark m ts) → Fails e (statement_of_mark statement_in m p ts)
+part_fails Memory m p ts two h = tt
+part_fails Syntax m p ts two h = by_parts m p ts two ∙ rw h refl
 
 -- ---- statements in one another
 
-finished_last : (depth left : ℕ) (os : List OpenStatement) (o : OpenStatement) (read : Read Statement) → depth ≡ length os + suc left → finished depth (os ++ o ∷ []) read ≡ finished depth os (read >>= λ x. resume (statement_at left) o x.0 x.1)
+finished_last : (os : List OpenStatement) (o : OpenStatement) (read : Read Statement) → finished (os ++ o ∷ []) read ≡ finished os (read >>= λ x. resume statement_in o x.0 x.1)
 unfolding finished
-finished_last zero left os o read e = absurd (omega arith)
-finished_last (suc d) left [] o read e = let same : d ≡ left = omega arith in rw same refl
-finished_last (suc d) left (q ∷ os) o read e = ap (λ (z : Read Statement). z >>= λ x. resume (statement_at d) q x.0 x.1) (finished_last d left os o read (omega arith))
+finished_last [] o read = refl
+finished_last (q ∷ os) o read = ap (λ (z : Read Statement). z >>= λ x. resume statement_in q x.0 x.1) (finished_last os o read)
 
-finished_none : (depth : ℕ) (os : List OpenStatement) → finished depth os None ≡ None
+finished_none : (os : List OpenStatement) → finished os None ≡ None
 unfolding finished
-finished_none depth [] = refl
-finished_none zero (o ∷ os) = refl
-finished_none (suc d) (o ∷ os) = rw (finished_none d os) refl
+finished_none [] = refl
+finished_none (o ∷ os) = rw (finished_none os) refl
 
-pub no_depth : (depth : ℕ) (ts : List Terminal) → depth ≡ 0 → statement_at depth ts ≡ None
-unfolding statement_at
-no_depth depth ts e = rw e refl
+pub first_begun : (os : List OpenStatement) (ts : List Terminal) (read : Read Statement) → os ≡ [] → statement_by statement_in ts ≡ read → finished os read ≡ statement_in ts
+unfolding finished
+first_begun os ts read none h = rw none (sym h ∙ sym (statement_unbounded ts))
 
-pub first_begun : (depth left : ℕ) (os : List OpenStatement) (ts : List Terminal) (read : Read Statement) → os ≡ [] → depth ≡ suc left → statement_by (statement_at left) ts ≡ read → finished depth os read ≡ statement_at depth ts
-unfolding finished statement_at
-first_begun depth left os ts read none e h = rw (none, e) (sym h)
+pub first_fails : (e : Stop) (ts : List Terminal) → Fails e (statement_by statement_in ts) → Fails e (statement_in ts)
+first_fails Memory ts h = tt
+first_fails Syntax ts h = statement_unbounded ts ∙ h
 
-pub first_fails : (e : Stop) (depth left : ℕ) (ts : List Terminal) → depth ≡ suc left → Fails e (statement_by (statement_at left) ts) → Fails e (statement_at depth ts)
-unfolding statement_at
-first_fails Memory depth left ts d h = tt
-first_fails Syntax depth left ts d h = rw d h
+module _ (outer : List OpenStatement) (o : OpenStatement) (rest : List Terminal) (total : Read Statement) (so_far : finished outer (statement_in rest >>= λ x. resume statement_in o x.0 x.1) ≡ total) where
+  pub part_goes_on : (read : Read Statement) → statement_by statement_in rest ≡ read → finished (outer ++ o ∷ []) read ≡ total
+  part_goes_on read h =
+      let next : statement_in rest ≡ read = statement_unbounded rest ∙ h in
+      finished_last outer o read ∙ ap (λ (z : Read Statement). finished outer (z >>= λ x. resume statement_in o x.0 x.1)) (sym next) ∙ so_far
 
-module _ (depth left : ℕ) (outer : List OpenStatement) (o : OpenStatement) (rest : List Terminal) (total : Read Statement) (so_far : finished depth outer (statement_at left rest >>= λ x. resume (statement_at left) o x.0 x.1) ≡ total) where
-  pub too_deep : left ≡ 0 → total ≡ None
-  unfolding statement_at
-  too_deep e = sym so_far ∙ rw e (finished_none depth outer)
+  pub part_stops : (e : Stop) → Fails e (statement_by statement_in rest) → Fails e total
+  part_stops Memory h = tt
+  part_stops Syntax h =
+      let next : statement_in rest ≡ None = statement_unbounded rest ∙ h in
+      sym so_far ∙ rw next (finished_none outer)
 
-  pub part_goes_on : (k : ℕ) (read : Read Statement) → left ≡ suc k → depth ≡ length outer + suc left → statement_by (statement_at k) rest ≡ read → finished depth (outer ++ o ∷ []) read ≡ total
-  unfolding statement_at
-  part_goes_on k read e d h =
-      let next : statement_at left rest ≡ read = rw e h in
-      finished_last depth left outer o read d ∙ ap (λ (z : Read Statement). finished depth outer (z >>= λ x. resume (statement_at left) o x.0 x.1)) (sym next) ∙ so_far
-
-  pub part_stops : (e : Stop) (k : ℕ) → left ≡ suc k → Fails e (statement_by (statement_at k) rest) → Fails e total
-  unfolding statement_at
-  part_stops Memory k d h = tt
-  part_stops Syntax k d h =
-      let next : statement_at left rest ≡ None = rw d h in
-      sym so_far ∙ rw next (finished_none depth outer)
-
-module _ (depth : ℕ) (outer : List OpenStatement) (s : Statement) (rest : List Terminal) (total : Read Statement) (so_far : finished depth outer (Some (s, rest)) ≡ total) where
+module _ (outer : List OpenStatement) (s : Statement) (rest : List Terminal) (total : Read Statement) (so_far : finished outer (Some (s, rest)) ≡ total) where
   pub all_read : length outer ≡ 0 → total ≡ Some (s, rest)
   unfolding finished
   all_read e = sym so_far ∙ at outer e
     where
-      at : (os : List OpenStatement) → length os ≡ 0 → finished depth os (Some (s, rest)) ≡ Some (s, rest)
+      at : (os : List OpenStatement) → length os ≡ 0 → finished os (Some (s, rest)) ≡ Some (s, rest)
       at [] e = refl
       at (q ∷ os) e = absurd (omega arith)
 
-  module _ (left : ℕ) (os : List OpenStatement) (o : OpenStatement) (popped : outer ≡ os ++ o ∷ []) (d : depth ≡ length os + suc left) where
-    resumes : finished depth os (resume (statement_at left) o s rest) ≡ total
-    resumes = sym (finished_last depth left os o (Some (s, rest)) d) ∙ ap (λ (qs : List OpenStatement). finished depth qs (Some (s, rest))) (sym popped) ∙ so_far
+  module _ (os : List OpenStatement) (o : OpenStatement) (popped : outer ≡ os ++ o ∷ []) where
+    resumes : finished os (resume statement_in o s rest) ≡ total
+    resumes = sym (finished_last os o (Some (s, rest))) ∙ ap (λ (qs : List OpenStatement). finished qs (Some (s, rest))) (sym popped) ∙ so_far
 
-    pub whole_goes_on : (read : Read Statement) → resume (statement_at left) o s rest ≡ read → finished depth os read ≡ total
-    whole_goes_on read h = ap (λ (z : Read Statement). finished depth os z) (sym h) ∙ resumes
+    pub whole_goes_on : (read : Read Statement) → resume statement_in o s rest ≡ read → finished os read ≡ total
+    whole_goes_on read h = ap (λ (z : Read Statement). finished os z) (sym h) ∙ resumes
 
-    pub whole_stops : (e : Stop) → Fails e (resume (statement_at left) o s rest) → Fails e total
+    pub whole_stops : (e : Stop) → Fails e (resume statement_in o s rest) → Fails e total
     whole_stops Memory h = tt
-    whole_stops Syntax h = sym resumes ∙ rw h (finished_none depth os)
+    whole_stops Syntax h = sym resumes ∙ rw h (finished_none os)

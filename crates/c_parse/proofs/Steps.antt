@@ -107,6 +107,14 @@ pub starts-true : (m : Mark) (ts : List Terminal) → starts m ts ≡ true → (
 starts-true m [] e = absurd cc
 starts-true m (t ∷ ts) e = (t.span, ap (λ (s : Sign). (let u : Terminal = record { sign = s; span = t.span } in u) ∷ ts) (is_mark-true m t.sign e))
 
+-- that no token of a mark comes first
+pub starts-false : (m : Mark) (ts : List Terminal) → ((p : Span) (rest : List Terminal) → ts ≡ mark m p ∷ rest → ⊥) → starts m ts ≡ false
+starts-false m ts absent = at (starts m ts) refl
+  where
+    at : (b : Bool) → starts m ts ≡ b → starts m ts ≡ false
+    at false e = e
+    at true e = let h = starts-true m ts e in absurd (absent h.0 (tail ts) h.1)
+
 pub expect_takes : (m : Mark) (ts : List Terminal) → IfSome (expect m ts) (λ rest. (p : Span) × (ts ≡ mark m p ∷ rest))
 expect_takes m ts = either_some (starts m ts) _ _ _ (λ e. starts-true m ts e) (λ e. tt)
 

@@ -17,7 +17,7 @@ use Rattle.c_parse.specs.declared.operator.Infix.{Infix}
 use Rattle.c_parse.specs.Types.{kind_of}
 use Rattle.c_parse.specs.Trees.{tree, joined, level, prefix_mark, infix_mark}
 use Rattle.c_parse.specs.Grammar.{Text, mark, DerivesChoice, a_plain, Derives, a_number, a_name, an_element, a_bare_call, a_call, parens, a_cast, a_prefix, an_infix, a_choice, DerivesArguments, the_last, one_more, AreWords, end, word, place_of, name_token}
-use Rattle.c_parse.specs.Reading.{◌>>=◌, Reader, is_mark, starts, starts_type, tail, expect, words_of, past_words, type_at, infix_at, prefix_of, arguments_at, after_name, after_open, after_prefix, operand_of, operand_at, operators_at, level_by, choice_by, expr_at}
+use Rattle.c_parse.specs.Reading.{◌>>=◌, Reader, is_mark, starts, starts_type, tail, expect, words_of, past_words, type_at, infix_at, prefix_of, arguments_at, after_name, after_open, after_prefix, operand_of, operand_at, operators_at, level_by, choice_by, expr_at, expr_in}
 use Rattle.c_parse.proofs.Steps.{then_some, either_some, starts-true, expect_takes, Stops, by_operator_some, infix_at-some, prefix_of-some, is_mark-true, level_pos}
 
 -- the tokens are some with this fact, and then the rest
@@ -152,7 +152,7 @@ module _ (r : Reader) (sound : IsSound r) where
   operand_of_takes sign.Foreign p ts = tt
   operand_of_takes sign.Unknown p ts = tt
 
-  operand_takes : (ts : List Terminal) → IfSome (operand_at r ts) (λ x. Takes (DerivesOperand x.0) ts x.1)
+  pub operand_takes : (ts : List Terminal) → IfSome (operand_at r ts) (λ x. Takes (DerivesOperand x.0) ts x.1)
   unfolding operand_at
   operand_takes [] = tt
   operand_takes (t ∷ ts) = operand_of_takes t.sign t.span ts
@@ -174,7 +174,7 @@ module _ (r : Reader) (sound : IsSound r) where
       })))
       (λ stays. (d, stays))
 
-  level_takes : (k : ℕ) (ts : List Terminal) → IfSome (level_by r k ts) (λ x. Takes (λ us. Derives k x.0 us × (place_of ts ≡ place_of us)) ts x.1 × Stops k x.1)
+  pub level_takes : (k : ℕ) (ts : List Terminal) → IfSome (level_by r k ts) (λ x. Takes (λ us. Derives k x.0 us × (place_of ts ≡ place_of us)) ts x.1 × Stops k x.1)
   unfolding level_by
   level_takes k ts =
       then_some (operand_at r ts) _ _ (operand_takes ts) (λ t d.
@@ -211,3 +211,7 @@ expr_takes zero k ts = tt
 expr_takes (suc n) zero ts = choice_takes (expr_at n) (expr_takes n) ts
 expr_takes (suc n) (suc k) ts =
     IfSome_then (level_by (expr_at n) (suc k) ts) (level_takes (expr_at n) (expr_takes n) (suc k) ts) (λ x d. (record { front = d.0.front; parts = d.0.parts; fact = d.0.fact.0 }, d.1))
+
+pub expr_in_takes : IsSound expr_in
+unfolding expr_in
+expr_in_takes k ts = expr_takes (suc (length ts)) k ts

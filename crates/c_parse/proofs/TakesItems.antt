@@ -13,11 +13,11 @@ use Rattle.c_parse.specs.StatementTrees.{ident}
 use Rattle.c_parse.specs.Grammar.{Text, mark, name_token, place_of}
 use Rattle.c_parse.specs.Items.{ForFunction, static_function, extern_function, inline_function, const_function, ForVariable, static_variable, const_variable, AreAll, none_left, one_more_word, DerivesResult, nothing_given, a_kind, DerivesNamed, without_name, with_name, DerivesParameter, a_parameter, DerivesParameters, no_parameter, void_parameter, some_parameters, DerivesEnd, declared, defined, AreTag, no_tag, a_tag, DerivesConstant, plain_constant, with_value, DerivesItem, a_function, some_variables, some_constants}
 use Rattle.c_parse.specs.Reading.{starts, tail, expect, type_at}
-use Rattle.c_parse.specs.ReadingStatements.{choice_in, separated_at, name_at, bracketed_at, declarators_at, past_consts, body_at, statement_at}
+use Rattle.c_parse.specs.ReadingStatements.{choice_in, separated_at, name_at, bracketed_at, declarators_at, past_consts, body_at, statement_in}
 use Rattle.c_parse.specs.ReadingItems.{is_shared, is_of_functions, is_before, past_before, for_variables, by_name, parameter_at, parameters_at, end_at, function_at, past_named, constant_at, enum_at, typed_at, void_at, item_at}
 use Rattle.c_parse.proofs.Steps.{then_some, either_some, starts-true, expect_takes}
 use Rattle.c_parse.proofs.Takes.{Takes}
-use Rattle.c_parse.proofs.TakesStatements.{choice_in_takes, separated_takes, bracketed_takes, name_takes, declarators_take, consts_take, derives_type, type_first, body_take, statement_takes}
+use Rattle.c_parse.proofs.TakesStatements.{choice_in_takes, separated_takes, bracketed_takes, name_takes, declarators_take, consts_take, derives_type, type_first, body_take, statement_in_takes}
 
 -- ---- the words in front
 
@@ -63,7 +63,7 @@ variables_take (t ∷ ts) f = at (is_shared t.sign) (is_of_functions t.sign) ref
 
 -- ---- parameters
 
-named_takes : (ts : List Terminal) → IfSome (by_name (name_at ts) ts) (λ x. Takes (λ us. DerivesNamed x.0.0 x.0.1 us) ts x.1)
+pub named_takes : (ts : List Terminal) → IfSome (by_name (name_at ts) ts) (λ x. Takes (λ us. DerivesNamed x.0.0 x.0.1 us) ts x.1)
 named_takes ts = at (name_at ts) (name_takes ts)
   where
     at : (o : Option Text) → IfSome o (λ w. ts ≡ name_token w (place_of ts) ∷ tail ts) → IfSome (by_name o ts) (λ x. Takes (λ us. DerivesNamed x.0.0 x.0.1 us) ts x.1)
@@ -72,7 +72,7 @@ named_takes ts = at (name_at ts) (name_takes ts)
         then_some (bracketed_at (tail ts)) _ _ (bracketed_takes (tail ts)) (λ l d.
         record { front = name_token w (place_of ts) ∷ d.front; parts = cc; fact = with_name d.fact })
 
-parameter_takes : (ts : List Terminal) → IfSome (parameter_at ts) (λ x. Takes (λ us. DerivesParameter x.0 us) ts x.1)
+pub parameter_takes : (ts : List Terminal) → IfSome (parameter_at ts) (λ x. Takes (λ us. DerivesParameter x.0 us) ts x.1)
 unfolding parameter_at
 parameter_takes ts =
     let c = consts_take ts in
@@ -101,7 +101,7 @@ end_takes ts =
     either_some (starts marks.Semicolon ts) _ _ _
     (λ e. let a = starts-true marks.Semicolon ts e in record { front = mark marks.Semicolon a.0 ∷ []; parts = a.1; fact = declared a.0 })
     (λ _. then_some (expect marks.OpenBrace ts) _ _ (expect_takes marks.OpenBrace ts) (λ a e.
-    then_some (body_at (statement_at (suc (length a))) (length a) a) _ _ (body_take (statement_at (suc (length a))) (statement_takes (suc (length a))) (length a) a) (λ ss d.
+    then_some (body_at statement_in (length a) a) _ _ (body_take statement_in statement_in_takes (length a) a) (λ ss d.
     then_some (expect marks.CloseBrace ss.1) _ _ (expect_takes marks.CloseBrace ss.1) (λ rest f.
     let place : place_of ss.1 ≡ f.0 = ap place_of f.1 in
     rw place (record { front = mark marks.OpenBrace e.0 ∷ (d.0.front ++ mark marks.CloseBrace f.0 ∷ []); parts = (let h = d.0.parts in simp append_assoc cc); fact = defined e.0 f.0 d.0.fact })))))
@@ -115,7 +115,7 @@ function_takes all before type ts result w q parts b r place =
     then_some (end_at ps.1) _ _ (end_takes ps.1) (λ o f.
     rw place (record { front = before ++ (type ++ name_token w q ∷ mark marks.Open e.0 ∷ (d.front ++ f.front)); parts = simp append_assoc cc; fact = a_function q e.0 b r d.fact f.fact }))))
 
-constant_takes : (ts : List Terminal) → IfSome (constant_at ts) (λ x. Takes (λ us. DerivesConstant x.0 us) ts x.1)
+pub constant_takes : (ts : List Terminal) → IfSome (constant_at ts) (λ x. Takes (λ us. DerivesConstant x.0 us) ts x.1)
 unfolding constant_at
 constant_takes ts =
     then_some (name_at ts) _ _ (name_takes ts) (λ w e.

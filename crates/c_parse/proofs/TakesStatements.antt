@@ -1,5 +1,5 @@
 -- What is read as a declaration or a statement derives from the tokens that were taken.
-use Rattle.std.proofs.Common.{◌≡◌, ℕ, zero, suc, Bool, true, false, List, [], ◌∷◌, ◌++◌, length, Option, Some, None, refl, ap, subst, ◌∙◌, append_assoc}
+use Rattle.std.proofs.Common.{◌≡◌, ℕ, zero, suc, Bool, true, false, List, [], ◌∷◌, ◌++◌, length, Option, Some, None, refl, sym, ap, subst, ◌∙◌, append_assoc}
 use Rattle.std.specs.Prelude.{IfSome, ◌&&◌, ◌||◌}
 use Rattle.std.proofs.lemmas.List.{append-nil}
 use Rattle.std.proofs.lemmas.Option.{IfSome_then}
@@ -21,15 +21,15 @@ use Rattle.c_parse.specs.StatementTrees.{statement, place_tree, assigned_by, ste
 use Rattle.c_parse.specs.Grammar.{Text, mark, name_token, place_of, end, word, DerivesChoice}
 use Rattle.c_parse.specs.Separated.{DerivesSeparated, the_only, the_only_with_comma, and_others}
 use Rattle.c_parse.specs.Declarations.{DerivesType, a_type, DerivesBracketed, no_bracket, in_brackets, DerivesFirst, no_first, one_first, some_first, DerivesDeclarator, a_declarator, DerivesDeclarators}
-use Rattle.c_parse.specs.Statements.{AreConsts, no_const, a_const, DerivesPlace, a_place, DerivesSimple, an_assignment, a_step_after, a_step_before, a_bare_run, a_run, DerivesLocal, a_local, DerivesOptional, no_choice, some_choice, DerivesBegin, begins_not, begins_simple, begins_local, DerivesNext, no_next, a_next, DerivesLabel, a_case, a_default, DerivesLabels, last_label, more_labels, DerivesStatement, a_block, an_empty, a_simple, a_label, an_if, a_while, a_do, a_for, a_switch, a_break, a_continue, a_return, an_assert, an_assume, DerivesBody, no_more, local_then, statement_then, DerivesArms, an_arm, no_else, an_else, else_if, DerivesGroups, no_group, a_group}
-use Rattle.c_parse.specs.Reading.{Read, ◌>>=◌, is_mark, starts, tail, expect, type_at, arguments_at, expr_at}
-use Rattle.c_parse.specs.ReadingStatements.{choice_in, separated_at, name_of, name_at, bracketed_at, first_at, declarator_at, declarators_at, past_consts, starts_local, local_at, mark_of, mark_at, changed_by, changed_at, named_at, stepped_at, simple_of, simple_at, test_at, optional_at, begin_at, next_at, starts_label, label_at, labels_at, Reads, one_at, ends_body, body_at, groups_at, arms_at, do_at, for_at, switch_at, return_at, assert_at, assume_at, statement_of_mark, labelled_at, statement_of, statement_by, statement_at}
+use Rattle.c_parse.specs.Statements.{NoIf, AreConsts, no_const, a_const, DerivesPlace, a_place, DerivesSimple, an_assignment, a_step_after, a_step_before, a_bare_run, a_run, DerivesLocal, a_local, DerivesOptional, no_choice, some_choice, DerivesBegin, begins_not, begins_simple, begins_local, DerivesNext, no_next, a_next, DerivesLabel, a_case, a_default, DerivesLabels, last_label, more_labels, DerivesStatement, a_block, an_empty, a_simple, a_label, an_if, a_while, a_do, a_for, a_switch, a_break, a_continue, a_return, an_assert, an_assume, DerivesBody, no_more, local_then, statement_then, DerivesArms, an_arm, no_else, an_else, else_if, DerivesGroups, no_group, a_group}
+use Rattle.c_parse.specs.Reading.{Read, ◌>>=◌, is_mark, starts, tail, expect, type_at, arguments_at, expr_in}
+use Rattle.c_parse.specs.ReadingStatements.{choice_in, separated_at, name_of, name_at, bracketed_at, first_at, declarator_at, declarators_at, past_consts, starts_local, local_at, mark_of, mark_at, changed_by, changed_at, named_at, stepped_at, simple_of, simple_at, test_at, optional_at, begin_at, next_at, starts_label, label_at, labels_at, Reads, one_at, ends_body, body_at, groups_at, arms_at, do_at, for_at, switch_at, return_at, assert_at, assume_at, statement_of_mark, labelled_at, statement_of, statement_by, statement_at, statement_in}
 use Rattle.c_parse.proofs.Steps.{then_some, either_some, starts-true, expect_takes}
-use Rattle.c_parse.proofs.Takes.{Takes, expr_takes, arguments_take, type_takes}
+use Rattle.c_parse.proofs.Takes.{Takes, expr_in_takes, arguments_take, type_takes}
 
 pub choice_in_takes : (ts : List Terminal) → IfSome (choice_in ts) (λ x. Takes (λ us. DerivesChoice x.0 us) ts x.1)
 unfolding choice_in
-choice_in_takes ts = IfSome_then (expr_at (suc (length ts)) 0 ts) (expr_takes (suc (length ts)) 0 ts) (λ x d. d.0)
+choice_in_takes ts = IfSome_then (expr_in 0 ts) (expr_in_takes 0 ts) (λ x d. d.0)
 
 -- both tests pass
 both-true : (a b : Bool) → (a && b) ≡ true → (a ≡ true) × (b ≡ true)
@@ -62,7 +62,7 @@ bracketed_takes ts =
     record { front = _; parts = simp append_assoc cc; fact = in_brackets a.0 f.0 d.fact })))
     (λ _. record { front = []; parts = refl; fact = no_bracket })
 
-first_takes : (ts : List Terminal) → IfSome (first_at ts) (λ x. Takes (λ us. DerivesFirst x.0 us) ts x.1)
+pub first_takes : (ts : List Terminal) → IfSome (first_at ts) (λ x. Takes (λ us. DerivesFirst x.0 us) ts x.1)
 unfolding first_at
 first_takes ts =
     either_some (starts marks.Assign ts) _ _ _
@@ -164,7 +164,7 @@ named_takes p w ts =
     either_some (starts marks.Close (tail ts)) _ _ _
     (λ f. let b = starts-true marks.Close (tail ts) f in
     record { front = _; parts = cc; fact = a_bare_run {w = w} {p = p} a.0 b.0 })
-    (λ _. then_some (arguments_at (expr_at (suc (length ts))) (length (tail ts)) (tail ts)) _ _ (arguments_take (expr_at (suc (length ts))) (expr_takes (suc (length ts))) (length (tail ts)) (tail ts)) (λ x d.
+    (λ _. then_some (arguments_at expr_in (length (tail ts)) (tail ts)) _ _ (arguments_take expr_in expr_in_takes (length (tail ts)) (tail ts)) (λ x d.
     record { front = _; parts = simp append_assoc cc; fact = a_run {w = w} {p = p} a.0 d.0 d.1.fact })))
     (λ _. then_some (bracketed_at ts) _ _ (bracketed_takes ts) (λ i d.
     let same : name_token w p ∷ ts ≡ (name_token w p ∷ d.front) ++ i.1 = ap (λ us. name_token w p ∷ us) d.parts in
@@ -237,7 +237,7 @@ next_takes ts =
     (λ _. record { front = []; parts = refl; fact = no_next })
     (λ _. then_some (simple_at ts) _ _ (simple_takes ts) (λ s d. record { front = d.front; parts = d.parts; fact = a_next d.fact }))
 
-label_takes : (ts : List Terminal) → IfSome (label_at ts) (λ x. Takes (λ us. DerivesLabel x.0 us) ts x.1)
+pub label_takes : (ts : List Terminal) → IfSome (label_at ts) (λ x. Takes (λ us. DerivesLabel x.0 us) ts x.1)
 unfolding label_at
 label_takes ts =
     either_some (starts marks.Case ts) _ _ _
@@ -251,7 +251,7 @@ label_takes ts =
     rw place (record { front = mark marks.Default e.0 ∷ mark marks.Colon f.0 ∷ []; parts = cc; fact = a_default e.0 f.0 }))))
 
 -- what follows labels is no label
-labels_take : (n : ℕ) (ts : List Terminal) → IfSome (labels_at n ts) (λ x. Takes (λ us. DerivesLabels x.0 us) ts x.1 × (starts_label x.1 ≡ false))
+pub labels_take : (n : ℕ) (ts : List Terminal) → IfSome (labels_at n ts) (λ x. Takes (λ us. DerivesLabels x.0 us) ts x.1 × (starts_label x.1 ≡ false))
 unfolding labels_at
 labels_take zero ts = tt
 labels_take (suc n) ts =
@@ -345,18 +345,22 @@ statement_first (an_assert q r u d) = record { head = _; others = _; is = refl }
 statement_first (an_assume q r u d) = record { head = _; others = _; is = refl }
 
 -- what a statement begins with is what it and what follows begin with
-pub no_if_front : (xs rest : List Terminal) → starts marks.If (xs ++ rest) ≡ false → starts marks.If xs ≡ false
-no_if_front [] rest e = refl
-no_if_front (x ∷ xs) rest e = e
+pub no_if_front : (xs rest : List Terminal) → starts marks.If (xs ++ rest) ≡ false → NoIf xs
+no_if_front [] rest e = λ p us parts. absurd cc
+no_if_front (x ∷ xs) rest e = λ p us parts.
+    let same : x ≡ mark marks.If p = cc in
+    let first : is_mark marks.If x.sign ≡ true = ap (λ (t : Terminal). is_mark marks.If t.sign) same in
+    let wrong : true ≡ false = sym first ∙ e in
+    absurd cc
 
 -- a declaration or a statement was taken, and may stand before others
-record TakesOne (s : Statement) (tokens rest : List Terminal) : Type 0 where
-  front : List Terminal
-  parts : tokens ≡ front ++ rest
-  fact : (ss : List Statement) (us : List Terminal) → DerivesBody ss us → DerivesBody (s ∷ ss) (front ++ us)
+pub record TakesOne (s : Statement) (tokens rest : List Terminal) : Type 0 where
+  pub front : List Terminal
+  pub parts : tokens ≡ front ++ rest
+  pub fact : (ss : List Statement) (us : List Terminal) → DerivesBody ss us → DerivesBody (s ∷ ss) (front ++ us)
 
 module _ (r : Reads) (sound : IsSoundHere r) where
-  one_takes : (ts : List Terminal) → IfSome (one_at r ts) (λ x. TakesOne x.0 ts x.1)
+  pub one_takes : (ts : List Terminal) → IfSome (one_at r ts) (λ x. TakesOne x.0 ts x.1)
   one_takes ts =
       either_some (starts_local ts) _ _ _
       (λ _. IfSome_then (local_at ts) (local_takes ts) (λ s d. record { front = d.front; parts = d.parts; fact = λ ss us ds. local_then d.fact ds }))
@@ -486,3 +490,7 @@ unfolding statement_at statement_by
 statement_takes zero ts = tt
 statement_takes (suc n) [] = tt
 statement_takes (suc n) (t ∷ ts) = of_sign_takes (statement_at n) (statement_takes n) t.sign t.span ts
+
+pub statement_in_takes : IsSoundHere statement_in
+unfolding statement_in
+statement_in_takes ts = statement_takes (suc (length ts)) ts

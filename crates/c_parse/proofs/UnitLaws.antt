@@ -24,7 +24,7 @@ unfolding item_at typed_at type_at kind_of
 nothing_stuck = refl
 
 -- an item has a token
-item_some : {i : Item} {xs : List Terminal} → DerivesItem i xs → 0 < length xs
+pub item_some : {i : Item} {xs : List Terminal} → DerivesItem i xs → 0 < length xs
 item_some {i} {xs} d = at xs (item_again d [])
   where
     at : (xs : List Terminal) → item_at (xs ++ []) ≡ Some (i, []) → 0 < length xs

@@ -9,9 +9,9 @@ use Rattle.c_parse.specs.declared.stop.Stop.TheVariants.{Memory, Syntax}
 use Rattle.c_parse.specs.Gives.{Gives}
 use Rattle.c_parse.specs.declared.expr.ExprTree.{ExprTree}
 use Rattle.c_parse.specs.Grammar.{DerivesChoice}
-use Rattle.c_parse.specs.Reading.{at_end, expr_at, whole_at}
+use Rattle.c_parse.specs.Reading.{at_end, expr_at, expr_in, whole_at}
 use Rattle.c_parse.proofs.Steps.{then_some}
-use Rattle.c_parse.proofs.Takes.{expr_takes}
+use Rattle.c_parse.proofs.Takes.{expr_in_takes}
 use Rattle.c_parse.proofs.Again.{Stays, choice_again}
 
 pub at_end-some : {A : Type 0} (x : A) (rest : List Terminal) (P : A → Type 0) → (rest ≡ [] → P x) → IfSome (at_end (x, rest)) P
@@ -24,11 +24,11 @@ nothing_stays = record { ends = record { no_index = refl; no_call = refl }; no_o
 pub whole_takes : (ts : List Terminal) → IfSome (whole_at ts) (λ t. DerivesChoice t ts)
 unfolding whole_at
 whole_takes ts =
-    then_some (expr_at (suc (length ts)) 0 ts) _ _ (expr_takes (suc (length ts)) 0 ts) (λ x d.
+    then_some (expr_in 0 ts) _ _ (expr_in_takes 0 ts) (λ x d.
     at_end-some x.0 x.1 _ (λ e. subst (λ us. DerivesChoice x.0 us) (sym (d.0.parts ∙ ap (λ rest. d.0.front ++ rest) e ∙ append-nil d.0.front)) d.0.fact))
 
 pub whole_again : (t : ExprTree) (ts : List Terminal) → DerivesChoice t ts → whole_at ts ≡ Some t
-unfolding whole_at
+unfolding whole_at expr_in
 whole_again t ts d =
     let e : expr_at (suc (length ts)) 0 ts ≡ Some (t, []) = ap (expr_at (suc (length ts)) 0) (sym (append-nil ts)) ∙ choice_again d (suc (length ts)) [] (omega arith) nothing_stays in
     rw e refl

@@ -1,4 +1,5 @@
--- Choices that lie in one another's third operand. Nothing that is promised speaks of this.
+-- Choices that lie in one another's third operand.
+-- Only proofs rest on this: no public contract speaks of it.
 use Rattle.std.specs.Prelude.{List, [], ◌∷◌}
 use Rattle.c_parse.specs.declared.expr.ExprTree.{ExprTree}
 use Rattle.c_parse.specs.declared.expr.ExprForm.TheVariants as form

@@ -1,4 +1,5 @@
 -- Which tokens are an expression, and why others are refused.
+-- Public contracts rest on this.
 use Rattle.std.specs.Prelude.{◌≡◌, ℕ, false, List, Some, None}
 use Rattle.fq_core.specs.declared.refusal.Place.{Place}
 use Rattle.fq_core.specs.declared.refusal.Place.TheVariants as place

@@ -1,4 +1,5 @@
 -- What a function of the parser returns is what reading gives, unless memory ran out.
+-- Only proofs rest on this: no public contract speaks of it.
 use Rattle.std.specs.Prelude.{◌≡◌, Option, Some, None, Result, Ok, Err}
 use Rattle.c_parse.specs.declared.stop.Stop.{Stop}
 use Rattle.c_parse.specs.declared.stop.Stop.TheVariants.{Memory, Syntax}

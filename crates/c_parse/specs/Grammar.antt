@@ -1,4 +1,5 @@
 -- Which tokens spell which expression (ISO/IEC 9899:2011, 6.5).
+-- Public contracts rest on this.
 use Rattle.std.specs.Prelude.{◌≡◌, ℕ, suc, ◌≤◌, List, [], ◌∷◌, ◌++◌, Some}
 use Rattle.fq_core.specs.declared.span.Span.{Span}
 use Rattle.c_values.specs.declared.kinds.Kind.{Kind}

@@ -1,4 +1,5 @@
 -- Which tokens spell which item (ISO/IEC 9899:2011, 6.9 and 6.7).
+-- Public contracts rest on this.
 use Rattle.std.specs.Prelude.{true, false, List, [], ◌∷◌, ◌++◌, Option, Some, None}
 use Rattle.fq_core.specs.declared.span.Span.{Span}
 use Rattle.c_values.specs.declared.kinds.Kind.{Kind}

@@ -1,4 +1,5 @@
 -- What follows from the definitions, for those who rest on it.
+-- Public contracts rest on this.
 use Rattle.std.specs.Prelude.{◌≡◌, ◌⊎◌, ℕ}
 use Rattle.fq_core.specs.declared.refusal.Place.{Place}
 

@@ -1,4 +1,5 @@
 -- What is refused before the grammar is looked at: what the profile leaves out, and what nests or goes on too far.
+-- Public contracts rest on this.
 use Rattle.std.specs.Prelude.{ℕ, ◌+◌, ◌-◌, Bool, true, false, if◌then◌else◌, nat_lt, List, [], ◌∷◌, map, fold, find, filter_map, Option, Some, None}
 use Rattle.c_parse.specs.declared.sign.Sign.{Sign}
 use Rattle.c_parse.specs.declared.sign.Sign.TheVariants as sign

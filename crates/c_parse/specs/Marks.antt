@@ -1,4 +1,5 @@
 -- Whether the first token is a mark.
+-- Only proofs rest on this: no public contract speaks of it.
 use Rattle.std.specs.Prelude.{ℕ, Bool, false, ◌==◌, List, [], ◌∷◌}
 use Rattle.c_parse.specs.declared.sign.Mark.{Mark}
 use Rattle.c_parse.specs.declared.sign.Mark.TheVariants as marks

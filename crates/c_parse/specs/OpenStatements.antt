@@ -1,5 +1,6 @@
--- Statements that are read in two steps: up to a statement in them, and from there on. Nothing that is promised speaks of this.
-use Rattle.std.specs.Prelude.{◌≡◌, ℕ, zero, suc, ◌-◌, Bool, true, false, if◌then◌else◌, List, [], ◌∷◌, ◌++◌, length, Option, Some, None, Result, Ok, Err}
+-- Statements that are read in two steps: up to a statement in them, and from there on.
+-- Only proofs rest on this: no public contract speaks of it.
+use Rattle.std.specs.Prelude.{◌≡◌, ℕ, Bool, true, false, if◌then◌else◌, List, [], ◌∷◌, ◌++◌, length, Option, Some, None, Result, Ok, Err}
 use Rattle.fq_core.specs.declared.span.Span.{Span}
 use Rattle.c_parse.specs.declared.sign.Mark.{Mark}
 use Rattle.c_parse.specs.declared.sign.Mark.TheVariants as marks
@@ -16,7 +17,7 @@ use Rattle.c_parse.specs.declared.open_statement.Progress.TheVariants as progres
 use Rattle.c_parse.specs.Gives.{Fails}
 use Rattle.c_parse.specs.StatementTrees.{statement}
 use Rattle.c_parse.specs.Reading.{Read, ◌>>=◌, starts, tail, expect}
-use Rattle.c_parse.specs.ReadingStatements.{test_at, optional_at, begin_at, next_at, Reads, arms_at, statement_at}
+use Rattle.c_parse.specs.ReadingStatements.{test_at, optional_at, begin_at, next_at, Reads, arms_at, statement_in}
 
 -- a statement that is read this far, whose first token has this place
 abbrev pub open_statement : Span → OpenForm → OpenStatement
@@ -43,7 +44,7 @@ for_part ts =
 
 -- what follows a mark that opens a statement, up to a part of the statement
 abbrev pub part_of_mark : Mark → List Terminal → Read OpenForm
-part_of_mark marks.If ts = test_at ts >>= λ c. Some (begun.Arm [] c.0 (length ts - 1), c.1)
+part_of_mark marks.If ts = test_at ts >>= λ c. Some (begun.Arm [] c.0, c.1)
 part_of_mark marks.While ts = test_at ts >>= λ c. Some (begun.While c.0, c.1)
 part_of_mark marks.Do ts = Some (begun.Do, ts)
 part_of_mark marks.For ts = for_part ts
@@ -58,11 +59,11 @@ abbrev pub Arms : Type 0
 Arms = List (ExprTree × Statement)
 
 -- what follows the arms of an `if`: another arm, `else`, or nothing of it
-unfoldable pub behind_arms : Reads → Span → Arms → ℕ → List Terminal → Read Statement
-behind_arms r p arms left ts =
+unfoldable pub behind_arms : Reads → Span → Arms → List Terminal → Read Statement
+behind_arms r p arms ts =
     if starts marks.Else ts
     then (if starts marks.If (tail ts)
-    then (arms_at r left (tail (tail ts)) >>= λ x. Some (statement p (form.If (arms ++ x.0.0) x.0.1), x.1))
+    then (arms_at r (length ts) (tail (tail ts)) >>= λ x. Some (statement p (form.If (arms ++ x.0.0) x.0.1), x.1))
     else (r (tail ts) >>= λ o. Some (statement p (form.If arms (Some o.0)), o.1)))
     else Some (statement p (form.If arms None), ts)
 
@@ -72,7 +73,7 @@ resume_form r (begun.Label w) p s ts = Some (statement p (form.Label w s), ts)
 resume_form r (begun.While c) p s ts = Some (statement p (form.While c s), ts)
 resume_form r begun.Do p s ts = do_end p s ts
 resume_form r (begun.For i c j) p s ts = Some (statement p (form.For i c j s), ts)
-resume_form r (begun.Arm arms c left) p s ts = behind_arms r p (arms ++ (c, s) ∷ []) left ts
+resume_form r (begun.Arm arms c) p s ts = behind_arms r p (arms ++ (c, s) ∷ []) ts
 resume_form r (begun.Otherwise arms) p s ts = Some (statement p (form.If arms (Some s)), ts)
 
 abbrev pub resume : Reads → OpenStatement → Statement → List Terminal → Read Statement
@@ -89,7 +90,6 @@ parts_of (progress.Part o) = 1
 parts_of (progress.Whole s) = 0
 
 -- statements that lie in one another, the outermost first, once the innermost is read
-unfoldable pub finished : ℕ → List OpenStatement → Read Statement → Read Statement
-finished depth [] read = read
-finished zero (o ∷ os) read = None
-finished (suc depth) (o ∷ os) read = finished depth os read >>= λ x. resume (statement_at depth) o x.0 x.1
+unfoldable pub finished : List OpenStatement → Read Statement → Read Statement
+finished [] read = read
+finished (o ∷ os) read = finished os read >>= λ x. resume statement_in o x.0 x.1

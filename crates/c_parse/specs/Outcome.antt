@@ -1,4 +1,5 @@
--- What the calls answer, by what is read. Nothing that is promised speaks of this.
+-- What the calls answer, by what is read.
+-- Only proofs rest on this: no public contract speaks of it.
 use Rattle.std.specs.Prelude.{ℕ, List, [], ◌∷◌, length, Option, Some, None, Result, Ok, Err, if◌then◌else◌}
 use Rattle.fq_core.specs.declared.refusal.Place.{Place}
 use Rattle.fq_core.specs.declared.refusal.Place.TheVariants as place

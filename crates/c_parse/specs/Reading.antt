@@ -1,5 +1,6 @@
--- Reading expressions from left to right. Nothing that is promised speaks of this: it is what the parser's functions
--- give, and proofs/ has that what is read is spelled by its tokens, and that what its tokens spell is read.
+-- Reading expressions from left to right. It is what the parser's functions give, and
+-- proofs/ has that what is read is spelled by its tokens, and that what its tokens spell is read.
+-- Only proofs rest on this: no public contract speaks of it.
 use Rattle.std.specs.Prelude.{ℕ, zero, suc, Bool, true, false, nat_le, if◌then◌else◌, List, [], ◌∷◌, length, Option, Some, None}
 use Rattle.fq_core.specs.declared.span.Span.{Span}
 use Rattle.c_values.specs.declared.kinds.Kind.{Kind}
@@ -182,11 +183,15 @@ choice_by r ts =
     then (r 0 (tail c.1) >>= λ a. expect marks.Colon a.1 >>= λ rest. r 0 rest >>= λ b. Some (tree (place_of ts) (form.Choice c.0 a.0 b.0), b.1))
     else Some c
 
--- the same, with a bound on how deep it nests
+-- the same, with a bound on how deep it nests, since a definition's recursion is on a number or on a list
 unfoldable pub expr_at : ℕ → Reader
 expr_at zero k ts = None
 expr_at (suc n) zero ts = choice_by (expr_at n) ts
 expr_at (suc n) (suc k) ts = level_by (expr_at n) (suc k) ts
+
+-- the same without a bound: no expression nests deeper than it has tokens
+unfoldable pub expr_in : Reader
+expr_in k ts = expr_at (suc (length ts)) k ts
 
 -- nothing may follow
 abbrev pub at_end : {A : Type 0} → A × List Terminal → Option A
@@ -194,4 +199,4 @@ at_end x = elim x.1 [ [] ↦ Some x.0 | t ∷ ts ↦ None ]
 
 -- the expression that all the tokens are
 unfoldable pub whole_at : List Terminal → Option ExprTree
-whole_at ts = expr_at (suc (length ts)) 0 ts >>= at_end
+whole_at ts = expr_in 0 ts >>= at_end

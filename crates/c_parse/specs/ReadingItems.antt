@@ -1,4 +1,5 @@
--- Reading items from left to right. Nothing that is promised speaks of this.
+-- Reading items from left to right.
+-- Only proofs rest on this: no public contract speaks of it.
 use Rattle.std.specs.Prelude.{ℕ, zero, suc, Bool, true, false, ◌||◌, if◌then◌else◌, List, [], ◌∷◌, length, Option, Some, None}
 use Rattle.fq_core.specs.declared.span.Span.{Span}
 use Rattle.c_values.specs.declared.kinds.Kind.{Kind}
@@ -14,7 +15,7 @@ use Rattle.c_parse.specs.declared.unit.Item.TheVariants as item
 use Rattle.c_parse.specs.Grammar.{Text, place_of}
 use Rattle.c_parse.specs.StatementTrees.{ident}
 use Rattle.c_parse.specs.Reading.{Read, ◌>>=◌, is_mark, starts, tail, expect, type_at}
-use Rattle.c_parse.specs.ReadingStatements.{choice_in, separated_at, name_at, bracketed_at, declarators_at, past_consts, body_at, statement_at}
+use Rattle.c_parse.specs.ReadingStatements.{choice_in, separated_at, name_at, bracketed_at, declarators_at, past_consts, body_at, statement_in}
 
 -- the words that the declarations of functions and of variables may begin with, those of functions alone, and what
 -- follows such words
@@ -60,7 +61,7 @@ parameters_at ts =
 unfoldable pub end_at : List Terminal → Read (Option Body)
 end_at ts =
     if starts marks.Semicolon ts then Some (None, tail ts)
-    else (expect marks.OpenBrace ts >>= λ a. body_at (statement_at (suc (length a))) (length a) a >>= λ ss. expect marks.CloseBrace ss.1 >>= λ rest.
+    else (expect marks.OpenBrace ts >>= λ a. body_at statement_in (length a) a >>= λ ss. expect marks.CloseBrace ss.1 >>= λ rest.
     Some (Some (record { statements = ss.0; close = place_of ss.1 }), rest))
 
 -- what follows the name of a function

@@ -1,4 +1,5 @@
--- Reading declarations and statements from left to right. Nothing that is promised speaks of this.
+-- Reading declarations and statements from left to right.
+-- Only proofs rest on this: no public contract speaks of it.
 use Rattle.std.specs.Prelude.{ℕ, zero, suc, Bool, true, false, ◌&&◌, ◌||◌, if◌then◌else◌, List, [], ◌∷◌, length, Option, Some, None}
 use Rattle.fq_core.specs.declared.span.Span.{Span}
 use Rattle.c_values.specs.declared.operators.BinaryOp.{BinaryOp}
@@ -18,11 +19,11 @@ use Rattle.c_parse.specs.declared.statement.Statement.{Statement}
 use Rattle.c_parse.specs.declared.statement.Form.TheVariants as form
 use Rattle.c_parse.specs.Grammar.{Text, place_of}
 use Rattle.c_parse.specs.StatementTrees.{statement, ident, place_tree, declarator, case_label, group, assigned_by, step_by}
-use Rattle.c_parse.specs.Reading.{Read, ◌>>=◌, is_mark, starts, starts_type, tail, expect, type_at, arguments_at, expr_at}
+use Rattle.c_parse.specs.Reading.{Read, ◌>>=◌, is_mark, starts, starts_type, tail, expect, type_at, arguments_at, expr_in}
 
--- an expression, nested as deep as its tokens allow
+-- an expression
 unfoldable pub choice_in : List Terminal → Read ExprTree
-choice_in ts = expr_at (suc (length ts)) 0 ts
+choice_in ts = expr_in 0 ts
 
 -- forms with commas between them, and the mark behind the last
 unfoldable pub separated_at : {Y : Type 0} → (List Terminal → Read Y) → Bool → Mark → ℕ → List Terminal → Read (List Y)
@@ -104,7 +105,7 @@ named_at p w ts =
     if starts marks.Open ts
     then (if starts marks.Close (tail ts)
     then Some (statement p (form.Call (ident w p) []), tail (tail ts))
-    else (arguments_at (expr_at (suc (length ts))) (length (tail ts)) (tail ts) >>= λ x. Some (statement p (form.Call (ident w p) x.0), x.1)))
+    else (arguments_at expr_in (length (tail ts)) (tail ts) >>= λ x. Some (statement p (form.Call (ident w p) x.0), x.1)))
     else (bracketed_at ts >>= λ i. changed_at p (place_tree w p i.0) i.1)
 
 -- a step that begins with its mark
@@ -244,7 +245,10 @@ unfoldable pub statement_by : Reads → List Terminal → Read Statement
 statement_by r [] = None
 statement_by r (t ∷ ts) = statement_of r t.sign t.span ts
 
--- with a bound on how deep statements nest
+-- with a bound on how deep statements nest, and without: none nests deeper than it has tokens
 unfoldable pub statement_at : ℕ → Reads
 statement_at zero ts = None
 statement_at (suc n) ts = statement_by (statement_at n) ts
+
+unfoldable pub statement_in : Reads
+statement_in ts = statement_at (suc (length ts)) ts

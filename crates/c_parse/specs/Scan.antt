@@ -1,4 +1,5 @@
--- The limits, counted from token to token. Nothing that is promised speaks of this.
+-- The limits, counted from token to token.
+-- Only proofs rest on this: no public contract speaks of it.
 use Rattle.std.specs.Prelude.{ℕ, List, [], ◌∷◌, Option, Some, None}
 use Rattle.c_parse.specs.declared.sign.Terminal.{Terminal}
 use Rattle.c_parse.specs.Limits.{with_bracket, in_row, passed_by}

@@ -1,4 +1,5 @@
 -- One or more forms with commas between them, and a mark behind the last.
+-- Public contracts rest on this.
 use Rattle.std.specs.Prelude.{◌≡◌, Bool, true, List, [], ◌∷◌, ◌++◌}
 use Rattle.fq_core.specs.declared.span.Span.{Span}
 use Rattle.c_parse.specs.declared.sign.Mark.{Mark}

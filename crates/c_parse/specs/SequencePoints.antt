@@ -1,4 +1,5 @@
 -- Which expressions have a sequence point within them (ISO/IEC 9899:2011, Annex C).
+-- Public contracts rest on this.
 use Rattle.std.specs.Prelude.{Bool, true, false, ◌||◌}
 use Rattle.c_parse.specs.declared.expr.ExprForm.TheOpen.{ExprForm-F}
 use Rattle.c_parse.specs.declared.expr.ExprTree.{ExprTree, fold-ExprTree}

@@ -1,4 +1,5 @@
 -- What the grammar calls a token (ISO/IEC 9899:2011, 5.1.1.2p1, phase 7).
+-- Public contracts rest on this.
 use Rattle.std.specs.Prelude.{ℕ, if◌then◌else◌, List, [], ◌∷◌, find, Option, Some, None, codes}
 use Rattle.std.specs.Str.{bytes_eq}
 use Rattle.c_lex.specs.declared.token.Token.{Token}

@@ -1,4 +1,5 @@
 -- The parts that trees of statements are made of.
+-- Public contracts rest on this.
 use Rattle.std.specs.Prelude.{ℕ, Bool, true, false, List, Option, Some, None}
 use Rattle.fq_core.specs.declared.span.Span.{Span}
 use Rattle.c_values.specs.declared.operators.BinaryOp.{BinaryOp}

@@ -1,4 +1,5 @@
 -- Which tokens spell which statement (ISO/IEC 9899:2011, 6.8).
+-- Public contracts rest on this.
 use Rattle.std.specs.Prelude.{◌≡◌, Bool, true, false, List, [], ◌∷◌, ◌++◌, Option, Some, None}
 use Rattle.fq_core.specs.declared.span.Span.{Span}
 use Rattle.c_values.specs.declared.kinds.Kind.{Kind}
@@ -14,7 +15,6 @@ use Rattle.c_parse.specs.declared.statement.Group.{Group}
 use Rattle.c_parse.specs.declared.statement.Statement.{Statement}
 use Rattle.c_parse.specs.declared.statement.Form.TheVariants as form
 use Rattle.c_parse.specs.Grammar.{Text, mark, name_token, place_of, DerivesChoice, DerivesArguments}
-use Rattle.c_parse.specs.Marks.{starts}
 use Rattle.c_parse.specs.StatementTrees.{statement, ident, place_tree, case_label, group, assigned_by, step_by}
 use Rattle.c_parse.specs.Declarations.{DerivesType, DerivesBracketed, DerivesDeclarators}
 
@@ -69,8 +69,12 @@ pub data DerivesLabels : List CaseLabel → List Terminal → Type 0 where
   last_label : {l : CaseLabel} {ts : List Terminal} → DerivesLabel l ts → DerivesLabels (l ∷ []) ts
   more_labels : {l : CaseLabel} {ls : List CaseLabel} {ts us : List Terminal} → DerivesLabel l ts → DerivesLabels ls us → DerivesLabels (l ∷ ls) (ts ++ us)
 
--- A statement. The first value says whether it ends in an `if` that has no `else`, so that an `else` that followed would
--- belong to that `if` (6.8.4.1p3).
+-- no `if` comes first
+abbrev pub NoIf : List Terminal → Type 0
+NoIf ts = (p : Span) (rest : List Terminal) → ts ≡ mark marks.If p ∷ rest → ⊥
+
+-- A statement. The first value says whether it ends in an `if` that has no `else`. An `else` behind it belongs to that
+-- `if`, which is the lexically nearest that the syntax allows (6.8.4.1p3).
 mutual
   pub data DerivesStatement : Bool → Statement → List Terminal → Type 0 where
     a_block : {p : Span} {ss : List Statement} {ts : List Terminal} (q : Span) → DerivesBody ss ts
@@ -105,16 +109,17 @@ mutual
     local_then : {s : Statement} {ss : List Statement} {xs ys : List Terminal} → DerivesLocal s xs → DerivesBody ss ys → DerivesBody (s ∷ ss) (xs ++ ys)
     statement_then : {o : Bool} {s : Statement} {ss : List Statement} {xs ys : List Terminal} → DerivesStatement o s xs → DerivesBody ss ys → DerivesBody (s ∷ ss) (xs ++ ys)
 
-  -- what follows an `if`: an `else` belongs to the nearest `if` that has none
+  -- what follows an `if`: its test, the statement of its arm, and `else` if it has one. Behind an arm that ends in an `if`
+  -- without `else` there is none of this `if`, since it would belong to the other (6.8.4.1p3).
   pub data DerivesArms : Bool → List (ExprTree × Statement) → Option Statement → List Terminal → Type 0 where
     an_arm : {o b : Bool} {c : ExprTree} {s : Statement} {arms : List (ExprTree × Statement)} {otherwise : Option Statement} {xs ys zs : List Terminal} (p q : Span)
         → DerivesChoice c xs → DerivesStatement b s ys → (b ≡ true → zs ≡ []) → DerivesElse o arms otherwise zs
         → DerivesArms o ((c, s) ∷ arms) otherwise (mark marks.Open p ∷ (xs ++ mark marks.Close q ∷ (ys ++ zs)))
 
-  -- what follows an arm: an `else` that is followed by `if` begins another
+  -- what follows an arm: nothing, another arm behind `else if`, or the last statement behind `else`
   pub data DerivesElse : Bool → List (ExprTree × Statement) → Option Statement → List Terminal → Type 0 where
     no_else : DerivesElse true [] None []
-    an_else : {o : Bool} {s : Statement} {ts : List Terminal} (p : Span) → starts marks.If ts ≡ false → DerivesStatement o s ts
+    an_else : {o : Bool} {s : Statement} {ts : List Terminal} (p : Span) → NoIf ts → DerivesStatement o s ts
         → DerivesElse o [] (Some s) (mark marks.Else p ∷ ts)
     else_if : {o : Bool} {arms : List (ExprTree × Statement)} {otherwise : Option Statement} {ts : List Terminal} (p q : Span) → DerivesArms o arms otherwise ts
         → DerivesElse o arms otherwise (mark marks.Else p ∷ mark marks.If q ∷ ts)

@@ -1,4 +1,5 @@
 -- The parts that trees of expressions are made of.
+-- Public contracts rest on this.
 use Rattle.std.specs.Prelude.{ℕ}
 use Rattle.fq_core.specs.declared.span.Span.{Span}
 use Rattle.c_values.specs.declared.operators.UnaryOp.TheVariants as unaries

@@ -1,27 +1,12 @@
 -- Which words name an integer type (ISO/IEC 9899:2011, 6.7.2p2).
+-- Public contracts rest on this.
 use Rattle.std.specs.Prelude.{ℕ, ◌+◌, Bool, true, false, ◌&&◌, ◌==◌, nat_le, if◌then◌else◌, List, [], ◌∷◌, count_by, Option, Some, None, option_map}
 use Rattle.std.specs.List.{list_all}
+use Rattle.std.specs.Str.{bytes_eq}
 use Rattle.c_values.specs.declared.kinds.Kind.{Kind}
 use Rattle.c_parse.specs.declared.sign.TypeWord.{TypeWord}
 use Rattle.c_parse.specs.declared.sign.TypeWord.TheVariants as words
-
--- the type specifiers, which are told apart by numbers
-abbrev pub number_of_word : TypeWord → ℕ
-number_of_word words.Char = 0
-number_of_word words.Short = 1
-number_of_word words.Int = 2
-number_of_word words.Long = 3
-number_of_word words.Signed = 4
-number_of_word words.Unsigned = 5
-number_of_word words.Int8 = 6
-number_of_word words.Int16 = 7
-number_of_word words.Int32 = 8
-number_of_word words.Int64 = 9
-number_of_word words.Uint8 = 10
-number_of_word words.Uint16 = 11
-number_of_word words.Uint32 = 12
-number_of_word words.Uint64 = 13
-number_of_word words.Size = 14
+use Rattle.c_parse.specs.Signs.{type_spelling}
 
 -- the kind of a typedef name (7.20.1.1, 7.19p2)
 abbrev pub alias_of : TypeWord → Option Kind
@@ -40,9 +25,9 @@ abbrev pub is_none : Option Kind → Bool
 is_none None = true
 is_none (Some k) = false
 
--- how often a word is among some
+-- how often a word is among some: words are the same where they are spelled the same
 abbrev pub times : TypeWord → List TypeWord → ℕ
-times w ws = count_by (λ x. number_of_word x == number_of_word w) ws
+times w ws = count_by (λ x. bytes_eq (type_spelling x) (type_spelling w)) ws
 
 -- the width that so many words `char`, `short`, `int` and `long` name together, in any order
 abbrev pub width_of : (char short int long : ℕ) → Option ℕ

@@ -1,4 +1,5 @@
 -- Which tokens are a unit, and why others are refused (ISO/IEC 9899:2011, 6.9).
+-- Public contracts rest on this.
 use Rattle.std.specs.Prelude.{◌≡◌, ℕ, List, ◌∷◌, ◌++◌}
 use Rattle.fq_core.specs.declared.refusal.Place.{Place}
 use Rattle.c_parse.specs.declared.sign.Terminal.{Terminal}

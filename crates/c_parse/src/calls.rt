@@ -10,7 +10,7 @@ ghost use Rattle.c_parse.specs.UnitForm.{IsUnit, IsRefusedUnit};
 ghost use Rattle.c_parse.specs.Outcome.{early_cause, by_rest, expression_outcome, unit_outcome};
 
 use crate::expr::ExprTree;
-use crate::expressions::whole;
+use crate::expressions::whole_expression;
 use crate::items::items;
 use crate::limits::{first_foreign, first_passed};
 use crate::sign::{Terminal, terminals};
@@ -51,7 +51,7 @@ fn read_expression(alloc: Global, tokens: &[Terminal]) -> Result<ExprTree, Fault
     if let Some(fault) = early_fault(tokens) {
         return Err(fault);
     }
-    match whole(alloc, tokens) {
+    match whole_expression(alloc, tokens) {
         Ok(tree) if !tree.has_sequence_point() => Ok(tree.into_inner()),
         Ok(_) | Err(Stop::Syntax) => Err(refusal(20, Place::Nowhere)),
         Err(Stop::Memory) => Err(Fault::Memory),

@@ -38,7 +38,7 @@ pub fn starts_with(tokens: &[Terminal], mark: Mark) -> bool
 }
 
 // The tokens behind the first.
-pub fn others(tokens: &[Terminal]) -> &[Terminal]
+pub fn tail(tokens: &[Terminal]) -> &[Terminal]
     ensures { result.now ≡ tail tokens.now }
 {
     match tokens {
@@ -51,14 +51,14 @@ pub fn expect_mark(tokens: &[Terminal], mark: Mark) -> Result<&[Terminal], Stop>
     ensures { Gives (λ x. x.now) result (expect mark tokens.now) }
 {
     if starts_with(tokens, mark) {
-        Ok(others(tokens))
+        Ok(tail(tokens))
     } else {
         Err(Stop::Syntax)
     }
 }
 
-// The place of the first token.
-pub fn first_place(tokens: &[Terminal]) -> Span
+// Where the first token stands.
+pub fn first_span(tokens: &[Terminal]) -> Span
     ensures { result ≡ place_of tokens.now }
 {
     match tokens {
@@ -105,7 +105,7 @@ pub fn take_type(alloc: Global, tokens: &[Terminal]) -> Result<(Kind, &[Terminal
     let mut rest = tokens;
     while let Some(word) = first_word(rest) {
         words.push(word)?;
-        rest = others(rest);
+        rest = tail(rest);
     }
     match kind_of(&words) {
         Some(kind) => Ok((kind, rest)),

@@ -4,9 +4,9 @@ ghost use Rattle.c_parse.specs.Gives.{Gives};
 ghost use Rattle.c_parse.specs.StatementTrees.{statement};
 ghost use Rattle.c_parse.specs.ReadingStatements.{choice_in, name_at, bracketed_at, first_at, declarator_at, declarators_at, past_consts, starts_local, local_at};
 
-use crate::cursor::{expect_mark, first_place, others, starts_with, starts_with_type, take_type};
+use crate::cursor::{expect_mark, first_span, starts_with, starts_with_type, tail, take_type};
 use crate::expr::{ExprTree, Ident};
-use crate::expressions::conditional;
+use crate::expressions::expression_at;
 use crate::separated::{Part, separated};
 use crate::sign::{Mark, Sign, Terminal};
 use crate::statement::{Declarator, Form, Initial, Statement};
@@ -15,19 +15,22 @@ use containers::{Boxed, Vector};
 use fq_core::{Name, Span};
 use std::alloc::{AllocError, Global};
 
-// An expression, nested as deep as its tokens allow.
+// An expression.
 #[tactic(auto, unfolding(crate::specs::ReadingStatements::choice_in))]
-pub fn choice(alloc: Global, tokens: &[Terminal]) -> Result<(Boxed<ExprTree>, &[Terminal]), Stop>
+pub fn expression(
+    alloc: Global,
+    tokens: &[Terminal],
+) -> Result<(Boxed<ExprTree>, &[Terminal]), Stop>
     ensures { Gives (λ x. (x.0, x.1.now)) result (choice_in tokens.now) }
 {
-    conditional(alloc, tokens.len() + 1, 0, tokens)
+    expression_at(alloc, 0, tokens)
 }
 
 impl Part for ExprTree {
     ghost reads = { choice_in };
 
     fn read(alloc: Global, tokens: &[Terminal]) -> Result<(ExprTree, &[Terminal]), Stop> {
-        let (tree, rest) = choice(alloc, tokens)?;
+        let (tree, rest) = expression(alloc, tokens)?;
         Ok((tree.into_inner(), rest))
     }
 }
@@ -40,13 +43,13 @@ pub fn node(alloc: Global, span: Span, form: Form) -> Result<Boxed<Statement>, A
 }
 
 // The name in front.
-pub fn first_name(alloc: Global, tokens: &[Terminal]) -> Result<Name, Stop>
+pub fn first_name(tokens: &[Terminal]) -> Result<Name, Stop>
     ensures { Gives (λ x. x) result (name_at tokens.now) }
 {
     match tokens {
         [] => Err(Stop::Syntax),
         [first, ..] => match &first.sign {
-            Sign::Name(name) => Ok(Name::new(alloc, name.bytes())?),
+            Sign::Name(name) => Ok(name.clone()?),
             _ => Err(Stop::Syntax),
         },
     }
@@ -63,7 +66,7 @@ pub fn bracketed(
     if !starts_with(tokens, Mark::OpenIndex) {
         return Ok((None, tokens));
     }
-    let (tree, rest) = choice(alloc, others(tokens))?;
+    let (tree, rest) = expression(alloc, tail(tokens))?;
     let rest = expect_mark(rest, Mark::CloseIndex)?;
     Ok((Some(tree.into_inner()), rest))
 }
@@ -76,12 +79,12 @@ fn first_value(alloc: Global, tokens: &[Terminal]) -> Result<(Option<Initial>, &
     if !starts_with(tokens, Mark::Assign) {
         return Ok((None, tokens));
     }
-    let rest = others(tokens);
+    let rest = tail(tokens);
     if starts_with(rest, Mark::OpenBrace) {
-        let (list, rest) = separated(alloc, true, Mark::CloseBrace, others(rest))?;
+        let (list, rest) = separated(alloc, true, Mark::CloseBrace, tail(rest))?;
         return Ok((Some(Initial::List(list)), rest));
     }
-    let (tree, rest) = choice(alloc, rest)?;
+    let (tree, rest) = expression(alloc, rest)?;
     Ok((Some(Initial::One(tree.into_inner())), rest))
 }
 
@@ -90,9 +93,9 @@ impl Part for Declarator {
 
     #[tactic(auto, unfolding(crate::specs::ReadingStatements::declarator_at))]
     fn read(alloc: Global, tokens: &[Terminal]) -> Result<(Declarator, &[Terminal]), Stop> {
-        let span = first_place(tokens);
-        let name = first_name(alloc, tokens)?;
-        let (length, rest) = bracketed(alloc, others(tokens))?;
+        let span = first_span(tokens);
+        let name = first_name(tokens)?;
+        let (length, rest) = bracketed(alloc, tail(tokens))?;
         let (first, rest) = first_value(alloc, rest)?;
         let name = Ident { name, span };
         Ok((
@@ -112,7 +115,7 @@ pub fn after_consts(tokens: &[Terminal]) -> &[Terminal]
 {
     let mut rest = tokens;
     while starts_with(rest, Mark::Const) {
-        rest = others(rest);
+        rest = tail(rest);
     }
     rest
 }
@@ -128,7 +131,7 @@ pub fn starts_with_local(tokens: &[Terminal]) -> bool
 pub fn local(alloc: Global, tokens: &[Terminal]) -> Result<(Boxed<Statement>, &[Terminal]), Stop>
     ensures { Gives (λ x. (x.0, x.1.now)) result (local_at tokens.now) }
 {
-    let span = first_place(tokens);
+    let span = first_span(tokens);
     let (kind, rest) = take_type(alloc, after_consts(tokens))?;
     let (list, rest) = separated(alloc, false, Mark::Semicolon, rest)?;
     Ok((node(alloc, span, Form::Local { kind, list })?, rest))

@@ -3,11 +3,11 @@ ghost use Rattle.std.specs.Prelude.{◌≡◌, ◌<◌, length, IfOk};
 ghost use Rattle.c_parse.specs.Trees.{tree, prefixed, joined};
 ghost use Rattle.c_parse.specs.Gives.{Gives};
 ghost use Rattle.c_parse.specs.Choices.{closed};
-ghost use Rattle.c_parse.specs.Reading.{arguments_at, after_name, after_open, after_prefix, operand_at, operators_at, level_by, choice_by, expr_at, whole_at};
+ghost use Rattle.c_parse.specs.Reading.{arguments_at, after_name, after_open, after_prefix, operand_at, operators_at, level_by, choice_by, expr_in, whole_at};
 
 use crate::cursor::{
-    expect_mark, first_infix, first_place, is_same, level_of, others, prefix_of, starts_with,
-    starts_with_type, take_type,
+    expect_mark, first_infix, first_span, is_same, level_of, prefix_of, starts_with,
+    starts_with_type, tail, take_type,
 };
 use crate::expr::{ExprForm, ExprTree};
 use crate::operator::{Infix, Prefix};
@@ -47,23 +47,21 @@ fn joined(op: Infix, left: Boxed<ExprTree>, right: Boxed<ExprTree>) -> ExprForm
 #[cycle(expr)]
 pub fn arguments(
     alloc: Global,
-    depth: usize,
     tokens: &[Terminal],
 ) -> Result<(Vector<ExprTree>, &[Terminal]), Stop>
-    ensures { Gives (λ x. (x.0, x.1.now)) result (arguments_at (expr_at depth) (length tokens.now) tokens.now) }
+    ensures { Gives (λ x. (x.0, x.1.now)) result (arguments_at expr_in (length tokens.now) tokens.now) }
 {
     let mut list = Vector::new(alloc);
     let mut rest = tokens;
-    for _ in 0..tokens.len() {
-        let (argument, after) = conditional(alloc, depth, 0, rest)?;
+    'arguments: loop {
+        let (argument, after) = expression_at(alloc, 0, rest)?;
         list.push(argument.into_inner())?;
         if !starts_with(after, Mark::Comma) {
             let after = expect_mark(after, Mark::Close)?;
             return Ok((list, after));
         }
-        rest = others(after);
+        rest = tail(after);
     }
-    Err(Stop::Syntax)
 }
 
 // What follows a name.
@@ -71,48 +69,46 @@ pub fn arguments(
 #[tactic(auto, unfolding(crate::specs::Reading::after_name))]
 fn named(
     alloc: Global,
-    depth: usize,
     span: Span,
     name: Name,
     tokens: &[Terminal],
 ) -> Result<(Boxed<ExprTree>, &[Terminal]), Stop>
-    ensures { Gives (λ x. (x.0, x.1.now)) result (after_name (expr_at depth) span name tokens.now) }
+    ensures { Gives (λ x. (x.0, x.1.now)) result (after_name expr_in span name tokens.now) }
 {
     if starts_with(tokens, Mark::OpenIndex) {
-        let (index, rest) = conditional(alloc, depth, 0, others(tokens))?;
+        let (index, rest) = expression_at(alloc, 0, tail(tokens))?;
         let rest = expect_mark(rest, Mark::CloseIndex)?;
         return Ok((node(alloc, span, ExprForm::Element(name, index))?, rest));
     }
     if !starts_with(tokens, Mark::Open) {
         return Ok((node(alloc, span, ExprForm::Name(name))?, tokens));
     }
-    let rest = others(tokens);
+    let rest = tail(tokens);
     if starts_with(rest, Mark::Close) {
         let call = ExprForm::Call(name, Vector::new(alloc));
-        return Ok((node(alloc, span, call)?, others(rest)));
+        return Ok((node(alloc, span, call)?, tail(rest)));
     }
-    let (list, rest) = arguments(alloc, depth, rest)?;
+    let (list, rest) = arguments(alloc, rest)?;
     Ok((node(alloc, span, ExprForm::Call(name, list))?, rest))
 }
 
 // What follows an opening parenthesis.
 #[cycle(expr)]
 #[tactic(auto, unfolding(crate::specs::Reading::after_open))]
-fn opened(
+fn parenthesized(
     alloc: Global,
-    depth: usize,
     span: Span,
     tokens: &[Terminal],
 ) -> Result<(Boxed<ExprTree>, &[Terminal]), Stop>
-    ensures { Gives (λ x. (x.0, x.1.now)) result (after_open (expr_at depth) span tokens.now) }
+    ensures { Gives (λ x. (x.0, x.1.now)) result (after_open expr_in span tokens.now) }
 {
     if starts_with_type(tokens) {
         let (kind, rest) = take_type(alloc, tokens)?;
         let rest = expect_mark(rest, Mark::Close)?;
-        let (operand, rest) = conditional(alloc, depth, 11, rest)?;
+        let (operand, rest) = expression_at(alloc, 11, rest)?;
         Ok((node(alloc, span, ExprForm::Cast(kind, operand))?, rest))
     } else {
-        let (inner, rest) = conditional(alloc, depth, 0, tokens)?;
+        let (inner, rest) = expression_at(alloc, 0, tokens)?;
         let rest = expect_mark(rest, Mark::Close)?;
         Ok((inner, rest))
     }
@@ -122,29 +118,24 @@ fn opened(
 #[cycle(expr)]
 fn prefix(
     alloc: Global,
-    depth: usize,
     span: Span,
     op: Option<Prefix>,
     tokens: &[Terminal],
 ) -> Result<(Boxed<ExprTree>, &[Terminal]), Stop>
-    ensures { Gives (λ x. (x.0, x.1.now)) result (after_prefix (expr_at depth) op span tokens.now) }
+    ensures { Gives (λ x. (x.0, x.1.now)) result (after_prefix expr_in op span tokens.now) }
 {
     let Some(op) = op else {
         return Err(Stop::Syntax);
     };
-    let (operand, rest) = conditional(alloc, depth, 11, tokens)?;
+    let (operand, rest) = expression_at(alloc, 11, tokens)?;
     Ok((node(alloc, span, prefixed(op, operand))?, rest))
 }
 
 // An operand.
 #[cycle(expr)]
 #[tactic(auto, unfolding(crate::specs::Reading::operand_at))]
-fn operand(
-    alloc: Global,
-    depth: usize,
-    tokens: &[Terminal],
-) -> Result<(Boxed<ExprTree>, &[Terminal]), Stop>
-    ensures { Gives (λ x. (x.0, x.1.now)) result (operand_at (expr_at depth) tokens.now) }
+fn operand(alloc: Global, tokens: &[Terminal]) -> Result<(Boxed<ExprTree>, &[Terminal]), Stop>
+    ensures { Gives (λ x. (x.0, x.1.now)) result (operand_at expr_in tokens.now) }
 {
     let [first, rest @ ..] = tokens else {
         return Err(Stop::Syntax);
@@ -155,14 +146,14 @@ fn operand(
             Ok((node(alloc, span, ExprForm::Number(*value, *kind))?, rest))
         }
         Sign::Name(name) => {
-            let name = Name::new(alloc, name.bytes())?;
-            named(alloc, depth, span, name, rest)
+            let name = name.clone()?;
+            named(alloc, span, name, rest)
         }
         Sign::Mark(mark) => {
             if is_same(*mark, Mark::Open) {
-                opened(alloc, depth, span, rest)
+                parenthesized(alloc, span, rest)
             } else {
-                prefix(alloc, depth, span, prefix_of(*mark), rest)
+                prefix(alloc, span, prefix_of(*mark), rest)
             }
         }
         _ => Err(Stop::Syntax),
@@ -174,22 +165,20 @@ fn operand(
 #[tactic(auto, unfolding(crate::specs::Reading::level_by))]
 fn operation(
     alloc: Global,
-    depth: usize,
     level: u8,
     tokens: &[Terminal],
 ) -> Result<(Boxed<ExprTree>, &[Terminal]), Stop>
     requires { level < 100 }
-    ensures { Gives (λ x. (x.0, x.1.now)) result (level_by (expr_at depth) level tokens.now) }
+    ensures { Gives (λ x. (x.0, x.1.now)) result (level_by expr_in level tokens.now) }
 {
-    let span = first_place(tokens);
-    let (mut tree, mut rest) = operand(alloc, depth, tokens)?;
-    for _ in 0..rest.len() {
-        let Some(op) = first_infix(rest) else { break };
+    let span = first_span(tokens);
+    let (mut tree, mut rest) = operand(alloc, tokens)?;
+    'operators: while let Some(op) = first_infix(rest) {
         let binds = level_of(op);
         if binds < level {
             break;
         }
-        let (right, after) = conditional(alloc, depth, binds + 1, others(rest))?;
+        let (right, after) = expression_at(alloc, binds + 1, tail(rest))?;
         tree = node(alloc, span, joined(op, tree, right))?;
         rest = after;
     }
@@ -221,59 +210,49 @@ fn closed(
 
 // A choice, or an operand at level 1. Choices in a row, which group to the right, are read by a loop.
 #[cycle(expr)]
-fn choice(
+fn conditional_expression(
     alloc: Global,
-    depth: usize,
     tokens: &[Terminal],
 ) -> Result<(Boxed<ExprTree>, &[Terminal]), Stop>
-    ensures { Gives (λ x. (x.0, x.1.now)) result (choice_by (expr_at depth) tokens.now) }
+    ensures { Gives (λ x. (x.0, x.1.now)) result (choice_by expr_in tokens.now) }
 {
     let mut outer = Vec::new(alloc);
     let mut rest = tokens;
-    let mut left = depth;
     'choices: loop {
-        let span = first_place(rest);
-        let (test, after) = operation(alloc, left, 1, rest)?;
+        let span = first_span(rest);
+        let (test, after) = operation(alloc, 1, rest)?;
         if !starts_with(after, Mark::Question) {
             return Ok((closed(alloc, outer, test)?, after));
         }
-        let (yes, after) = conditional(alloc, left, 0, others(after))?;
+        let (yes, after) = expression_at(alloc, 0, tail(after))?;
         rest = expect_mark(after, Mark::Colon)?;
-        if left == 0 {
-            return Err(Stop::Syntax);
-        }
         outer.push(OpenChoice { span, test, yes })?;
-        left -= 1;
     }
 }
 
-// An expression at level 0, an operand at a higher level. At most `depth` of them lie in one another.
+// An expression at level 0, an operand at a higher level.
 #[cycle(expr)]
-#[tactic(auto, unfolding(crate::specs::Reading::expr_at))]
-pub fn conditional(
+pub fn expression_at(
     alloc: Global,
-    depth: usize,
     level: u8,
     tokens: &[Terminal],
 ) -> Result<(Boxed<ExprTree>, &[Terminal]), Stop>
     requires { level < 100 }
-    ensures { Gives (λ x. (x.0, x.1.now)) result (expr_at depth level tokens.now) }
+    ensures { Gives (λ x. (x.0, x.1.now)) result (expr_in level tokens.now) }
 {
-    if depth == 0 {
-        Err(Stop::Syntax)
-    } else if level == 0 {
-        choice(alloc, depth - 1, tokens)
+    if level == 0 {
+        conditional_expression(alloc, tokens)
     } else {
-        operation(alloc, depth - 1, level, tokens)
+        operation(alloc, level, tokens)
     }
 }
 
 // The expression that all the tokens are.
 #[tactic(auto, unfolding(crate::specs::Reading::whole_at))]
-pub fn whole(alloc: Global, tokens: &[Terminal]) -> Result<Boxed<ExprTree>, Stop>
+pub fn whole_expression(alloc: Global, tokens: &[Terminal]) -> Result<Boxed<ExprTree>, Stop>
     ensures { Gives (λ x. x) result (whole_at tokens.now) }
 {
-    let (tree, rest) = conditional(alloc, tokens.len() + 1, 0, tokens)?;
+    let (tree, rest) = expression_at(alloc, 0, tokens)?;
     match rest {
         [] => Ok(tree),
         _ => Err(Stop::Syntax),

@@ -5,8 +5,8 @@ ghost use Rattle.c_parse.specs.Marks.{is_mark};
 ghost use Rattle.c_parse.specs.ReadingStatements.{name_at};
 ghost use Rattle.c_parse.specs.ReadingItems.{is_shared, is_of_functions, is_before, starts_before, past_before, for_variables, by_name, parameter_at, parameters_at, end_at, function_at, past_named, constant_at, enum_at, typed_at, void_at, item_at, items_at};
 
-use crate::cursor::{expect_mark, first_place, is_same, others, starts_with, take_type};
-use crate::declarations::{after_consts, bracketed, choice, first_name};
+use crate::cursor::{expect_mark, first_span, is_same, starts_with, tail, take_type};
+use crate::declarations::{after_consts, bracketed, expression, first_name};
 use crate::expr::{ExprTree, Ident};
 use crate::separated::{Part, separated};
 use crate::sign::{Mark, Sign, Terminal};
@@ -55,7 +55,7 @@ fn after_words(tokens: &[Terminal]) -> &[Terminal]
 {
     let mut rest = tokens;
     while starts_with_word(rest) {
-        rest = others(rest);
+        rest = tail(rest);
     }
     rest
 }
@@ -103,9 +103,9 @@ fn parameter_name(alloc: Global, tokens: &[Terminal]) -> Result<Named<'_>, Stop>
             rest: tokens,
         });
     };
-    let name = Name::new(alloc, name.bytes())?;
-    let span = first_place(tokens);
-    let (length, rest) = bracketed(alloc, others(tokens))?;
+    let name = name.clone()?;
+    let span = first_span(tokens);
+    let (length, rest) = bracketed(alloc, tail(tokens))?;
     let name = Some(Ident { name, span });
     Ok(Named { name, length, rest })
 }
@@ -115,7 +115,7 @@ impl Part for Parameter {
 
     #[tactic(auto, unfolding(crate::specs::ReadingItems::parameter_at))]
     fn read(alloc: Global, tokens: &[Terminal]) -> Result<(Parameter, &[Terminal]), Stop> {
-        let span = first_place(tokens);
+        let span = first_span(tokens);
         let (kind, rest) = take_type(alloc, after_consts(tokens))?;
         let Named { name, length, rest } = parameter_name(alloc, rest)?;
         Ok((
@@ -136,10 +136,10 @@ fn parameters(alloc: Global, tokens: &[Terminal]) -> Result<(Vector<Parameter>, 
     ensures { Gives (λ x. (x.0, x.1.now)) result (parameters_at tokens.now) }
 {
     if starts_with(tokens, Mark::Close) {
-        return Ok((Vector::new(alloc), others(tokens)));
+        return Ok((Vector::new(alloc), tail(tokens)));
     }
     if starts_with(tokens, Mark::Void) {
-        let rest = expect_mark(others(tokens), Mark::Close)?;
+        let rest = expect_mark(tail(tokens), Mark::Close)?;
         return Ok((Vector::new(alloc), rest));
     }
     separated(alloc, false, Mark::Close, tokens)
@@ -151,11 +151,11 @@ fn end(alloc: Global, tokens: &[Terminal]) -> Result<(Option<Body>, &[Terminal])
     ensures { Gives (λ x. (x.0, x.1.now)) result (end_at tokens.now) }
 {
     if starts_with(tokens, Mark::Semicolon) {
-        return Ok((None, others(tokens)));
+        return Ok((None, tail(tokens)));
     }
     let rest = expect_mark(tokens, Mark::OpenBrace)?;
-    let (statements, rest) = body(alloc, rest.len() + 1, rest)?;
-    let close = first_place(rest);
+    let (statements, rest) = body(alloc, rest)?;
+    let close = first_span(rest);
     let rest = expect_mark(rest, Mark::CloseBrace)?;
     Ok((Some(Body { statements, close }), rest))
 }
@@ -194,14 +194,14 @@ impl Part for (Ident, Option<ExprTree>) {
         alloc: Global,
         tokens: &[Terminal],
     ) -> Result<((Ident, Option<ExprTree>), &[Terminal]), Stop> {
-        let span = first_place(tokens);
-        let name = first_name(alloc, tokens)?;
+        let span = first_span(tokens);
+        let name = first_name(tokens)?;
         let name = Ident { name, span };
-        let rest = others(tokens);
+        let rest = tail(tokens);
         if !starts_with(rest, Mark::Assign) {
             return Ok(((name, None), rest));
         }
-        let (value, rest) = choice(alloc, others(rest))?;
+        let (value, rest) = expression(alloc, tail(rest))?;
         Ok(((name, Some(value.into_inner())), rest))
     }
 }
@@ -211,7 +211,7 @@ fn after_tag(tokens: &[Terminal]) -> &[Terminal]
     ensures { result.now ≡ past_named (name_at tokens.now) tokens.now }
 {
     if name_of(tokens).is_some() {
-        others(tokens)
+        tail(tokens)
     } else {
         tokens
     }
@@ -237,11 +237,11 @@ fn typed<'a>(
 ) -> Result<(Item, &'a [Terminal]), Stop>
     ensures { Gives (λ x. (x.0, x.1.now)) result (typed_at all.now tokens.now) }
 {
-    let span = first_place(all);
+    let span = first_span(all);
     let (kind, rest) = take_type(alloc, tokens)?;
-    let place = first_place(rest);
-    let name = first_name(alloc, rest)?;
-    let behind = others(rest);
+    let place = first_span(rest);
+    let name = first_name(rest)?;
+    let behind = tail(rest);
     if starts_with(behind, Mark::Open) {
         let name = Ident { name, span: place };
         return function(alloc, span, Some(kind), name, behind);
@@ -255,17 +255,17 @@ fn typed<'a>(
 
 // A function that gives nothing, from behind `void` on.
 #[tactic(auto, unfolding(crate::specs::ReadingItems::void_at))]
-fn procedure<'a>(
+fn void_function<'a>(
     alloc: Global,
     all: &'a [Terminal],
     tokens: &'a [Terminal],
 ) -> Result<(Item, &'a [Terminal]), Stop>
     ensures { Gives (λ x. (x.0, x.1.now)) result (void_at all.now tokens.now) }
 {
-    let span = first_place(tokens);
-    let name = first_name(alloc, tokens)?;
+    let span = first_span(tokens);
+    let name = first_name(tokens)?;
     let name = Ident { name, span };
-    function(alloc, first_place(all), None, name, others(tokens))
+    function(alloc, first_span(all), None, name, tail(tokens))
 }
 
 // An item, and the tokens behind it.
@@ -274,11 +274,11 @@ fn item(alloc: Global, tokens: &[Terminal]) -> Result<(Item, &[Terminal]), Stop>
     ensures { Gives (λ x. (x.0, x.1.now)) result (item_at tokens.now) }
 {
     if starts_with(tokens, Mark::Enum) {
-        return constants(alloc, first_place(tokens), others(tokens));
+        return constants(alloc, first_span(tokens), tail(tokens));
     }
     let rest = after_words(tokens);
     if starts_with(rest, Mark::Void) {
-        procedure(alloc, tokens, others(rest))
+        void_function(alloc, tokens, tail(rest))
     } else {
         typed(alloc, tokens, rest)
     }
@@ -290,15 +290,14 @@ pub fn items(alloc: Global, tokens: &[Terminal]) -> Result<(Vector<Item>, &[Term
 {
     let mut list = Vector::new(alloc);
     let mut rest = tokens;
-    for _ in 0..tokens.len() {
+    'items: loop {
         match item(alloc, rest) {
             Ok((next, after)) => {
                 list.push(next)?;
                 rest = after;
             }
             Err(Stop::Memory) => return Err(AllocError),
-            Err(Stop::Syntax) => break,
+            Err(Stop::Syntax) => return Ok((list, rest)),
         }
     }
-    Ok((list, rest))
 }

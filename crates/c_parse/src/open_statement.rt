@@ -2,9 +2,9 @@
 ghost use Rattle.std.specs.Prelude.{◌≡◌, ◌+◌, ◌≤◌, length, IfOk};
 ghost use Rattle.c_parse.specs.Gives.{Gives};
 ghost use Rattle.c_parse.specs.OpenStatements.{Leads, opens, part_of_mark, for_part, do_end, behind_arms, resume, progress_at, parts_of};
-ghost use Rattle.c_parse.specs.ReadingStatements.{Reads, labelled_at};
+ghost use Rattle.c_parse.specs.ReadingStatements.{labelled_at, statement_in};
 
-use crate::cursor::{expect_mark, others, starts_with};
+use crate::cursor::{expect_mark, starts_with, tail};
 use crate::declarations::node;
 use crate::expr::{ExprTree, Ident};
 use crate::sign::{Mark, Terminal};
@@ -34,11 +34,10 @@ pub enum OpenForm {
         test: Option<ExprTree>,
         next: Option<Boxed<Statement>>,
     },
-    /// The arms of an `if`, up to the test of one. At most `left` more arms may follow it.
+    /// The arms of an `if`, up to the test of one.
     Arm {
         arms: Vector<(ExprTree, Statement)>,
         test: ExprTree,
-        left: usize,
     },
     /// The arms of an `if`, and the last `else`.
     Otherwise(Vector<(ExprTree, Statement)>),
@@ -63,7 +62,7 @@ pub fn opens(mark: Mark) -> bool
 
 // What follows `for`, up to the body.
 #[tactic(auto, unfolding(crate::specs::OpenStatements::for_part))]
-fn counted(alloc: Global, tokens: &[Terminal]) -> Result<(OpenForm, &[Terminal]), Stop>
+fn for_head(alloc: Global, tokens: &[Terminal]) -> Result<(OpenForm, &[Terminal]), Stop>
     ensures { Gives (λ x. (x.0, x.1.now)) result (for_part tokens.now) }
 {
     let rest = expect_mark(tokens, Mark::Open)?;
@@ -83,13 +82,12 @@ fn first_arm(alloc: Global, tokens: &[Terminal]) -> Result<(OpenForm, &[Terminal
     let form = OpenForm::Arm {
         arms: Vector::new(alloc),
         test: test.into_inner(),
-        left: tokens.len() - 1,
     };
     Ok((form, rest))
 }
 
 // What follows a mark that opens a statement, up to a part of the statement.
-pub fn opened(
+pub fn open_form(
     alloc: Global,
     mark: Mark,
     tokens: &[Terminal],
@@ -103,7 +101,7 @@ pub fn opened(
             Ok((OpenForm::While(test.into_inner()), rest))
         }
         Mark::Do => Ok((OpenForm::Do, tokens)),
-        Mark::For => counted(alloc, tokens),
+        Mark::For => for_head(alloc, tokens),
         _ => Err(Stop::Syntax),
     }
 }
@@ -116,13 +114,13 @@ pub fn labelled(
     name: Name,
     tokens: &[Terminal],
 ) -> Result<(Progress, &[Terminal]), Stop>
-    ensures same { (r : Reads) → Leads (λ x. progress_at r x.0 x.1.now) result (labelled_at r span name tokens.now) }
+    ensures same { Leads (λ x. progress_at statement_in x.0 x.1.now) result (labelled_at statement_in span name tokens.now) }
     ensures shorter { IfOk result (λ x. length x.1.now ≤ length tokens.now) }
 {
     if starts_with(tokens, Mark::Colon) {
         let form = OpenForm::Label(Ident { name, span });
         let part = OpenStatement { span, form };
-        return Ok((Progress::Part(part), others(tokens)));
+        return Ok((Progress::Part(part), tail(tokens)));
     }
     let (simple, rest) = named(alloc, span, name, tokens)?;
     let rest = expect_mark(rest, Mark::Semicolon)?;
@@ -131,7 +129,7 @@ pub fn labelled(
 
 // What follows the body of a `do`.
 #[tactic(auto, unfolding(crate::specs::OpenStatements::do_end))]
-fn repeated(
+fn do_end(
     alloc: Global,
     span: Span,
     body: Boxed<Statement>,
@@ -147,15 +145,14 @@ fn repeated(
 }
 
 // What follows the arms of an `if`: another arm, `else`, or nothing of it.
-#[tactic(auto, unfolding(crate::specs::OpenStatements::behind_arms, crate::specs::ReadingStatements::arms_at))]
+#[tactic(auto, unfolding(crate::specs::OpenStatements::behind_arms))]
 fn behind_arms(
     alloc: Global,
     span: Span,
     arms: Vector<(ExprTree, Statement)>,
-    left: usize,
     tokens: &[Terminal],
 ) -> Result<(Progress, &[Terminal]), Stop>
-    ensures same { (r : Reads) → Leads (λ x. progress_at r x.0 x.1.now) result (behind_arms r span arms left tokens.now) }
+    ensures same { Leads (λ x. progress_at statement_in x.0 x.1.now) result (behind_arms statement_in span arms tokens.now) }
     ensures shorter { IfOk result (λ x. length x.1.now + parts_of x.0 ≤ length tokens.now) }
 {
     if !starts_with(tokens, Mark::Else) {
@@ -163,20 +160,16 @@ fn behind_arms(
         let whole = node(alloc, span, Form::If { arms, otherwise })?;
         return Ok((Progress::Whole(whole), tokens));
     }
-    let behind = others(tokens);
+    let behind = tail(tokens);
     if !starts_with(behind, Mark::If) {
         let form = OpenForm::Otherwise(arms);
         let part = OpenStatement { span, form };
         return Ok((Progress::Part(part), behind));
     }
-    if left == 0 {
-        return Err(Stop::Syntax);
-    }
-    let (test, rest) = test(alloc, others(behind))?;
+    let (test, rest) = test(alloc, tail(behind))?;
     let form = OpenForm::Arm {
         arms,
         test: test.into_inner(),
-        left: left - 1,
     };
     let part = OpenStatement { span, form };
     Ok((Progress::Part(part), rest))
@@ -189,7 +182,7 @@ pub fn resumed(
     body: Boxed<Statement>,
     tokens: &[Terminal],
 ) -> Result<(Progress, &[Terminal]), Stop>
-    ensures same { (r : Reads) → Leads (λ x. progress_at r x.0 x.1.now) result (resume r outer body tokens.now) }
+    ensures same { Leads (λ x. progress_at statement_in x.0 x.1.now) result (resume statement_in outer body tokens.now) }
     ensures shorter { IfOk result (λ x. length x.1.now + parts_of x.0 ≤ length tokens.now) }
 {
     let OpenStatement { span, form } = outer;
@@ -207,13 +200,13 @@ pub fn resumed(
             otherwise: Some(body),
         },
         OpenForm::Do => {
-            let (whole, rest) = repeated(alloc, span, body, tokens)?;
+            let (whole, rest) = do_end(alloc, span, body, tokens)?;
             return Ok((Progress::Whole(whole), rest));
         }
-        OpenForm::Arm { arms, test, left } => {
+        OpenForm::Arm { arms, test } => {
             let mut arms = arms;
             arms.push((test, body.into_inner()))?;
-            return behind_arms(alloc, span, arms, left, tokens);
+            return behind_arms(alloc, span, arms, tokens);
         }
     };
     let whole = node(alloc, span, form)?;

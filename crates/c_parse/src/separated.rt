@@ -1,11 +1,11 @@
 // Forms with commas between them, and a mark behind the last.
-ghost use Rattle.std.specs.Prelude.{◌≡◌, ◌&&◌, List, length};
+ghost use Rattle.std.specs.Prelude.{◌≡◌, ◌<◌, ◌&&◌, List, length, IfOk};
 ghost use Rattle.c_parse.specs.declared.sign.Terminal.{Terminal};
 ghost use Rattle.c_parse.specs.Gives.{Gives};
 ghost use Rattle.c_parse.specs.Reading.{Read, starts};
 ghost use Rattle.c_parse.specs.ReadingStatements.{separated_at};
 
-use crate::cursor::{expect_mark, others, starts_with};
+use crate::cursor::{expect_mark, starts_with, tail};
 use crate::sign::{Mark, Terminal};
 use crate::stop::Stop;
 use containers::Vector;
@@ -16,7 +16,8 @@ pub trait Part: Drop {
     ghost reads: { List Terminal → Read Self };
 
     fn read(alloc: Global, tokens: &[Terminal]) -> Result<(Self, &[Terminal]), Stop>
-        ensures { Gives (λ x. (x.0, x.1.now)) result (reads tokens.now) };
+        ensures same { Gives (λ x. (x.0, x.1.now)) result (reads tokens.now) }
+        ensures fewer { IfOk result (λ x. length x.1.now < length tokens.now) };
 }
 
 // Whether the comma before these tokens is the last one.
@@ -37,17 +38,16 @@ pub fn separated<T: Part>(
 {
     let mut list = Vector::new(alloc);
     let mut rest = tokens;
-    for _ in 0..tokens.len() {
+    'forms: loop {
         let (next, after) = T::read(alloc, rest)?;
         list.push(next)?;
         if !starts_with(after, Mark::Comma) {
             let after = expect_mark(after, last)?;
             return Ok((list, after));
         }
-        rest = others(after);
+        rest = tail(after);
         if ends_by_comma(comma, last, rest) {
-            return Ok((list, others(rest)));
+            return Ok((list, tail(rest)));
         }
     }
-    Err(Stop::Syntax)
 }

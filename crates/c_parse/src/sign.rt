@@ -1,7 +1,7 @@
 // What the grammar calls a token (ISO/IEC 9899:2011, 5.1.1.2p1, phase 7, and annex A).
 ghost use Rattle.std.specs.Prelude.{◌≡◌, find, map, IfOk};
 ghost use Rattle.std.specs.Str.{bytes_eq};
-ghost use Rattle.c_parse.specs.Signs.{spelling, type_spelling, word_sign, mark_sign, sign_of, terminal_of};
+ghost use Rattle.c_parse.specs.Signs.{spelling, type_spelling, name_or_foreign, word_sign, mark_sign, sign_of, terminal_of};
 
 use c_lex::{Token, TokenKind, is_foreign_mark, is_foreign_word};
 use c_values::Kind;
@@ -270,7 +270,7 @@ fn spelling(mark: Mark) -> &'static [u8]
     }
 }
 
-fn type_spelling(word: TypeWord) -> &'static [u8]
+pub fn type_spelling(word: TypeWord) -> &'static [u8]
     ensures { result.now ≡ type_spelling word }
 {
     match word {
@@ -316,8 +316,19 @@ fn type_word_spelled(words: &[TypeWord], text: &[u8]) -> Option<TypeWord>
     None
 }
 
+// A word that the profile leaves out, or a name.
+fn name_or_foreign(text: &Name) -> Result<Sign, Memory>
+    ensures { IfOk result (λ sign. sign ≡ name_or_foreign text.now) }
+{
+    if is_foreign_word(text.bytes()) {
+        return Ok(Sign::Foreign);
+    }
+    let name = text.clone()?;
+    Ok(Sign::Name(name))
+}
+
 #[tactic(auto, unfolding(crate::specs::Signs::word_sign))]
-fn word_sign(alloc: Global, text: &Name) -> Result<Sign, Memory>
+fn word_sign(text: &Name) -> Result<Sign, Memory>
     ensures { IfOk result (λ sign. sign ≡ word_sign text.now) }
 {
     if let Some(mark) = mark_spelled(&KEYWORDS, text.bytes()) {
@@ -326,10 +337,7 @@ fn word_sign(alloc: Global, text: &Name) -> Result<Sign, Memory>
     if let Some(word) = type_word_spelled(&TYPE_WORDS, text.bytes()) {
         return Ok(Sign::Type(word));
     }
-    if is_foreign_word(text.bytes()) {
-        return Ok(Sign::Foreign);
-    }
-    Ok(Sign::Name(Name::new(alloc, text.bytes())?))
+    name_or_foreign(text)
 }
 
 #[tactic(auto, unfolding(crate::specs::Signs::mark_sign))]
@@ -346,12 +354,12 @@ fn mark_sign(text: &[u8]) -> Sign
     }
 }
 
-fn sign_of(alloc: Global, kind: TokenKind, text: &Name) -> Result<Sign, Memory>
+fn sign_of(kind: TokenKind, text: &Name) -> Result<Sign, Memory>
     ensures { IfOk result (λ sign. sign ≡ sign_of kind text.now) }
 {
     match kind {
         TokenKind::Number { value, kind } => Ok(Sign::Number(value, kind)),
-        TokenKind::Word => word_sign(alloc, text),
+        TokenKind::Word => word_sign(text),
         TokenKind::Mark => Ok(mark_sign(text.bytes())),
         TokenKind::Foreign => Ok(Sign::Foreign),
     }
@@ -363,7 +371,7 @@ pub fn terminals(alloc: Global, tokens: &[Token]) -> Result<Vec<Terminal>, Memor
 {
     let mut list = Vec::new(alloc);
     for token in tokens {
-        let sign = sign_of(alloc, token.kind, &token.text)?;
+        let sign = sign_of(token.kind, &token.text)?;
         list.push(Terminal {
             sign,
             span: token.span,

@@ -4,8 +4,8 @@ ghost use Rattle.c_parse.specs.Gives.{Gives};
 ghost use Rattle.c_parse.specs.StatementTrees.{assigned_by, step_by};
 ghost use Rattle.c_parse.specs.ReadingStatements.{mark_at, changed_by, changed_at, named_at, stepped_at, simple_at, test_at, optional_at, begin_at, next_at, starts_label, label_at, labels_at};
 
-use crate::cursor::{expect_mark, first_place, others, starts_with};
-use crate::declarations::{bracketed, choice, first_name, local, node, starts_with_local};
+use crate::cursor::{expect_mark, first_span, starts_with, tail};
+use crate::declarations::{bracketed, expression, first_name, local, node, starts_with_local};
 use crate::expr::{ExprTree, Ident};
 use crate::expressions::arguments;
 use crate::sign::{Mark, Sign, Terminal};
@@ -76,7 +76,7 @@ fn changed_by(
     let Some(operator) = how else {
         return Err(Stop::Syntax);
     };
-    let (value, rest) = choice(alloc, tokens)?;
+    let (value, rest) = expression(alloc, tokens)?;
     let form = Form::Assign {
         place,
         operator,
@@ -103,7 +103,7 @@ fn changed(
         assigned_by(mark),
         span,
         place,
-        others(tokens),
+        tail(tokens),
     )
 }
 
@@ -122,13 +122,13 @@ pub fn named(
         let (index, rest) = bracketed(alloc, tokens)?;
         return changed(alloc, span, PlaceTree { name, index }, rest);
     }
-    let rest = others(tokens);
+    let rest = tail(tokens);
     if starts_with(rest, Mark::Close) {
         let arguments = Vector::new(alloc);
         let form = Form::Call { name, arguments };
-        return Ok((node(alloc, span, form)?, others(rest)));
+        return Ok((node(alloc, span, form)?, tail(rest)));
     }
-    let (arguments, rest) = arguments(alloc, tokens.len() + 1, rest)?;
+    let (arguments, rest) = arguments(alloc, rest)?;
     let form = Form::Call { name, arguments };
     Ok((node(alloc, span, form)?, rest))
 }
@@ -146,9 +146,9 @@ pub fn stepped(
     let Some(up) = step_by(mark) else {
         return Err(Stop::Syntax);
     };
-    let at = first_place(tokens);
-    let name = first_name(alloc, tokens)?;
-    let (index, rest) = bracketed(alloc, others(tokens))?;
+    let at = first_span(tokens);
+    let name = first_name(tokens)?;
+    let (index, rest) = bracketed(alloc, tail(tokens))?;
     let name = Ident { name, span: at };
     let place = PlaceTree { name, index };
     Ok((node(alloc, span, Form::Step { place, up })?, rest))
@@ -164,7 +164,7 @@ fn simple(alloc: Global, tokens: &[Terminal]) -> Result<(Boxed<Statement>, &[Ter
     let span = first.span;
     match &first.sign {
         Sign::Name(name) => {
-            let name = Name::new(alloc, name.bytes())?;
+            let name = name.clone()?;
             named(alloc, span, name, rest)
         }
         Sign::Mark(mark) => stepped(alloc, span, *mark, rest),
@@ -178,7 +178,7 @@ pub fn test(alloc: Global, tokens: &[Terminal]) -> Result<(Boxed<ExprTree>, &[Te
     ensures { Gives (λ x. (x.0, x.1.now)) result (test_at tokens.now) }
 {
     let rest = expect_mark(tokens, Mark::Open)?;
-    let (tree, rest) = choice(alloc, rest)?;
+    let (tree, rest) = expression(alloc, rest)?;
     let rest = expect_mark(rest, Mark::Close)?;
     Ok((tree, rest))
 }
@@ -191,7 +191,7 @@ pub fn optional(alloc: Global, tokens: &[Terminal]) -> Result<(Option<ExprTree>,
     if starts_with(tokens, Mark::Semicolon) {
         return Ok((None, tokens));
     }
-    let (tree, rest) = choice(alloc, tokens)?;
+    let (tree, rest) = expression(alloc, tokens)?;
     Ok((Some(tree.into_inner()), rest))
 }
 
@@ -204,7 +204,7 @@ pub fn begin(
     ensures { Gives (λ x. (x.0, x.1.now)) result (begin_at tokens.now) }
 {
     if starts_with(tokens, Mark::Semicolon) {
-        return Ok((None, others(tokens)));
+        return Ok((None, tail(tokens)));
     }
     if starts_with_local(tokens) {
         let (first, rest) = local(alloc, tokens)?;
@@ -240,9 +240,9 @@ pub fn starts_with_label(tokens: &[Terminal]) -> bool
 fn label(alloc: Global, tokens: &[Terminal]) -> Result<(CaseLabel, &[Terminal]), Stop>
     ensures { Gives (λ x. (x.0, x.1.now)) result (label_at tokens.now) }
 {
-    let span = first_place(tokens);
+    let span = first_span(tokens);
     if starts_with(tokens, Mark::Case) {
-        let (value, rest) = choice(alloc, others(tokens))?;
+        let (value, rest) = expression(alloc, tail(tokens))?;
         let rest = expect_mark(rest, Mark::Colon)?;
         let value = Some(value.into_inner());
         return Ok((CaseLabel { span, value }, rest));
@@ -258,7 +258,7 @@ pub fn labels(alloc: Global, tokens: &[Terminal]) -> Result<(Vector<CaseLabel>, 
 {
     let mut list = Vector::new(alloc);
     let mut rest = tokens;
-    for _ in 0..tokens.len() {
+    'labels: loop {
         let (next, after) = label(alloc, rest)?;
         list.push(next)?;
         if !starts_with_label(after) {
@@ -266,5 +266,4 @@ pub fn labels(alloc: Global, tokens: &[Terminal]) -> Result<(Vector<CaseLabel>, 
         }
         rest = after;
     }
-    Err(Stop::Syntax)
 }

@@ -2,11 +2,11 @@
 ghost use Rattle.std.specs.Prelude.{◌≡◌, ◌≤◌, ◌<◌, false, length, IfOk};
 ghost use Rattle.c_parse.specs.Gives.{Gives};
 ghost use Rattle.c_parse.specs.OpenStatements.{Leads, opens, progress_at};
-ghost use Rattle.c_parse.specs.ReadingStatements.{one_at, ends_body, body_at, groups_at, switch_at, return_at, assert_at, assume_at, statement_of_mark, statement_by, statement_at};
+ghost use Rattle.c_parse.specs.ReadingStatements.{one_at, ends_body, body_at, groups_at, switch_at, return_at, assert_at, assume_at, statement_of_mark, statement_by, statement_in};
 
-use crate::cursor::{expect_mark, others, starts_with};
+use crate::cursor::{expect_mark, starts_with, tail};
 use crate::declarations::{local, node, starts_with_local};
-use crate::open_statement::{OpenStatement, Progress, labelled, opened, opens, resumed};
+use crate::open_statement::{OpenStatement, Progress, labelled, open_form, opens, resumed};
 use crate::sign::{Mark, Sign, Terminal};
 use crate::simple::{labels, optional, starts_with_label, stepped, test};
 use crate::statement::{Form, Group, Statement};
@@ -66,63 +66,49 @@ fn ends_body(tokens: &[Terminal]) -> bool
 
 // A declaration or a statement.
 #[cycle(statement)]
-fn one(
-    alloc: Global,
-    depth: usize,
-    tokens: &[Terminal],
-) -> Result<(Boxed<Statement>, &[Terminal]), Stop>
-    ensures { Gives (λ x. (x.0, x.1.now)) result (one_at (statement_at depth) tokens.now) }
+fn one(alloc: Global, tokens: &[Terminal]) -> Result<(Boxed<Statement>, &[Terminal]), Stop>
+    ensures { Gives (λ x. (x.0, x.1.now)) result (one_at statement_in tokens.now) }
 {
     if starts_with_local(tokens) {
         local(alloc, tokens)
     } else {
-        statement(alloc, depth, tokens)
+        statement(alloc, tokens)
     }
 }
 
 // Declarations and statements up to a closing brace, or a label of a `switch`.
 #[cycle(statement)]
-pub fn body(
-    alloc: Global,
-    depth: usize,
-    tokens: &[Terminal],
-) -> Result<(Vector<Statement>, &[Terminal]), Stop>
-    ensures { Gives (λ x. (x.0, x.1.now)) result (body_at (statement_at depth) (length tokens.now) tokens.now) }
+pub fn body(alloc: Global, tokens: &[Terminal]) -> Result<(Vector<Statement>, &[Terminal]), Stop>
+    ensures { Gives (λ x. (x.0, x.1.now)) result (body_at statement_in (length tokens.now) tokens.now) }
 {
     let mut list = Vector::new(alloc);
     let mut rest = tokens;
-    for _ in 0..tokens.len() {
+    'statements: loop {
         if ends_body(rest) {
             return Ok((list, rest));
         }
-        let (next, after) = one(alloc, depth, rest)?;
+        let (next, after) = one(alloc, rest)?;
         list.push(next.into_inner())?;
         rest = after;
     }
-    Err(Stop::Syntax)
 }
 
 // The groups of a `switch`, up to the closing brace.
 #[cycle(statement)]
-fn groups(
-    alloc: Global,
-    depth: usize,
-    tokens: &[Terminal],
-) -> Result<(Vector<Group>, &[Terminal]), Stop>
-    ensures { Gives (λ x. (x.0, x.1.now)) result (groups_at (statement_at depth) (length tokens.now) tokens.now) }
+fn groups(alloc: Global, tokens: &[Terminal]) -> Result<(Vector<Group>, &[Terminal]), Stop>
+    ensures { Gives (λ x. (x.0, x.1.now)) result (groups_at statement_in (length tokens.now) tokens.now) }
 {
     let mut list = Vector::new(alloc);
     let mut rest = tokens;
-    for _ in 0..tokens.len() {
+    'groups: loop {
         if starts_with(rest, Mark::CloseBrace) {
-            return Ok((list, others(rest)));
+            return Ok((list, tail(rest)));
         }
         let (labels, after) = labels(alloc, rest)?;
-        let (body, after) = body(alloc, depth, after)?;
+        let (body, after) = body(alloc, after)?;
         list.push(Group { labels, body })?;
         rest = after;
     }
-    Err(Stop::Syntax)
 }
 
 // What follows `switch`.
@@ -130,39 +116,37 @@ fn groups(
 #[tactic(auto, unfolding(crate::specs::ReadingStatements::switch_at))]
 fn switched(
     alloc: Global,
-    depth: usize,
     span: Span,
     tokens: &[Terminal],
 ) -> Result<(Boxed<Statement>, &[Terminal]), Stop>
-    ensures { Gives (λ x. (x.0, x.1.now)) result (switch_at (statement_at depth) span tokens.now) }
+    ensures { Gives (λ x. (x.0, x.1.now)) result (switch_at statement_in span tokens.now) }
 {
     let (value, rest) = test(alloc, tokens)?;
     let rest = expect_mark(rest, Mark::OpenBrace)?;
-    let (groups, rest) = groups(alloc, depth, rest)?;
+    let (groups, rest) = groups(alloc, rest)?;
     let value = value.into_inner();
     Ok((node(alloc, span, Form::Switch { value, groups })?, rest))
 }
 
 // What follows a mark that opens no statement.
 #[cycle(statement)]
-fn whole(
+fn closed_statement(
     alloc: Global,
-    depth: usize,
     span: Span,
     mark: Mark,
     tokens: &[Terminal],
 ) -> Result<(Boxed<Statement>, &[Terminal]), Stop>
     requires { opens mark ≡ false }
-    ensures { Gives (λ x. (x.0, x.1.now)) result (statement_of_mark (statement_at depth) mark span tokens.now) }
+    ensures { Gives (λ x. (x.0, x.1.now)) result (statement_of_mark statement_in mark span tokens.now) }
 {
     match mark {
         Mark::OpenBrace => {
-            let (list, rest) = body(alloc, depth, tokens)?;
+            let (list, rest) = body(alloc, tokens)?;
             let rest = expect_mark(rest, Mark::CloseBrace)?;
             Ok((node(alloc, span, Form::Block(list))?, rest))
         }
         Mark::Semicolon => Ok((node(alloc, span, Form::Empty)?, tokens)),
-        Mark::Switch => switched(alloc, depth, span, tokens),
+        Mark::Switch => switched(alloc, span, tokens),
         Mark::Break => {
             let rest = expect_mark(tokens, Mark::Semicolon)?;
             Ok((node(alloc, span, Form::Break)?, rest))
@@ -186,28 +170,27 @@ fn whole(
 #[cycle(statement)]
 fn by_mark(
     alloc: Global,
-    depth: usize,
     span: Span,
     mark: Mark,
     tokens: &[Terminal],
 ) -> Result<(Progress, &[Terminal]), Stop>
-    ensures same { Leads (λ x. progress_at (statement_at depth) x.0 x.1.now) result (statement_of_mark (statement_at depth) mark span tokens.now) }
+    ensures same { Leads (λ x. progress_at statement_in x.0 x.1.now) result (statement_of_mark statement_in mark span tokens.now) }
     ensures shorter { IfOk result (λ x. length x.1.now ≤ length tokens.now) }
 {
     if opens(mark) {
-        let (form, rest) = opened(alloc, mark, tokens)?;
+        let (form, rest) = open_form(alloc, mark, tokens)?;
         let part = OpenStatement { span, form };
         return Ok((Progress::Part(part), rest));
     }
-    let (whole, rest) = whole(alloc, depth, span, mark, tokens)?;
+    let (whole, rest) = closed_statement(alloc, span, mark, tokens)?;
     Ok((Progress::Whole(whole), rest))
 }
 
-// A statement, up to a part of it or to its end. At most `depth` statements lie in one another in it.
+// A statement, up to a part of it or to its end.
 #[cycle(statement)]
 #[tactic(auto, unfolding(crate::specs::ReadingStatements::statement_by))]
-fn begun(alloc: Global, depth: usize, tokens: &[Terminal]) -> Result<(Progress, &[Terminal]), Stop>
-    ensures same { Leads (λ x. progress_at (statement_at depth) x.0 x.1.now) result (statement_by (statement_at depth) tokens.now) }
+fn statement_front(alloc: Global, tokens: &[Terminal]) -> Result<(Progress, &[Terminal]), Stop>
+    ensures same { Leads (λ x. progress_at statement_in x.0 x.1.now) result (statement_by statement_in tokens.now) }
     ensures shorter { IfOk result (λ x. length x.1.now < length tokens.now) }
 {
     let [first, rest @ ..] = tokens else {
@@ -215,43 +198,30 @@ fn begun(alloc: Global, depth: usize, tokens: &[Terminal]) -> Result<(Progress, 
     };
     match &first.sign {
         Sign::Name(name) => {
-            let name = Name::new(alloc, name.bytes())?;
+            let name = name.clone()?;
             labelled(alloc, first.span, name, rest)
         }
-        Sign::Mark(mark) => by_mark(alloc, depth, first.span, *mark, rest),
+        Sign::Mark(mark) => by_mark(alloc, first.span, *mark, rest),
         _ => Err(Stop::Syntax),
     }
 }
 
-// A statement. At most `depth` of them lie in one another, and are read by a loop where no brace stands between them.
+// A statement. Those that lie in one another with no brace between them are read by a loop.
 #[cycle(statement)]
-fn statement(
-    alloc: Global,
-    depth: usize,
-    tokens: &[Terminal],
-) -> Result<(Boxed<Statement>, &[Terminal]), Stop>
-    ensures { Gives (λ x. (x.0, x.1.now)) result (statement_at depth tokens.now) }
+fn statement(alloc: Global, tokens: &[Terminal]) -> Result<(Boxed<Statement>, &[Terminal]), Stop>
+    ensures { Gives (λ x. (x.0, x.1.now)) result (statement_in tokens.now) }
 {
-    if depth == 0 {
-        return Err(Stop::Syntax);
-    }
     let mut outer = Vec::new(alloc);
-    let mut left = depth - 1;
-    let (mut progress, mut rest) = begun(alloc, left, tokens)?;
+    let (mut progress, mut rest) = statement_front(alloc, tokens)?;
     'statements: loop {
         match progress {
             Progress::Part(part) => {
-                if left == 0 {
-                    return Err(Stop::Syntax);
-                }
                 outer.push(part)?;
-                left -= 1;
-                (progress, rest) = begun(alloc, left, rest)?;
+                (progress, rest) = statement_front(alloc, rest)?;
             }
             Progress::Whole(whole) => match outer.pop() {
                 None => return Ok((whole, rest)),
                 Some(last) => {
-                    left += 1;
                     (progress, rest) = resumed(alloc, last, whole, rest)?;
                 }
             },

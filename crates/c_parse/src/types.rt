@@ -1,16 +1,10 @@
 // Which words name an integer type (ISO/IEC 9899:2011, 6.7.2p2).
 ghost use Rattle.std.specs.Prelude.{◌≡◌, ◌+◌, nat_le};
 ghost use Rattle.std.specs.List.{list_all};
-ghost use Rattle.c_parse.specs.Types.{number_of_word, alias_of, is_none, times, width_of, are_specifiers, specified, kind_of};
+ghost use Rattle.c_parse.specs.Types.{alias_of, is_none, times, width_of, are_specifiers, specified, kind_of};
 
-use crate::sign::TypeWord;
+use crate::sign::{TypeWord, type_spelling};
 use c_values::Kind;
-
-fn number_of_word(word: TypeWord) -> u8
-    ensures { result ≡ number_of_word word }
-{
-    word as u8
-}
 
 // The kind of a typedef name (7.20.1.1, 7.19p2).
 fn alias_of(word: TypeWord) -> Option<Kind>
@@ -33,10 +27,10 @@ fn alias_of(word: TypeWord) -> Option<Kind>
 fn times(word: TypeWord, words: &[TypeWord]) -> usize
     ensures { result ≡ times word words.now }
 {
-    let number = number_of_word(word);
+    let spelled = type_spelling(word);
     words
         .iter()
-        .filter(|other| number_of_word(**other) == number)
+        .filter(|other| type_spelling(**other) == spelled)
         .count()
 }
 

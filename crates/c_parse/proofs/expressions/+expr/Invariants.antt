@@ -1,44 +1,61 @@
-use Rattle.std.proofs.Common.{◌≡◌, ◌≤◌, ◌+◌, ◌-◌, ◌*◌, length}
-use Rattle.c_parse.specs.Reading.{arguments_at, operators_at, level_by, choice_by, expr_at}
+use Rattle.std.proofs.Common.{◌≡◌, ℕ, ◌+◌, ◌*◌, ◌≤◌, ◌<◌, length}
+use Rattle.c_parse.specs.Reading.{arguments_at, operators_at, level_by, choice_by, expr_in}
 use Rattle.c_parse.proofs.Choices.{within}
 use Rattle.c_parse.proofs.Loops.{with_front}
 use Rattle.c_parse.proofs.expressions.+expr.Given as goal
 
-abbrev pub decreases-conditional : goal.decreases-conditional
-decreases-conditional l = 10 * l.depth
-
-abbrev pub decreases-arguments : goal.decreases-arguments
-decreases-arguments l = 10 * l.depth + 1
-
-abbrev pub decreases-named : goal.decreases-named
-decreases-named l = 10 * l.depth + 2
-
-abbrev pub decreases-opened : goal.decreases-opened
-decreases-opened l = 10 * l.depth + 2
-
-abbrev pub decreases-prefix : goal.decreases-prefix
-decreases-prefix l = 10 * l.depth + 2
-
+-- each call has fewer tokens than its caller, or as many and a lower place in this order
 abbrev pub decreases-operand : goal.decreases-operand
-decreases-operand l = 10 * l.depth + 3
+decreases-operand l = 10 * length l.tokens.now
 
 abbrev pub decreases-operation : goal.decreases-operation
-decreases-operation l = 10 * l.depth + 4
+decreases-operation l = 10 * length l.tokens.now + 1
 
-abbrev pub decreases-choice : goal.decreases-choice
-decreases-choice l = 10 * l.depth + 5
+abbrev pub decreases-conditional_expression : goal.decreases-conditional_expression
+decreases-conditional_expression l = 10 * length l.tokens.now + 2
 
-abbrev pub invariant-arguments-loop : goal.invariant-arguments-loop
-invariant-arguments-loop l = with_front l.list (arguments_at (expr_at l.depth) (length l.tokens - l.counter) l.rest) ≡ arguments_at (expr_at l.depth) (length l.tokens) l.tokens
+abbrev pub decreases-expression_at : goal.decreases-expression_at
+decreases-expression_at l = 10 * length l.tokens.now + 3
 
-abbrev pub invariant-operation-loop : goal.invariant-operation-loop
-invariant-operation-loop l = operators_at (expr_at l.depth) (l.end - l.counter) l.level l.span l.tree l.rest ≡ level_by (expr_at l.depth) l.level l.tokens
+abbrev pub decreases-arguments : goal.decreases-arguments
+decreases-arguments l = 10 * length l.tokens.now + 4
 
-abbrev pub decreases-choice-choices : goal.decreases-choice-choices
-decreases-choice-choices l = l.left
+abbrev pub decreases-named : goal.decreases-named
+decreases-named l = 10 * length l.tokens.now + 5
 
-abbrev pub invariant-choice-choices : goal.invariant-choice-choices
-invariant-choice-choices l = record {
-  bound : l.left ≤ l.depth;
-  so_far : within l.outer.items (choice_by (expr_at l.left) l.rest) ≡ choice_by (expr_at l.depth) l.tokens;
+abbrev pub decreases-parenthesized : goal.decreases-parenthesized
+decreases-parenthesized l = 10 * length l.tokens.now + 5
+
+abbrev pub decreases-prefix : goal.decreases-prefix
+decreases-prefix l = 10 * length l.tokens.now + 5
+
+abbrev pub decreases-arguments-arguments : goal.decreases-arguments-arguments
+decreases-arguments-arguments l = length l.rest
+
+abbrev pub invariant-arguments-arguments : goal.invariant-arguments-arguments
+invariant-arguments-arguments l = record {
+  fewer : length l.rest ≤ length l.tokens;
+  bound : ℕ;
+  enough : length l.rest ≤ bound;
+  so_far : with_front l.list (arguments_at expr_in bound l.rest) ≡ arguments_at expr_in (length l.tokens) l.tokens;
+}
+
+abbrev pub decreases-operation-operators : goal.decreases-operation-operators
+decreases-operation-operators l = length l.rest
+
+abbrev pub invariant-operation-operators : goal.invariant-operation-operators
+invariant-operation-operators l = record {
+  fewer : length l.rest < length l.tokens;
+  bound : ℕ;
+  enough : length l.rest ≤ bound;
+  so_far : operators_at expr_in bound l.level l.span l.tree l.rest ≡ level_by expr_in l.level l.tokens;
+}
+
+abbrev pub decreases-conditional_expression-choices : goal.decreases-conditional_expression-choices
+decreases-conditional_expression-choices l = length l.rest
+
+abbrev pub invariant-conditional_expression-choices : goal.invariant-conditional_expression-choices
+invariant-conditional_expression-choices l = record {
+  fewer : length l.rest ≤ length l.tokens;
+  so_far : within l.outer.items (choice_by expr_in l.rest) ≡ choice_by expr_in l.tokens;
 }

@@ -1,43 +1,60 @@
-use Rattle.std.proofs.Common.{◌≡◌, suc, ◌+◌, ◌-◌, ◌*◌, length}
-use Rattle.c_parse.specs.ReadingStatements.{body_at, groups_at, statement_at}
+use Rattle.std.proofs.Common.{◌≡◌, ℕ, ◌+◌, ◌*◌, ◌≤◌, length}
+use Rattle.c_parse.specs.ReadingStatements.{body_at, groups_at, statement_in}
 use Rattle.c_parse.specs.OpenStatements.{progress_at, parts_of, finished}
 use Rattle.c_parse.proofs.Loops.{with_front}
 use Rattle.c_parse.proofs.statements.+statement.Given as goal
 
+-- each call has fewer tokens than its caller, or as many and a lower place in this order
+abbrev pub decreases-statement_front : goal.decreases-statement_front
+decreases-statement_front l = 10 * length l.tokens.now
+
 abbrev pub decreases-statement : goal.decreases-statement
-decreases-statement l = 10 * l.depth
+decreases-statement l = 10 * length l.tokens.now + 1
 
 abbrev pub decreases-one : goal.decreases-one
-decreases-one l = 10 * l.depth + 1
+decreases-one l = 10 * length l.tokens.now + 2
 
 abbrev pub decreases-body : goal.decreases-body
-decreases-body l = 10 * l.depth + 2
+decreases-body l = 10 * length l.tokens.now + 3
 
 abbrev pub decreases-groups : goal.decreases-groups
-decreases-groups l = 10 * l.depth + 3
+decreases-groups l = 10 * length l.tokens.now + 4
 
 abbrev pub decreases-switched : goal.decreases-switched
-decreases-switched l = 10 * l.depth + 4
+decreases-switched l = 10 * length l.tokens.now + 5
 
-abbrev pub decreases-whole : goal.decreases-whole
-decreases-whole l = 10 * l.depth + 5
+abbrev pub decreases-closed_statement : goal.decreases-closed_statement
+decreases-closed_statement l = 10 * length l.tokens.now + 6
 
 abbrev pub decreases-by_mark : goal.decreases-by_mark
-decreases-by_mark l = 10 * l.depth + 6
+decreases-by_mark l = 10 * length l.tokens.now + 7
 
-abbrev pub decreases-begun : goal.decreases-begun
-decreases-begun l = 10 * l.depth + 7
+abbrev pub decreases-body-statements : goal.decreases-body-statements
+decreases-body-statements l = length l.rest
 
-abbrev pub invariant-body-loop : goal.invariant-body-loop
-invariant-body-loop l = with_front l.list (body_at (statement_at l.depth) (length l.tokens - l.counter) l.rest) ≡ body_at (statement_at l.depth) (length l.tokens) l.tokens
+abbrev pub invariant-body-statements : goal.invariant-body-statements
+invariant-body-statements l = record {
+  fewer : length l.rest ≤ length l.tokens;
+  bound : ℕ;
+  enough : length l.rest ≤ bound;
+  so_far : with_front l.list (body_at statement_in bound l.rest) ≡ body_at statement_in (length l.tokens) l.tokens;
+}
 
-abbrev pub invariant-groups-loop : goal.invariant-groups-loop
-invariant-groups-loop l = with_front l.list (groups_at (statement_at l.depth) (length l.tokens - l.counter) l.rest) ≡ groups_at (statement_at l.depth) (length l.tokens) l.tokens
+abbrev pub decreases-groups-groups : goal.decreases-groups-groups
+decreases-groups-groups l = length l.rest
+
+abbrev pub invariant-groups-groups : goal.invariant-groups-groups
+invariant-groups-groups l = record {
+  fewer : length l.rest ≤ length l.tokens;
+  bound : ℕ;
+  enough : length l.rest ≤ bound;
+  so_far : with_front l.list (groups_at statement_in bound l.rest) ≡ groups_at statement_in (length l.tokens) l.tokens;
+}
 
 abbrev pub invariant-statement-statements : goal.invariant-statement-statements
 invariant-statement-statements l = record {
-  levels : l.depth ≡ length l.outer.items + suc l.left;
-  so_far : finished l.depth l.outer.items (progress_at (statement_at l.left) l.progress l.rest) ≡ statement_at l.depth l.tokens;
+  fewer : length l.rest ≤ length l.tokens;
+  so_far : finished l.outer.items (progress_at statement_in l.progress l.rest) ≡ statement_in l.tokens;
 }
 
 abbrev pub decreases-statement-statements : goal.decreases-statement-statements
