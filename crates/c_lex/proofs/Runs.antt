@@ -149,16 +149,16 @@ module _ (table : List Macro) (span : Span) (from : List Replacement) (old : Lis
   turn_smaller (makes_token r e n l room t k) = rw (t, k) (simp length-append (omega arith))
   turn_smaller (replaces r rs list e s f l t room k) = rw (t, k) (omega arith)
 
-  pub turn_ends : Turned table span frames tokens replaced fs ts n (Ok turn.Ends) → Progress table span from (pending table frames) old tokens start replaced → ExpandsTo table from span old ts start (expansion.Done n)
+  pub turn_ends : Turned table span frames tokens replaced fs ts n (Ok turn.Ends) → Progress table span from (pending table frames) old tokens start replaced → ExpandsTo table from span old ts start n expansion.Done
   turn_ends (ends e t k) p = rw (t, k) (progress_end table span from _ old tokens start replaced p (pending_none table frames e))
 
-  pub turn_passes : Turned table span frames tokens replaced fs ts n (Ok turn.Passes) → Progress table span from (pending table frames) old tokens start replaced → ExpandsTo table from span old ts start expansion.Passed
+  pub turn_passes : Turned table span frames tokens replaced fs ts n (Ok turn.Passes) → Progress table span from (pending table frames) old tokens start replaced → ExpandsTo table from span old ts start n expansion.Passed
   turn_passes (passes_tokens r rs e n full) p = progress_passes_tokens table span from _ old tokens start replaced p r rs e n full
   turn_passes (passes_replacements r rs list e s full) p = progress_passes_replacements table span from _ old tokens start replaced p r rs list e s full
 
 -- the first turn
 module _ (table : List Macro) (span : Span) (word : Replacement) (place : ℕ) (old : List Token) (start : ℕ) (known : place_of table word.text ≡ Some place) where
-  pub first_passes : most ≤ start → ExpandsTo table (word ∷ []) span old old start expansion.Passed
+  pub first_passes : most ≤ start → ExpandsTo table (word ∷ []) span old old start start expansion.Passed
   first_passes full us m d w = let i = when_replaced (list_at table place) d (found table word.text place known).list in omega (arith, i.one, full, w.1)
 
   first_pending : (fs : List Frame) → fs ≡ record { place = place; at = 0 } ∷ [] → list_at table place ≡ pending table fs

@@ -1,4 +1,4 @@
--- The replacement of macros (ISO/IEC 9899:2011, 6.10.3 and 6.10.3.4).
+-- The replacement of macros (ISO/IEC 9899:2011, 6.10.3 and 6.10.3.4). What `tokens` promises rests on this module.
 use Rattle.std.specs.Prelude.{◌≡◌, ◌⊎◌, ℕ, zero, suc, Bool, true, false, List, [], ◌∷◌, ◌++◌, Option, Some, None, option_map, if◌then◌else◌}
 use Rattle.std.specs.Str.{bytes_eq}
 use Rattle.c_lex.specs.declared.macros.Replacement.{Replacement}

@@ -1,4 +1,5 @@
--- Places in a text: lines and columns from 1, bytes from 0. Only a line feed ends a line.
+-- Places in a text: lines and columns from 1, bytes from 0. Only a line feed ends a line. What `tokens` promises rests on this
+-- module.
 use Rattle.std.specs.Prelude.{ℕ, ◌+◌, ◌==◌, if◌then◌else◌, List, take, fold}
 use Rattle.fq_core.specs.declared.span.Span.{Span}
 use Rattle.c_lex.specs.declared.position.Position.{Position}

@@ -1,5 +1,5 @@
 -- The depth-first search for a word that is met within its own replacement. The macros whose lists are being read are
--- open, each a frame, and the frames stand here with the last one first.
+-- open, each a frame, and the frames stand here with the last one first. Nothing that is promised speaks of this.
 use Rattle.std.specs.Prelude.{◌≡◌, ◌⊎◌, ℕ, suc, ◌+◌, ◌<◌, Bool, true, false, List, [], ◌∷◌, length, take, Result, Ok, Err, ⊤, slice_index_or}
 use Rattle.std.specs.declared.alloc.AllocError.{AllocError}
 use Rattle.c_lex.specs.declared.expand.Frame.{Frame}

@@ -1,4 +1,4 @@
--- The table of a text's macros, with the places of their names.
+-- The table of a text's macros, with the places of their names. Nothing that is promised speaks of this.
 use Rattle.std.specs.Prelude.{◌≡◌, ℕ, List}
 use Rattle.std.specs.Ordering.{nat_cmp}
 use Rattle.std.specs.Cmp.Lexicographic.{slice_cmp}

@@ -9,9 +9,9 @@ ghost use Rattle.c_lex.specs.Forms.{constant_value};
 ghost use Rattle.c_lex.specs.Constants.{is_u, is_l, suffix_of, plain_kinds, long_kinds, kind_of_number, base_of, radix, number_in, number_of, with_suffix, after_prefix, of_kind, constant_kind, word_kind, mark_kind, token_kind};
 
 use crate::bytes::{is_constant_byte, is_digit, is_letter};
-use crate::cut::rest_of;
 use crate::foreign::{is_foreign_mark, is_foreign_word};
 use crate::form::escape;
+use crate::piece::rest_of;
 use crate::token::TokenKind;
 use c_values::Kind;
 

@@ -2,18 +2,16 @@
 ghost use Rattle.std.specs.Prelude.{◌≡◌, ◌≤◌, ◌<◌, ◌+◌, ◌^◌, ◌∷◌, [], length, IfOk, IfSome, Some, drop, slice_get};
 ghost use Rattle.std.specs.Option.{option_copied};
 ghost use Rattle.c_lex.specs.Macros.{list_at, place_of};
-ghost use Rattle.c_lex.specs.Lexed.{most};
 ghost use Rattle.c_lex.specs.Table.{IsIndexed};
 ghost use Rattle.c_lex.specs.Expanding.{Turned, ExpandsTo};
+ghost use Rattle.c_lex.specs.Taking.{IsAllowed};
 
 use crate::macros::{Macro, Replacement};
+use crate::output::{MOST, Output};
 use crate::table::Table;
 use crate::token::Token;
 use fq_core::Span;
 use std::alloc::{AllocError, Global};
-
-/// The greatest number of tokens, and that of replaced words, over all texts.
-pub const MOST: usize = 200_000;
 
 /// A place in the list of a macro.
 #[derive(Clone, Copy, Debug)]
@@ -34,8 +32,8 @@ pub enum Turn {
 /// What comes of a word.
 #[derive(Clone, Copy, Debug)]
 pub enum Expansion {
-    /// The tokens were made, and so many words are replaced by now.
-    Done(usize),
+    /// The tokens were made.
+    Done,
     /// A limit forbids them, or they loop.
     Passed,
 }
@@ -59,11 +57,10 @@ fn take_turn(
     table: &Table,
     span: Span,
     frames: &mut Vec<Frame>,
-    tokens: &mut Vec<Token>,
-    replaced: &mut usize,
+    output: &mut Output,
 ) -> Result<Turn, AllocError>
     requires { IsIndexed table.now }
-    ensures { Turned table.now.macros.items span frames.old.items tokens.old.items replaced.old frames.new.items tokens.new.items replaced.new result }
+    ensures { Turned table.now.macros.items span frames.old.items output.old.tokens.items output.old.replaced frames.new.items output.new.tokens.items output.new.replaced result }
 {
     let Some(frame) = frames.pop() else {
         return Ok(Turn::Ends);
@@ -77,20 +74,20 @@ fn take_turn(
     })?;
     match table.place_of(&next.text) {
         None => {
-            if tokens.len() >= MOST {
+            if output.tokens.len() >= MOST {
                 return Ok(Turn::Passes);
             }
-            tokens.push(Token {
+            output.tokens.push(Token {
                 kind: next.kind,
                 span,
                 text: next.text.clone()?,
             })?;
         }
         Some(place) => {
-            if *replaced >= MOST {
+            if output.replaced >= MOST {
                 return Ok(Turn::Passes);
             }
-            *replaced += 1;
+            output.replaced += 1;
             frames.push(Frame { place, at: 0 })?;
         }
     }
@@ -104,25 +101,23 @@ pub fn expand(
     word: &Replacement,
     place: usize,
     span: Span,
-    tokens: &mut Vec<Token>,
-    replaced: usize,
+    output: &mut Output,
 ) -> Result<Expansion, AllocError>
     requires indexed { IsIndexed table.now }
     requires place { place_of table.now.macros.items word.now.text ≡ Some place }
-    requires tokens { length tokens.old.items ≤ most }
-    requires replaced { replaced ≤ most }
-    ensures { IfOk result (λ r. ExpandsTo table.now.macros.items (word.now ∷ []) span tokens.old.items tokens.new.items replaced r) }
+    requires allowed { IsAllowed output.old }
+    ensures { IfOk result (λ r. ExpandsTo table.now.macros.items (word.now ∷ []) span output.old.tokens.items output.new.tokens.items output.old.replaced output.new.replaced r) }
 {
-    if replaced >= MOST {
+    if output.replaced >= MOST {
         return Ok(Expansion::Passed);
     }
-    let mut count = replaced + 1;
+    output.replaced += 1;
     let mut frames = Vec::new(alloc);
     frames.push(Frame { place, at: 0 })?;
     'turns: loop {
-        match take_turn(table, span, &mut frames, tokens, &mut count)? {
+        match take_turn(table, span, &mut frames, output)? {
             Turn::GoesOn => {}
-            Turn::Ends => return Ok(Expansion::Done(count)),
+            Turn::Ends => return Ok(Expansion::Done),
             Turn::Passes => return Ok(Expansion::Passed),
         }
     }
