@@ -8,7 +8,7 @@ use Rattle.fq_core.specs.declared.refusal.Place.{Place}
 use Rattle.fq_core.specs.declared.refusal.Fault.{Fault}
 use Rattle.fq_core.specs.declared.refusal.Fault.TheVariants as fault
 use Rattle.c_lex.specs.declared.macros.Macro.{Macro}
-use Rattle.c_lex.specs.Macros.{macro_of, place_of, list_at}
+use Rattle.c_lex.specs.Macros.{macro_of, index_of, list_at}
 use Rattle.c_lex.specs.declared.directive.Directive.TheVariants as says
 use Rattle.c_lex.specs.declared.macros.Replacement.{Replacement}
 use Rattle.c_lex.specs.declared.piece.Piece.{Piece}
@@ -18,12 +18,12 @@ use Rattle.c_lex.specs.Pieces.{part, AreLineTokens}
 use Rattle.c_lex.specs.Taking.{DirectiveTaken}
 use Rattle.c_lex.proofs.TableLaws.{none_suc}
 
--- the place and the list of a macro
+-- the index and the list of a macro
 pub record Found (ms : List Macro) (q : List ℕ) (i : ℕ) : Type 0 where
   pub within : i < length ms
   pub list : macro_of ms q ≡ Some (list_at ms i)
 
-found_more : (m : Macro) (ms : List Macro) (q : List ℕ) (v : Bool) (o : Option ℕ) (i : ℕ) → bytes_eq m.name q ≡ v → place_of ms q ≡ o → ((j : ℕ) → o ≡ Some j → Found ms q j)
+found_more : (m : Macro) (ms : List Macro) (q : List ℕ) (v : Bool) (o : Option ℕ) (i : ℕ) → bytes_eq m.name q ≡ v → index_of ms q ≡ o → ((j : ℕ) → o ≡ Some j → Found ms q j)
     → (if v then Some 0 else option_map suc o) ≡ Some i → Found (m ∷ ms) q i
 unfolding macro_of list_at
 found_more m ms q true o i e f h g =
@@ -36,18 +36,18 @@ found_more m ms q false (Some j) i e f h g =
     let within = k.within in
     rw z (record { within = omega arith; list = rw e k.list })
 
-pub found : (ms : List Macro) (q : List ℕ) (i : ℕ) → place_of ms q ≡ Some i → Found ms q i
-unfolding place_of
+pub found : (ms : List Macro) (q : List ℕ) (i : ℕ) → index_of ms q ≡ Some i → Found ms q i
+unfolding index_of
 found [] q i h = cc
-found (m ∷ ms) q i h = found_more m ms q (bytes_eq m.name q) (place_of ms q) i refl refl (found ms q) h
+found (m ∷ ms) q i h = found_more m ms q (bytes_eq m.name q) (index_of ms q) i refl refl (found ms q) h
 
-unknown_by : (m : Macro) (ms : List Macro) (q : List ℕ) (v : Bool) → bytes_eq m.name q ≡ v → (place_of ms q ≡ None → macro_of ms q ≡ None)
-    → (if v then Some 0 else option_map suc (place_of ms q)) ≡ None → (if v then Some m.list else macro_of ms q) ≡ None
+unknown_by : (m : Macro) (ms : List Macro) (q : List ℕ) (v : Bool) → bytes_eq m.name q ≡ v → (index_of ms q ≡ None → macro_of ms q ≡ None)
+    → (if v then Some 0 else option_map suc (index_of ms q)) ≡ None → (if v then Some m.list else macro_of ms q) ≡ None
 unknown_by m ms q true e h g = cc
 unknown_by m ms q false e h g = h (none_suc _ g)
 
-pub unknown : (ms : List Macro) (q : List ℕ) → place_of ms q ≡ None → macro_of ms q ≡ None
-unfolding place_of macro_of
+pub unknown : (ms : List Macro) (q : List ℕ) → index_of ms q ≡ None → macro_of ms q ≡ None
+unfolding index_of macro_of
 unknown [] q h = refl
 unknown (m ∷ ms) q h = unknown_by m ms q (bytes_eq m.name q) refl (unknown ms q) h
 
@@ -59,16 +59,16 @@ some_is : (o : Option ℕ) → is_some o ≡ true → (i : ℕ) × (o ≡ Some i
 some_is None h = absurd (let x : ⊥ = cc in x)
 some_is (Some i) h = (i, refl)
 
-module _ (ms : List Macro) (q name : List ℕ) (r : Option ℕ) (place : r ≡ place_of ms name) (b : Bool) (test : b ≡ is_some r) (same : name ≡ q) where
+module _ (ms : List Macro) (q name : List ℕ) (r : Option ℕ) (index : r ≡ index_of ms name) (b : Bool) (test : b ≡ is_some r) (same : name ≡ q) where
   pub is_known : b ≡ true → macro_of ms q ≡ None → ⊥
   is_known t n =
-      let s = some_is (place_of ms name) (ap is_some (sym place) ∙ sym test ∙ t) in
+      let s = some_is (index_of ms name) (ap is_some (sym index) ∙ sym test ∙ t) in
       let f = found ms name s.0 s.1 in
       let e = ap (macro_of ms) same in
       let g = f.list in cc
 
   pub is_unknown : b ≡ false → macro_of ms q ≡ None
-  is_unknown t = ap (macro_of ms) (sym same) ∙ unknown ms name (sym place ∙ none_is ℕ r (sym test ∙ t))
+  is_unknown t = ap (macro_of ms) (sym same) ∙ unknown ms name (sym index ∙ none_is ℕ r (sym test ∙ t))
 
 pub directive_memory : (line : List ℕ) (place : Place) (old new : List Macro) (r : Result Unit Fault) → IsErrAnd r (λ e. e ≡ fault.Memory) → DirectiveTaken line place old new r
 directive_memory line place old new r h = let p = err_from_is_err_and r h in rw (p.1, p.2) tt

@@ -38,13 +38,13 @@ abbrev pub define_of : (line : List ℕ) → ℕ → ℕ → List Piece → Dire
 define_of line at n list =
     if is_word (part line at n) && not (starts 40 (drop n (drop at line))) && all_tokens list then directive.Define at n else directive.Wrong
 
-abbrev pub named : (line : List ℕ) → ℕ → ℕ → ℕ → ℕ → List Piece → Directive
-named line a n b m rest =
+abbrev pub directive_named : (line : List ℕ) → ℕ → ℕ → ℕ → ℕ → List Piece → Directive
+directive_named line a n b m rest =
     if bytes_eq (part line a n) (codes "include") then include_of (part line b m) rest
     else (if bytes_eq (part line a n) (codes "define") then define_of line b m rest else directive.Wrong)
 
 abbrev pub directive_by : (line : List ℕ) → Piece → Piece → List Piece → Directive
-directive_by line (piece.Token a n) (piece.Token b m) rest = named line a n b m rest
+directive_by line (piece.Token a n) (piece.Token b m) rest = directive_named line a n b m rest
 directive_by line first second rest = directive.Wrong
 
 -- what the tokens of a line say, after its `#`

@@ -1,7 +1,7 @@
 // Directive lines.
 ghost use Rattle.std.specs.Prelude.{◌≡◌, ◌≤◌, drop, length, IfOk, OnOk};
 ghost use Rattle.std.specs.List.{list_all};
-ghost use Rattle.c_lex.specs.Directives.{is_ascii, is_word, all_tokens, include_of, define_of, named, directive_by, directive_of, replacement_at, list_of};
+ghost use Rattle.c_lex.specs.Directives.{is_ascii, is_word, all_tokens, include_of, define_of, directive_named, directive_by, directive_of, replacement_at, list_of};
 ghost use Rattle.c_lex.specs.Table.{IsIndexed};
 ghost use Rattle.c_lex.specs.Pieces.{AreLineTokens};
 ghost use Rattle.c_lex.specs.Taking.{DirectiveTaken, is_gap};
@@ -25,7 +25,7 @@ pub enum Directive {
     UnknownByte,
     /// It is outside the profile.
     Wrong,
-    /// A `#define` of the word at this place of the line, with this length.
+    /// A `#define` of the word at this byte of the line, with this length.
     Define(usize, usize),
 }
 
@@ -80,8 +80,8 @@ fn define_of(line: &[u8], at: usize, length: usize, list: &[Piece]) -> Directive
     }
 }
 
-fn named(line: &[u8], a: usize, n: usize, b: usize, m: usize, rest: &[Piece]) -> Directive
-    ensures { result ≡ named line.now a n b m rest.now }
+fn directive_named(line: &[u8], a: usize, n: usize, b: usize, m: usize, rest: &[Piece]) -> Directive
+    ensures { result ≡ directive_named line.now a n b m rest.now }
 {
     let word = part(line, a, n);
     if word == b"include".as_slice() {
@@ -98,7 +98,7 @@ fn directive_by(line: &[u8], first: Piece, second: Piece, rest: &[Piece]) -> Dir
 {
     match first {
         Piece::Token(a, n) => match second {
-            Piece::Token(b, m) => named(line, a, n, b, m, rest),
+            Piece::Token(b, m) => directive_named(line, a, n, b, m, rest),
             _ => Directive::Wrong,
         },
         _ => Directive::Wrong,
@@ -203,7 +203,7 @@ pub fn take_directive(
         Directive::Wrong => Err(refusal(12, place)),
         Directive::Define(at, length) => {
             let name = Name::new(alloc, part(line, at, length))?;
-            if table.place_of(&name).is_some() {
+            if table.index_of(&name).is_some() {
                 return Err(refusal(12, place));
             }
             match list_of(alloc, line, after_two(tokens.as_slice()))? {

@@ -1,7 +1,7 @@
 // The replacement of a macro's word.
 ghost use Rattle.std.specs.Prelude.{◌≡◌, ◌≤◌, ◌<◌, ◌+◌, ◌^◌, ◌∷◌, [], length, IfOk, IfSome, Some, drop, slice_get};
 ghost use Rattle.std.specs.Option.{option_copied};
-ghost use Rattle.c_lex.specs.Macros.{list_at, place_of};
+ghost use Rattle.c_lex.specs.Macros.{list_at, index_of};
 ghost use Rattle.c_lex.specs.Table.{IsIndexed};
 ghost use Rattle.c_lex.specs.Expanding.{Turned, ExpandsTo};
 ghost use Rattle.c_lex.specs.Taking.{IsAllowed};
@@ -13,10 +13,10 @@ use crate::token::Token;
 use fq_core::Span;
 use std::alloc::{AllocError, Global};
 
-/// A place in the list of a macro.
+/// A token of a macro's list: the macro's index in the table, and the token's index in the list.
 #[derive(Clone, Copy, Debug)]
 pub struct Frame {
-    pub place: usize,
+    pub index: usize,
     pub at: usize,
 }
 
@@ -38,15 +38,15 @@ pub enum Expansion {
     Passed,
 }
 
-/// The token at a place of the list of a macro.
-pub fn replacement_at(macros: &[Macro], frame: Frame) -> Option<&Replacement>
-    ensures value { option_copied result ≡ slice_get (list_at macros.now frame.place) frame.at }
+/// The token of a frame.
+pub fn frame_token(macros: &[Macro], frame: Frame) -> Option<&Replacement>
+    ensures value { option_copied result ≡ slice_get (list_at macros.now frame.index) frame.at }
     ensures fits { IfSome result (λ r. frame.at + 1 < 2 ^ 64) }
 {
-    if frame.place >= macros.len() {
+    if frame.index >= macros.len() {
         return None;
     }
-    let list = macros[frame.place].list.as_slice();
+    let list = macros[frame.index].list.as_slice();
     if frame.at >= list.len() {
         return None;
     }
@@ -65,14 +65,14 @@ fn take_turn(
     let Some(frame) = frames.pop() else {
         return Ok(Turn::Ends);
     };
-    let Some(next) = replacement_at(table.macros.as_slice(), frame) else {
+    let Some(next) = frame_token(table.macros.as_slice(), frame) else {
         return Ok(Turn::GoesOn);
     };
     frames.push(Frame {
-        place: frame.place,
+        index: frame.index,
         at: frame.at + 1,
     })?;
-    match table.place_of(&next.text) {
+    match table.index_of(&next.text) {
         None => {
             if output.tokens.len() >= MOST {
                 return Ok(Turn::Passes);
@@ -83,28 +83,28 @@ fn take_turn(
                 text: next.text.clone()?,
             })?;
         }
-        Some(place) => {
+        Some(index) => {
             if output.replaced >= MOST {
                 return Ok(Turn::Passes);
             }
             output.replaced += 1;
-            frames.push(Frame { place, at: 0 })?;
+            frames.push(Frame { index, at: 0 })?;
         }
     }
     Ok(Turn::GoesOn)
 }
 
-/// Makes the tokens that the word of the macro at `place` gives, or stops where a limit is passed.
+/// Makes the tokens that the word of the macro at `index` gives, or stops where a limit is passed.
 pub fn expand(
     alloc: Global,
     table: &Table,
     word: &Replacement,
-    place: usize,
+    index: usize,
     span: Span,
     output: &mut Output,
 ) -> Result<Expansion, AllocError>
     requires indexed { IsIndexed table.now }
-    requires place { place_of table.now.macros.items word.now.text ≡ Some place }
+    requires index { index_of table.now.macros.items word.now.text ≡ Some index }
     requires allowed { IsAllowed output.old }
     ensures { IfOk result (λ r. ExpandsTo table.now.macros.items (word.now ∷ []) span output.old.tokens.items output.new.tokens.items output.old.replaced output.new.replaced r) }
 {
@@ -113,7 +113,7 @@ pub fn expand(
     }
     output.replaced += 1;
     let mut frames = Vec::new(alloc);
-    frames.push(Frame { place, at: 0 })?;
+    frames.push(Frame { index, at: 0 })?;
     'turns: loop {
         match take_turn(table, span, &mut frames, output)? {
             Turn::GoesOn => {}

@@ -35,7 +35,7 @@ fn take_piece(
 ) -> Result<(), Fault>
     requires indexed { IsIndexed table.old }
     requires allowed { IsAllowed output.old }
-    requires place { spot.position ≡ position_at text.now spot.at }
+    requires position { spot.position ≡ position_at text.now spot.at }
     requires inside { LiesAt spot.at (length text.now) piece }
     requires size { length text.now < 2 ^ 32 }
     requires line { spot.position.line < 2 ^ 32 }
@@ -66,14 +66,14 @@ fn take_piece(
 }
 
 // The position of a later byte.
-fn moved(text: &[u8], from: Position, at: usize, next: usize) -> Position
+fn later_position(text: &[u8], from: Position, at: usize, next: usize) -> Position
     requires forward { at < next }
     requires within { next ≤ length text.now }
-    requires place { from ≡ position_at text.now at }
+    requires position { from ≡ position_at text.now at }
     requires size { length text.now < 2 ^ 32 }
     requires line { from.line ≤ at + 1 }
     requires column { from.column ≤ at + 1 }
-    ensures place { result ≡ position_at text.now next }
+    ensures position { result ≡ position_at text.now next }
     ensures line { result.line ≤ next + 1 }
     ensures column { result.column ≤ next + 1 }
 {
@@ -121,7 +121,7 @@ pub fn read_text(
         let Some(next) = end_of(piece) else {
             return Ok(());
         };
-        position = moved(text, position, at, next);
+        position = later_position(text, position, at, next);
         begins_line = begins_line_after(text, begins_line, piece);
         at = next;
     }

@@ -2,7 +2,7 @@
 ghost use Rattle.std.specs.Prelude.{◌≡◌, ◌≤◌, Some, length};
 ghost use Rattle.c_lex.specs.Constants.{token_kind};
 ghost use Rattle.c_lex.specs.Lexed.{line_of_span};
-ghost use Rattle.c_lex.specs.Macros.{place_of};
+ghost use Rattle.c_lex.specs.Macros.{index_of};
 ghost use Rattle.c_lex.specs.Table.{IsIndexed};
 ghost use Rattle.c_lex.specs.Taking.{IsAllowed, PlainTaken, TokenTaken};
 
@@ -42,25 +42,25 @@ fn take_plain(word: Replacement, span: Span, output: &mut Output) -> Result<(), 
     Ok(())
 }
 
-// Takes the word of the macro at a place.
+// Takes the word of the macro at an index.
 fn take_use(
     alloc: Global,
     table: &Table,
     word: &Replacement,
-    place: usize,
+    index: usize,
     span: Span,
     output: &mut Output,
 ) -> Result<(), Fault>
     requires indexed { IsIndexed table.now }
-    requires place { place_of table.now.macros.items word.now.text ≡ Some place }
+    requires index { index_of table.now.macros.items word.now.text ≡ Some index }
     requires kind { token_kind word.now.text ≡ Some word.now.kind }
     requires allowed { IsAllowed output.old }
     ensures { TokenTaken table.now.macros.items word.now.text span output.old output.new result }
 {
-    match expand(alloc, table, word, place, span, output)? {
+    match expand(alloc, table, word, index, span, output)? {
         Expansion::Done => Ok(()),
         Expansion::Passed => {
-            if loops(alloc, table, place)? {
+            if loops(alloc, table, index)? {
                 Err(refusal(14, line_of_span(span)))
             } else {
                 Err(past_limit())
@@ -88,8 +88,8 @@ pub fn take_token(
         kind,
         text: Name::new(alloc, bytes)?,
     };
-    match table.place_of(&word.text) {
+    match table.index_of(&word.text) {
         None => take_plain(word, span, output),
-        Some(place) => take_use(alloc, table, &word, place, span, output),
+        Some(index) => take_use(alloc, table, &word, index, span, output),
     }
 }

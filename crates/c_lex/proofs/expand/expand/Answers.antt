@@ -4,12 +4,12 @@ use Rattle.c_lex.proofs.expand.expand.Goals as goal
 
 pub returns-then-output-ge-MOST : goal.returns-then-output-ge-MOST
 returns-then-output-ge-MOST c =
-    first_passes c.args.table.now.macros.items c.args.span c.args.word.now c.args.place c.args.output.now.tokens.items c.args.output.now.replaced c.requires.place c.if-output-ge-MOST.true
+    first_passes c.args.table.now.macros.items c.args.span c.args.word.now c.args.index c.args.output.now.tokens.items c.args.output.now.replaced c.requires.index c.if-output-ge-MOST.true
 
 pub turns-init : goal.turns-init
 turns-init c =
-    first_progress c.args.table.now.macros.items c.args.span c.args.word.now c.args.place c.args.output.now.tokens.items c.args.output.now.replaced c.requires.place c.push.new.self.items
-    (c.in_ok-push.ensures.items ∙ ap (λ fs. fs ++ record { place = c.args.place; at = 0 } ∷ []) c.new-frames.ensures.items) c.requires.allowed.0 c.if-output-ge-MOST.false
+    first_progress c.args.table.now.macros.items c.args.span c.args.word.now c.args.index c.args.output.now.tokens.items c.args.output.now.replaced c.requires.index c.push.new.self.items
+    (c.in_ok-push.ensures.items ∙ ap (λ fs. fs ++ record { index = c.args.index; at = 0 } ∷ []) c.new-frames.ensures.items) c.requires.allowed.0 c.if-output-ge-MOST.false
 
 pub turns-preserved : goal.turns-preserved
 turns-preserved c =

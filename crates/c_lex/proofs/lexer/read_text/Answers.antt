@@ -11,7 +11,7 @@ pieces-init c = record {
   within = omega arith;
   indexed = c.requires.indexed;
   allowed = c.requires.allowed;
-  place = first_place c.args.text.now;
+  position = first_place c.args.text.now;
   line = omega arith;
   column = omega arith;
   so_far = begins c.args.file c.args.text.now c.args.table.now.macros.items c.args.output.now c.requires.empty;
@@ -34,9 +34,9 @@ pieces-preserved c =
       within = (ends_within c.pieces.at _ c.in-Some.piece c.in-Some-end_of.next c.in-Some.ensures.inside ends).1;
       indexed = c.in_ok-take_piece.ensures.0;
       allowed = c.in_ok-take_piece.ensures.3.0;
-      place = c.moved-position.ensures.place;
-      line = c.moved-position.ensures.line;
-      column = c.moved-position.ensures.column;
+      position = c.later_position-position.ensures.position;
+      line = c.later_position-position.ensures.line;
+      column = c.later_position-position.ensures.column;
       so_far = rw c.begins_line_after-begins_line.ensures (past_piece c.args.file c.args.text.now c.pieces.at c.pieces.begins_line c.pieces.table c.args.output.now c.pieces.output c.pieces.invariant.so_far c.in-Some.piece c.in-Some.ensures.value
           c.take_piece.new.table c.take_piece.new.output c.in-Some-end_of.next ends c.in_ok-take_piece.ensures);
     }

@@ -10,7 +10,7 @@ invariant-pieces l = record {
   within : l.at ≤ length l.text;
   indexed : IsIndexed l.table;
   allowed : IsAllowed l.output;
-  place : l.position ≡ position_at l.text l.at;
+  position : l.position ≡ position_at l.text l.at;
   line : l.position.line ≤ l.at + 1;
   column : l.position.column ≤ l.at + 1;
   so_far : ReadSoFar l.fn.file l.text l.at l.begins_line l.table.macros.items l.fn.output l.output;

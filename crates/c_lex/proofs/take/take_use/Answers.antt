@@ -16,13 +16,13 @@ returns-in-Done c =
 
 pub returns-then-branch : goal.returns-then-branch
 returns-then-branch c =
-    rw (c.refusal.ensures ∙ ap (refusal 14) c.line_of_span.ensures) (use_loops c.args.table.now.macros.items c.args.word.now c.args.span c.args.output.now c.expand.new.output c.requires.kind c.args.place c.requires.place
+    rw (c.refusal.ensures ∙ ap (refusal 14) c.line_of_span.ensures) (use_loops c.args.table.now.macros.items c.args.word.now c.args.span c.args.output.now c.expand.new.output c.requires.kind c.args.index c.requires.index
     c.in_ok-loops-in-Passed.field-0 c.in_ok-loops-in-Passed.ensures c.if-branch.true)
 
 pub returns-else-branch : goal.returns-else-branch
 returns-else-branch c =
-    rw c.past_limit.ensures (use_passed c.args.table.now.macros.items c.args.word.now c.args.span c.args.output.now c.expand.new.output c.requires.kind c.args.place c.requires.place
+    rw c.past_limit.ensures (use_passed c.args.table.now.macros.items c.args.word.now c.args.span c.args.output.now c.expand.new.output c.requires.kind c.args.index c.requires.index
     c.in_ok-loops-in-Passed.field-0 c.in_ok-loops-in-Passed.ensures c.if-branch.false (rw c.in-Passed.is at c.in_ok-expand.ensures))
 
-pub loops-requires-clause-place : goal.loops-requires-clause-place
-loops-requires-clause-place c = (found c.args.table.now.macros.items c.args.word.now.text c.args.place c.requires.place).within
+pub loops-requires-clause-index : goal.loops-requires-clause-index
+loops-requires-clause-index c = (found c.args.table.now.macros.items c.args.word.now.text c.args.index c.requires.index).within
