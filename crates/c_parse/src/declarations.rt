@@ -40,13 +40,13 @@ pub fn node(alloc: Global, span: Span, form: Form) -> Result<Boxed<Statement>, A
 }
 
 // The name in front.
-pub fn first_name(alloc: Global, tokens: &[Terminal]) -> Result<Name, Stop>
+pub fn first_name(tokens: &[Terminal]) -> Result<Name, Stop>
     ensures { Gives (λ x. x) result (name_at tokens.now) }
 {
     match tokens {
         [] => Err(Stop::Syntax),
         [first, ..] => match &first.sign {
-            Sign::Name(name) => Ok(Name::new(alloc, name.bytes())?),
+            Sign::Name(name) => Ok(name.clone()?),
             _ => Err(Stop::Syntax),
         },
     }
@@ -91,7 +91,7 @@ impl Part for Declarator {
     #[tactic(auto, unfolding(crate::specs::ReadingStatements::declarator_at))]
     fn read(alloc: Global, tokens: &[Terminal]) -> Result<(Declarator, &[Terminal]), Stop> {
         let span = first_place(tokens);
-        let name = first_name(alloc, tokens)?;
+        let name = first_name(tokens)?;
         let (length, rest) = bracketed(alloc, others(tokens))?;
         let (first, rest) = first_value(alloc, rest)?;
         let name = Ident { name, span };

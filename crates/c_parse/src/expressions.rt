@@ -155,7 +155,7 @@ fn operand(
             Ok((node(alloc, span, ExprForm::Number(*value, *kind))?, rest))
         }
         Sign::Name(name) => {
-            let name = Name::new(alloc, name.bytes())?;
+            let name = name.clone()?;
             named(alloc, depth, span, name, rest)
         }
         Sign::Mark(mark) => {

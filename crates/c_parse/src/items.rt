@@ -103,7 +103,7 @@ fn parameter_name(alloc: Global, tokens: &[Terminal]) -> Result<Named<'_>, Stop>
             rest: tokens,
         });
     };
-    let name = Name::new(alloc, name.bytes())?;
+    let name = name.clone()?;
     let span = first_place(tokens);
     let (length, rest) = bracketed(alloc, others(tokens))?;
     let name = Some(Ident { name, span });
@@ -195,7 +195,7 @@ impl Part for (Ident, Option<ExprTree>) {
         tokens: &[Terminal],
     ) -> Result<((Ident, Option<ExprTree>), &[Terminal]), Stop> {
         let span = first_place(tokens);
-        let name = first_name(alloc, tokens)?;
+        let name = first_name(tokens)?;
         let name = Ident { name, span };
         let rest = others(tokens);
         if !starts_with(rest, Mark::Assign) {
@@ -240,7 +240,7 @@ fn typed<'a>(
     let span = first_place(all);
     let (kind, rest) = take_type(alloc, tokens)?;
     let place = first_place(rest);
-    let name = first_name(alloc, rest)?;
+    let name = first_name(rest)?;
     let behind = others(rest);
     if starts_with(behind, Mark::Open) {
         let name = Ident { name, span: place };
@@ -263,7 +263,7 @@ fn procedure<'a>(
     ensures { Gives (λ x. (x.0, x.1.now)) result (void_at all.now tokens.now) }
 {
     let span = first_place(tokens);
-    let name = first_name(alloc, tokens)?;
+    let name = first_name(tokens)?;
     let name = Ident { name, span };
     function(alloc, first_place(all), None, name, others(tokens))
 }

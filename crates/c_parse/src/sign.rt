@@ -317,7 +317,7 @@ fn type_word_spelled(words: &[TypeWord], text: &[u8]) -> Option<TypeWord>
 }
 
 #[tactic(auto, unfolding(crate::specs::Signs::word_sign))]
-fn word_sign(alloc: Global, text: &Name) -> Result<Sign, Memory>
+fn word_sign(text: &Name) -> Result<Sign, Memory>
     ensures { IfOk result (λ sign. sign ≡ word_sign text.now) }
 {
     if let Some(mark) = mark_spelled(&KEYWORDS, text.bytes()) {
@@ -329,7 +329,8 @@ fn word_sign(alloc: Global, text: &Name) -> Result<Sign, Memory>
     if is_foreign_word(text.bytes()) {
         return Ok(Sign::Foreign);
     }
-    Ok(Sign::Name(Name::new(alloc, text.bytes())?))
+    let name = text.clone()?;
+    Ok(Sign::Name(name))
 }
 
 #[tactic(auto, unfolding(crate::specs::Signs::mark_sign))]
@@ -346,12 +347,12 @@ fn mark_sign(text: &[u8]) -> Sign
     }
 }
 
-fn sign_of(alloc: Global, kind: TokenKind, text: &Name) -> Result<Sign, Memory>
+fn sign_of(kind: TokenKind, text: &Name) -> Result<Sign, Memory>
     ensures { IfOk result (λ sign. sign ≡ sign_of kind text.now) }
 {
     match kind {
         TokenKind::Number { value, kind } => Ok(Sign::Number(value, kind)),
-        TokenKind::Word => word_sign(alloc, text),
+        TokenKind::Word => word_sign(text),
         TokenKind::Mark => Ok(mark_sign(text.bytes())),
         TokenKind::Foreign => Ok(Sign::Foreign),
     }
@@ -363,7 +364,7 @@ pub fn terminals(alloc: Global, tokens: &[Token]) -> Result<Vec<Terminal>, Memor
 {
     let mut list = Vec::new(alloc);
     for token in tokens {
-        let sign = sign_of(alloc, token.kind, &token.text)?;
+        let sign = sign_of(token.kind, &token.text)?;
         list.push(Terminal {
             sign,
             span: token.span,

@@ -147,7 +147,7 @@ pub fn stepped(
         return Err(Stop::Syntax);
     };
     let at = first_place(tokens);
-    let name = first_name(alloc, tokens)?;
+    let name = first_name(tokens)?;
     let (index, rest) = bracketed(alloc, others(tokens))?;
     let name = Ident { name, span: at };
     let place = PlaceTree { name, index };
@@ -164,7 +164,7 @@ fn simple(alloc: Global, tokens: &[Terminal]) -> Result<(Boxed<Statement>, &[Ter
     let span = first.span;
     match &first.sign {
         Sign::Name(name) => {
-            let name = Name::new(alloc, name.bytes())?;
+            let name = name.clone()?;
             named(alloc, span, name, rest)
         }
         Sign::Mark(mark) => stepped(alloc, span, *mark, rest),

@@ -12,7 +12,7 @@ use crate::simple::{labels, optional, starts_with_label, stepped, test};
 use crate::statement::{Form, Group, Statement};
 use crate::stop::Stop;
 use containers::{Boxed, Vector};
-use fq_core::{Name, Span};
+use fq_core::Span;
 use std::alloc::Global;
 
 // What follows `return`.
@@ -215,7 +215,7 @@ fn begun(alloc: Global, depth: usize, tokens: &[Terminal]) -> Result<(Progress, 
     };
     match &first.sign {
         Sign::Name(name) => {
-            let name = Name::new(alloc, name.bytes())?;
+            let name = name.clone()?;
             labelled(alloc, first.span, name, rest)
         }
         Sign::Mark(mark) => by_mark(alloc, depth, first.span, *mark, rest),
