@@ -1,8 +1,6 @@
-use Rattle.std.proofs.Common.{◌≡◌, ℕ, length, refl, sym, ◌∙◌, ap, subst, arith}
+use Rattle.std.proofs.Common.{◌≡◌, length, refl, sym, ◌∙◌, ap, subst}
 use Rattle.std.proofs.lemmas.Result.{IfOk-weaker}
-use Rattle.circuit.specs.Truth.{World, Extends}
-use Rattle.automata.specs.Tree.{Tree, leaf, dot, either, many, maybe, leaves, Below, Sized}
-use Rattle.automata.specs.Reach.{numbered, told}
+use Rattle.automata.specs.Tree.{leaf, dot, either, many, maybe, leaves, Below, Sized}
 use Rattle.automata.specs.Views.{view}
 use Rattle.automata.proofs.Parts.{dot_viewed, either_viewed, leaf_viewed, many_viewed, maybe_viewed, entered_same, passed_many, passed_maybe, passed_view, if_both, told_still, numbered_at, passed_idle, passed_leaf, passed_dot, passed_either}
 use Rattle.automata.proofs.pass.+pass.Goals as goal
