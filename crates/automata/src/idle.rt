@@ -16,6 +16,20 @@ pub fn is_idle<T: Truth>(truth: &T, marks: &[T::Bit]) -> bool
     true
 }
 
+/// Whether it is known that no leaf of a part may begin. The leaf that is most likely to is looked at first, where the part
+/// has it.
+pub fn is_idle_part<T: Truth>(truth: &T, likely: usize, marks: &[T::Bit]) -> bool
+    requires { All (T.is_bit truth.now) marks.now }
+    ensures { IsTrue result → Silent T.holds truth.now marks.now }
+{
+    if likely < marks.len() {
+        if !truth.is_known_no(marks[likely]) {
+            return false;
+        }
+    }
+    is_idle(truth, marks)
+}
+
 /// The first leaf from this one on that may begin, as far as is known.
 fn live_from<T: Truth>(truth: &T, from: usize, marks: &[T::Bit]) -> Option<usize>
     requires { All (T.is_bit truth.now) marks.now }

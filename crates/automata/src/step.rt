@@ -50,6 +50,7 @@ fn pass_unless<T: Truth, S: StepMeaning<T>>(
     guard: Guard<T::Bit>,
     begin: T::Bit,
     rests: bool,
+    live: usize,
     marks: &mut [T::Bit],
 ) -> Result<T::Bit, Memory>
     requires sized { Sized (view node.now) }
@@ -71,7 +72,7 @@ fn pass_unless<T: Truth, S: StepMeaning<T>>(
     if rests {
         return Ok(begin);
     }
-    pass(truth, node, letters, step, guard, begin, marks)
+    pass(truth, node, letters, step, guard, begin, live, marks)
 }
 
 /// One more step, in the worlds where it is taken: the new marks, whether some match has been found, and a leaf from which on
@@ -112,7 +113,7 @@ pub fn take_step<T: Truth, S: StepMeaning<T>>(
     ensures found { IfOk result (λ p. (w : World) → T.holds truth.new p.0 w ≡ (if T.holds truth.old guard.taken w then hit_after last (T.holds truth.old hit w) (ends_now (numbered letters.now (told S.edge_tells S.state_tells truth.old step.now w)) (view node.now) (T.holds truth.old begin w) (at T.holds truth.old marks.old w)) else T.holds truth.old hit w)) }
     ensures memory { OnErr result (IsTrue T.may_lack_memory) }
 {
-    let end = pass_unless(truth, node, letters, step, guard, begin, rests, marks)?;
+    let end = pass_unless(truth, node, letters, step, guard, begin, rests, live, marks)?;
     let hit = next_hit(truth, last, guard, hit, end)?;
     let live = live_leaf(truth, rests, live, marks);
     Ok((hit, live))
