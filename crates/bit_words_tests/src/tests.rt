@@ -11,19 +11,7 @@ use circuit::{Circuit, Lit, Memory};
 use rows::{BY_HAND, KINDS, ONE_BY_HAND, OPERATORS, One, telling};
 use std::alloc::Global;
 use std::test::Fail;
-use test_words::{answer, compared, free_word, gives, pattern_in, value_in, world_of};
-
-// Two words of inputs.
-#[tactic(auto, using(circuit::specs::Bits::bits_stay))]
-fn pair(circuit: &mut Circuit) -> Result<(Word, Word), Memory>
-    requires few { length circuit.old ≤ 1 }
-    ensures used { length circuit.new ≤ 129 }
-    ensures wires { IfOk result (λ r. All (IsWire circuit.new) r.0 × All (IsWire circuit.new) r.1) }
-{
-    let first = free_word(circuit)?;
-    let second = free_word(circuit)?;
-    Ok((first, second))
-}
+use test_words::{answer, compared, free_pair, free_word, gives, pattern_in, value_in, world_of};
 
 // The gates of an operator over two words of inputs, and the literals that compare what they give.
 fn gates_of(alloc: Global, op: BinaryOp, kind: Kind) -> Result<(Circuit, (Lit, Lit)), Memory>
@@ -31,7 +19,7 @@ fn gates_of(alloc: Global, op: BinaryOp, kind: Kind) -> Result<(Circuit, (Lit, L
     ensures { IfOk result (λ r. IsWire r.0 r.1.0 × IsWire r.0 r.1.1) }
 {
     let mut circuit = Circuit::new(alloc);
-    let (a, b) = pair(&mut circuit)?;
+    let (a, b) = free_pair(&mut circuit)?;
     let (word, exists) = answer(&mut circuit, op, &a, &b, kind)?;
     let tests = compared(&mut circuit, &word, exists)?;
     Ok((circuit, tests))
@@ -119,7 +107,7 @@ fn found(alloc: Global, op: BinaryOp, kind: Kind, a: i64, b: i64) -> Result<Opti
     requires { IsKind kind }
 {
     let mut circuit = Circuit::new(alloc);
-    let (x, y) = pair(&mut circuit)?;
+    let (x, y) = free_pair(&mut circuit)?;
     let (word, exists) = answer(&mut circuit, op, &x, &y, kind)?;
     let world = world_of(alloc, &[a.cast_unsigned(), b.cast_unsigned()])?;
     value_in(&circuit, &word, exists, &world)
@@ -234,7 +222,7 @@ fn calls_of_one_operand_by_hand(rt: HostRuntime) -> Result<(), Fail> {
 // What a choice between two words of inputs gives in a world, and a constant.
 fn chosen(alloc: Global, test: bool, patterns: (u64, u64)) -> Result<(u64, u64), Memory> {
     let mut circuit = Circuit::new(alloc);
-    let (a, b) = pair(&mut circuit)?;
+    let (a, b) = free_pair(&mut circuit)?;
     let lit = a[63];
     let word = choose(&mut circuit, lit, &a, &b)?;
     let first = if test {

@@ -21,6 +21,18 @@ pub fn free_word(circuit: &mut Circuit) -> Result<Word, Memory>
     Ok(bits)
 }
 
+/// Two words of 64 new inputs each.
+#[tactic(auto, using(circuit::specs::Bits::bits_stay))]
+pub fn free_pair(circuit: &mut Circuit) -> Result<(Word, Word), Memory>
+    requires room { length circuit.old + 128 ≤ 2 ^ 30 }
+    ensures used { length circuit.new ≤ length circuit.old + 128 }
+    ensures wires { IfOk result (λ r. All (IsWire circuit.new) r.0 × All (IsWire circuit.new) r.1) }
+{
+    let first = free_word(circuit)?;
+    let second = free_word(circuit)?;
+    Ok((first, second))
+}
+
 /// The world in which the words of inputs are these patterns, in the order in which they were made.
 pub fn world_of(alloc: Global, patterns: &[u64]) -> Result<Vec<bool>, Memory> {
     let mut world = Vec::new(alloc);

@@ -7,5 +7,5 @@ mod inputs;
 mod readings;
 
 pub use calls::answer;
-pub use inputs::{free_word, world_of};
+pub use inputs::{free_pair, free_word, world_of};
 pub use readings::{compared, gives, pattern_in, value_in};
