@@ -1,6 +1,6 @@
 -- One more beginning of a part, and a part in which no match is alive, in one world.
-use Rattle.std.proofs.Common.{◌≡◌, ℕ, ◌+◌, ◌≤◌, Bool, true, false, ◌&&◌, ◌||◌, if◌then◌else◌, List, [], ◌∷◌, ◌++◌, take, drop, length, refl, sym, ◌∙◌, ap, arith, length-append}
-use Rattle.std.proofs.lemmas.List.{take_at, drop_at, length-take-le, length-drop}
+use Rattle.std.proofs.Common.{◌≡◌, ℕ, Bool, true, false, ◌&&◌, ◌||◌, if◌then◌else◌, List, [], ◌∷◌, ◌++◌, take, drop, length, refl, sym, ◌∙◌, ap}
+use Rattle.std.proofs.lemmas.List.{take_at, drop_at}
 use Rattle.patterns.specs.Match.{Step}
 use Rattle.automata.specs.Tree.{Tree, nothing, empty, leaf, dot, either, many, maybe, leaves, Sized, alone, ended, marks_after, marks_with, first_of_marks, AllNo}
 use Rattle.automata.specs.Reach.{ends_now}

@@ -1,18 +1,17 @@
 -- One pass over a part, by its kind.
-use Rattle.std.proofs.Common.{◌≡◌, ℕ, zero, suc, ◌+◌, ◌≤◌, ◌<◌, Bool, true, false, not, ◌&&◌, ◌||◌, if◌then◌else◌, List, [], ◌∷◌, ◌++◌, take, drop, length, map, get_or, slice_set, refl, sym, ◌∙◌, ap, subst, arith, length-append, All, Result, Ok, Err, IfOk, OnOk}
+use Rattle.std.proofs.Common.{◌≡◌, ℕ, zero, suc, ◌+◌, ◌<◌, Bool, true, false, ◌&&◌, ◌||◌, if◌then◌else◌, List, [], ◌∷◌, ◌++◌, take, drop, length, map, get_or, slice_set, refl, sym, ◌∙◌, ap, subst, arith, All, Result, Ok, Err, IfOk, OnOk}
 use Rattle.std.specs.List.{drop-map}
-use Rattle.std.proofs.lemmas.List.{take-map, take_more, map-append, take_at, drop_at, length-take-le, length-drop}
-use Rattle.std.proofs.lemmas.List.Elements.{All-take, All-drop, All-append}
+use Rattle.std.proofs.lemmas.List.{take-map, take_more, map-append}
+use Rattle.std.proofs.lemmas.List.Elements.{All-drop, All-append}
 use Rattle.patterns.specs.Match.{Step}
 use Rattle.circuit.specs.Truth.{World, Extends, extends_again}
 use Rattle.circuit.specs.Bits.{at, bits_stay, at_same}
-use Rattle.automata.specs.Tree.{Tree, nothing, empty, leaf, dot, either, many, maybe, leaves, Sized, AllNo, first_of_marks, alone, ended, marks_after, marks_with}
+use Rattle.automata.specs.Tree.{Tree, nothing, empty, leaf, dot, either, many, maybe, leaves, Sized, AllNo, alone, ended, marks_after, marks_with}
 use Rattle.automata.specs.Reach.{ends_now, numbered, told}
 use Rattle.automata.specs.Passing.{Silent, Passed, Entered}
 use Rattle.automata.specs.Views.{view}
 use Rattle.automata.specs.declared.node.Node.{Node, the_lemmas}
 use Rattle.automata.specs.declared.node.Node.TheVariants.{Nothing, Empty, Leaf, Dot, Either, Many, Maybe}
-use Rattle.automata.proofs.Ends.{no_take, no_drop}
 use Rattle.automata.proofs.OneWorld.{with_again, with_none, idle_end, idle_marks, many_ends, turn_begins, dot_ends, either_ends, and_again, and_either, and_true}
 
 pub view_nothing : view Nothing ≡ nothing

@@ -1,7 +1,7 @@
 -- What the proofs of passes share.
 use Rattle.automata.specs.Guards.{IsGuard}
 use Rattle.automata.specs.declared.guard.Guard.{Guard}
-use Rattle.std.proofs.Common.{not, subst, ◌≡◌, suc, Bool, List, [], ◌∷◌, map, refl, sym, ◌∙◌, ap, arith, All}
+use Rattle.std.proofs.Common.{not, Bool, sym, ◌∙◌, ap}
 use Rattle.circuit.specs.Truth.{World, Extends}
 pub use Rattle.circuit.specs.Truth.{room_less}
 pub use Rattle.circuit.specs.Bits.{bits_stay, at_same}

@@ -1,5 +1,5 @@
 -- One step of an automaton: what the new bits say, in terms of the truth before.
-use Rattle.std.proofs.Common.{◌≡◌, ℕ, Bool, if◌then◌else◌, List, sym, ◌∙◌, ap}
+use Rattle.std.proofs.Common.{◌≡◌, ℕ, Bool, if◌then◌else◌, List, ◌∙◌}
 use Rattle.patterns.specs.Match.{Step}
 use Rattle.circuit.specs.Truth.{World, Extends}
 use Rattle.circuit.specs.Bits.{at, at_same}

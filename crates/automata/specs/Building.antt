@@ -1,6 +1,6 @@
 -- Parts of an unrolled pattern, with their counts of leaves.
-use Rattle.std.specs.Prelude.{◌≡◌, ℕ}
-use Rattle.automata.specs.Tree.{Tree, nothing, empty, many, leaves, Sized}
+use Rattle.std.specs.Prelude.{◌≡◌}
+use Rattle.automata.specs.Tree.{Tree, nothing, empty, leaves, Sized}
 use Rattle.automata.specs.Views.{view}
 use Rattle.automata.specs.declared.part.Part.{Part}
 use Rattle.automata.specs.declared.part.Extent.{Extent}

@@ -1,9 +1,9 @@
 -- One pass over a part of an automaton, over any truth.
-use Rattle.std.specs.Prelude.{◌≡◌, ℕ, ◌||◌, ◌&&◌, Bool, true, false, List, [], ◌∷◌, ◌++◌, take, drop, map, length, All}
+use Rattle.std.specs.Prelude.{◌≡◌, ℕ, ◌&&◌, Bool, List, All}
 use Rattle.patterns.specs.Match.{Step}
 use Rattle.circuit.specs.Truth.{World}
 use Rattle.circuit.specs.Bits.{at}
-use Rattle.automata.specs.Tree.{Tree, nothing, empty, leaf, dot, either, many, maybe, leaves, Sized, AllNo, first_of_marks, alone, marks_after, marks_with}
+use Rattle.automata.specs.Tree.{Tree, AllNo, alone, marks_after, marks_with}
 use Rattle.automata.specs.Reach.{ends_now}
 
 -- no leaf may begin, in any world

@@ -1,10 +1,11 @@
 -- What it means that a reach stands for a path in each world.
-use Rattle.std.specs.Prelude.{◌≡◌, ℕ, zero, suc, ◌+◌, ◌<◌, ◌↔◌, Bool, true, false, List, [], ◌∷◌, length, All}
+use Rattle.std.specs.Prelude.{◌≡◌, ℕ, zero, suc, ◌+◌, ◌<◌, ◌↔◌, Bool, true, false, List, [], ◌∷◌, length, All, IsNone}
 use Rattle.patterns.specs.Match.{Step, Form, Match}
 use Rattle.patterns.specs.declared.letter.Letter.{Letter}
 use Rattle.circuit.specs.Truth.{World}
 use Rattle.automata.specs.Tree.{leaves}
 use Rattle.automata.specs.Tree as tree
+use Rattle.automata.specs.Passing.{Silent}
 use Rattle.automata.specs.Values.{at, step_gates}
 use Rattle.automata.specs.Views.{view}
 use Rattle.automata.specs.Reach.{numbered, MayBegin, MayEnd, StandsFor}
@@ -21,10 +22,11 @@ pub record IsOf (nfa : Nfa Letter) (pattern : Form Letter) (first last : Bool) :
   pub at_last : nfa.last ≡ last
   pub match : (path : ℕ → Step Letter) (i j : ℕ) → tree.Match (λ k. numbered nfa.letters (path k)) (view nfa.node) i j ↔ Match path pattern i j
 
--- the bits of a reach that isn't spent are bits of this truth, as many as the automaton needs
-pub record Ready {T B : Type 0} (is_bit : T → B → Type 0) (t : T) (nfa : Nfa Letter) (reach : ReachBits B) : Type 0 where
+-- the bits of a reach that isn't spent are bits of this truth, as many as the automaton needs. Where it names no live leaf none may begin
+pub record Ready {T B : Type 0} (is_bit : T → B → Type 0) (holds : T → B → World → Bool) (t : T) (nfa : Nfa Letter) (reach : ReachBits B) : Type 0 where
   pub marks_fit : length reach.marks.items ≡ leaves (view nfa.node)
   pub mark_bits : All (is_bit t) reach.marks.items
+  pub idle : IsNone reach.live → Silent holds t reach.marks.items
   pub hit_bit : is_bit t reach.hit
 
 -- a gate found no memory in an earlier call
@@ -32,8 +34,8 @@ abbrev pub IsSpent : {B : Type 0} → ReachBits B → Type 0
 IsSpent reach = reach.spent ≡ true
 
 -- the reach was begun with this automaton and this truth. It is spent only where gates may find no memory
-pub record IsReach {T B : Type 0} (is_bit : T → B → Type 0) (may_lack_memory : Bool) (t : T) (nfa : Nfa Letter) (reach : ReachBits B) : Type 0 where
-  pub ready : reach.spent ≡ false → Ready is_bit t nfa reach
+pub record IsReach {T B : Type 0} (is_bit : T → B → Type 0) (holds : T → B → World → Bool) (may_lack_memory : Bool) (t : T) (nfa : Nfa Letter) (reach : ReachBits B) : Type 0 where
+  pub ready : reach.spent ≡ false → Ready is_bit holds t nfa reach
   pub why_spent : reach.spent ≡ true → may_lack_memory ≡ true
 
 -- in each world the reach stands for that world's path, a list of steps

@@ -1,6 +1,5 @@
 -- What bits say in one world.
-use Rattle.std.specs.Prelude.{◌≡◌, ℕ, ◌+◌, Bool, List, map, slice_index_or, false}
-use Rattle.circuit.specs.Truth.{World}
+use Rattle.std.specs.Prelude.{ℕ, ◌+◌, Bool, List, slice_index_or, false}
 pub use Rattle.circuit.specs.Bits.{at}
 use Rattle.patterns.specs.Match.{Step}
 use Rattle.automata.specs.Tree.{Tree, nothing, empty, leaf, dot, either, many, maybe}

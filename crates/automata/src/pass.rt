@@ -9,7 +9,7 @@ ghost use Rattle.automata.specs.Views.{view};
 
 use crate::enter::enter;
 use crate::guard::Guard;
-use crate::idle::is_idle;
+use crate::idle::is_idle_part;
 use crate::leaf::pass_leaf;
 use crate::meaning::StepMeaning;
 use crate::node::Node;
@@ -18,7 +18,8 @@ use patterns::Letter;
 
 /// The step over a part: where a match that may begin where the bit says ends at the newest state, and the new marks.
 ///
-/// A part in which no match is alive and none may begin is passed over.
+/// A part in which no match is alive and none may begin is passed over. Whether one is alive is seen first at the leaf that is
+/// most likely to have one, so that a long row of parts isn't looked through again for each of them.
 #[tactic(auto, using(crate::proofs::Passes::walk_laws), unfolding(crate::specs::Views::view))]
 pub fn pass<T: Truth, S: StepMeaning<T>>(
     truth: &mut T,
@@ -27,6 +28,7 @@ pub fn pass<T: Truth, S: StepMeaning<T>>(
     step: &S,
     guard: Guard<T::Bit>,
     begin: T::Bit,
+    likely: usize,
     marks: &mut [T::Bit],
 ) -> Result<T::Bit, Memory>
     requires sized { Sized (view node.now) }
@@ -43,7 +45,7 @@ pub fn pass<T: Truth, S: StepMeaning<T>>(
     ensures memory { OnErr result (IsTrue T.may_lack_memory) }
 {
     if truth.is_known_no(begin) {
-        if is_idle(truth, marks) {
+        if is_idle_part(truth, likely, marks) {
             return Ok(begin);
         }
     }
@@ -62,8 +64,18 @@ pub fn pass<T: Truth, S: StepMeaning<T>>(
             right,
         } => {
             let (left_marks, right_marks) = marks.split_at_mut(*leaves);
-            let middle = pass(truth, left, letters, step, guard, begin, left_marks)?;
-            pass(truth, right, letters, step, guard, middle, right_marks)
+            let middle = pass(truth, left, letters, step, guard, begin, likely, left_marks)?;
+            let likely = likely.saturating_sub(*leaves);
+            pass(
+                truth,
+                right,
+                letters,
+                step,
+                guard,
+                middle,
+                likely,
+                right_marks,
+            )
         }
         Node::Either {
             leaves,
@@ -71,17 +83,27 @@ pub fn pass<T: Truth, S: StepMeaning<T>>(
             right,
         } => {
             let (left_marks, right_marks) = marks.split_at_mut(*leaves);
-            let first = pass(truth, left, letters, step, guard, begin, left_marks)?;
-            let second = pass(truth, right, letters, step, guard, begin, right_marks)?;
+            let first = pass(truth, left, letters, step, guard, begin, likely, left_marks)?;
+            let likely = likely.saturating_sub(*leaves);
+            let second = pass(
+                truth,
+                right,
+                letters,
+                step,
+                guard,
+                begin,
+                likely,
+                right_marks,
+            )?;
             truth.or(first, second)
         }
         Node::Many(body) => {
-            let ended = pass(truth, body, letters, step, guard, begin, marks)?;
+            let ended = pass(truth, body, letters, step, guard, begin, likely, marks)?;
             enter(truth, body, letters, step, guard.taken, ended, marks)?;
             truth.or(begin, ended)
         }
         Node::Maybe(body) => {
-            let ended = pass(truth, body, letters, step, guard, begin, marks)?;
+            let ended = pass(truth, body, letters, step, guard, begin, likely, marks)?;
             truth.or(begin, ended)
         }
     }

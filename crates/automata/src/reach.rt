@@ -1,4 +1,4 @@
-ghost use Rattle.std.specs.Prelude.{◌≡◌, ◌+◌, ◌≤◌, ◌↔◌, ◌∷◌, ◌++◌, [], List, Bool, true, false, length, All, IfOk, OnOk, OnErr, IsErr, IsTrue};
+ghost use Rattle.std.specs.Prelude.{◌≡◌, ◌+◌, ◌≤◌, ◌↔◌, ◌∷◌, ◌++◌, [], List, Bool, true, false, length, All, IfOk, OnOk, OnErr, IsErr, IsNone, IsTrue};
 ghost use Rattle.patterns.specs.Match.{Step, Form};
 ghost use Rattle.patterns.specs.declared.letter.Letter.{Letter};
 ghost use Rattle.circuit.specs.Truth.{World, Extends, HasRoom};
@@ -28,13 +28,13 @@ pub fn advance<T: Truth, S: StepMeaning<T>>(
     step: &S,
     guard: T::Bit,
 ) -> Result<(), Memory>
-    requires reach { IsReach T.is_bit T.may_lack_memory truth.old nfa.now reach.old }
+    requires reach { IsReach T.is_bit T.holds T.may_lack_memory truth.old nfa.now reach.old }
     requires fits { S.fits truth.old step.now }
     requires guard { T.is_bit truth.old guard }
     requires room { HasRoom T.counts_wires (T.wires truth.old + gates_of nfa.now) }
     ensures older { Extends T.is_bit T.holds truth.old truth.new }
     ensures used { T.wires truth.new ≤ T.wires truth.old + gates_of nfa.now }
-    ensures reach { IsReach T.is_bit T.may_lack_memory truth.new nfa.now reach.new }
+    ensures reach { IsReach T.is_bit T.holds T.may_lack_memory truth.new nfa.now reach.new }
     ensures stands { (path : World → List (Step Letter)) → Stands T.holds truth.old nfa.now reach.old path →
         OnOk result (Stands T.holds truth.new nfa.now reach.new (λ w. steps_after (T.holds truth.old guard w) (path w) (told S.edge_tells S.state_tells truth.old step.now w))) }
     ensures spent { OnErr result (IsSpent reach.new) }
@@ -51,7 +51,9 @@ pub fn advance<T: Truth, S: StepMeaning<T>>(
         skipped,
     };
     let begin = first_bit(truth, !nfa.first);
-    let hit = take_step(
+    let rests = is_at_rest(nfa.first, reach.live);
+    let live = reach.live.unwrap_or(0);
+    let (hit, live) = take_step(
         truth,
         &nfa.node,
         &nfa.letters,
@@ -60,11 +62,25 @@ pub fn advance<T: Truth, S: StepMeaning<T>>(
         guard,
         begin,
         reach.hit,
+        rests,
+        live,
         &mut reach.marks,
     )?;
+    reach.live = live;
     reach.hit = hit;
     reach.spent = false;
     Ok(())
+}
+
+/// Whether it is known that no match is alive and that none may begin.
+fn is_at_rest(first: bool, live: Option<usize>) -> bool
+    ensures idle { IsTrue result → IsNone live }
+    ensures first { IsTrue result → first ≡ true }
+{
+    match live {
+        None => first,
+        Some(_) => false,
+    }
 }
 
 /// The bit of a known truth value.
@@ -81,7 +97,7 @@ pub fn accepted<T: Truth>(
     nfa: &Nfa<Letter>,
     reach: &Reach<T>,
 ) -> Result<T::Bit, Memory>
-    requires reach { IsReach T.is_bit T.may_lack_memory truth.old nfa.now reach.now }
+    requires reach { IsReach T.is_bit T.holds T.may_lack_memory truth.old nfa.now reach.now }
     ensures same { truth.new ≡ truth.old }
     ensures bit { IfOk result (λ b. T.is_bit truth.new b) }
     ensures value { (pattern : Form Letter) (first last : Bool) (path : World → List (Step Letter)) → IsOf nfa.now pattern first last → Stands T.holds truth.old nfa.now reach.now path →
@@ -101,7 +117,7 @@ pub fn accepted<T: Truth>(
 ///
 /// A reach of which this is known need not be advanced any more.
 pub fn is_settled<T: Truth>(truth: &T, nfa: &Nfa<Letter>, reach: &Reach<T>) -> bool
-    requires reach { IsReach T.is_bit T.may_lack_memory truth.now nfa.now reach.now }
+    requires reach { IsReach T.is_bit T.holds T.may_lack_memory truth.now nfa.now reach.now }
     ensures { IsTrue result → (pattern : Form Letter) (first last : Bool) (path : World → List (Step Letter)) → IsOf nfa.now pattern first last → Stands T.holds truth.now nfa.now reach.now path →
         (w : World) (more : List (Step Letter)) → HasMatch pattern first last (path w ++ more) }
 {
@@ -137,7 +153,7 @@ pub fn begin<T: Truth, S: StepMeaning<T>>(
     requires room { HasRoom T.counts_wires (T.wires truth.old + gates_of nfa.now) }
     ensures older { Extends T.is_bit T.holds truth.old truth.new }
     ensures used { T.wires truth.new ≤ T.wires truth.old + gates_of nfa.now }
-    ensures reach { IfOk result (λ r. IsReach T.is_bit T.may_lack_memory truth.new nfa.now r) }
+    ensures reach { IfOk result (λ r. IsReach T.is_bit T.holds T.may_lack_memory truth.new nfa.now r) }
     ensures unspent { IfOk result (λ r. ¬ IsSpent r) }
     ensures stands { IfOk result (λ r. Stands T.holds truth.new nfa.now r (λ w. told S.edge_tells S.state_tells truth.old step.now w ∷ [])) }
 {
@@ -148,7 +164,7 @@ pub fn begin<T: Truth, S: StepMeaning<T>>(
         taken: yes,
         skipped: no,
     };
-    let hit = take_step(
+    let (hit, live) = take_step(
         truth,
         &nfa.node,
         &nfa.letters,
@@ -157,10 +173,13 @@ pub fn begin<T: Truth, S: StepMeaning<T>>(
         guard,
         yes,
         no,
+        false,
+        0,
         &mut marks,
     )?;
     Ok(ReachBits {
         marks,
+        live,
         hit,
         spent: false,
     })

@@ -1,12 +1,14 @@
-ghost use Rattle.std.specs.Prelude.{◌≡◌, ◌+◌, ◌≤◌, if◌then◌else◌, IfOk, OnOk, OnErr, IsTrue, All, length, ℕ};
+ghost use Rattle.std.specs.Prelude.{◌≡◌, ◌+◌, ◌≤◌, if◌then◌else◌, IfOk, OnOk, OnErr, IsNone, IsTrue, All, length, false, ℕ};
 ghost use Rattle.circuit.specs.Truth.{World, Extends, HasRoom};
 ghost use Rattle.automata.specs.Guards.{IsGuard};
+ghost use Rattle.automata.specs.Passing.{Passed, Silent};
 ghost use Rattle.automata.specs.Reach.{hit_after, ends_now, numbered, told};
 ghost use Rattle.automata.specs.Tree.{Sized, Below, leaves, marks_after};
-ghost use Rattle.automata.specs.Values.{at, step_gates};
+ghost use Rattle.automata.specs.Values.{at, pass_gates, step_gates};
 ghost use Rattle.automata.specs.Views.{view};
 
 use crate::guard::{Guard, choose};
+use crate::idle::live_leaf;
 use crate::meaning::StepMeaning;
 use crate::node::Node;
 use crate::pass::pass;
@@ -39,7 +41,44 @@ pub fn next_hit<T: Truth>(
     }
 }
 
-/// One more step, in the worlds where it is taken: the new marks, and whether some match has been found.
+/// The step over a whole automaton, as `pass` takes it, or none where no match is alive and none may begin.
+fn pass_unless<T: Truth, S: StepMeaning<T>>(
+    truth: &mut T,
+    node: &Node,
+    letters: &[Letter],
+    step: &S,
+    guard: Guard<T::Bit>,
+    begin: T::Bit,
+    rests: bool,
+    live: usize,
+    marks: &mut [T::Bit],
+) -> Result<T::Bit, Memory>
+    requires sized { Sized (view node.now) }
+    requires letters { Below (length letters.now) (view node.now) }
+    requires marks { length marks.old ≡ leaves (view node.now) }
+    requires mark_bits { All (T.is_bit truth.old) marks.old }
+    requires fits { S.fits truth.old step.now }
+    requires guard { IsGuard T.is_bit T.holds truth.old guard }
+    requires begin { T.is_bit truth.old begin }
+    requires rests { IsTrue rests → Silent T.holds truth.old marks.old }
+    requires never { IsTrue rests → (w : World) → T.holds truth.old begin w ≡ false }
+    requires room { HasRoom T.counts_wires (T.wires truth.old + pass_gates (view node.now)) }
+    ensures older { Extends T.is_bit T.holds truth.old truth.new }
+    ensures used { T.wires truth.new ≤ T.wires truth.old + pass_gates (view node.now) }
+    ensures passed { IfOk result (λ end. Passed T.is_bit T.holds truth.old truth.new (λ w. numbered letters.now (told S.edge_tells S.state_tells truth.old step.now w)) (view node.now) guard.taken begin marks.old end marks.new) }
+    ensures kept { IsTrue rests → marks.new ≡ marks.old }
+    ensures memory { OnErr result (IsTrue T.may_lack_memory) }
+{
+    if rests {
+        return Ok(begin);
+    }
+    pass(truth, node, letters, step, guard, begin, live, marks)
+}
+
+/// One more step, in the worlds where it is taken: the new marks, whether some match has been found, and a leaf from which on
+/// to look for one that may begin, or nothing where none may.
+///
+/// Where no match is alive and none may begin the marks aren't looked at.
 #[tactic(auto, using(crate::proofs::Passes::pass_laws))]
 pub fn take_step<T: Truth, S: StepMeaning<T>>(
     truth: &mut T,
@@ -50,8 +89,10 @@ pub fn take_step<T: Truth, S: StepMeaning<T>>(
     guard: Guard<T::Bit>,
     begin: T::Bit,
     hit: T::Bit,
+    rests: bool,
+    live: usize,
     marks: &mut [T::Bit],
-) -> Result<T::Bit, Memory>
+) -> Result<(T::Bit, Option<usize>), Memory>
     requires sized { Sized (view node.now) }
     requires marks { length marks.old ≡ leaves (view node.now) }
     requires mark_bits { All (T.is_bit truth.old) marks.old }
@@ -60,15 +101,20 @@ pub fn take_step<T: Truth, S: StepMeaning<T>>(
     requires guard { IsGuard T.is_bit T.holds truth.old guard }
     requires begin { T.is_bit truth.old begin }
     requires hit { T.is_bit truth.old hit }
+    requires rests { IsTrue rests → Silent T.holds truth.old marks.old }
+    requires never { IsTrue rests → (w : World) → T.holds truth.old begin w ≡ false }
     requires room { HasRoom T.counts_wires (T.wires truth.old + step_gates (view node.now)) }
     ensures older { Extends T.is_bit T.holds truth.old truth.new }
     ensures used { T.wires truth.new ≤ T.wires truth.old + step_gates (view node.now) }
     ensures bits { OnOk result (All (T.is_bit truth.new) marks.new) }
-    ensures bit { IfOk result (λ h. T.is_bit truth.new h) }
+    ensures idle { IfOk result (λ p. IsNone p.1 → Silent T.holds truth.new marks.new) }
+    ensures bit { IfOk result (λ p. T.is_bit truth.new p.0) }
     ensures marked { OnOk result ((w : World) → at T.holds truth.new marks.new w ≡ marks_after (numbered letters.now (told S.edge_tells S.state_tells truth.old step.now w)) (T.holds truth.old guard.taken w) (view node.now) (T.holds truth.old begin w) (at T.holds truth.old marks.old w)) }
-    ensures found { IfOk result (λ h. (w : World) → T.holds truth.new h w ≡ (if T.holds truth.old guard.taken w then hit_after last (T.holds truth.old hit w) (ends_now (numbered letters.now (told S.edge_tells S.state_tells truth.old step.now w)) (view node.now) (T.holds truth.old begin w) (at T.holds truth.old marks.old w)) else T.holds truth.old hit w)) }
+    ensures found { IfOk result (λ p. (w : World) → T.holds truth.new p.0 w ≡ (if T.holds truth.old guard.taken w then hit_after last (T.holds truth.old hit w) (ends_now (numbered letters.now (told S.edge_tells S.state_tells truth.old step.now w)) (view node.now) (T.holds truth.old begin w) (at T.holds truth.old marks.old w)) else T.holds truth.old hit w)) }
     ensures memory { OnErr result (IsTrue T.may_lack_memory) }
 {
-    let end = pass(truth, node, letters, step, guard, begin, marks)?;
-    next_hit(truth, last, guard, hit, end)
+    let end = pass_unless(truth, node, letters, step, guard, begin, rests, live, marks)?;
+    let hit = next_hit(truth, last, guard, hit, end)?;
+    let live = live_leaf(truth, rests, live, marks);
+    Ok((hit, live))
 }

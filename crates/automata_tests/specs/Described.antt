@@ -1,5 +1,5 @@
 -- What a state of a circuit's run tells of the letters.
-use Rattle.std.specs.Prelude.{◌≡◌, ℕ, zero, suc, Bool, true, false, ◌==◌, List, refl}
+use Rattle.std.specs.Prelude.{◌≡◌, ℕ, zero, suc, Bool, List, refl}
 use Rattle.circuit.specs.Truth.{World, Extends}
 use Rattle.circuit.specs.Wires.{IsWire, lit_holds}
 use Rattle.circuit.specs.declared.lit.Lit.{Lit}

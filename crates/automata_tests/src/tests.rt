@@ -13,7 +13,7 @@ use fq_core::Memory;
 use patterns::{Letter, PathView, Pattern, matches};
 use recorded::Recorded;
 use runs::{guarded, hits};
-use samples::{any_edge, dot, edge, node, paths, predicate, repeat, samples};
+use samples::{Made, any_edge, dot, edge, node, paths, predicate, repeat, samples};
 use std::alloc::Global;
 use std::test::Fail;
 use worlds::{accepted_where, small};
@@ -194,5 +194,50 @@ fn many_letters(rt: HostRuntime) -> Result<(), Fail> {
         hits(alloc, &automaton, start, &steps[2..])?,
         (false, false)
     );
+    Ok(())
+}
+
+// The edges 0 to 9 in a row.
+fn ten_edges(alloc: Global) -> Made {
+    let mut row = edge(alloc, 0)?;
+    for number in 1..10 {
+        row = dot(alloc, row, edge(alloc, number)?)?;
+    }
+    Ok(row)
+}
+
+// By hand: the edges 0 to 9, 300 times, on the edges 5 to 9 and then 0 to 9, 300 times. The match begins at state 5 and ends
+// at the last.
+#[test]
+fn thousands_of_letters(rt: HostRuntime) -> Result<(), Fail> {
+    let alloc = rt.alloc();
+    let repeated = repeat(alloc, ten_edges(alloc)?, 300, Some(300))?;
+    let mut nested = ten_edges(alloc)?;
+    for _ in 1..300 {
+        nested = dot(alloc, ten_edges(alloc)?, nested)?;
+    }
+    let mut steps = Vec::new(alloc);
+    for place in 5..3010 {
+        steps.push(Recorded {
+            edge: place % 10,
+            node: 0,
+            mask: 0,
+        })?;
+    }
+    let start = Recorded {
+        edge: 99,
+        node: 0,
+        mask: 0,
+    };
+    assert_eq!(rt; steps.len(), 3005);
+    for pattern in [&repeated, &nested] {
+        let free = build(alloc, pattern, false, false)?;
+        let tied = build(alloc, pattern, true, false)?;
+        assert_eq!(rt; hits(alloc, &free, start, &steps)?, (true, true));
+        assert_eq!(rt; hits(alloc, &free, start, &steps[..3004])?, (false, false));
+        assert_eq!(rt; hits(alloc, &free, start, &steps[6..])?, (false, false));
+        assert_eq!(rt; hits(alloc, &tied, start, &steps)?, (false, false));
+        assert_eq!(rt; hits(alloc, &tied, start, &steps[5..])?, (true, true));
+    }
     Ok(())
 }

@@ -14,9 +14,9 @@ use Rattle.c_values.specs.Kind.{IsKind, IsValue, wrapped}
 use Rattle.c_values.specs.Operations.{complement_of}
 use Rattle.c_values.proofs.Fitting.{width_is}
 use Rattle.c_values.proofs.Bits.{width_below, IsValue-bit_and, IsValue-bit_or, IsValue-bit_xor, complement_of-machine}
-use Rattle.bit_words.specs.Words.{IsWord, bit_of, word_value}
+use Rattle.bit_words.specs.Words.{IsWord, bit_of, number_below, word_value}
 use Rattle.bit_words.specs.Rows.{xor}
-use Rattle.bit_words.proofs.Digits.{bit_at-word_value, word_value-lt, word_value-same}
+use Rattle.bit_words.proofs.Digits.{bit_at-word_value, bit_at-number_below, word_value-lt, word_value-same}
 use Rattle.bit_words.proofs.Values.{wrapped-same, wrapped-value, kind_of_word}
 
 bit_at-mod : (w n i : ℕ) → i < w → bit_at (n % 2 ^ w) i ≡ bit_at n i
@@ -55,41 +55,48 @@ digit_not : (x : Bool) → digit (not x) ≡ 1 - digit x
 digit_not true = refl
 digit_not false = refl
 
-module _ (new old : List Gate) (kind : Kind) (r a b : List Lit) (w : World) (left : IsWord old kind a) (right : IsWord old kind b) where
-  from_digits : (n : ℕ) → ((k : ℕ) → k < kind.width → k < 64 → digit (bit_of new r w k) ≡ bit_at n k) → wrapped kind (pos (word_value new r w)) ≡ wrapped kind (pos n)
-  from_digits n h =
-      let small = width_below kind (kind_of_word left) in
-      wrapped-bits kind (word_value new r w) n (kind_of_word left) (λ k lt. bit_at-word_value new r w k (omega arith) ∙ h k lt (omega arith))
+-- a number by its binary digits below the width
+pub wrapped-number : (kind : Kind) (gates : List Gate) (word : List Lit) (w : World) (f : ℕ → Bool) → IsKind kind → ((k : ℕ) → k < kind.width → bit_of gates word w k ≡ f k)
+    → wrapped kind (pos (word_value gates word w)) ≡ wrapped kind (pos (number_below kind.width f))
+wrapped-number kind gates word w f k h =
+    let small = width_below kind k in
+    wrapped-bits kind (word_value gates word w) (number_below kind.width f) k
+    (λ i lt. bit_at-word_value gates word w i (omega arith) ∙ ap digit (h i lt) ∙ sym (bit_at-number_below kind.width f i lt))
 
-  pub and-bits : ((k : ℕ) → k < kind.width → bit_of new r w k ≡ (bit_of old a w k && bit_of old b w k)) → wrapped kind (pos (word_value new r w)) ≡ bit_and (word_value old a w) (word_value old b w)
-  and-bits h =
+module _ (old : List Gate) (kind : Kind) (a b : List Lit) (w : World) (left : IsWord old kind a) (right : IsWord old kind b) where
+  from_digits : (n : ℕ) (f : ℕ → Bool) → ((k : ℕ) → k < 64 → digit (f k) ≡ bit_at n k) → wrapped kind (pos (number_below kind.width f)) ≡ wrapped kind (pos n)
+  from_digits n f h =
+      let small = width_below kind (kind_of_word left) in
+      wrapped-bits kind (number_below kind.width f) n (kind_of_word left) (λ k lt. bit_at-number_below kind.width f k lt ∙ h k (omega arith))
+
+  pub and-bits : wrapped kind (pos (number_below kind.width (λ k. bit_of old a w k && bit_of old b w k))) ≡ bit_and (word_value old a w) (word_value old b w)
+  and-bits =
       let x = word_value old a w in
       let y = word_value old b w in
-      from_digits (bit_and x y) (λ k lt small. ap digit (h k lt) ∙ digit_and (bit_of old a w k) (bit_of old b w k)
+      from_digits (bit_and x y) (λ k. bit_of old a w k && bit_of old b w k) (λ k small. digit_and (bit_of old a w k) (bit_of old b w k)
       ∙ ap (λ z. min z (digit (bit_of old b w k))) (sym (bit_at-word_value old a w k small)) ∙ ap (min (bit_at x k)) (sym (bit_at-word_value old b w k small)) ∙ sym (bit_at_and x y k))
       ∙ wrapped-value kind (bit_and x y) (IsValue-bit_and kind x y (left.values w) (right.values w))
 
-  pub or-bits : ((k : ℕ) → k < kind.width → bit_of new r w k ≡ (bit_of old a w k || bit_of old b w k)) → wrapped kind (pos (word_value new r w)) ≡ bit_or (word_value old a w) (word_value old b w)
-  or-bits h =
+  pub or-bits : wrapped kind (pos (number_below kind.width (λ k. bit_of old a w k || bit_of old b w k))) ≡ bit_or (word_value old a w) (word_value old b w)
+  or-bits =
       let x = word_value old a w in
       let y = word_value old b w in
-      from_digits (bit_or x y) (λ k lt small. ap digit (h k lt) ∙ digit_or (bit_of old a w k) (bit_of old b w k)
+      from_digits (bit_or x y) (λ k. bit_of old a w k || bit_of old b w k) (λ k small. digit_or (bit_of old a w k) (bit_of old b w k)
       ∙ ap (λ z. max z (digit (bit_of old b w k))) (sym (bit_at-word_value old a w k small)) ∙ ap (max (bit_at x k)) (sym (bit_at-word_value old b w k small)) ∙ sym (bit_at_or x y k))
       ∙ wrapped-value kind (bit_or x y) (IsValue-bit_or kind x y (left.values w) (right.values w))
 
-  pub xor-bits : ((k : ℕ) → k < kind.width → bit_of new r w k ≡ xor (bit_of old a w k) (bit_of old b w k)) → wrapped kind (pos (word_value new r w)) ≡ bit_xor (word_value old a w) (word_value old b w)
-  xor-bits h =
+  pub xor-bits : wrapped kind (pos (number_below kind.width (λ k. xor (bit_of old a w k) (bit_of old b w k)))) ≡ bit_xor (word_value old a w) (word_value old b w)
+  xor-bits =
       let x = word_value old a w in
       let y = word_value old b w in
-      from_digits (bit_xor x y) (λ k lt small. ap digit (h k lt) ∙ digit_xor (bit_of old a w k) (bit_of old b w k)
+      from_digits (bit_xor x y) (λ k. xor (bit_of old a w k) (bit_of old b w k)) (λ k small. digit_xor (bit_of old a w k) (bit_of old b w k)
       ∙ ap (λ z. (z + digit (bit_of old b w k)) % 2) (sym (bit_at-word_value old a w k small)) ∙ ap (λ z. (bit_at x k + z) % 2) (sym (bit_at-word_value old b w k small)) ∙ sym (bit_at_xor x y k))
       ∙ wrapped-value kind (bit_xor x y) (IsValue-bit_xor kind x y (left.values w) (right.values w))
 
-pub complement-bits : (new old : List Gate) (kind : Kind) (r a : List Lit) (w : World) → IsWord old kind a → ((k : ℕ) → k < kind.width → bit_of new r w k ≡ not (bit_of old a w k))
-    → wrapped kind (pos (word_value new r w)) ≡ complement_of kind (word_value old a w)
-complement-bits new old kind r a w operand h =
+pub complement-bits : (old : List Gate) (kind : Kind) (a : List Lit) (w : World) → IsWord old kind a → wrapped kind (pos (number_below kind.width (λ k. not (bit_of old a w k)))) ≡ complement_of kind (word_value old a w)
+complement-bits old kind a w operand =
     let x = word_value old a w in
-    from_digits new old kind r a a w operand operand (bit_not w64 x) (λ k lt small. ap digit (h k lt) ∙ digit_not (bit_of old a w k)
+    from_digits old kind a a w operand operand (bit_not w64 x) (λ k. not (bit_of old a w k)) (λ k small. digit_not (bit_of old a w k)
     ∙ ap (λ z. 1 - z) (sym (bit_at-word_value old a w k small)) ∙ sym (bit_at_not w64 x k (word_value-lt old a w) small))
     ∙ complement_of-machine kind x
 

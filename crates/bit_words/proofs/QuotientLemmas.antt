@@ -11,18 +11,18 @@ use Rattle.circuit.specs.Wires.{IsWire}
 use Rattle.circuit.specs.declared.lit.Lit.{Lit}
 use Rattle.circuit.specs.declared.lit.Gate.{Gate}
 use Rattle.c_values.specs.declared.kinds.Kind.{Kind}
-use Rattle.c_values.specs.Kind.{IsKind, IsValue, is_value, least, greatest, number_of, reading, residue, wrapped}
+use Rattle.c_values.specs.Kind.{IsKind, IsValue, is_value, least, greatest, number_of, reading, wrapped}
 use Rattle.c_values.specs.Operations.{has_quotient, is_zero_divisor, is_overflow_divisor, is_equal, quotient_of, remainder_of}
 use Rattle.c_values.proofs.Fitting.{by_kind, value_parts, IsValue-zero}
 use Rattle.c_values.proofs.Machine.{machine_equal}
 use Rattle.c_values.proofs.Quotients.{number_of-zero, overflow_divisor-machine, no_zero, quotient_of-none, remainder_of-none, quotient_of-some, remainder_of-some}
 use Rattle.bit_words.specs.Rows.{xor}
 use Rattle.bit_words.specs.Signs.{signed_number}
-use Rattle.bit_words.specs.Words.{IsWord, bit_of, place_value, low_value, word_value}
+use Rattle.bit_words.specs.Words.{Grows, IsWord, bit_of, place_value, low_value, word_value}
 use Rattle.bit_words.proofs.Digits.{low_value-lt, low_value-more, low_value-mod}
-use Rattle.bit_words.proofs.Values.{width_of_word, least_width}
+use Rattle.bit_words.proofs.Values.{width_of_word, least_width, word_later, word_value-later}
 use Rattle.bit_words.proofs.Compare.{number_of-low}
-use Rattle.bit_words.proofs.SignLemmas.{is_negative, signed_cases, wrapped-residue}
+use Rattle.bit_words.proofs.SignLemmas.{is_negative, signed_cases}
 
 pub divided_by : (a b q r x y : ℕ) → x ≡ a → y ≡ b → 0 < b → (0 < y → x ≡ q * y + r) → (0 < y → r < y) → (q ≡ a / b) × (r ≡ a % b)
 divided_by a b q r x y ex ey some whole smaller =
@@ -100,6 +100,11 @@ sign_of_word gates kind a w h =
     let high : v % 2 ^ kind.width ≡ low_value n gates a w + place_value n (bit_of gates a w n) = sym whole ∙ ap (λ i. low_value i gates a w) (sym more) ∙ low_value-more n gates a w in
     sign_cases kind v (low_value n gates a w) kind.signed (bit_of gates a w n) (h.values w) refl (low_value-lt n gates a w) (omega arith) high
 
+-- the same of a word of an older circuit, by the literal above its width
+pub sign_later : {old new : List Gate} {m : ℕ} → Grows old new m → (kind : Kind) (a : List Lit) (w : World) (t : Bool) → IsWord old kind a → t ≡ cond kind.signed (bit_of new a w (kind.width - 1)) false
+    → t ≡ is_negative (number_of kind (word_value old a w))
+sign_later {new = new} f kind a w t h e = e ∙ sign_of_word new kind a w (word_later f kind a h) ∙ ap (λ v. is_negative (number_of kind v)) (word_value-later f a h.wires w)
+
 -- ---- quotients by magnitudes
 
 quot_signs : (x y : ℤ) → int_div x y ≡ signed_number (xor (is_negative x) (is_negative y)) (unsigned_abs x / unsigned_abs y)
@@ -119,15 +124,14 @@ positive kind a b ha hb e = ⊎_elim (λ h. h) (λ h. absurd (no_zero kind a b h
     zero_abs (pos n) e = ap pos e
     zero_abs (negsuc n) e = absurd (omega arith)
 
-pub quotient_wrapped : (kind : Kind) (x y : ℤ) (bits q : ℕ) (negative : Bool) → bits % 2 ^ kind.width ≡ residue (signed_number negative q) (2 ^ kind.width) → negative ≡ xor (is_negative x) (is_negative y) → q ≡ unsigned_abs x / unsigned_abs y
-    → wrapped kind (pos bits) ≡ wrapped kind (int_div x y)
-quotient_wrapped kind x y bits q negative is en eq =
-    wrapped-residue kind bits (signed_number negative q) is ∙ ap (λ t. wrapped kind (signed_number t q)) en ∙ ap (λ n. wrapped kind (signed_number (xor (is_negative x) (is_negative y)) n)) eq ∙ ap (wrapped kind) (sym (quot_signs x y))
+pub quotient_wrapped : (kind : Kind) (x y : ℤ) (q : ℕ) (negative : Bool) → negative ≡ xor (is_negative x) (is_negative y) → q ≡ unsigned_abs x / unsigned_abs y
+    → wrapped kind (signed_number negative q) ≡ wrapped kind (int_div x y)
+quotient_wrapped kind x y q negative en eq =
+    ap (λ t. wrapped kind (signed_number t q)) en ∙ ap (λ n. wrapped kind (signed_number (xor (is_negative x) (is_negative y)) n)) eq ∙ ap (wrapped kind) (sym (quot_signs x y))
 
-pub remainder_wrapped : (kind : Kind) (x y : ℤ) (bits r : ℕ) (negative : Bool) → bits % 2 ^ kind.width ≡ residue (signed_number negative r) (2 ^ kind.width) → negative ≡ is_negative x → r ≡ unsigned_abs x % unsigned_abs y
-    → wrapped kind (pos bits) ≡ wrapped kind (int_rem x y)
-remainder_wrapped kind x y bits r negative is en er =
-    wrapped-residue kind bits (signed_number negative r) is ∙ ap (λ t. wrapped kind (signed_number t r)) en ∙ ap (λ n. wrapped kind (signed_number (is_negative x) n)) er ∙ ap (wrapped kind) (sym (rem_signs x y))
+pub remainder_wrapped : (kind : Kind) (x y : ℤ) (r : ℕ) (negative : Bool) → negative ≡ is_negative x → r ≡ unsigned_abs x % unsigned_abs y → wrapped kind (signed_number negative r) ≡ wrapped kind (int_rem x y)
+remainder_wrapped kind x y r negative en er =
+    ap (λ t. wrapped kind (signed_number t r)) en ∙ ap (λ n. wrapped kind (signed_number (is_negative x) n)) er ∙ ap (wrapped kind) (sym (rem_signs x y))
 
 pub quotient_answer : (kind : Kind) (a b r : ℕ) (exists : Bool) → IsValue kind a → IsValue kind b → exists ≡ has_quotient kind a b → (has_quotient kind a b ≡ true → r ≡ wrapped kind (int_div (number_of kind a) (number_of kind b)))
     → cond exists (Some r) None ≡ quotient_of kind a b

@@ -17,10 +17,9 @@ use Rattle.bit_words.specs.Words.{IsWord, place_value, low_value, word_value}
 use Rattle.bit_words.proofs.Digits.{low_value-mod, word_value-lt, place_value-is}
 use Rattle.bit_words.proofs.Values.{wrapped-same, kind_of_word}
 
-pub extended_word : (gates : List Gate) (kind : Kind) (bits result : List Lit) → IsKind kind → All (IsWire gates) bits → (All (IsWire gates) bits → All (IsWire gates) result)
-    → ((w : World) → word_value gates result w ≡ wrapped kind (pos (word_value gates bits w))) → IsWord gates kind result
-extended_word gates kind bits result k wires still is = record {
-  wires = still wires;
+pub extended_word : (gates : List Gate) (kind : Kind) (bits result : List Lit) → IsKind kind → All (IsWire gates) result → ((w : World) → word_value gates result w ≡ wrapped kind (pos (word_value gates bits w))) → IsWord gates kind result
+extended_word gates kind bits result k wires is = record {
+  wires = wires;
   values = λ w. subst (IsValue kind) (sym (is w)) (IsValue-wrapped kind (pos (word_value gates bits w)) k);
 }
 

@@ -1,4 +1,4 @@
-ghost use Rattle.std.specs.Prelude.{◌≡◌, ◌+◌, ◌*◌, ◌/◌, ◌%◌, ◌^◌, ◌≤◌, ◌<◌, All, IfOk, Some, None, if◌then◌else◌, length, unsigned_abs};
+ghost use Rattle.std.specs.Prelude.{◌≡◌, ◌+◌, ◌*◌, ◌/◌, ◌%◌, ◌^◌, ◌≤◌, ◌<◌, All, IfOk, Some, None, true, if◌then◌else◌, length, unsigned_abs};
 ghost use Rattle.circuit.specs.Truth.{World};
 ghost use Rattle.circuit.specs.Wires.{IsWire, lit_holds};
 ghost use Rattle.c_values.specs.Kind.{number_of};
@@ -9,8 +9,8 @@ ghost use Rattle.bit_words.specs.Words.{Grows, IsWord, low_value, word_value};
 use crate::comparisons::equal;
 use crate::gates::{both, either, half_sum, inverse};
 use crate::long_division::long_division;
-use crate::magnitudes::{magnitude, with_sign};
-use crate::words::{Word, constant, extended, extension};
+use crate::magnitudes::{magnitude, signed_word};
+use crate::words::{Word, constant, extension};
 use c_values::Kind;
 use circuit::{Circuit, Lit, Memory};
 
@@ -24,13 +24,12 @@ pub fn div(circuit: &mut Circuit, a: &Word, b: &Word, kind: Kind) -> Result<(Wor
     ensures wire { IfOk result (λ r. IsWire circuit.new r.1) }
     ensures value { IfOk result (λ r. (w : World) → (if lit_holds circuit.new r.1 w then Some (word_value circuit.new r.0 w) else None) ≡ quotient_of kind (word_value circuit.old a.now w) (word_value circuit.old b.now w)) }
 {
-    let exists = quotient_exists(circuit, a, b, kind)?;
-    let (quotient, _) = divided(circuit, a, b, kind)?;
+    let (quotient, _, exists) = checked_division(circuit, a, b, kind)?;
     let first = extension(a, kind);
     let second = extension(b, kind);
     let (negative, _) = half_sum(circuit, first, second)?;
-    let bits = with_sign(circuit, negative, &quotient, kind)?;
-    Ok((extended(&bits, kind), exists))
+    let word = signed_word(circuit, negative, &quotient, kind)?;
+    Ok((word, exists))
 }
 
 /// `a % b` (6.5.5p5, p6), with the sign of `a`. The literal says that there is a quotient.
@@ -43,11 +42,32 @@ pub fn rem(circuit: &mut Circuit, a: &Word, b: &Word, kind: Kind) -> Result<(Wor
     ensures wire { IfOk result (λ r. IsWire circuit.new r.1) }
     ensures value { IfOk result (λ r. (w : World) → (if lit_holds circuit.new r.1 w then Some (word_value circuit.new r.0 w) else None) ≡ remainder_of kind (word_value circuit.old a.now w) (word_value circuit.old b.now w)) }
 {
-    let exists = quotient_exists(circuit, a, b, kind)?;
-    let (_, remainder) = divided(circuit, a, b, kind)?;
+    let (_, remainder, exists) = checked_division(circuit, a, b, kind)?;
     let negative = extension(a, kind);
-    let bits = with_sign(circuit, negative, &remainder, kind)?;
-    Ok((extended(&bits, kind), exists))
+    let word = signed_word(circuit, negative, &remainder, kind)?;
+    Ok((word, exists))
+}
+
+/// The quotient and the remainder of the magnitudes where there are such, in the bits below the width, and whether there
+/// are.
+fn checked_division(
+    circuit: &mut Circuit,
+    a: &Word,
+    b: &Word,
+    kind: Kind,
+) -> Result<(Word, Word, Lit), Memory>
+    requires left { IsWord circuit.old kind a.now }
+    requires right { IsWord circuit.old kind b.now }
+    requires room { length circuit.old + (754 * kind.width + 18 * (kind.width * kind.width) + 3) ≤ 2 ^ 30 }
+    ensures grows { Grows circuit.old circuit.new (754 * kind.width + 18 * (kind.width * kind.width) + 3) }
+    ensures wires { IfOk result (λ r. All (IsWire circuit.new) r.0 × All (IsWire circuit.new) r.1 × IsWire circuit.new r.2) }
+    ensures exists { IfOk result (λ r. (w : World) → lit_holds circuit.new r.2 w ≡ has_quotient kind (word_value circuit.old a.now w) (word_value circuit.old b.now w)) }
+    ensures quotient { IfOk result (λ r. (w : World) → has_quotient kind (word_value circuit.old a.now w) (word_value circuit.old b.now w) ≡ true → low_value kind.width circuit.new r.0 w ≡ unsigned_abs (number_of kind (word_value circuit.old a.now w)) / unsigned_abs (number_of kind (word_value circuit.old b.now w))) }
+    ensures remainder { IfOk result (λ r. (w : World) → has_quotient kind (word_value circuit.old a.now w) (word_value circuit.old b.now w) ≡ true → low_value kind.width circuit.new r.1 w ≡ unsigned_abs (number_of kind (word_value circuit.old a.now w)) % unsigned_abs (number_of kind (word_value circuit.old b.now w))) }
+{
+    let exists = quotient_exists(circuit, a, b, kind)?;
+    let (quotient, remainder) = divided(circuit, a, b, kind)?;
+    Ok((quotient, remainder, exists))
 }
 
 /// The quotient and the remainder of the magnitudes, in the bits below the width.

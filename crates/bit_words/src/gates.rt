@@ -1,3 +1,4 @@
+//! Gates, and how far each lets a circuit grow. The words of this crate are made of them, and what stands on it may use them.
 ghost use Rattle.std.specs.Prelude.{◌≡◌, ◌+◌, ◌≤◌, ◌<◌, ◌^◌, Bool, if◌then◌else◌, ◌&&◌, ◌||◌, not, IfOk, length};
 ghost use Rattle.circuit.specs.Truth.{World};
 ghost use Rattle.circuit.specs.Wires.{IsWire, lit_holds};
@@ -6,9 +7,9 @@ ghost use Rattle.bit_words.specs.Rows.{xor};
 
 use circuit::{Circuit, Lit, Memory, Truth};
 
-/// A literal that holds where both do.
-#[tactic(auto, using(crate::proofs::Steps::grows_gate))]
-pub(crate) fn both(circuit: &mut Circuit, a: Lit, b: Lit) -> Result<Lit, Memory>
+/// A literal that holds where both do. Where one of them is known to hold always it is the other.
+#[tactic(auto, using(crate::proofs::Steps::grows_gate, crate::proofs::Steps::grows_none))]
+pub fn both(circuit: &mut Circuit, a: Lit, b: Lit) -> Result<Lit, Memory>
     requires left { IsWire circuit.old a }
     requires right { IsWire circuit.old b }
     requires room { length circuit.old + 1 ≤ 2 ^ 30 }
@@ -16,12 +17,18 @@ pub(crate) fn both(circuit: &mut Circuit, a: Lit, b: Lit) -> Result<Lit, Memory>
     ensures wire { IfOk result (λ c. IsWire circuit.new c) }
     ensures value { IfOk result (λ c. (w : World) → lit_holds circuit.new c w ≡ (lit_holds circuit.old a w && lit_holds circuit.old b w)) }
 {
+    if circuit.is_known_yes(a) {
+        return Ok(b);
+    }
+    if circuit.is_known_yes(b) {
+        return Ok(a);
+    }
     circuit.and(a, b)
 }
 
 /// A literal that holds where one does.
 #[tactic(auto, using(crate::proofs::Steps::grows_gate))]
-pub(crate) fn either(circuit: &mut Circuit, a: Lit, b: Lit) -> Result<Lit, Memory>
+pub fn either(circuit: &mut Circuit, a: Lit, b: Lit) -> Result<Lit, Memory>
     requires left { IsWire circuit.old a }
     requires right { IsWire circuit.old b }
     requires room { length circuit.old + 1 ≤ 2 ^ 30 }
@@ -34,7 +41,7 @@ pub(crate) fn either(circuit: &mut Circuit, a: Lit, b: Lit) -> Result<Lit, Memor
 
 /// A literal that holds where this one doesn't.
 #[tactic(auto, using(crate::proofs::Steps::grows_gate))]
-pub(crate) fn inverse(circuit: &mut Circuit, a: Lit) -> Result<Lit, Memory>
+pub fn inverse(circuit: &mut Circuit, a: Lit) -> Result<Lit, Memory>
     requires wire { IsWire circuit.old a }
     requires room { length circuit.old + 1 ≤ 2 ^ 30 }
     ensures grows { Grows circuit.old circuit.new 1 }

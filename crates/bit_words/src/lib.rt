@@ -13,13 +13,13 @@
 //! shifted sums, shifts by one power of two after another, and restoring division of magnitudes with the signs put back.
 //!
 //! The definitions are in specs/: `Words` (what a word is in a world), `Weights` (the bounds on wires), and for the parts
-//! below `Rows`, `Biases` and `Signs`. The crate stands on circuit and c_values.
+//! below `Rows`, `Biases` and `Signs`. The gates themselves are in [`gates`]. The crate stands on circuit and c_values.
 #![tactic(auto)]
 
 mod bitwise;
 mod comparisons;
 mod division;
-mod gates;
+pub mod gates;
 mod long_division;
 mod magnitudes;
 mod products;
@@ -34,4 +34,4 @@ pub use division::{div, rem};
 pub use products::mul;
 pub use shifts::{shl, shr};
 pub use sums::{add, neg, sub};
-pub use words::{Word, constant, convert};
+pub use words::{Word, constant, convert, extended};

@@ -55,10 +55,11 @@ pub fn convert(word: &Word, from: Kind, to: Kind) -> Word
     extended(word, to)
 }
 
-/// What a kind has of a word: its lowest bits, with the highest of them above or, in a kind without sign, no.
-pub(crate) fn extended(word: &Word, kind: Kind) -> Word
+/// What a kind has of a word of any pattern: its lowest bits, with the highest of them above or, in a kind without sign,
+/// no.
+pub fn extended(word: &Word, kind: Kind) -> Word
     requires { IsKind kind }
-    ensures wires { (gates : List Gate) → All (IsWire gates) word.now → All (IsWire gates) result }
+    ensures word { (gates : List Gate) → All (IsWire gates) word.now → IsWord gates kind result }
     ensures value { (gates : List Gate) (w : World) → word_value gates result w ≡ wrapped kind (pos (word_value gates word.now w)) }
 {
     let width = kind.width as usize;

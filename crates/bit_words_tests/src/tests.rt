@@ -1,184 +1,246 @@
-// Expected values: hand calculations, and the calls of c_values on the same patterns.
-ghost use Rattle.std.specs.Prelude.{◌≤◌, List, IfOk, IfSome, length};
-ghost use Rattle.circuit.specs.Wires.{IsWire};
-ghost use Rattle.circuit.specs.declared.lit.Gate.{Gate};
-ghost use Rattle.bit_words.specs.Words.{IsWord};
+// Expected values: hand calculations from ISO/IEC 9899:2011, and the calls of c_values on the same patterns.
+mod rows;
 
-use bit_words::{Word, add, and, constant, div, equal, mul, or, rem, shl, shr, sub, xor};
-use c_values::{BinaryOp, Kind, binary_value, is_value};
+ghost use Rattle.std.specs.Prelude.{◌≤◌, All, IfOk, IfSome, length};
+ghost use Rattle.circuit.specs.Wires.{IsWire};
+ghost use Rattle.c_values.specs.Kind.{IsKind, IsValue};
+
+use bit_words::{Word, choose, constant, convert, extended, neg, not};
+use c_values::{BinaryOp, Kind, UnaryOp, binary_value, is_kind, is_value, unary_value};
 use circuit::{Circuit, Lit, Memory};
+use rows::{BY_HAND, KINDS, ONE_BY_HAND, OPERATORS, One, telling};
 use std::alloc::Global;
 use std::test::Fail;
+use test_words::{answer, compared, free_pair, free_word, gives, pattern_in, value_in, world_of};
 
-// More wires than any operator of the tests uses.
-const MANY: u32 = 1_000_000;
-
-// The word of a value, if the pattern is one of the kind.
-fn operand(value: u64, kind: Kind) -> Option<Word>
-    ensures { IfSome result (λ r. (gates : List Gate) → IsWord gates kind r) }
+// The gates of an operator over two words of inputs, and the literals that compare what they give.
+fn gates_of(alloc: Global, op: BinaryOp, kind: Kind) -> Result<(Circuit, (Lit, Lit)), Memory>
+    requires { IsKind kind }
+    ensures { IfOk result (λ r. IsWire r.0 r.1.0 × IsWire r.0 r.1.1) }
 {
-    if is_value(value, kind) {
-        Some(constant(value))
+    let mut circuit = Circuit::new(alloc);
+    let (a, b) = free_pair(&mut circuit)?;
+    let (word, exists) = answer(&mut circuit, op, &a, &b, kind)?;
+    let tests = compared(&mut circuit, &word, exists)?;
+    Ok((circuit, tests))
+}
+
+// What a kind has of a pattern.
+fn value(pattern: u64, kind: Kind) -> Option<u64>
+    requires { IsKind kind }
+    ensures { IfSome result (λ v. IsValue kind v) }
+{
+    if is_value(pattern, Kind::UNSIGNED_LONG) {
+        Some(c_values::convert(pattern, Kind::UNSIGNED_LONG, kind))
     } else {
         None
     }
 }
 
-// The gates of an operator that has a value at all operands.
-fn total(
-    circuit: &mut Circuit,
-    op: BinaryOp,
-    a: &Word,
-    b: &Word,
-    kind: Kind,
-) -> Result<Word, Memory>
-    requires left { IsWord circuit.old kind a.now }
-    requires right { IsWord circuit.old kind b.now }
-    requires few { length circuit.old ≤ 1000 }
-    ensures { IfOk result (λ r. IsWord circuit.new kind r) }
+fn expected(op: BinaryOp, a: u64, b: u64, kind: Kind) -> Option<u64>
+    requires { IsKind kind }
 {
-    match op {
-        BinaryOp::Add => add(circuit, a, b, kind),
-        BinaryOp::Sub => sub(circuit, a, b, kind),
-        BinaryOp::Mul => mul(circuit, a, b, kind),
-        BinaryOp::And => and(circuit, a, b, kind),
-        BinaryOp::Or => or(circuit, a, b, kind),
-        BinaryOp::Xor => xor(circuit, a, b, kind),
-        _ => Err(Memory),
-    }
+    let a = value(a, kind)?;
+    let b = value(b, kind)?;
+    binary_value(op, a, kind, b, kind)
 }
 
-// The gates of an operator with two operands of one kind, and whether it has a value.
-fn combined(
-    circuit: &mut Circuit,
-    op: BinaryOp,
-    a: &Word,
-    b: &Word,
-    kind: Kind,
-) -> Result<(Word, Lit), Memory>
-    requires left { IsWord circuit.old kind a.now }
-    requires right { IsWord circuit.old kind b.now }
-    requires few { length circuit.old ≤ 1000 }
-    ensures word { IfOk result (λ r. IsWord circuit.new kind r.0) }
-    ensures wire { IfOk result (λ r. IsWire circuit.new r.1) }
-{
-    match op {
-        BinaryOp::Div => div(circuit, a, b, kind),
-        BinaryOp::Rem => rem(circuit, a, b, kind),
-        BinaryOp::Shl => shl(circuit, a, kind, b, kind),
-        BinaryOp::Shr => shr(circuit, a, kind, b, kind),
-        _ => Ok((total(circuit, op, a, b, kind)?, Lit::YES)),
-    }
-}
-
-// Whether the gates of an operator give this value, or none where none is wanted.
-fn gives(
+// The first pair of operands at which the gates and the call of c_values differ.
+fn first_wrong(
     alloc: Global,
     op: BinaryOp,
-    a: u64,
-    b: u64,
     kind: Kind,
-    want: Option<u64>,
-) -> Result<bool, Memory> {
-    let Some(x) = operand(a, kind) else {
-        return Ok(false);
-    };
-    let Some(y) = operand(b, kind) else {
-        return Ok(false);
-    };
-    let mut circuit = Circuit::new(alloc);
-    let (word, exists) = combined(&mut circuit, op, &x, &y, kind)?;
-    let held = circuit.value(exists, &[])?;
-    match want {
-        None => Ok(!held),
-        Some(value) => Ok(held && is_word_of(&mut circuit, &word, value, kind)?),
-    }
-}
-
-// Whether a word of a circuit without inputs has this value.
-fn is_word_of(circuit: &mut Circuit, word: &Word, value: u64, kind: Kind) -> Result<bool, Memory>
-    requires { IsWord circuit.old kind word.now }
+    pairs: &[(u64, u64)],
+) -> Result<Option<(u64, u64)>, Memory>
+    requires { IsKind kind }
 {
-    let Some(wanted) = operand(value, kind) else {
-        return Ok(false);
-    };
-    if circuit.wires() > MANY {
-        return Err(Memory);
+    let (circuit, tests) = gates_of(alloc, op, kind)?;
+    for (a, b) in pairs {
+        let want = expected(op, *a, *b, kind);
+        if !gives(alloc, &circuit, tests, &[*a, *b], want)? {
+            return Ok(Some((*a, *b)));
+        }
     }
-    let same = equal(circuit, word, &wanted, kind)?;
-    circuit.value(same, &[])
+    Ok(None)
 }
 
-fn expected(op: BinaryOp, a: u64, b: u64, kind: Kind) -> Option<u64> {
-    if is_value(a, kind) && is_value(b, kind) {
-        binary_value(op, a, kind, b, kind)
-    } else {
-        None
+fn push_telling(pairs: &mut Vec<(u64, u64)>, kind: Kind) -> Result<(), Memory> {
+    for i in 0..36u32 {
+        pairs.push((telling(kind, i / 6), telling(kind, i % 6)))?;
     }
+    Ok(())
 }
 
-const OPERATORS: [BinaryOp; 10] = [
-    BinaryOp::Add,
-    BinaryOp::Sub,
-    BinaryOp::Mul,
-    BinaryOp::And,
-    BinaryOp::Or,
-    BinaryOp::Xor,
-    BinaryOp::Div,
-    BinaryOp::Rem,
-    BinaryOp::Shl,
-    BinaryOp::Shr,
-];
+// Numbers of a linear congruential generator, of which each second one is as small as the other's lowest bits say.
+fn push_random(pairs: &mut Vec<(u64, u64)>, seed: u64) -> Result<(), Memory> {
+    let mut last = seed;
+    for _ in 0..8u32 {
+        let first = last
+            .wrapping_mul(6364136223846793005)
+            .wrapping_add(1442695040888963407);
+        last = first
+            .wrapping_mul(6364136223846793005)
+            .wrapping_add(1442695040888963407);
+        pairs.push((first, last >> (first >> 7 & 63)))?;
+    }
+    Ok(())
+}
 
-// -1, -7 and the least int, as patterns.
-const MINUS_ONE: u64 = 0xffff_ffff_ffff_ffff;
-
-const MINUS_SEVEN: u64 = 0xffff_ffff_ffff_fff9;
-
-const LEAST_INT: u64 = 0xffff_ffff_8000_0000;
-
+// 12 operators of 8 kinds at 36 pairs of telling operands and at 8 of random ones, each pair a world.
 #[test]
-fn operators_of_ints(rt: HostRuntime) -> Result<(), Fail> {
-    for op in OPERATORS {
-        for (a, b) in [
-            (MINUS_SEVEN, 2),
-            (7, 3),
-            (LEAST_INT, MINUS_ONE),
-            (1, 32),
-            (5, 0),
-        ] {
-            let want = expected(op, a, b, Kind::INT);
-            assert!(rt;
-                gives(rt.alloc(), op, a, b, Kind::INT, want)?,
-                "{a} and {b}"
-            );
+fn operators_of_each_kind(rt: HostRuntime) -> Result<(), Fail> {
+    for kind in KINDS {
+        assert!(rt; is_kind(kind));
+        let mut pairs = Vec::new(rt.alloc());
+        push_telling(&mut pairs, kind)?;
+        push_random(&mut pairs, kind.width as u64)?;
+        for op in OPERATORS {
+            let wrong = first_wrong(rt.alloc(), op, kind, &pairs)?;
+            assert_eq!(rt; wrong, None, "{op:?} of {kind:?}");
         }
     }
     Ok(())
 }
 
-#[test]
-fn operators_of_unsigned_chars(rt: HostRuntime) -> Result<(), Fail> {
-    for op in OPERATORS {
-        for (a, b) in [(250, 10), (200, 7), (3, 4)] {
-            let want = expected(op, a, b, Kind::UNSIGNED_CHAR);
-            assert!(rt;
-                gives(rt.alloc(), op, a, b, Kind::UNSIGNED_CHAR, want)?,
-                "{a} and {b}"
-            );
-        }
-    }
-    Ok(())
+// What an operator's gates over inputs give in the world of two operands.
+fn found(alloc: Global, op: BinaryOp, kind: Kind, a: i64, b: i64) -> Result<Option<u64>, Memory>
+    requires { IsKind kind }
+{
+    let mut circuit = Circuit::new(alloc);
+    let (x, y) = free_pair(&mut circuit)?;
+    let (word, exists) = answer(&mut circuit, op, &x, &y, kind)?;
+    let world = world_of(alloc, &[a.cast_unsigned(), b.cast_unsigned()])?;
+    value_in(&circuit, &word, exists, &world)
 }
 
-// -7 / 2 is -3; the least int by -1 and a shift by 32 have no value; 250 + 10 is 4 in 8 bits.
 #[test]
 fn values_by_hand(rt: HostRuntime) -> Result<(), Fail> {
-    let alloc = rt.alloc();
-    let quotient = Some(0xffff_ffff_ffff_fffd);
-    assert!(rt; gives(alloc, BinaryOp::Div, MINUS_SEVEN, 2, Kind::INT, quotient)?);
-    assert!(rt; gives(alloc, BinaryOp::Div, LEAST_INT, MINUS_ONE, Kind::INT, None)?);
-    assert!(rt; gives(alloc, BinaryOp::Shl, 1, 32, Kind::INT, None)?);
-    assert!(rt; gives(alloc, BinaryOp::Add, 250, 10, Kind::UNSIGNED_CHAR, Some(4))?);
+    for (op, kind, a, b, want) in &BY_HAND {
+        assert!(rt; is_kind(*kind));
+        let found = found(rt.alloc(), *op, *kind, *a, *b)?;
+        assert_eq!(rt;
+            found,
+            want.map(|v| v.cast_unsigned()),
+            "{op:?} of {kind:?} {a} {b}"
+        );
+    }
+    Ok(())
+}
+
+// What a call of one operand gives over what a kind has of a word.
+fn answer_of_one(
+    circuit: &mut Circuit,
+    call: One,
+    word: &Word,
+    from: Kind,
+    to: Kind,
+) -> Result<Word, Memory>
+    requires from { IsKind from }
+    requires to { IsKind to }
+    requires word { All (IsWire circuit.old) word.now }
+    requires few { length circuit.old ≤ 1000 }
+    ensures { IfOk result (λ r. All (IsWire circuit.new) r) }
+{
+    let a = extended(word, from);
+    match call {
+        One::Neg => neg(circuit, &a, from),
+        One::Not => not(circuit, &a, from),
+        One::Convert => Ok(convert(&a, from, to)),
+    }
+}
+
+// The first telling operand at which a call and that of c_values differ.
+fn first_wrong_of_one(alloc: Global, call: One, from: Kind, to: Kind) -> Result<Option<u64>, Memory>
+    requires from { IsKind from }
+    requires to { IsKind to }
+{
+    let mut circuit = Circuit::new(alloc);
+    let x = free_word(&mut circuit)?;
+    let word = answer_of_one(&mut circuit, call, &x, from, to)?;
+    let tests = compared(&mut circuit, &word, Lit::YES)?;
+    for number in 0..10u32 {
+        let pattern = telling(from, number);
+        let want = expected_of_one(call, from, to, pattern);
+        if !gives(alloc, &circuit, tests, &[pattern], want)? {
+            return Ok(Some(pattern));
+        }
+    }
+    Ok(None)
+}
+
+fn expected_of_one(call: One, from: Kind, to: Kind, pattern: u64) -> Option<u64>
+    requires from { IsKind from }
+    requires to { IsKind to }
+{
+    let a = value(pattern, from)?;
+    match call {
+        One::Neg => Some(unary_value(UnaryOp::Neg, a, from)),
+        One::Not => Some(unary_value(UnaryOp::Complement, a, from)),
+        One::Convert => Some(c_values::convert(a, from, to)),
+    }
+}
+
+// Each conversion between two kinds, and `-` and `~` of each kind, at ten telling operands.
+#[test]
+fn calls_of_one_operand(rt: HostRuntime) -> Result<(), Fail> {
+    for from in KINDS {
+        for to in KINDS {
+            assert!(rt; is_kind(from) && is_kind(to));
+            let wrong = first_wrong_of_one(rt.alloc(), One::Convert, from, to)?;
+            assert_eq!(rt; wrong, None, "{from:?} to {to:?}");
+        }
+        for call in [One::Neg, One::Not] {
+            assert!(rt; is_kind(from));
+            let wrong = first_wrong_of_one(rt.alloc(), call, from, from)?;
+            assert_eq!(rt; wrong, None, "{call:?} of {from:?}");
+        }
+    }
+    Ok(())
+}
+
+// What a call of one operand gives in the world of a pattern.
+fn found_of_one(alloc: Global, call: One, from: Kind, to: Kind, pattern: u64) -> Result<u64, Memory>
+    requires from { IsKind from }
+    requires to { IsKind to }
+{
+    let mut circuit = Circuit::new(alloc);
+    let x = free_word(&mut circuit)?;
+    let word = answer_of_one(&mut circuit, call, &x, from, to)?;
+    pattern_in(&circuit, &word, &world_of(alloc, &[pattern])?)
+}
+
+#[test]
+fn calls_of_one_operand_by_hand(rt: HostRuntime) -> Result<(), Fail> {
+    for (call, from, to, a, want) in &ONE_BY_HAND {
+        assert!(rt; is_kind(*from) && is_kind(*to));
+        let found = found_of_one(rt.alloc(), *call, *from, *to, a.cast_unsigned())?;
+        assert_eq!(rt; found, want.cast_unsigned(), "{call:?} {from:?} {to:?} {a}");
+    }
+    Ok(())
+}
+
+// What a choice between two words of inputs gives in a world, and a constant.
+fn chosen(alloc: Global, test: bool, patterns: (u64, u64)) -> Result<(u64, u64), Memory> {
+    let mut circuit = Circuit::new(alloc);
+    let (a, b) = free_pair(&mut circuit)?;
+    let lit = a[63];
+    let word = choose(&mut circuit, lit, &a, &b)?;
+    let first = if test {
+        patterns.0 | 1 << 63
+    } else {
+        patterns.0
+    };
+    let world = world_of(alloc, &[first, patterns.1])?;
+    let chosen = pattern_in(&circuit, &word, &world)?;
+    Ok((chosen, pattern_in(&circuit, &constant(patterns.0), &world)?))
+}
+
+// A choice by the highest bit of its first word, and constants.
+#[test]
+fn choices_and_constants(rt: HostRuntime) -> Result<(), Fail> {
+    for (a, b) in [(0, u64::MAX), (5, 6), (0x5a3c_9617_d2e4_4b81, 1 << 63)] {
+        assert_eq!(rt; chosen(rt.alloc(), true, (a, b))?, (a | 1 << 63, a));
+        assert_eq!(rt; chosen(rt.alloc(), false, (a, b))?, (b, a));
+    }
     Ok(())
 }

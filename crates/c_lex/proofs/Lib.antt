@@ -1,6 +1,7 @@
 pub mod Digits
 pub mod ExpandingLaws
 pub mod LexerLaws
+pub mod LineLaws
 pub mod Longest
 pub mod LoopingLaws
 pub mod Loops
@@ -11,7 +12,6 @@ pub mod Runs
 pub mod Scans
 pub mod SearchingLaws
 pub mod SomeReadingLaws
-pub mod StepsLaws
 pub mod TableLaws
 pub mod TakenLaws
 pub mod TakingLaws

@@ -4,7 +4,8 @@ use Rattle.std.proofs.Math.Numerals.{one-add}
 use Rattle.std.specs.Prelude.{Option, Some, None, option_map}
 use Rattle.std.specs.List.{list_all, prefix_len}
 use Rattle.std.proofs.Math.Nat.{eq-or-lt_of_le}
-use Rattle.c_lex.specs.Forms.{greatest, Picks, PicksNone, PicksLongest}
+use Rattle.c_lex.specs.Forms.{greatest}
+use Rattle.c_lex.specs.Scans.{Picks, PicksNone, PicksLongest}
 
 pub greatest_is : (p : ℕ → Bool) (n most : ℕ) → 1 ≤ n → n ≤ most → p n ≡ true → ((m : ℕ) → n < m → m ≤ most → p m ≡ false)
     → greatest p most ≡ Some n

@@ -5,7 +5,7 @@ use Rattle.std.proofs.lemmas.Bool.{cases_eq}
 use Rattle.std.proofs.lemmas.List.{get_or-set_other}
 use Rattle.c_lex.specs.declared.macros.Replacement.{Replacement}
 use Rattle.c_lex.specs.declared.macros.Macro.{Macro}
-use Rattle.c_lex.specs.Macros.{place_of, list_at, Expands, nothing, stays, is_replaced, Meets, here, within, later, Loops, Ends}
+use Rattle.c_lex.specs.Macros.{index_of, list_at, Expands, nothing, stays, is_replaced, Meets, here, within, later, Loops, Ends}
 use Rattle.c_lex.proofs.Runs.{when_replaced}
 use Rattle.c_lex.proofs.TakingLaws.{found, unknown}
 
@@ -58,10 +58,10 @@ module _ (table : List Macro) where
   pub ends_both : (xs ys : List Replacement) → Ends table xs → Ends table ys → Ends table (xs ++ ys)
   ends_both xs ys d e = (d.0 ++ e.0, d.1 + e.1, both d.2 ys e.0 e.1 e.2)
 
-  pub ends_plain : (r : Replacement) → place_of table r.text ≡ None → Ends table (r ∷ [])
+  pub ends_plain : (r : Replacement) → index_of table r.text ≡ None → Ends table (r ∷ [])
   ends_plain r e = (r ∷ [], 0, stays (unknown table r.text e) nothing)
 
-  pub ends_word : (r : Replacement) (i : ℕ) → place_of table r.text ≡ Some i → Ends table (list_at table i) → Ends table (r ∷ [])
+  pub ends_word : (r : Replacement) (i : ℕ) → index_of table r.text ≡ Some i → Ends table (list_at table i) → Ends table (r ∷ [])
   ends_word r i e d = (d.0, suc d.1, is_replaced (list_at table i) (found table r.text i e).list (rw append-nil d.2))
 
 -- ---- a word that is met has an expansion of its own, with fewer replacements
@@ -72,7 +72,7 @@ record Fewer (table : List Macro) (ys : List Replacement) (n : ℕ) : Type 0 whe
   fewer : count < n
   goes : Expands table ys given count
 
-of_word : {table : List Macro} {r : Replacement} {rs us : List Replacement} {n : ℕ} (i : ℕ) → place_of table r.text ≡ Some i → Expands table (r ∷ rs) us n → Fewer table (list_at table i) n
+of_word : {table : List Macro} {r : Replacement} {rs us : List Replacement} {n : ℕ} (i : ℕ) → index_of table r.text ≡ Some i → Expands table (r ∷ rs) us n → Fewer table (list_at table i) n
 of_word {table = table} {r = r} {rs = rs} i e d =
     let q = when_replaced (list_at table i) d (found table r.text i e).list in
     let s = prefix q.goes (list_at table i) rs refl in
@@ -141,18 +141,18 @@ module _ (table : List Macro) where
   behind r rs d (inl l) = inl (l.0, later l.1, l.2)
   behind r rs d (inr e) = inr (ends_both table (r ∷ []) rs d e)
 
-  word_tried : (r : Replacement) (rs : List Replacement) (q : ℕ) → place_of table r.text ≡ Some q → Tried q → Either rs → Either (r ∷ rs)
+  word_tried : (r : Replacement) (rs : List Replacement) (q : ℕ) → index_of table r.text ≡ Some q → Tried q → Either rs → Either (r ∷ rs)
   word_tried r rs q e (inl m) rest = inl (q, here e, m)
   word_tried r rs q e (inr (inl l)) rest = inl (l.0, within q e l.1, l.2)
   word_tried r rs q e (inr (inr d)) rest = behind r rs (ends_word table r q e d) rest
 
-  by_word : (r : Replacement) (rs : List Replacement) (o : Option ℕ) → place_of table r.text ≡ o → ((q : ℕ) → Meets table (r ∷ rs) q → Tried q) → Either rs → Either (r ∷ rs)
+  by_word : (r : Replacement) (rs : List Replacement) (o : Option ℕ) → index_of table r.text ≡ o → ((q : ℕ) → Meets table (r ∷ rs) q → Tried q) → Either rs → Either (r ∷ rs)
   by_word r rs None e h rest = behind r rs (ends_plain table r e) rest
   by_word r rs (Some q) e h rest = word_tried r rs q e (h q (here e)) rest
 
   by_words : (rs : List Replacement) → ((q : ℕ) → Meets table rs q → Tried q) → Either rs
   by_words [] h = inr (ends_none table)
-  by_words (r ∷ rs) h = by_word r rs (place_of table r.text) refl h (by_words rs (λ q m. h q (later m)))
+  by_words (r ∷ rs) h = by_word r rs (index_of table r.text) refl h (by_words rs (λ q m. h q (later m)))
 
   -- each macro that is marked meets what these tokens meet
   abbrev AreAbove : List Bool → List Replacement → Type 0

@@ -2,7 +2,7 @@
 use Rattle.std.proofs.Common.{◌≡◌, ℕ, suc, ◌+◌, ◌<◌, ◌≤◌, List, [], ◌∷◌, length, drop, get_or, refl, ap, arith, ◌∙◌, sym, Bool, true, false, eq-eqb}
 use Rattle.std.proofs.lemmas.Bool.{ne_eqb}
 use Rattle.std.proofs.lemmas.List.{at_drop_more, at_drop_all}
-use Rattle.c_lex.specs.Cuts.{closing, closes}
+use Rattle.c_lex.specs.Pieces.{closing, closes}
 use Rattle.c_lex.specs.Bytes.{is_escaped_byte, is_string_byte}
 use Rattle.c_lex.specs.Scans.{string_length, header_length}
 use Rattle.std.specs.Prelude.{Option, Some, None, option_map, IfSome, if◌then◌else◌}

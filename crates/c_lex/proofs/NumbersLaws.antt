@@ -4,19 +4,22 @@ use Rattle.std.specs.Prelude.{Option, Some, None, option_map, ⊤, if◌then◌e
 use Rattle.std.specs.Str.{bytes_eq}
 use Rattle.containers.specs.Lists.{all_there, before}
 use Rattle.fq_core.specs.declared.span.Span.{Span}
-use Rattle.c_lex.specs.declared.cut.Lexeme.{Lexeme}
-use Rattle.c_lex.specs.declared.cut.Lexeme.TheVariants as lexeme
+use Rattle.fq_core.specs.declared.refusal.Place.{Place}
+use Rattle.c_lex.specs.declared.directive.Directive.{Directive}
+use Rattle.c_lex.specs.declared.directive.Directive.TheVariants as says
+use Rattle.c_lex.specs.declared.piece.Piece.{Piece}
+use Rattle.c_lex.specs.declared.piece.Piece.TheVariants as piece
 use Rattle.c_lex.specs.declared.macros.Replacement.{Replacement}
 use Rattle.c_lex.specs.declared.macros.Macro.{Macro}
 use Rattle.c_lex.specs.declared.token.Token.{Token}
 use Rattle.c_lex.specs.declared.token.TokenKind.{TokenKind}
 use Rattle.c_lex.specs.declared.token.SourceText.{SourceText}
 use Rattle.c_lex.specs.Constants.{token_kind}
-use Rattle.c_lex.specs.Cuts.{part}
-use Rattle.c_lex.specs.Directives.{replacement_at, list_of}
+use Rattle.c_lex.specs.Pieces.{part}
+use Rattle.c_lex.specs.Directives.{replacement_at, list_of, directive_of}
 use Rattle.c_lex.specs.Macros.{macro_of, Expands, nothing, stays, is_replaced}
 use Rattle.c_lex.specs.Lexed as lexed
-use Rattle.c_lex.specs.Lexed.{Outcome, accepted, refused, after, token_at, Reads, ReadsText, ReadsTexts}
+use Rattle.c_lex.specs.Lexed.{Outcome, accepted, refused, after, token_at, Effect, gives, stops, TokenComesTo, LineComesTo, ComesTo, effect_of_definition, effect_of_directive, Reads, ReadsText, ReadsTexts}
 use Rattle.c_lex.specs.NumbersOfKinds.{HasValue, HaveValues}
 use Rattle.c_lex.proofs.ValuesLaws.{token_has}
 
@@ -72,39 +75,61 @@ replacement_by : (text : List ℕ) (k : Option TokenKind) (r : Replacement) → 
 replacement_by text None r e h = cc
 replacement_by text (Some kind) r e h = let s : ◌≡◌ {A = Replacement} (record { kind = kind; text = text }) r = cc in rw (← s) (token_has text kind e)
 
-at_has : (line : List ℕ) (l : Lexeme) (r : Replacement) → replacement_at line l ≡ Some r → HasValue r.kind
-at_has line (lexeme.Token at n) r h = replacement_by (part line at n) (token_kind (part line at n)) r refl h
-at_has line (lexeme.Directive at n) r h = cc
-at_has line (lexeme.Unknown at) r h = cc
-at_has line (lexeme.Open at) r h = cc
+at_has : (line : List ℕ) (p : Piece) (r : Replacement) → replacement_at line p ≡ Some r → HasValue r.kind
+at_has line (piece.Gap at n) r h = cc
+at_has line (piece.Token at n) r h = replacement_by (part line at n) (token_kind (part line at n)) r refl h
+at_has line (piece.Directive at n) r h = cc
+at_has line (piece.Unknown at) r h = cc
+at_has line (piece.Open at) r h = cc
 
 before_has : (x : Option Replacement) (ys : Option (List Replacement)) (list : List Replacement) → ((r : Replacement) → x ≡ Some r → HasValue r.kind) → ((rs : List Replacement) → ys ≡ Some rs → Have rs) → before x ys ≡ Some list → Have list
 before_has None ys list f g h = cc
 before_has (Some x) None list f g h = cc
 before_has (Some x) (Some ys) list f g h = let s : x ∷ ys ≡ list = cc in rw (← s) (f x refl, g ys refl)
 
-list_has : (line : List ℕ) (ls : List Lexeme) (list : List Replacement) → list_of line ls ≡ Some list → Have list
+list_has : (line : List ℕ) (ps : List Piece) (list : List Replacement) → list_of line ps ≡ Some list → Have list
 unfolding list_of
 list_has line [] list h = let s : [] ≡ list = cc in rw (← s) tt
-list_has line (l ∷ ls) list h = before_has (replacement_at line l) (all_there (map (replacement_at line) ls)) list (at_has line l) (list_has line ls) h
+list_has line (p ∷ ps) list h = before_has (replacement_at line p) (all_there (map (replacement_at line) ps)) list (at_has line p) (list_has line ps) h
 
 -- ---- texts
 
-reads_has : {file : ℕ} {text : List ℕ} {table : List Macro} {made replaced : ℕ} {ls : List Lexeme} {o : Outcome} → TableHas table → Reads file text table made replaced ls o → Gives o
+abbrev EffectHas : Effect → Type 0
+EffectHas (gives us m table) = HaveValues us × TableHas table
+EffectHas (stops code place) = ⊤
+
+module _ (table : List Macro) (all : TableHas table) where
+  token_gives : {bytes : List ℕ} {span : Span} {made replaced : ℕ} {e : Effect} → TokenComesTo table bytes span made replaced e → EffectHas e
+  token_gives (lexed.too_wide w) = tt
+  token_gives (lexed.loops k l) = tt
+  token_gives (lexed.too_many us m k x w) = tt
+  token_gives {bytes = bytes} {span = span} (lexed.expands {kind = kind} us m k x w) = (tokens_have span us (expands_has all x (token_has bytes kind k, tt)), all)
+
+  defined_gives : (place : Place) (name : List ℕ) (o l : Option (List Replacement)) → ((list : List Replacement) → l ≡ Some list → Have list) → EffectHas (effect_of_definition table place name o l)
+  defined_gives place name (Some before) l h = tt
+  defined_gives place name None None h = tt
+  defined_gives place name None (Some list) h = (tt, table_more table _ all (h list refl))
+
+  directive_gives : (line : List ℕ) (place : Place) (tokens : List Piece) (d : Directive) → EffectHas (effect_of_directive table line place tokens d)
+  directive_gives line place tokens says.Include = (tt, all)
+  directive_gives line place tokens says.UnknownByte = tt
+  directive_gives line place tokens says.Wrong = tt
+  directive_gives line place tokens (says.Define at n) = defined_gives place (part line at n) _ _ (list_has line (drop 2 tokens))
+
+  line_gives : {line : List ℕ} {place : Place} {e : Effect} → LineComesTo table line place e → EffectHas e
+  line_gives {line = line} {place = place} x = let h = directive_gives line place x.tokens (directive_of line x.tokens) in rw x.effect h
+
+  piece_gives : (file : ℕ) (text : List ℕ) (made replaced : ℕ) (p : Piece) (e : Effect) → ComesTo file text table made replaced p e → EffectHas e
+  piece_gives file text made replaced (piece.Gap at n) e x = rw x (tt, all)
+  piece_gives file text made replaced (piece.Directive at n) e x = line_gives x
+  piece_gives file text made replaced (piece.Token at n) e x = token_gives x
+  piece_gives file text made replaced (piece.Unknown at) e x = rw x tt
+  piece_gives file text made replaced (piece.Open at) e x = rw x tt
+
+reads_has : {file : ℕ} {text : List ℕ} {table : List Macro} {made replaced : ℕ} {ps : List Piece} {o : Outcome} → TableHas table → Reads file text table made replaced ps o → Gives o
 reads_has all lexed.all_read = tt
-reads_has all (lexed.too_wide at n w) = tt
-reads_has all (lexed.loops at n k e) = tt
-reads_has all (lexed.too_many us m at n k e w) = tt
-reads_has {text = text} all (lexed.a_token {o = o} {kind = kind} us m at n k e w d) =
-    after_gives _ o (tokens_have _ us (expands_has all e (token_has (part text at n) kind k, tt))) (reads_has all d)
-reads_has all (lexed.included l a n c e d) = reads_has all d
-reads_has all (lexed.unknown_byte l a n c e) = tt
-reads_has all (lexed.wrong l a n c e) = tt
-reads_has all (lexed.defined_twice l a n b m c e u) = tt
-reads_has all (lexed.wide_list l a n b m c e u v) = tt
-reads_has {text = text} {table = table} all (lexed.defined l t a n b m c e u v d) = reads_has (table_more table _ all (list_has (part text a n) (drop 2 l) t v)) d
-reads_has all (lexed.unknown at) = tt
-reads_has all (lexed.open_comment at) = tt
+reads_has all (lexed.is_refused p code place x) = tt
+reads_has {file = file} {text = text} {table = table} {made = made} {replaced = replaced} all (lexed.goes_on {o = o} p us m new x d) = let h = piece_gives table all file text made replaced p (gives us m new) x in after_gives us o h.0 (reads_has h.1 d)
 
 texts_have : {file made replaced : ℕ} {texts : List SourceText} {o : Outcome} → ReadsTexts file made replaced texts o → Gives o
 texts_have lexed.no_text = tt

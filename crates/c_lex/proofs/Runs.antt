@@ -13,7 +13,7 @@ use Rattle.c_lex.specs.declared.expand.Turn.TheVariants as turn
 use Rattle.c_lex.specs.declared.expand.Expansion.TheVariants as expansion
 use Rattle.c_lex.specs.Expanding.{pending, ExpandsTo, Turned, ends, frame_done, makes_token, replaces, passes_tokens, passes_replacements}
 use Rattle.c_lex.proofs.TakingLaws.{found}
-use Rattle.c_lex.specs.Macros.{macro_of, place_of, list_at, Expands, nothing, stays, is_replaced}
+use Rattle.c_lex.specs.Macros.{macro_of, index_of, list_at, Expands, nothing, stays, is_replaced}
 use Rattle.c_lex.specs.Lexed.{most, IsWithin, token_at}
 
 -- ---- what a derivation begins with
@@ -149,27 +149,27 @@ module _ (table : List Macro) (span : Span) (from : List Replacement) (old : Lis
   turn_smaller (makes_token r e n l room t k) = rw (t, k) (simp length-append (omega arith))
   turn_smaller (replaces r rs list e s f l t room k) = rw (t, k) (omega arith)
 
-  pub turn_ends : Turned table span frames tokens replaced fs ts n (Ok turn.Ends) → Progress table span from (pending table frames) old tokens start replaced → ExpandsTo table from span old ts start (expansion.Done n)
+  pub turn_ends : Turned table span frames tokens replaced fs ts n (Ok turn.Ends) → Progress table span from (pending table frames) old tokens start replaced → ExpandsTo table from span old ts start n expansion.Done
   turn_ends (ends e t k) p = rw (t, k) (progress_end table span from _ old tokens start replaced p (pending_none table frames e))
 
-  pub turn_passes : Turned table span frames tokens replaced fs ts n (Ok turn.Passes) → Progress table span from (pending table frames) old tokens start replaced → ExpandsTo table from span old ts start expansion.Passed
+  pub turn_passes : Turned table span frames tokens replaced fs ts n (Ok turn.Passes) → Progress table span from (pending table frames) old tokens start replaced → ExpandsTo table from span old ts start n expansion.Passed
   turn_passes (passes_tokens r rs e n full) p = progress_passes_tokens table span from _ old tokens start replaced p r rs e n full
   turn_passes (passes_replacements r rs list e s full) p = progress_passes_replacements table span from _ old tokens start replaced p r rs list e s full
 
 -- the first turn
-module _ (table : List Macro) (span : Span) (word : Replacement) (place : ℕ) (old : List Token) (start : ℕ) (known : place_of table word.text ≡ Some place) where
-  pub first_passes : most ≤ start → ExpandsTo table (word ∷ []) span old old start expansion.Passed
-  first_passes full us m d w = let i = when_replaced (list_at table place) d (found table word.text place known).list in omega (arith, i.one, full, w.1)
+module _ (table : List Macro) (span : Span) (word : Replacement) (index : ℕ) (old : List Token) (start : ℕ) (known : index_of table word.text ≡ Some index) where
+  pub first_passes : most ≤ start → ExpandsTo table (word ∷ []) span old old start start expansion.Passed
+  first_passes full us m d w = let i = when_replaced (list_at table index) d (found table word.text index known).list in omega (arith, i.one, full, w.1)
 
-  first_pending : (fs : List Frame) → fs ≡ record { place = place; at = 0 } ∷ [] → list_at table place ≡ pending table fs
+  first_pending : (fs : List Frame) → fs ≡ record { index = index; at = 0 } ∷ [] → list_at table index ≡ pending table fs
   unfolding pending
   first_pending fs e = rw e refl
 
-  pub first_progress : (fs : List Frame) → fs ≡ record { place = place; at = 0 } ∷ [] → length old ≤ most → start < most → Progress table span (word ∷ []) (pending table fs) old old start (start + 1)
+  pub first_progress : (fs : List Frame) → fs ≡ record { index = index; at = 0 } ∷ [] → length old ≤ most → start < most → Progress table span (word ∷ []) (pending table fs) old old start (start + 1)
   first_progress fs e a b = record {
     given = [];
     done = 1;
-    reached = subst (λ rs. Reached table (word ∷ []) rs [] 1) (first_pending fs e) (reached_word table (word ∷ []) word (list_at table place) refl (found table word.text place known).list);
+    reached = subst (λ rs. Reached table (word ∷ []) rs [] 1) (first_pending fs e) (reached_word table (word ∷ []) word (list_at table index) refl (found table word.text index known).list);
     tokens = sym (append-nil old);
     count = refl;
     within = (a, omega arith);

@@ -6,9 +6,9 @@ use Rattle.std.proofs.lemmas.Bool.{and_parts, ne_eqb}
 use Rattle.std.proofs.lemmas.List.{take_rest}
 use Rattle.std.proofs.Math.Numerals.{one-add}
 use Rattle.c_lex.specs.Bytes.{is_one_of, is_letter, is_digit, continues_word, continues_number, is_constant_byte, is_escaped_byte, is_string_byte, is_in_line}
-use Rattle.c_lex.specs.Forms.{is_token, is_header, ends_token, greatest, Picks, PicksNone, PicksLongest, ends_string, ends_header, is_empty, is_mark, constant_value, single_marks, is_double_mark, is_triple_mark, escapes, value_at}
+use Rattle.c_lex.specs.Forms.{is_token, is_header, ends_token, greatest, ends_string, ends_header, is_empty, is_mark, constant_value, single_marks, is_double_mark, is_triple_mark, escapes, value_at}
 use Rattle.c_lex.proofs.Longest.{picks_prefix, same_longest, longest_first}
-use Rattle.c_lex.specs.Scans.{constant_length, escape_length, string_length, header_length, mark_length}
+use Rattle.c_lex.specs.Scans.{Picks, PicksNone, PicksLongest, constant_length, escape_length, string_length, header_length, mark_length}
 
 -- a test that one byte goes on with another test
 module _ (q r : List ℕ → Bool) (b : ℕ) (bs : List ℕ) (goes : (xs : List ℕ) → q (b ∷ xs) ≡ r xs) (nothing : q [] ≡ false) where

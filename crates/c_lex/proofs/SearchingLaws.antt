@@ -9,9 +9,9 @@ use Rattle.c_lex.specs.declared.looping.Mark.{Mark}
 use Rattle.c_lex.specs.declared.looping.Mark.TheVariants as mark
 use Rattle.c_lex.specs.declared.macros.Replacement.{Replacement}
 use Rattle.c_lex.specs.declared.macros.Macro.{Macro}
-use Rattle.c_lex.specs.Expanding.{rest_of}
-use Rattle.c_lex.specs.Macros.{place_of, list_at, Meets, here, later, Ends}
-use Rattle.c_lex.specs.Searching.{mark_at, read_of, HasPlace, Awaits, AreOpened, Searched, untried, TurnTaken}
+use Rattle.c_lex.specs.Expanding.{unread_of}
+use Rattle.c_lex.specs.Macros.{index_of, list_at, Meets, here, later, Ends}
+use Rattle.c_lex.specs.Searching.{mark_at, read_of, HasFrame, Awaits, AreOpened, Searched, untried, TurnTaken}
 use Rattle.c_lex.proofs.ExpandingLaws.{drop_get}
 use Rattle.c_lex.proofs.LoopingLaws.{ends_none, ends_both, ends_plain, ends_word, meets_through, meets_within}
 
@@ -31,8 +31,8 @@ take_more (x ∷ xs) (suc i) r h = ap (λ ys. x ∷ ys) (take_more xs i r h)
 pub reverse_push : (xs ys : List Frame) (f : Frame) → ys ≡ xs ++ f ∷ [] → reverse ys ≡ f ∷ reverse xs
 reverse_push xs ys f e = ap reverse e ∙ reverse-append xs (f ∷ [])
 
--- the word at a place of a list is met
-meets_at : (table : List Macro) (rs : List Replacement) (i : ℕ) (r : Replacement) (p : ℕ) → Some r ≡ slice_get rs i → place_of table r.text ≡ Some p → Meets table rs p
+-- the word at an index of a list is met
+meets_at : (table : List Macro) (rs : List Replacement) (i : ℕ) (r : Replacement) (p : ℕ) → Some r ≡ slice_get rs i → index_of table r.text ≡ Some p → Meets table rs p
 meets_at table [] i r p h e = cc
 meets_at table (x ∷ xs) zero r p h e = let s : r ≡ x = cc in here (rw (← s) e)
 meets_at table (x ∷ xs) (suc i) r p h e = later (meets_at table xs i r p h e)
@@ -72,19 +72,19 @@ open_set (m ∷ ms) (mark.Done ∷ marks) (suc i) a b e = open_set ms marks i (o
 module _ (table : List Macro) where
   from_root : (fs : List Frame) (root p q : ℕ) → Awaits table root p fs → Meets table (list_at table p) q → Meets table (list_at table root) q
   from_root [] root p q w m = subst (λ (j : ℕ). Meets table (list_at table j) q) w m
-  from_root (f ∷ fs) root p q w m = from_root fs root f.place q w.2 (meets_through w.0 q m)
+  from_root (f ∷ fs) root p q w m = from_root fs root f.index q w.2 (meets_through w.0 q m)
 
-  from_frame : (fs : List Frame) (root p i q : ℕ) → HasPlace fs i → Awaits table root p fs → Meets table (list_at table p) q → Meets table (list_at table i) q
+  from_frame : (fs : List Frame) (root p i q : ℕ) → HasFrame fs i → Awaits table root p fs → Meets table (list_at table p) q → Meets table (list_at table i) q
   from_frame [] root p i q h w m = absurd h
   from_frame (f ∷ fs) root p i q (inl e) w m = subst (λ (j : ℕ). Meets table (list_at table j) q) e (meets_through w.0 q m)
-  from_frame (f ∷ fs) root p i q (inr h) w m = from_frame fs root f.place i q h w.2 (meets_through w.0 q m)
+  from_frame (f ∷ fs) root p i q (inr h) w m = from_frame fs root f.index i q h w.2 (meets_through w.0 q m)
 
   place_by : (fs : List Frame) (root p : ℕ) → root < length table → Awaits table root p fs → p < length table
   place_by [] root p lt w = rw w lt
   place_by (f ∷ fs) root p lt w = meets_within w.0
 
-  pub place_within : (root : ℕ) (marks : List Mark) (f : Frame) (fs : List Frame) → root < length table → Searched table root marks (f ∷ fs) → f.place < length table
-  place_within root marks f fs lt s = let r = s.reads in place_by fs root f.place lt r.1
+  pub index_within : (root : ℕ) (marks : List Mark) (f : Frame) (fs : List Frame) → root < length table → Searched table root marks (f ∷ fs) → f.index < length table
+  index_within root marks f fs lt s = let r = s.reads in place_by fs root f.index lt r.1
 
   -- the macro of the last frame is done
   closed : (fs : List Frame) (root p : ℕ) → Ends table (list_at table p) → Awaits table root p fs → AreOpened table root fs
@@ -94,65 +94,65 @@ module _ (table : List Macro) where
 -- ---- turns
 
 module _ (table shown : List Macro) (marks : List Mark) (f : Frame) (fs : List Frame) (same : shown ≡ table) where
-  module _ (now : List Mark) (lt : f.place < length marks) (set : now ≡ slice_set marks f.place mark.Done) (past : None ≡ slice_get (list_at shown f.place) f.at) where
-    list_ends : Ends table (read_of table f) → Ends table (list_at table f.place)
-    list_ends d = rw (take_all (list_at table f.place) f.at (rw same at past)) at d
+  module _ (now : List Mark) (lt : f.index < length marks) (set : now ≡ slice_set marks f.index mark.Done) (past : None ≡ slice_get (list_at shown f.index) f.at) where
+    list_ends : Ends table (read_of table f) → Ends table (list_at table f.index)
+    list_ends d = rw (take_all (list_at table f.index) f.at (rw same at past)) at d
 
     closes : (root : ℕ) → Searched table root marks (f ∷ fs) → Searched table root now fs
     closes root s = record {
-      done = λ i e. elim (cases_eq i f.place) [
+      done = λ i e. elim (cases_eq i f.index) [
         | inl is ↦ subst (λ (j : ℕ). Ends table (list_at table j)) (sym is) (list_ends s.reads.0)
-        | inr other ↦ s.done i (sym (mark_other marks now f.place i mark.Done set other) ∙ e)
+        | inr other ↦ s.done i (sym (mark_other marks now f.index i mark.Done set other) ∙ e)
       ];
-      open_place = λ i e. elim (cases_eq i f.place) [
-        | inl is ↦ let d = mark_same marks now f.place i mark.Done set lt is in cc
-        | inr other ↦ elim (s.open_place i (sym (mark_other marks now f.place i mark.Done set other) ∙ e)) [
+      open_frame = λ i e. elim (cases_eq i f.index) [
+        | inl is ↦ let d = mark_same marks now f.index i mark.Done set lt is in cc
+        | inr other ↦ elim (s.open_frame i (sym (mark_other marks now f.index i mark.Done set other) ∙ e)) [
           | inl is ↦ absurd (other (sym is))
           | inr h ↦ h
         ]
       ];
-      reads = closed table fs root f.place (list_ends s.reads.0) s.reads.1;
+      reads = closed table fs root f.index (list_ends s.reads.0) s.reads.1;
     }
 
     pub turn_closes : TurnTaken table marks (f ∷ fs) now fs (Ok false)
-    turn_closes = let h : untried table now ≤ untried table marks = rw set (done_set table marks f.place) in (closes, omega arith)
+    turn_closes = let h : untried table now ≤ untried table marks = rw set (done_set table marks f.index) in (closes, omega arith)
 
-  module _ (r : Replacement) (next : Some r ≡ slice_get (list_at shown f.place) f.at) where
+  module _ (r : Replacement) (next : Some r ≡ slice_get (list_at shown f.index) f.at) where
     abbrev moved : Frame
-    moved = record { place = f.place; at = f.at + 1 }
+    moved = record { index = f.index; at = f.at + 1 }
 
     read_more : Ends table (r ∷ []) → Ends table (read_of table f) → Ends table (read_of table moved)
     read_more d e =
-        let k : take (f.at + 1) (list_at table f.place) ≡ take f.at (list_at table f.place) ++ r ∷ [] = ap (λ n. take n (list_at table f.place)) (add-one f.at) ∙ take_more (list_at table f.place) f.at r (rw same at next) in
-        rw k (ends_both table (take f.at (list_at table f.place)) (r ∷ []) e d)
+        let k : take (f.at + 1) (list_at table f.index) ≡ take f.at (list_at table f.index) ++ r ∷ [] = ap (λ n. take n (list_at table f.index)) (add-one f.at) ∙ take_more (list_at table f.index) f.at r (rw same at next) in
+        rw k (ends_both table (take f.at (list_at table f.index)) (r ∷ []) e d)
 
-    one_less : length (rest_of table f) ≡ suc (length (rest_of table moved))
+    one_less : length (unread_of table f) ≡ suc (length (unread_of table moved))
     one_less =
-        ap length (drop_get Replacement (list_at table f.place) f.at r (rw same at next)) ∙ ap (λ n. suc (length (drop n (list_at table f.place)))) (sym (add-one f.at))
+        ap length (drop_get Replacement (list_at table f.index) f.at r (rw same at next)) ∙ ap (λ n. suc (length (drop n (list_at table f.index)))) (sym (add-one f.at))
 
     passes : ((root : ℕ) → Searched table root marks (f ∷ fs) → Ends table (r ∷ [])) → TurnTaken table marks (f ∷ fs) marks (moved ∷ fs) (Ok false)
-    passes d = (λ root s. record { done = s.done; open_place = s.open_place; reads = (read_more (d root s) s.reads.0, s.reads.1) }, omega (arith, one_less))
+    passes d = (λ root s. record { done = s.done; open_frame = s.open_frame; reads = (read_more (d root s) s.reads.0, s.reads.1) }, omega (arith, one_less))
 
-    pub turn_plain : None ≡ place_of table r.text → TurnTaken table marks (f ∷ fs) marks (moved ∷ fs) (Ok false)
+    pub turn_plain : None ≡ index_of table r.text → TurnTaken table marks (f ∷ fs) marks (moved ∷ fs) (Ok false)
     turn_plain e = passes (λ root s. ends_plain table r (sym e))
 
-    module _ (p : ℕ) (named : Some p ≡ place_of table r.text) where
-      met : Meets table (list_at table f.place) p
-      met = meets_at table (list_at table f.place) f.at r p (rw same at next) (sym named)
+    module _ (p : ℕ) (named : Some p ≡ index_of table r.text) where
+      met : Meets table (list_at table f.index) p
+      met = meets_at table (list_at table f.index) f.at r p (rw same at next) (sym named)
 
       pub turn_done : mark_at marks p ≡ mark.Done → TurnTaken table marks (f ∷ fs) marks (moved ∷ fs) (Ok false)
       turn_done e = passes (λ root s. ends_word table r p (sym named) (s.done p e))
 
-      in_itself : (root : ℕ) → HasPlace (f ∷ fs) p → Awaits table root f.place fs → Meets table (list_at table p) p
+      in_itself : (root : ℕ) → HasFrame (f ∷ fs) p → Awaits table root f.index fs → Meets table (list_at table p) p
       in_itself root (inl e) w = subst (λ (j : ℕ). Meets table (list_at table j) p) e met
-      in_itself root (inr h) w = from_frame table fs root f.place p p h w met
+      in_itself root (inr h) w = from_frame table fs root f.index p p h w met
 
       pub turn_loops : (now : List Mark) (above : List Frame) → mark_at marks p ≡ mark.Open → TurnTaken table marks (f ∷ fs) now above (Ok true)
-      turn_loops now above e = λ root s. (p, from_root table fs root f.place p s.reads.1 met, in_itself root (s.open_place p e) s.reads.1)
+      turn_loops now above e = λ root s. (p, from_root table fs root f.index p s.reads.1 met, in_itself root (s.open_frame p e) s.reads.1)
 
       module _ (now : List Mark) (lengths : length marks ≡ length table) (set : now ≡ slice_set marks p mark.Open) (new : mark_at marks p ≡ mark.New) where
         abbrev opened : Frame
-        opened = record { place = p; at = 0 }
+        opened = record { index = p; at = 0 }
 
         in_marks : p < length marks
         in_marks = omega (arith, meets_within met)
@@ -163,9 +163,9 @@ module _ (table shown : List Macro) (marks : List Mark) (f : Frame) (fs : List F
             | inl is ↦ let d = mark_same marks now p i mark.Open set in_marks is in cc
             | inr other ↦ s.done i (sym (mark_other marks now p i mark.Open set other) ∙ e)
           ];
-          open_place = λ i e. elim (cases_eq i p) [
+          open_frame = λ i e. elim (cases_eq i p) [
             | inl is ↦ inl (sym is)
-            | inr other ↦ inr (s.open_place i (sym (mark_other marks now p i mark.Open set other) ∙ e))
+            | inr other ↦ inr (s.open_frame i (sym (mark_other marks now p i mark.Open set other) ∙ e))
           ];
           reads = (ends_none table, (met, λ d. read_more (ends_word table r p (sym named) d) s.reads.0, s.reads.1));
         }
@@ -182,14 +182,14 @@ none_at zero k = refl
 none_at (suc n) zero = refl
 none_at (suc n) (suc k) = none_at n k
 
-pub begins : (table : List Macro) (root n : ℕ) (marks : List Mark) (frames : List Frame) → root < length marks → marks ≡ replicate n mark.New → frames ≡ record { place = root; at = 0 } ∷ []
+pub begins : (table : List Macro) (root n : ℕ) (marks : List Mark) (frames : List Frame) → root < length marks → marks ≡ replicate n mark.New → frames ≡ record { index = root; at = 0 } ∷ []
     → Searched table root (slice_set marks root mark.Open) (reverse frames)
 begins table root n marks frames lt new only = rw only (record {
   done = λ i e. elim (cases_eq i root) [
     | inl is ↦ let d = mark_same marks (slice_set marks root mark.Open) root i mark.Open refl lt is in cc
     | inr other ↦ let d = mark_other marks (slice_set marks root mark.Open) root i mark.Open refl other ∙ ap (λ xs. mark_at xs i) new ∙ none_at n i in cc
   ];
-  open_place = λ i e. elim (cases_eq i root) [
+  open_frame = λ i e. elim (cases_eq i root) [
     | inl is ↦ inl (sym is)
     | inr other ↦ let d = mark_other marks (slice_set marks root mark.Open) root i mark.Open refl other ∙ ap (λ xs. mark_at xs i) new ∙ none_at n i in cc
   ];

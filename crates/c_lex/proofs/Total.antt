@@ -1,40 +1,49 @@
--- Each text is cut in some way.
+-- Each text is a row of pieces.
 use Rattle.std.proofs.Common.{◌≡◌, ℕ, zero, suc, ◌+◌, ◌<◌, ◌≤◌, ◌-◌, List, [], ◌∷◌, ◌++◌, length, length-drop, take, drop, refl, arith, ap, sym, ◌∙◌}
 use Rattle.std.proofs.Math.Nat.{sub-zero}
-use Rattle.c_lex.specs.declared.cut.Mode.{Mode}
-use Rattle.c_lex.specs.declared.cut.Mode.TheVariants as mode
-use Rattle.c_lex.specs.declared.cut.Lexeme.{Lexeme}
-use Rattle.c_lex.specs.declared.cut.Beginning.{Beginning}
-use Rattle.c_lex.specs.declared.cut.Beginning.TheVariants as begins
+use Rattle.std.specs.Prelude.{Option, Some, None, IfSome}
+use Rattle.c_lex.specs.declared.piece.Allowed.{Allowed}
+use Rattle.c_lex.specs.declared.piece.Piece.{Piece}
+use Rattle.c_lex.specs.declared.piece.Piece.TheVariants.{Gap, Directive, Token, Unknown, Open}
 use Rattle.c_lex.specs.declared.position.Position.{Position}
-use Rattle.c_lex.specs.Cuts.{Cuts, ends, gap, token, directive, unknown, open_comment, beginning, part, after_gap, after_token}
+use Rattle.c_lex.specs.Pieces.{Row, ends, stops, goes_on, first_piece, end_of}
 use Rattle.c_lex.specs.Places.{after_byte, after_bytes, position_at, first_position}
-use Rattle.c_lex.proofs.Within.{HasPart, beginning_has}
+use Rattle.c_lex.specs.Taking.{LiesAt}
+use Rattle.c_lex.proofs.Within.{piece_has}
 
-abbrev SomeCut : List ℕ → ℕ → Mode → Type 0
-SomeCut text at m = (ls : List Lexeme) × Cuts text at m ls
+-- where a piece ends
+pub ends_within : (at most : ℕ) (p : Piece) (next : ℕ) → LiesAt at most p → end_of p ≡ Some next → (at < next) × (next ≤ most)
+ends_within at most (Gap a n) next h e = let k : a + n ≡ next = cc in (omega (arith, h.0, h.1, k), omega (arith, h.0, h.2, k))
+ends_within at most (Directive a n) next h e = let k : a + n ≡ next = cc in (omega (arith, h.0, h.1, k), omega (arith, h.0, h.2, k))
+ends_within at most (Token a n) next h e = let k : a + n ≡ next = cc in (omega (arith, h.0, h.1, k), omega (arith, h.0, h.2, k))
+ends_within at most (Unknown a) next h e = cc
+ends_within at most (Open a) next h e = cc
 
-module _ (text : List ℕ) (at : ℕ) (m : Mode) (place : at ≤ length text) (rest : (next : ℕ) (gone : Mode) → at < next → next ≤ length text → SomeCut text next gone) where
-  within : (n : ℕ) → (1 ≤ n) × (n ≤ length (drop at text)) → (at < at + n) × (at + n ≤ length text)
-  within n h = let e = length-drop at text in (omega arith, omega (arith, h.1, e))
+pub lies_within : (allowed : Allowed) (text : List ℕ) (at : ℕ) → at ≤ length text → IfSome (first_piece allowed at (drop at text)) (LiesAt at (length text))
+lies_within allowed text at place = let e : at + length (drop at text) ≡ length text = omega (arith, length-drop at text) in rw e at (piece_has allowed at (drop at text))
 
-  cut_by : (b : Beginning) → beginning m (drop at text) ≡ b → HasPart (length (drop at text)) b → SomeCut text at m
-  cut_by begins.End e h = ([], ends e)
-  cut_by (begins.Skip n) e h = let w = within n h in let r = rest (at + n) (after_gap m (part text at n)) w.0 w.1 in (r.0, gap n e r.1)
-  cut_by (begins.Token n) e h = let w = within n h in let r = rest (at + n) (after_token m (part text at n)) w.0 w.1 in (_, token n e r.1)
-  cut_by (begins.Directive n) e h = let w = within n h in let r = rest (at + n) mode.Within w.0 w.1 in (_, directive n e r.1)
-  cut_by begins.Unknown e h = (_, unknown e)
-  cut_by begins.Open e h = (_, open_comment e)
+module _ (allowed : List Piece → Allowed) (text : List ℕ) where
+  abbrev SomeRow : (at : ℕ) → List Piece → Type 0
+  SomeRow at before = (ps : List Piece) × Row allowed text at before ps
 
-  cut_here : SomeCut text at m
-  cut_here = cut_by (beginning m (drop at text)) refl (beginning_has m (drop at text))
+  module _ (at : ℕ) (before : List Piece) (rest : (next : ℕ) (p : Piece) → at < next → next ≤ length text → SomeRow next (p ∷ before)) where
+    row_by : (o : Option Piece) → first_piece (allowed before) at (drop at text) ≡ o → IfSome o (LiesAt at (length text)) → SomeRow at before
+    row_by None e h = ([], ends e)
+    row_by (Some p) e h = by (end_of p) refl
+      where
+        by : (o : Option ℕ) → end_of p ≡ o → SomeRow at before
+        by None f = (_, stops p e f)
+        by (Some next) f = let w = ends_within at (length text) p next h f in let r = rest next p w.0 w.1 in (_, goes_on p next e f r.1)
 
-cut_within : (fuel : ℕ) (text : List ℕ) (at : ℕ) (m : Mode) → length text ≤ at + fuel → at ≤ length text → SomeCut text at m
-cut_within zero text at m enough place = cut_here text at m place (λ next gone a b. absurd (omega arith))
-cut_within (suc fuel) text at m enough place = cut_here text at m place (λ next gone a b. cut_within fuel text next gone (omega arith) b)
+    row_here : at ≤ length text → SomeRow at before
+    row_here place = row_by (first_piece (allowed before) at (drop at text)) refl (lies_within (allowed before) text at place)
 
-pub some_cut : (text : List ℕ) (at : ℕ) (m : Mode) → at ≤ length text → (ls : List Lexeme) × Cuts text at m ls
-some_cut text at m place = cut_within (length text) text at m (omega arith) place
+  row_within : (fuel : ℕ) (at : ℕ) (before : List Piece) → length text ≤ at + fuel → at ≤ length text → SomeRow at before
+  row_within zero at before enough place = row_here at before (λ next p a b. absurd (omega arith)) place
+  row_within (suc fuel) at before enough place = row_here at before (λ next p a b. row_within fuel next (p ∷ before) (omega arith) b) place
+
+  pub some_row : (at : ℕ) (before : List Piece) → at ≤ length text → (ps : List Piece) × Row allowed text at before ps
+  some_row at before place = row_within (length text) at before (omega arith) place
 
 -- ---- positions
 

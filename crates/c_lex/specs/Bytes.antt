@@ -1,4 +1,4 @@
--- Classes of bytes (ISO/IEC 9899:2011, 5.2.1 and 6.4).
+-- Classes of bytes (ISO/IEC 9899:2011, 5.2.1 and 6.4). What `tokens` promises rests on this module.
 use Rattle.std.specs.Prelude.{ℕ, Bool, ◌&&◌, ◌||◌, ◌==◌, not, nat_le, List}
 use Rattle.std.specs.List.{list_any}
 

@@ -1,4 +1,5 @@
--- The kind of a token, and the value of a number (ISO/IEC 9899:2011, 6.4.4.1 and 6.4.4.4).
+-- The kind of a token, and the value of a number (ISO/IEC 9899:2011, 6.4.4.1 and 6.4.4.4). What `tokens` promises rests on this
+-- module.
 use Rattle.std.specs.Prelude.{ℕ, Bool, true, false, ◌&&◌, ◌||◌, ◌==◌, if◌then◌else◌, nat_lt, List, [], ◌∷◌, take, drop, find, Option, Some, None, option_map, pos, codes, nat_eq}
 use Rattle.std.specs.List.{list_any, prefix_len, starts_with}
 use Rattle.std.specs.Char as char

@@ -1,4 +1,5 @@
--- The replacement of a word step by step, by a stack of places in the lists of macros.
+-- The replacement of a word step by step, by a stack of frames in the lists of macros. Nothing that is promised speaks
+-- of this.
 use Rattle.std.specs.Prelude.{◌≡◌, ℕ, ◌+◌, ◌≤◌, ◌<◌, List, [], ◌∷◌, ◌++◌, length, map, drop, Some, None, Result, Ok, Err}
 use Rattle.std.specs.declared.alloc.AllocError.{AllocError}
 use Rattle.fq_core.specs.declared.span.Span.{Span}
@@ -14,13 +15,13 @@ use Rattle.c_lex.specs.Macros.{macro_of, list_at, Expands}
 use Rattle.c_lex.specs.Lexed.{most, IsWithin, token_at}
 
 -- what a frame has still to give
-abbrev pub rest_of : List Macro → Frame → List Replacement
-rest_of table frame = drop frame.at (list_at table frame.place)
+abbrev pub unread_of : List Macro → Frame → List Replacement
+unread_of table frame = drop frame.at (list_at table frame.index)
 
 -- what the frames have still to give, the last one first
 unfoldable pub pending : List Macro → List Frame → List Replacement
 pending table [] = []
-pending table (f ∷ fs) = pending table fs ++ rest_of table f
+pending table (f ∷ fs) = pending table fs ++ unread_of table f
 
 -- one turn: a frame is done, a token is made, a word is replaced, or a limit forbids it
 pub data Turned (table : List Macro) (span : Span) (frames : List Frame) (tokens : List Token) (replaced : ℕ)
@@ -41,9 +42,9 @@ pub data Turned (table : List Macro) (span : Span) (frames : List Frame) (tokens
       → macro_of table r.text ≡ Some list → most ≤ replaced → Turned table span frames tokens replaced fs ts n (Ok turn.Passes)
 
 -- what comes of some tokens: all that they give stands behind the tokens there were, or the limits forbid what they give
-abbrev pub ExpandsTo : List Macro → List Replacement → Span → (old new : List Token) → (replaced : ℕ) → Expansion → Type 0
-ExpandsTo table rs span old new replaced (expansion.Done n) =
+abbrev pub ExpandsTo : List Macro → List Replacement → Span → (old new : List Token) → (replaced now : ℕ) → Expansion → Type 0
+ExpandsTo table rs span old new replaced now expansion.Done =
     (us : List Replacement) × (m : ℕ) × Expands table rs us m × IsWithin (length old + length us) (replaced + m)
-    × (new ≡ old ++ map (token_at span) us) × (n ≡ replaced + m)
-ExpandsTo table rs span old new replaced expansion.Passed =
+    × (new ≡ old ++ map (token_at span) us) × (now ≡ replaced + m)
+ExpandsTo table rs span old new replaced now expansion.Passed =
     (us : List Replacement) (m : ℕ) → Expands table rs us m → IsWithin (length old + length us) (replaced + m) → ⊥

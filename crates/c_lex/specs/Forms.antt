@@ -1,8 +1,7 @@
--- Which lists of bytes are tokens, and the longest that begins at a place (ISO/IEC 9899:2011, 6.4p4).
-use Rattle.std.specs.Prelude.{◌≡◌, ℕ, zero, suc, ◌<◌, ◌≤◌, Bool, true, false, ◌&&◌, ◌==◌, if◌then◌else◌, List, [], ◌∷◌, length, take, Option, Some, None, is_some, codes}
+-- Which lists of bytes are tokens, and the longest that begins at a place (ISO/IEC 9899:2011, 6.4p4). What `tokens`
+-- promises rests on this module.
+use Rattle.std.specs.Prelude.{ℕ, zero, suc, Bool, true, false, ◌&&◌, ◌==◌, if◌then◌else◌, List, [], ◌∷◌, length, take, Option, Some, None, is_some, codes}
 use Rattle.std.specs.List.{list_any, list_all}
-use Rattle.c_lex.specs.declared.cut.Mode.{Mode}
-use Rattle.c_lex.specs.declared.cut.Mode.TheVariants.{Header}
 use Rattle.c_lex.specs.Bytes.{is_one_of, is_letter, is_digit, continues_word, continues_number, is_constant_byte, is_string_byte, is_escaped_byte, is_in_line}
 
 -- a text's bytes two by two, and three by three
@@ -84,10 +83,10 @@ unfoldable pub is_header : List ℕ → Bool
 is_header [] = false
 is_header (b ∷ bs) = b == 60 && ends_header bs
 
--- a token; where a header's name is looked for, that alone
-abbrev pub is_token_in : Mode → List ℕ → Bool
-is_token_in Header bs = is_header bs
-is_token_in mode bs = is_token bs
+-- a token; where a header's name is due, that alone
+abbrev pub is_token_or_header : (header : Bool) → List ℕ → Bool
+is_token_or_header true bs = is_header bs
+is_token_or_header false bs = is_token bs
 
 -- the greatest number from 1 to n that passes
 unfoldable pub greatest : (ℕ → Bool) → ℕ → Option ℕ
@@ -95,20 +94,5 @@ greatest p zero = None
 greatest p (suc n) = if p (suc n) then Some (suc n) else greatest p n
 
 -- the length of the longest token that begins a text
-unfoldable pub longest : Mode → List ℕ → Option ℕ
-longest mode text = greatest (λ n. is_token_in mode (take n text)) (length text)
-
--- the first n bytes pass, and no more of them do
-pub record Picks (q : List ℕ → Bool) (bs : List ℕ) (n : ℕ) : Type 0 where
-  pub within : n ≤ length bs
-  pub passes : q (take n bs) ≡ true
-  pub beyond : (m : ℕ) → n < m → m ≤ length bs → q (take m bs) ≡ false
-
--- no first bytes pass
-pub record PicksNone (q : List ℕ → Bool) (bs : List ℕ) : Type 0 where
-  pub none : (m : ℕ) → m ≤ length bs → q (take m bs) ≡ false
-
--- the greatest number of first bytes that pass
-abbrev pub PicksLongest : (List ℕ → Bool) → List ℕ → Option ℕ → Type 0
-PicksLongest q bs None = PicksNone q bs
-PicksLongest q bs (Some n) = Picks q bs n
+unfoldable pub longest : (header : Bool) → List ℕ → Option ℕ
+longest header text = greatest (λ n. is_token_or_header header (take n text)) (length text)

@@ -1,14 +1,14 @@
--- The tokens of texts, or the first place at which one is refused.
-use Rattle.std.specs.Prelude.{◌≡◌, ℕ, ◌+◌, ◌≤◌, ◌<◌, ◌^◌, slice_index_or, Vec, List, [], ◌∷◌, ◌++◌, length, map, drop, Some, None, Result, Ok, Err, ⊤}
+-- The tokens of texts, or the first place at which one is refused. What `tokens` promises stands here.
+use Rattle.std.specs.Prelude.{◌≡◌, ℕ, ◌+◌, ◌≤◌, ◌<◌, ◌^◌, slice_index_or, Vec, List, [], ◌∷◌, ◌++◌, length, map, drop, Option, Some, None, Result, Ok, Err, ⊤}
 use Rattle.std.specs.declared.alloc.Global.{Global}
 use Rattle.fq_core.specs.declared.span.Span.{Span}
 use Rattle.fq_core.specs.declared.refusal.Place.{Place}
 use Rattle.fq_core.specs.declared.refusal.Place.TheVariants as place
 use Rattle.fq_core.specs.declared.refusal.Fault.{Fault}
 use Rattle.fq_core.specs.declared.refusal.Fault.TheVariants as fault
-use Rattle.c_lex.specs.declared.cut.Mode.TheVariants as mode
-use Rattle.c_lex.specs.declared.cut.Lexeme.{Lexeme}
-use Rattle.c_lex.specs.declared.cut.Lexeme.TheVariants as lexeme
+use Rattle.c_lex.specs.declared.piece.Piece.{Piece}
+use Rattle.c_lex.specs.declared.piece.Piece.TheVariants as piece
+use Rattle.c_lex.specs.declared.directive.Directive.{Directive}
 use Rattle.c_lex.specs.declared.directive.Directive.TheVariants as says
 use Rattle.c_lex.specs.declared.macros.Replacement.{Replacement}
 use Rattle.c_lex.specs.declared.macros.Macro.{Macro}
@@ -16,9 +16,9 @@ use Rattle.c_lex.specs.declared.token.SourceText.{SourceText}
 use Rattle.c_lex.specs.declared.token.Token.{Token}
 use Rattle.c_lex.specs.declared.token.TokenKind.{TokenKind}
 use Rattle.c_lex.specs.Constants.{token_kind}
-use Rattle.c_lex.specs.Cuts.{Cuts, part}
 use Rattle.c_lex.specs.Directives.{directive_of, list_of}
 use Rattle.c_lex.specs.Macros.{macro_of, Expands, Loops}
+use Rattle.c_lex.specs.Pieces.{part, ArePieces, AreLineTokens}
 use Rattle.c_lex.specs.Places.{position_at, span_of}
 
 -- the greatest number of tokens, and that of replacements, over all texts
@@ -42,62 +42,81 @@ after tokens (refused code place) = refused code place
 abbrev pub token_at : Span → Replacement → Token
 token_at span r = record { kind = r.kind; span = span; text = r.text }
 
--- the line of a byte of a text, as the place of a refusal
+-- the line of a span, and that of a byte of a text, as the place of a refusal
+abbrev pub line_of_span : Span → Place
+line_of_span span = place.Source span.file span.line
+
 abbrev pub line_of : (file : ℕ) → List ℕ → ℕ → Place
 line_of file text at = place.Source file (position_at text at).line
 
 abbrev pub the_limit : Place
 the_limit = place.Limit most
 
--- what comes of the tokens and the directive lines of a text, in their order, where these macros are defined and so
--- many tokens were made and so many words replaced before. The first place at which there is a cause is refused, and
--- of several causes at one token the one of the lowest code.
-pub data Reads (file : ℕ) (text : List ℕ) : List Macro → (made replaced : ℕ) → List Lexeme → Outcome → Type 0 where
-  all_read : {table : List Macro} {made replaced : ℕ} → Reads file text table made replaced [] (accepted [] made replaced)
-  -- a token: a number that is too wide for its kinds, a word in whose replacement a word is met within its own
-  -- replacement (6.10.3.4p2), one that gives more than the limits allow, or one that gives itself or what its macro gives
-  too_wide : {table : List Macro} {made replaced : ℕ} {ls : List Lexeme} (at n : ℕ) → token_kind (part text at n) ≡ None
-      → Reads file text table made replaced (lexeme.Token at n ∷ ls) (refused 13 (line_of file text at))
-  loops : {table : List Macro} {made replaced : ℕ} {ls : List Lexeme} {kind : TokenKind} (at n : ℕ) → token_kind (part text at n) ≡ Some kind
-      → Loops table (record { kind = kind; text = part text at n } ∷ [])
-      → Reads file text table made replaced (lexeme.Token at n ∷ ls) (refused 14 (line_of file text at))
-  too_many : {table : List Macro} {made replaced : ℕ} {ls : List Lexeme} {kind : TokenKind} (us : List Replacement) (m : ℕ) (at n : ℕ) → token_kind (part text at n) ≡ Some kind
-      → Expands table (record { kind = kind; text = part text at n } ∷ []) us m → (IsWithin (made + length us) (replaced + m) → ⊥)
-      → Reads file text table made replaced (lexeme.Token at n ∷ ls) (refused 15 the_limit)
-  a_token : {table : List Macro} {made replaced : ℕ} {ls : List Lexeme} {o : Outcome} {kind : TokenKind} (us : List Replacement) (m : ℕ) (at n : ℕ) → token_kind (part text at n) ≡ Some kind
-      → Expands table (record { kind = kind; text = part text at n } ∷ []) us m → IsWithin (made + length us) (replaced + m)
-      → Reads file text table (made + length us) (replaced + m) ls o
-      → Reads file text table made replaced (lexeme.Token at n ∷ ls) (after (map (token_at (span_of file text at n)) us) o)
-  -- a directive line, whose tokens are cut again
-  included : {table : List Macro} {made replaced : ℕ} {ls : List Lexeme} {o : Outcome} (line : List Lexeme) (at n : ℕ) → Cuts (part text at n) 1 mode.First line
-      → directive_of (part text at n) line ≡ says.Include → Reads file text table made replaced ls o
-      → Reads file text table made replaced (lexeme.Directive at n ∷ ls) o
-  unknown_byte : {table : List Macro} {made replaced : ℕ} {ls : List Lexeme} (line : List Lexeme) (at n : ℕ) → Cuts (part text at n) 1 mode.First line
-      → directive_of (part text at n) line ≡ says.UnknownByte
-      → Reads file text table made replaced (lexeme.Directive at n ∷ ls) (refused 10 (line_of file text at))
-  wrong : {table : List Macro} {made replaced : ℕ} {ls : List Lexeme} (line : List Lexeme) (at n : ℕ) → Cuts (part text at n) 1 mode.First line
-      → directive_of (part text at n) line ≡ says.Wrong
-      → Reads file text table made replaced (lexeme.Directive at n ∷ ls) (refused 12 (line_of file text at))
-  defined_twice : {table : List Macro} {made replaced : ℕ} {ls : List Lexeme} (line : List Lexeme) (at n b m : ℕ) → Cuts (part text at n) 1 mode.First line
-      → directive_of (part text at n) line ≡ says.Define b m → (macro_of table (part (part text at n) b m) ≡ None → ⊥)
-      → Reads file text table made replaced (lexeme.Directive at n ∷ ls) (refused 12 (line_of file text at))
-  wide_list : {table : List Macro} {made replaced : ℕ} {ls : List Lexeme} (line : List Lexeme) (at n b m : ℕ) → Cuts (part text at n) 1 mode.First line
-      → directive_of (part text at n) line ≡ says.Define b m → macro_of table (part (part text at n) b m) ≡ None
-      → list_of (part text at n) (drop 2 line) ≡ None
-      → Reads file text table made replaced (lexeme.Directive at n ∷ ls) (refused 13 (line_of file text at))
-  defined : {table : List Macro} {made replaced : ℕ} {ls : List Lexeme} {o : Outcome} (line : List Lexeme) (list : List Replacement) (at n b m : ℕ) → Cuts (part text at n) 1 mode.First line
-      → directive_of (part text at n) line ≡ says.Define b m → macro_of table (part (part text at n) b m) ≡ None
-      → list_of (part text at n) (drop 2 line) ≡ Some list
-      → Reads file text (table ++ record { name = part (part text at n) b m; list = list } ∷ []) made replaced ls o
-      → Reads file text table made replaced (lexeme.Directive at n ∷ ls) o
-  unknown : {table : List Macro} {made replaced : ℕ} {ls : List Lexeme} (at : ℕ) → Reads file text table made replaced (lexeme.Unknown at ∷ ls) (refused 10 (line_of file text at))
-  open_comment : {table : List Macro} {made replaced : ℕ} {ls : List Lexeme} (at : ℕ) → Reads file text table made replaced (lexeme.Open at ∷ ls) (refused 11 (line_of file text at))
+-- ---- what one piece of a text comes to
 
--- a text is cut, and no macro is defined at its begin
+-- tokens, so many replaced words, and the macros from there on; or a refusal
+pub data Effect : Type 0 where
+  gives : List Token → (replaced : ℕ) → List Macro → Effect
+  stops : (code : ℕ) → Place → Effect
+
+-- a token with these bytes at this span, where these macros are defined and so many tokens were made and so many words
+-- replaced before. It is refused if it is a number that is too wide for its kinds; else if a word is met within its own
+-- replacement (6.10.3.4p2); else if more tokens or replacements than the limits allow are made.
+pub data TokenComesTo (table : List Macro) (bytes : List ℕ) (span : Span) (made replaced : ℕ) : Effect → Type 0 where
+  too_wide : token_kind bytes ≡ None → TokenComesTo table bytes span made replaced (stops 13 (line_of_span span))
+  loops : {kind : TokenKind} → token_kind bytes ≡ Some kind → Loops table (record { kind = kind; text = bytes } ∷ [])
+      → TokenComesTo table bytes span made replaced (stops 14 (line_of_span span))
+  too_many : {kind : TokenKind} (us : List Replacement) (m : ℕ) → token_kind bytes ≡ Some kind
+      → Expands table (record { kind = kind; text = bytes } ∷ []) us m → (IsWithin (made + length us) (replaced + m) → ⊥)
+      → TokenComesTo table bytes span made replaced (stops 15 the_limit)
+  expands : {kind : TokenKind} (us : List Replacement) (m : ℕ) → token_kind bytes ≡ Some kind
+      → Expands table (record { kind = kind; text = bytes } ∷ []) us m → IsWithin (made + length us) (replaced + m)
+      → TokenComesTo table bytes span made replaced (gives (map (token_at span) us) m table)
+
+-- a macro, by the macro that its name has before, and its list, if no number in it is too wide
+abbrev pub effect_of_definition : List Macro → (place : Place) → (name : List ℕ) → Option (List Replacement) → Option (List Replacement) → Effect
+effect_of_definition table place name (Some before) list = stops 12 place
+effect_of_definition table place name None None = stops 13 place
+effect_of_definition table place name None (Some list) = gives [] 0 (table ++ record { name = name; list = list } ∷ [])
+
+abbrev pub effect_of_directive : List Macro → (line : List ℕ) → (place : Place) → List Piece → Directive → Effect
+effect_of_directive table line place tokens says.Include = gives [] 0 table
+effect_of_directive table line place tokens says.UnknownByte = stops 10 place
+effect_of_directive table line place tokens says.Wrong = stops 12 place
+effect_of_directive table line place tokens (says.Define at n) =
+    effect_of_definition table place (part line at n) (macro_of table (part line at n)) (list_of line (drop 2 tokens))
+
+-- a directive line, whose `#` has this place
+pub record LineComesTo (table : List Macro) (line : List ℕ) (place : Place) (e : Effect) : Type 0 where
+  pub tokens : List Piece
+  pub cut : AreLineTokens line tokens
+  pub effect : e ≡ effect_of_directive table line place tokens (directive_of line tokens)
+
+-- a piece of a text
+abbrev pub ComesTo : (file : ℕ) → (text : List ℕ) → List Macro → (made replaced : ℕ) → Piece → Effect → Type 0
+ComesTo file text table made replaced (piece.Gap at n) e = e ≡ gives [] 0 table
+ComesTo file text table made replaced (piece.Directive at n) e = LineComesTo table (part text at n) (line_of file text at) e
+ComesTo file text table made replaced (piece.Token at n) e = TokenComesTo table (part text at n) (span_of file text at n) made replaced e
+ComesTo file text table made replaced (piece.Unknown at) e = e ≡ stops 10 (line_of file text at)
+ComesTo file text table made replaced (piece.Open at) e = e ≡ stops 11 (line_of file text at)
+
+-- ---- what comes of texts
+
+-- what comes of pieces of a text, in their order, up to the first that is refused, where these macros are defined and so
+-- many tokens were made and so many words replaced before
+pub data Reads (file : ℕ) (text : List ℕ) : List Macro → (made replaced : ℕ) → List Piece → Outcome → Type 0 where
+  all_read : {table : List Macro} {made replaced : ℕ} → Reads file text table made replaced [] (accepted [] made replaced)
+  is_refused : {table : List Macro} {made replaced : ℕ} {ps : List Piece} (p : Piece) (code : ℕ) (place : Place)
+      → ComesTo file text table made replaced p (stops code place) → Reads file text table made replaced (p ∷ ps) (refused code place)
+  goes_on : {table : List Macro} {made replaced : ℕ} {ps : List Piece} {o : Outcome} (p : Piece) (us : List Token) (m : ℕ) (new : List Macro)
+      → ComesTo file text table made replaced p (gives us m new) → Reads file text new (made + length us) (replaced + m) ps o
+      → Reads file text table made replaced (p ∷ ps) (after us o)
+
+-- what comes of the pieces of a text. No macro is defined at its begin.
 pub record ReadsText (file : ℕ) (text : List ℕ) (made replaced : ℕ) (o : Outcome) : Type 0 where
-  pub lexemes : List Lexeme
-  pub cut : Cuts text 0 mode.Fresh lexemes
-  pub read : Reads file text [] made replaced lexemes o
+  pub pieces : List Piece
+  pub cut : ArePieces text pieces
+  pub read : Reads file text [] made replaced pieces o
 
 -- the texts in turn, up to the first that is refused
 pub data ReadsTexts : (file made replaced : ℕ) → List SourceText → Outcome → Type 0 where

@@ -1,6 +1,5 @@
 pub mod Bytes
 pub mod Constants
-pub mod Cuts
 pub mod Directives
 pub mod Expanding
 pub mod Forms
@@ -8,6 +7,7 @@ pub mod Lexed
 pub mod Macros
 pub mod NumbersOfKinds
 pub mod OneReading
+pub mod Pieces
 pub mod Places
 pub mod Scans
 pub mod Searching

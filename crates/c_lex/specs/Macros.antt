@@ -1,4 +1,4 @@
--- The replacement of macros (ISO/IEC 9899:2011, 6.10.3 and 6.10.3.4).
+-- The replacement of macros (ISO/IEC 9899:2011, 6.10.3 and 6.10.3.4). What `tokens` promises rests on this module.
 use Rattle.std.specs.Prelude.{◌≡◌, ◌⊎◌, ℕ, zero, suc, Bool, true, false, List, [], ◌∷◌, ◌++◌, Option, Some, None, option_map, if◌then◌else◌}
 use Rattle.std.specs.Str.{bytes_eq}
 use Rattle.c_lex.specs.declared.macros.Replacement.{Replacement}
@@ -9,12 +9,12 @@ unfoldable pub macro_of : List Macro → List ℕ → Option (List Replacement)
 macro_of [] name = None
 macro_of (m ∷ ms) name = if bytes_eq m.name name then Some m.list else macro_of ms name
 
--- the place of the macro of a name in the table
-unfoldable pub place_of : List Macro → List ℕ → Option ℕ
-place_of [] name = None
-place_of (m ∷ ms) name = if bytes_eq m.name name then Some 0 else option_map suc (place_of ms name)
+-- the index of the macro of a name in the table
+unfoldable pub index_of : List Macro → List ℕ → Option ℕ
+index_of [] name = None
+index_of (m ∷ ms) name = if bytes_eq m.name name then Some 0 else option_map suc (index_of ms name)
 
--- the list of the macro at a place of the table
+-- the list of the macro at an index of the table
 unfoldable pub list_at : List Macro → ℕ → List Replacement
 list_at [] i = []
 list_at (m ∷ ms) zero = m.list
@@ -29,11 +29,11 @@ pub data Expands (table : List Macro) : List Replacement → List Replacement �
   is_replaced : {r : Replacement} {rs us : List Replacement} {n : ℕ} (list : List Replacement) → macro_of table r.text ≡ Some list
       → Expands table (list ++ rs) us n → Expands table (r ∷ rs) us (suc n)
 
--- the replacement of these tokens meets the word of the macro at a place of the table: it is one of them, or the
+-- the replacement of these tokens meets the word of the macro at an index of the table: it is one of them, or the
 -- replacement of one of them meets it (6.10.3.4p1)
 pub data Meets (table : List Macro) : List Replacement → ℕ → Type 0 where
-  here : {r : Replacement} {rs : List Replacement} {p : ℕ} → place_of table r.text ≡ Some p → Meets table (r ∷ rs) p
-  within : {r : Replacement} {rs : List Replacement} {p : ℕ} (q : ℕ) → place_of table r.text ≡ Some q → Meets table (list_at table q) p
+  here : {r : Replacement} {rs : List Replacement} {p : ℕ} → index_of table r.text ≡ Some p → Meets table (r ∷ rs) p
+  within : {r : Replacement} {rs : List Replacement} {p : ℕ} (q : ℕ) → index_of table r.text ≡ Some q → Meets table (list_at table q) p
       → Meets table (r ∷ rs) p
   later : {r : Replacement} {rs : List Replacement} {p : ℕ} → Meets table rs p → Meets table (r ∷ rs) p
 

@@ -1,4 +1,4 @@
--- The numbers among the tokens of texts are values of their kinds.
+-- The numbers among the tokens of texts are values of their kinds, as the law `numbers_are_values` promises.
 use Rattle.std.specs.Prelude.{⊤, List, [], ◌∷◌}
 use Rattle.c_values.specs.Kind.{IsValue}
 use Rattle.c_lex.specs.declared.token.SourceText.{SourceText}

@@ -1,4 +1,4 @@
--- What the definitions imply: texts have one list of tokens or one refusal.
+-- What the definitions imply, as the law `one_reading` promises: texts have one list of tokens or one refusal.
 use Rattle.std.specs.Prelude.{◌≡◌, ◌⊎◌, ℕ, List}
 use Rattle.fq_core.specs.declared.refusal.Place.{Place}
 use Rattle.c_lex.specs.declared.token.SourceText.{SourceText}

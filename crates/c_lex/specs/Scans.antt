@@ -1,6 +1,6 @@
--- How far a character constant, a string, a header's name or a mark goes on, byte by byte. That each is the longest of
--- its form is proved.
-use Rattle.std.specs.Prelude.{ℕ, suc, Bool, true, false, ◌&&◌, ◌==◌, if◌then◌else◌, List, [], ◌∷◌, Option, Some, None, option_map, is_some}
+-- How far a character constant, a string, a header's name or a mark goes on, byte by byte. Nothing that is promised
+-- speaks of this: it is what the scanner's functions give, and proofs/ has that each is the longest of its form.
+use Rattle.std.specs.Prelude.{◌≡◌, ℕ, suc, ◌<◌, ◌≤◌, length, take, Bool, true, false, ◌&&◌, ◌==◌, if◌then◌else◌, List, [], ◌∷◌, Option, Some, None, option_map, is_some}
 use Rattle.c_lex.specs.Bytes.{is_one_of, is_constant_byte, is_escaped_byte, is_string_byte, is_in_line}
 use Rattle.c_lex.specs.Forms.{single_marks, is_double_mark, is_triple_mark, escapes, value_at}
 
@@ -40,3 +40,18 @@ unfoldable pub mark_length : ℕ → List ℕ → Option ℕ
 mark_length a [] = single_length a
 mark_length a (b ∷ []) = double_length a b
 mark_length a (b ∷ c ∷ cs) = triple_length a b c
+
+-- the first n bytes pass, and no more of them do
+pub record Picks (q : List ℕ → Bool) (bs : List ℕ) (n : ℕ) : Type 0 where
+  pub within : n ≤ length bs
+  pub passes : q (take n bs) ≡ true
+  pub beyond : (m : ℕ) → n < m → m ≤ length bs → q (take m bs) ≡ false
+
+-- no first bytes pass
+pub record PicksNone (q : List ℕ → Bool) (bs : List ℕ) : Type 0 where
+  pub none : (m : ℕ) → m ≤ length bs → q (take m bs) ≡ false
+
+-- the greatest number of first bytes that pass
+abbrev pub PicksLongest : (List ℕ → Bool) → List ℕ → Option ℕ → Type 0
+PicksLongest q bs None = PicksNone q bs
+PicksLongest q bs (Some n) = Picks q bs n

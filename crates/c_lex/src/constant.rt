@@ -1,17 +1,17 @@
 // Numbers, character constants, and the kinds of tokens.
-ghost use Rattle.std.specs.Prelude.{◌≡◌, ◌∷◌, ◌<◌, ◌^◌, ◌+◌, ◌*◌, pos, find, Some, length};
+ghost use Rattle.std.specs.Prelude.{◌≡◌, ◌∷◌, ◌<◌, ◌^◌, ◌+◌, ◌*◌, pos, Some, length};
 ghost use Rattle.std.specs.List.{prefix_len};
 ghost use Rattle.std.specs.Option.{SomeIff};
 ghost use Rattle.std.specs.Char as char;
 ghost use Rattle.std.specs.Str.Parse.{digits_value};
 ghost use Rattle.c_values.specs.Kind.{is_in_range};
 ghost use Rattle.c_lex.specs.Forms.{constant_value};
-ghost use Rattle.c_lex.specs.Constants.{is_u, is_l, suffix_of, plain_kinds, long_kinds, kind_of_number, base_of, radix, number_in, number_of, with_suffix, after_prefix, of_kind, constant_kind, word_kind, mark_kind, token_kind};
+ghost use Rattle.c_lex.specs.Constants.{is_u, is_l, suffix_of, plain_kinds, long_kinds, kinds_of, kind_of_number, base_of, radix, number_in, number_of, with_suffix, after_prefix, of_kind, constant_kind, word_kind, mark_kind, token_kind};
 
 use crate::bytes::{is_constant_byte, is_digit, is_letter};
-use crate::cut::rest_of;
 use crate::foreign::{is_foreign_mark, is_foreign_word};
 use crate::form::escape;
+use crate::piece::rest_of;
 use crate::token::TokenKind;
 use c_values::Kind;
 
@@ -83,78 +83,65 @@ fn suffix_of(text: &[u8]) -> Option<Suffix>
     }
 }
 
-const GREATEST_INT: u64 = 0x7fff_ffff;
-
-const GREATEST_UNSIGNED_INT: u64 = 0xffff_ffff;
-
-const GREATEST_LONG: u64 = 0x7fff_ffff_ffff_ffff;
-
-#[tactic(auto, unfolding(c_values::specs::Kind::least, c_values::specs::Kind::greatest))]
-fn plain_kind(base: Base, value: u64) -> Option<Kind>
-    ensures { result ≡ find (λ kind. is_in_range kind (pos value)) (plain_kinds base) }
+// Whether a number is in the range of a kind.
+fn holds(kind: Kind, value: u64) -> bool
+    ensures { result ≡ is_in_range kind (pos value) }
 {
-    match base {
-        Base::Decimal => {
-            if value <= GREATEST_INT {
-                Some(Kind::INT)
-            } else if value <= GREATEST_LONG {
-                Some(Kind::LONG)
-            } else {
-                None
-            }
-        }
-        _ => {
-            if value <= GREATEST_INT {
-                Some(Kind::INT)
-            } else if value <= GREATEST_UNSIGNED_INT {
-                Some(Kind::UNSIGNED_INT)
-            } else if value <= GREATEST_LONG {
-                Some(Kind::LONG)
-            } else {
-                Some(Kind::UNSIGNED_LONG)
-            }
-        }
+    let bits = if kind.signed {
+        kind.width.saturating_sub(1)
+    } else {
+        kind.width
+    };
+    match 2u64.checked_pow(bits as u32) {
+        Some(limit) => value < limit,
+        None => true,
     }
 }
 
-#[tactic(auto, unfolding(c_values::specs::Kind::least, c_values::specs::Kind::greatest))]
-fn long_kind(base: Base, value: u64) -> Option<Kind>
-    ensures { result ≡ find (λ kind. is_in_range kind (pos value)) (long_kinds base) }
+fn plain_kinds(base: Base) -> &'static [Kind]
+    ensures { result.now ≡ plain_kinds base }
 {
     match base {
-        Base::Decimal => {
-            if value <= GREATEST_LONG {
-                Some(Kind::LONG)
-            } else {
-                None
-            }
-        }
-        _ => {
-            if value <= GREATEST_LONG {
-                Some(Kind::LONG)
-            } else {
-                Some(Kind::UNSIGNED_LONG)
-            }
-        }
+        Base::Decimal => &[Kind::INT, Kind::LONG],
+        _ => &[
+            Kind::INT,
+            Kind::UNSIGNED_INT,
+            Kind::LONG,
+            Kind::UNSIGNED_LONG,
+        ],
     }
 }
 
-// The first kind that holds the number, of those that its base and its suffix allow.
-#[tactic(auto, unfolding(crate::specs::Constants::kind_of_number, c_values::specs::Kind::least, c_values::specs::Kind::greatest))]
+fn long_kinds(base: Base) -> &'static [Kind]
+    ensures { result.now ≡ long_kinds base }
+{
+    match base {
+        Base::Decimal => &[Kind::LONG],
+        _ => &[Kind::LONG, Kind::UNSIGNED_LONG],
+    }
+}
+
+// The kinds that a number may have, in the order in which they are tried.
+fn kinds_of(base: Base, suffix: Suffix) -> &'static [Kind]
+    ensures { result.now ≡ kinds_of base suffix }
+{
+    match (suffix.unsigned, suffix.long) {
+        (true, true) => &[Kind::UNSIGNED_LONG],
+        (true, false) => &[Kind::UNSIGNED_INT, Kind::UNSIGNED_LONG],
+        (false, true) => long_kinds(base),
+        (false, false) => plain_kinds(base),
+    }
+}
+
+// The first of the kinds that holds the number.
+#[tactic(auto, unfolding(crate::specs::Constants::kind_of_number))]
 fn kind_of_number(base: Base, suffix: Suffix, value: u64) -> Option<Kind>
     ensures { result ≡ kind_of_number base suffix value }
 {
-    if suffix.unsigned {
-        if suffix.long || GREATEST_UNSIGNED_INT < value {
-            Some(Kind::UNSIGNED_LONG)
-        } else {
-            Some(Kind::UNSIGNED_INT)
-        }
-    } else if suffix.long {
-        long_kind(base, value)
-    } else {
-        plain_kind(base, value)
-    }
+    kinds_of(base, suffix)
+        .iter()
+        .copied()
+        .find(|kind| holds(*kind, value))
 }
 
 // The value of a digit below 36, or 36 where the byte is none.

@@ -1,17 +1,15 @@
 // Directive lines.
 ghost use Rattle.std.specs.Prelude.{◌≡◌, ◌≤◌, drop, length, IfOk, OnOk};
-ghost use Rattle.c_lex.specs.Cuts.{Cuts};
-ghost use Rattle.c_lex.specs.declared.cut.Mode.TheVariants as modes;
 ghost use Rattle.std.specs.List.{list_all};
-ghost use Rattle.c_lex.specs.Directives.{is_ascii, is_word, all_tokens, include_of, define_of, named, directive_by, directive_of, replacement_at, list_of};
+ghost use Rattle.c_lex.specs.Directives.{is_ascii, is_word, all_tokens, include_of, define_of, directive_named, directive_by, directive_of, replacement_at, list_of};
 ghost use Rattle.c_lex.specs.Table.{IsIndexed};
-ghost use Rattle.c_lex.specs.Taking.{DirectiveTaken};
-ghost use Rattle.fq_core.specs.declared.refusal.Place.TheVariants as place;
+ghost use Rattle.c_lex.specs.Pieces.{AreLineTokens};
+ghost use Rattle.c_lex.specs.Taking.{DirectiveTaken, is_gap};
 
 use crate::bytes::is_letter;
 use crate::constant::token_kind;
-use crate::cut::{Lexeme, Mode, Step, next_step, part, rest_of, starts};
 use crate::macros::Replacement;
+use crate::piece::{Allowed, Piece, end_of, is_include, part, piece_at, rest_of, starts};
 use crate::refuse::refusal;
 use crate::table::Table;
 use containers::Vector;
@@ -27,7 +25,7 @@ pub enum Directive {
     UnknownByte,
     /// It is outside the profile.
     Wrong,
-    /// A `#define` of the word at this place of the line, with this length.
+    /// A `#define` of the word at this byte of the line, with this length.
     Define(usize, usize),
 }
 
@@ -46,15 +44,15 @@ fn is_word(text: &[u8]) -> bool
     }
 }
 
-fn all_tokens(lexemes: &[Lexeme]) -> bool
-    ensures { result ≡ all_tokens lexemes.now }
+fn all_tokens(pieces: &[Piece]) -> bool
+    ensures { result ≡ all_tokens pieces.now }
 {
-    lexemes
+    pieces
         .iter()
-        .all(|lexeme| matches!(lexeme, Lexeme::Token(_, _)))
+        .all(|piece| matches!(piece, Piece::Token(_, _)))
 }
 
-fn include_of(header: &[u8], rest: &[Lexeme]) -> Directive
+fn include_of(header: &[u8], rest: &[Piece]) -> Directive
     ensures { result ≡ include_of header.now rest.now }
 {
     match rest {
@@ -69,7 +67,7 @@ fn include_of(header: &[u8], rest: &[Lexeme]) -> Directive
     }
 }
 
-fn define_of(line: &[u8], at: usize, length: usize, list: &[Lexeme]) -> Directive
+fn define_of(line: &[u8], at: usize, length: usize, list: &[Piece]) -> Directive
     ensures { result ≡ define_of line.now at length list.now }
 {
     if is_word(part(line, at, length))
@@ -82,8 +80,8 @@ fn define_of(line: &[u8], at: usize, length: usize, list: &[Lexeme]) -> Directiv
     }
 }
 
-fn named(line: &[u8], a: usize, n: usize, b: usize, m: usize, rest: &[Lexeme]) -> Directive
-    ensures { result ≡ named line.now a n b m rest.now }
+fn directive_named(line: &[u8], a: usize, n: usize, b: usize, m: usize, rest: &[Piece]) -> Directive
+    ensures { result ≡ directive_named line.now a n b m rest.now }
 {
     let word = part(line, a, n);
     if word == b"include".as_slice() {
@@ -95,12 +93,12 @@ fn named(line: &[u8], a: usize, n: usize, b: usize, m: usize, rest: &[Lexeme]) -
     }
 }
 
-fn directive_by(line: &[u8], first: Lexeme, second: Lexeme, rest: &[Lexeme]) -> Directive
+fn directive_by(line: &[u8], first: Piece, second: Piece, rest: &[Piece]) -> Directive
     ensures { result ≡ directive_by line.now first second rest.now }
 {
     match first {
-        Lexeme::Token(a, n) => match second {
-            Lexeme::Token(b, m) => named(line, a, n, b, m, rest),
+        Piece::Token(a, n) => match second {
+            Piece::Token(b, m) => directive_named(line, a, n, b, m, rest),
             _ => Directive::Wrong,
         },
         _ => Directive::Wrong,
@@ -109,48 +107,51 @@ fn directive_by(line: &[u8], first: Lexeme, second: Lexeme, rest: &[Lexeme]) -> 
 
 /// What the tokens of a line say, after its `#`.
 #[tactic(auto, unfolding(crate::specs::Directives::directive_of))]
-pub fn directive_of(line: &[u8], lexemes: &[Lexeme]) -> Directive
-    ensures { result ≡ directive_of line.now lexemes.now }
+pub fn directive_of(line: &[u8], pieces: &[Piece]) -> Directive
+    ensures { result ≡ directive_of line.now pieces.now }
 {
-    match lexemes {
+    match pieces {
         [first, second, rest @ ..] => directive_by(line, *first, *second, rest),
         _ => Directive::Wrong,
     }
 }
 
-/// The tokens of a directive line after its `#`, or what stops them.
-pub fn line_lexemes(alloc: Global, line: &[u8]) -> Result<Vec<Lexeme>, AllocError>
+/// The pieces of a directive line after its `#`, other than blanks and comments.
+pub fn line_pieces(alloc: Global, line: &[u8]) -> Result<Vec<Piece>, AllocError>
     requires { 1 ≤ length line.now }
-    ensures { IfOk result (λ lexemes. Cuts line.now 1 modes.First lexemes.items) }
+    ensures { IfOk result (λ pieces. AreLineTokens line.now pieces.items) }
 {
-    let mut lexemes = Vec::new(alloc);
+    let mut pieces = Vec::new(alloc);
     let mut at = 1;
-    let mut mode = Mode::First;
-    'steps: loop {
-        match next_step(line, at, mode) {
-            Step::End => return Ok(lexemes),
-            Step::Gap(next, after) => {
-                at = next;
-                mode = after;
-            }
-            Step::Found(lexeme, next, after) => {
-                lexemes.push(lexeme)?;
-                at = next;
-                mode = after;
-            }
-            Step::Last(lexeme) => {
-                lexemes.push(lexeme)?;
-                return Ok(lexemes);
-            }
+    'pieces: loop {
+        let allowed = Allowed {
+            directive: false,
+            header: is_include(line, pieces.as_slice()),
+        };
+        let Some(piece) = piece_at(allowed, line, at) else {
+            return Ok(pieces);
+        };
+        if !is_gap(piece) {
+            pieces.push(piece)?;
         }
+        let Some(next) = end_of(piece) else {
+            return Ok(pieces);
+        };
+        at = next;
     }
 }
 
-fn replacement_at(alloc: Global, line: &[u8], lexeme: Lexeme) -> Result<Option<Replacement>, Memory>
-    ensures { IfOk result (λ r. r ≡ replacement_at line.now lexeme) }
+fn is_gap(piece: Piece) -> bool
+    ensures { result ≡ is_gap piece }
 {
-    match lexeme {
-        Lexeme::Token(at, length) => {
+    matches!(piece, Piece::Gap(_, _))
+}
+
+fn replacement_at(alloc: Global, line: &[u8], piece: Piece) -> Result<Option<Replacement>, Memory>
+    ensures { IfOk result (λ r. r ≡ replacement_at line.now piece) }
+{
+    match piece {
+        Piece::Token(at, length) => {
             let bytes = part(line, at, length);
             match token_kind(bytes) {
                 Some(kind) => {
@@ -169,13 +170,13 @@ fn replacement_at(alloc: Global, line: &[u8], lexeme: Lexeme) -> Result<Option<R
 fn list_of(
     alloc: Global,
     line: &[u8],
-    lexemes: &[Lexeme],
+    pieces: &[Piece],
 ) -> Result<Option<Vector<Replacement>>, Memory>
-    ensures { IfOk result (λ list. list ≡ list_of line.now lexemes.now) }
+    ensures { IfOk result (λ list. list ≡ list_of line.now pieces.now) }
 {
     let mut list = Vector::new(alloc);
-    for lexeme in lexemes {
-        match replacement_at(alloc, line, *lexeme)? {
+    for piece in pieces {
+        match replacement_at(alloc, line, *piece)? {
             Some(replacement) => list.push(replacement)?,
             None => return Ok(None),
         }
@@ -187,28 +188,26 @@ fn list_of(
 pub fn take_directive(
     alloc: Global,
     line: &[u8],
-    file: u32,
-    number: u32,
+    place: Place,
     table: &mut Table,
 ) -> Result<(), Fault>
     requires some { 1 ≤ length line.now }
     requires indexed { IsIndexed table.old }
-    ensures taken { DirectiveTaken line.now (place.Source file number) table.old.macros.items table.new.macros.items result }
+    ensures taken { DirectiveTaken line.now place table.old.macros.items table.new.macros.items result }
     ensures indexed { OnOk result (IsIndexed table.new) }
 {
-    let lexemes = line_lexemes(alloc, line)?;
-    let here = Place::Source { file, line: number };
-    match directive_of(line, lexemes.as_slice()) {
+    let tokens = line_pieces(alloc, line)?;
+    match directive_of(line, tokens.as_slice()) {
         Directive::Include => Ok(()),
-        Directive::UnknownByte => Err(refusal(10, here)),
-        Directive::Wrong => Err(refusal(12, here)),
+        Directive::UnknownByte => Err(refusal(10, place)),
+        Directive::Wrong => Err(refusal(12, place)),
         Directive::Define(at, length) => {
             let name = Name::new(alloc, part(line, at, length))?;
-            if table.place_of(&name).is_some() {
-                return Err(refusal(12, here));
+            if table.index_of(&name).is_some() {
+                return Err(refusal(12, place));
             }
-            match list_of(alloc, line, after_two(lexemes.as_slice()))? {
-                None => Err(refusal(13, here)),
+            match list_of(alloc, line, after_two(tokens.as_slice()))? {
+                None => Err(refusal(13, place)),
                 Some(list) => {
                     table.define(name, list)?;
                     Ok(())
@@ -218,10 +217,10 @@ pub fn take_directive(
     }
 }
 
-fn after_two(lexemes: &[Lexeme]) -> &[Lexeme]
-    ensures { result.now ≡ drop 2 lexemes.now }
+fn after_two(pieces: &[Piece]) -> &[Piece]
+    ensures { result.now ≡ drop 2 pieces.now }
 {
-    match lexemes {
+    match pieces {
         [_, _, rest @ ..] => rest,
         _ => &[],
     }

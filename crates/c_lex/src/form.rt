@@ -2,14 +2,13 @@
 ghost use Rattle.std.specs.Prelude.{◌≡◌, false, length, take};
 ghost use Rattle.std.specs.List.{prefix_len};
 ghost use Rattle.c_lex.specs.Bytes.{is_one_of, continues_word, continues_number};
-ghost use Rattle.c_lex.specs.Forms.{single_marks, is_double_mark, is_triple_mark, is_token, is_header, ends_header, ends_token, greatest, longest, PicksLongest, escapes, value_at};
-ghost use Rattle.c_lex.specs.Scans.{constant_length, escape_length, string_length, header_length, mark_length};
+ghost use Rattle.c_lex.specs.Forms.{single_marks, is_double_mark, is_triple_mark, is_token, is_header, ends_header, ends_token, greatest, longest, escapes, value_at};
+ghost use Rattle.c_lex.specs.Scans.{PicksLongest, constant_length, escape_length, string_length, header_length, mark_length};
 
 use crate::bytes::{
     continues_number, continues_word, is_constant_byte, is_digit, is_escaped_byte, is_letter,
     is_string_byte,
 };
-use crate::cut::Mode;
 
 fn is_single_mark(a: u8) -> bool
     ensures { result ≡ is_one_of single_marks a }
@@ -218,13 +217,14 @@ fn header_name_length(text: &[u8]) -> Option<usize>
     }
 }
 
-/// The length of the longest token that begins a text, in bytes.
+/// The length in bytes of the longest token that begins a text, or of the longest name of a header.
 #[tactic(auto, unfolding(crate::specs::Forms::longest))]
-pub fn longest(mode: Mode, text: &[u8]) -> Option<usize>
-    ensures { result ≡ longest mode text.now }
+pub fn longest(header: bool, text: &[u8]) -> Option<usize>
+    ensures { result ≡ longest header text.now }
 {
-    match mode {
-        Mode::Header => header_name_length(text),
-        _ => token_length(text),
+    if header {
+        header_name_length(text)
+    } else {
+        token_length(text)
     }
 }

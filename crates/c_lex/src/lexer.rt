@@ -1,13 +1,13 @@
 // The pass along a text.
 ghost use Rattle.std.specs.Prelude.{◌≡◌, ◌≤◌, ◌<◌, ◌+◌, ◌^◌, [], length, IfOk, IsTrue, ◌↔◌};
-ghost use Rattle.c_lex.specs.Cuts.{IsInside, place_of_lexeme};
-ghost use Rattle.c_lex.specs.Lexed.{Answers, AreSmall, most};
-ghost use Rattle.c_lex.specs.Places.{position_at, span_of};
+ghost use Rattle.c_lex.specs.Lexed.{Answers, AreSmall};
+ghost use Rattle.c_lex.specs.Places.{position_at};
 ghost use Rattle.c_lex.specs.Table.{IsIndexed};
-ghost use Rattle.c_lex.specs.Taking.{LexemeTaken, TextTaken};
+ghost use Rattle.c_lex.specs.Taking.{IsAllowed, LiesAt, PieceTaken, TextTaken, begins_line_after};
 
-use crate::cut::{Lexeme, Mode, Step, next_step, part};
 use crate::directive::take_directive;
+use crate::output::Output;
+use crate::piece::{Allowed, Piece, end_of, has_line_feed, part, piece_at};
 use crate::position::{Position, after_bytes};
 use crate::refuse::refusal;
 use crate::table::Table;
@@ -16,36 +16,41 @@ use crate::token::{SourceText, Token};
 use fq_core::{Fault, Place, Span};
 use std::alloc::Global;
 
-/// A place in a file.
+/// A byte of a file, from 0, and its position.
 #[derive(Clone, Copy, Debug)]
 pub struct Spot {
     pub file: u32,
+    pub at: usize,
     pub position: Position,
 }
 
-// Takes a token or a directive line, or refuses what stops the cutting.
-fn take_lexeme(
+// Takes a piece of a text, or refuses what stops the cutting.
+fn take_piece(
     alloc: Global,
     text: &[u8],
-    lexeme: Lexeme,
+    piece: Piece,
     spot: Spot,
     table: &mut Table,
-    tokens: &mut Vec<Token>,
-    replaced: usize,
-) -> Result<usize, Fault>
+    output: &mut Output,
+) -> Result<(), Fault>
     requires indexed { IsIndexed table.old }
-    requires tokens { length tokens.old.items ≤ most }
-    requires replaced { replaced ≤ most }
-    requires place { spot.position ≡ position_at text.now (place_of_lexeme lexeme) }
-    requires inside { IsInside lexeme (length text.now) }
+    requires allowed { IsAllowed output.old }
+    requires position { spot.position ≡ position_at text.now spot.at }
+    requires inside { LiesAt spot.at (length text.now) piece }
     requires size { length text.now < 2 ^ 32 }
     requires line { spot.position.line < 2 ^ 32 }
     requires column { spot.position.column < 2 ^ 32 }
-    ensures { LexemeTaken spot.file text.now lexeme table.old table.new tokens.old.items replaced tokens.new.items result }
+    ensures { PieceTaken spot.file text.now piece table.old table.new output.old output.new result }
 {
     let line = spot.position.line as u32;
-    match lexeme {
-        Lexeme::Token(at, length) => {
+    let place = Place::Source {
+        file: spot.file,
+        line,
+    };
+    match piece {
+        Piece::Gap(_, _) => Ok(()),
+        Piece::Directive(at, length) => take_directive(alloc, part(text, at, length), place, table),
+        Piece::Token(at, length) => {
             let span = Span {
                 file: spot.file,
                 line,
@@ -53,90 +58,72 @@ fn take_lexeme(
                 start: at as u32,
                 end: (at + length) as u32,
             };
-            take_token(alloc, table, part(text, at, length), span, tokens, replaced)
+            take_token(alloc, table, part(text, at, length), span, output)
         }
-        Lexeme::Directive(at, length) => {
-            match take_directive(alloc, part(text, at, length), spot.file, line, table) {
-                Ok(()) => Ok(replaced),
-                Err(fault) => Err(fault),
-            }
-        }
-        Lexeme::Unknown(_) => Err(refusal(
-            10,
-            Place::Source {
-                file: spot.file,
-                line,
-            },
-        )),
-        Lexeme::Open(_) => Err(refusal(
-            11,
-            Place::Source {
-                file: spot.file,
-                line,
-            },
-        )),
+        Piece::Unknown(_) => Err(refusal(10, place)),
+        Piece::Open(_) => Err(refusal(11, place)),
     }
 }
 
 // The position of a later byte.
-fn moved(text: &[u8], from: Position, at: usize, next: usize) -> Position
+fn later_position(text: &[u8], from: Position, at: usize, next: usize) -> Position
     requires forward { at < next }
     requires within { next ≤ length text.now }
-    requires place { from ≡ position_at text.now at }
+    requires position { from ≡ position_at text.now at }
     requires size { length text.now < 2 ^ 32 }
     requires line { from.line ≤ at + 1 }
     requires column { from.column ≤ at + 1 }
-    ensures place { result ≡ position_at text.now next }
+    ensures position { result ≡ position_at text.now next }
     ensures line { result.line ≤ next + 1 }
     ensures column { result.column ≤ next + 1 }
 {
     after_bytes(from, &text[at..next])
 }
 
-/// The tokens of a text, which are appended to those of the texts before, and how many words are replaced by then. The
-/// table takes in the macros of the text, and has none at its begin.
+// Whether only blanks and comments stand on a line up to the end of a piece.
+fn begins_line_after(text: &[u8], before: bool, piece: Piece) -> bool
+    ensures { result ≡ begins_line_after text.now before piece }
+{
+    match piece {
+        Piece::Gap(at, length) => has_line_feed(part(text, at, length)) || before,
+        _ => false,
+    }
+}
+
+/// Appends the tokens of a text to those of the texts before. The table takes in the macros of the text, and has none at
+/// its begin.
 pub fn read_text(
     alloc: Global,
     file: u32,
     text: &[u8],
     table: &mut Table,
-    tokens: &mut Vec<Token>,
-    replaced: usize,
-) -> Result<usize, Fault>
+    output: &mut Output,
+) -> Result<(), Fault>
     requires size { length text.now < 2 ^ 32 }
     requires empty { table.old.macros.items ≡ [] }
     requires indexed { IsIndexed table.old }
-    requires tokens { length tokens.old.items ≤ most }
-    requires replaced { replaced ≤ most }
-    ensures { TextTaken file text.now tokens.old.items replaced tokens.new.items result }
+    requires allowed { IsAllowed output.old }
+    ensures { TextTaken file text.now output.old output.new result }
 {
-    let mut count = replaced;
     let mut at = 0;
-    let mut mode = Mode::Fresh;
+    let mut begins_line = true;
     let mut position = Position { line: 1, column: 1 };
-    'steps: loop {
-        match next_step(text, at, mode) {
-            Step::End => return Ok(count),
-            Step::Gap(next, after) => {
-                position = moved(text, position, at, next);
-                at = next;
-                mode = after;
-            }
-            Step::Found(lexeme, next, after) => {
-                let spot = Spot { file, position };
-                match take_lexeme(alloc, text, lexeme, spot, table, tokens, count) {
-                    Ok(now) => count = now,
-                    Err(fault) => return Err(fault),
-                }
-                position = moved(text, position, at, next);
-                at = next;
-                mode = after;
-            }
-            Step::Last(lexeme) => {
-                let spot = Spot { file, position };
-                return take_lexeme(alloc, text, lexeme, spot, table, tokens, count);
-            }
-        }
+    'pieces: loop {
+        let allowed = Allowed {
+            directive: begins_line,
+            header: false,
+        };
+        let Some(piece) = piece_at(allowed, text, at) else {
+            return Ok(());
+        };
+        let spot = Spot { file, at, position };
+        take_piece(alloc, text, piece, spot, table, output)?;
+        let Some(next) = end_of(piece) else {
+            return Ok(());
+        };
+        position = later_position(text, position, at, next);
+        begins_line = begins_line_after(text, begins_line, piece);
+        at = next;
     }
 }
 
@@ -160,21 +147,19 @@ pub fn tokens(alloc: Global, texts: &[SourceText]) -> Result<Vec<Token>, Fault>
     requires sizes { AreSmall texts.now }
     ensures { Answers texts.now result }
 {
-    let mut made = Vec::new(alloc);
-    let mut replaced = 0;
+    let mut output = Output {
+        tokens: Vec::new(alloc),
+        replaced: 0,
+    };
     for (file, text) in texts.iter().enumerate() {
         let mut table = Table::new(alloc);
-        match read_text(
+        read_text(
             alloc,
             file as u32,
             text.bytes.as_slice(),
             &mut table,
-            &mut made,
-            replaced,
-        ) {
-            Ok(count) => replaced = count,
-            Err(fault) => return Err(fault),
-        }
+            &mut output,
+        )?;
     }
-    Ok(made)
+    Ok(output.tokens)
 }

@@ -8,7 +8,6 @@
 
 mod bytes;
 mod constant;
-mod cut;
 mod directive;
 mod expand;
 mod foreign;
@@ -17,6 +16,8 @@ mod laws;
 mod lexer;
 mod looping;
 mod macros;
+mod output;
+mod piece;
 mod position;
 mod refuse;
 mod table;

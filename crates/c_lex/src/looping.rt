@@ -4,7 +4,7 @@ ghost use Rattle.c_lex.specs.Macros.{LoopsOrEnds, list_at};
 ghost use Rattle.c_lex.specs.Searching.{TurnTaken};
 ghost use Rattle.c_lex.specs.Table.{IsIndexed};
 
-use crate::expand::{Frame, replacement_at};
+use crate::expand::{Frame, frame_token};
 use crate::table::Table;
 use std::alloc::{AllocError, Global};
 
@@ -29,42 +29,42 @@ fn search_on(
 ) -> Result<bool, AllocError>
     requires indexed { IsIndexed table.now }
     requires lengths { length marks.old ≡ length table.now.macros.items }
-    requires place { frame.place < length marks.old }
+    requires index { frame.index < length marks.old }
     ensures { TurnTaken table.now.macros.items marks.old (frame ∷ reverse frames.old.items) marks.new (reverse frames.new.items) result }
 {
-    let Some(next) = replacement_at(table.macros.as_slice(), frame) else {
-        marks[frame.place] = Mark::Done;
+    let Some(next) = frame_token(table.macros.as_slice(), frame) else {
+        marks[frame.index] = Mark::Done;
         return Ok(false);
     };
     frames.push(Frame {
-        place: frame.place,
+        index: frame.index,
         at: frame.at + 1,
     })?;
-    let Some(place) = table.place_of(&next.text) else {
+    let Some(index) = table.index_of(&next.text) else {
         return Ok(false);
     };
-    match marks[place] {
+    match marks[index] {
         Mark::Open => return Ok(true),
         Mark::Done => {}
         Mark::New => {
-            marks[place] = Mark::Open;
-            frames.push(Frame { place, at: 0 })?;
+            marks[index] = Mark::Open;
+            frames.push(Frame { index, at: 0 })?;
         }
     }
     Ok(false)
 }
 
-/// Whether the replacement of the macro at a place meets a word that is met within its own replacement. If not, it has
+/// Whether the replacement of the macro at an index meets a word that is met within its own replacement. If not, it has
 /// an end. Each macro's list is read once at most.
-pub fn loops(alloc: Global, table: &Table, place: usize) -> Result<bool, AllocError>
+pub fn loops(alloc: Global, table: &Table, index: usize) -> Result<bool, AllocError>
     requires indexed { IsIndexed table.now }
-    requires place { place < length table.now.macros.items }
-    ensures { IfOk result (λ b. LoopsOrEnds table.now.macros.items (list_at table.now.macros.items place) b) }
+    requires index { index < length table.now.macros.items }
+    ensures { IfOk result (λ b. LoopsOrEnds table.now.macros.items (list_at table.now.macros.items index) b) }
 {
     let mut marks = vec![in alloc; Mark::New; table.macros.len()]?;
-    marks[place] = Mark::Open;
+    marks[index] = Mark::Open;
     let mut frames = Vec::new(alloc);
-    frames.push(Frame { place, at: 0 })?;
+    frames.push(Frame { index, at: 0 })?;
     'turns: while let Some(frame) = frames.pop() {
         if search_on(table, frame, marks.as_mut_slice(), &mut frames)? {
             return Ok(true);

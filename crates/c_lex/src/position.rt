@@ -2,7 +2,7 @@
 ghost use Rattle.std.specs.Prelude.{◌≡◌, ◌+◌, ◌<◌, ◌≤◌, ◌^◌, length};
 ghost use Rattle.c_lex.specs.Places.{after_bytes};
 
-/// The place of a byte in a text.
+/// The position of a byte in a text.
 #[derive(Clone, Copy, Debug)]
 pub struct Position {
     /// The line, from 1.
@@ -11,7 +11,7 @@ pub struct Position {
     pub column: usize,
 }
 
-/// The place after these bytes.
+/// The position after these bytes.
 pub fn after_bytes(from: Position, bytes: &[u8]) -> Position
     requires line { from.line + length bytes.now < 2 ^ 64 }
     requires column { from.column + length bytes.now < 2 ^ 64 }

@@ -7,15 +7,15 @@ use fq_core::Name;
 use std::alloc::{AllocError, Global};
 use std::collections::BTreeMap;
 
-/// The macros in the order of their definitions, and the place of each name.
+/// The macros in the order of their definitions, and the index of each name.
 #[derive(Drop)]
 pub struct Table {
     pub macros: Vec<Macro>,
-    pub places: BTreeMap<Name, usize>,
+    pub indexes: BTreeMap<Name, usize>,
 }
 
 impl Table {
-    ghost use Rattle.c_lex.specs.Macros.{place_of};
+    ghost use Rattle.c_lex.specs.Macros.{index_of};
     ghost use Rattle.c_lex.specs.Table.{IsIndexed};
 
     pub fn new(alloc: Global) -> Table
@@ -24,29 +24,29 @@ impl Table {
     {
         Table {
             macros: Vec::new(alloc),
-            places: BTreeMap::new(alloc),
+            indexes: BTreeMap::new(alloc),
         }
     }
 
-    /// The place of the macro of a name.
-    pub fn place_of(&self, name: &Name) -> Option<usize>
+    /// The index of the macro of a name.
+    pub fn index_of(&self, name: &Name) -> Option<usize>
         requires { IsIndexed self.now }
-        ensures { result ≡ place_of self.now.macros.items name.now }
+        ensures { result ≡ index_of self.now.macros.items name.now }
     {
-        self.places.get(name).copied()
+        self.indexes.get(name).copied()
     }
 
     /// Takes in a macro whose name has none.
     pub fn define(&mut self, name: Name, list: Vector<Replacement>) -> Result<(), AllocError>
         requires indexed { IsIndexed self.old }
-        requires new { place_of self.old.macros.items name ≡ None }
+        requires new { index_of self.old.macros.items name ≡ None }
         ensures added { OnOk result (self.new.macros.items ≡ self.old.macros.items ++ record { name = name; list = list } ∷ []) }
         ensures indexed { OnOk result (IsIndexed self.new) }
     {
         let key = name.clone()?;
-        let place = self.macros.len();
+        let index = self.macros.len();
         self.macros.push(Macro { name, list })?;
-        self.places.insert(key, place)?;
+        self.indexes.insert(key, index)?;
         Ok(())
     }
 }

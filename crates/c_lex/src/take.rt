@@ -1,23 +1,24 @@
 // What one token comes to.
 ghost use Rattle.std.specs.Prelude.{◌≡◌, ◌≤◌, Some, length};
 ghost use Rattle.c_lex.specs.Constants.{token_kind};
-ghost use Rattle.c_lex.specs.Lexed.{most};
-ghost use Rattle.c_lex.specs.Macros.{place_of};
+ghost use Rattle.c_lex.specs.Lexed.{line_of_span};
+ghost use Rattle.c_lex.specs.Macros.{index_of};
 ghost use Rattle.c_lex.specs.Table.{IsIndexed};
-ghost use Rattle.c_lex.specs.Taking.{PlainTaken, TokenTaken, place_of_span};
+ghost use Rattle.c_lex.specs.Taking.{IsAllowed, PlainTaken, TokenTaken};
 
 use crate::constant::token_kind;
-use crate::expand::{Expansion, MOST, expand};
+use crate::expand::{Expansion, expand};
 use crate::looping::loops;
 use crate::macros::Replacement;
+use crate::output::{MOST, Output, past_limit};
 use crate::refuse::refusal;
 use crate::table::Table;
 use crate::token::Token;
 use fq_core::{Fault, Name, Place, Span};
 use std::alloc::Global;
 
-fn place_of_span(span: Span) -> Place
-    ensures { result ≡ place_of_span span }
+fn line_of_span(span: Span) -> Place
+    ensures { result ≡ line_of_span span }
 {
     Place::Source {
         file: span.file,
@@ -26,60 +27,43 @@ fn place_of_span(span: Span) -> Place
 }
 
 // Takes a token that no macro replaces.
-fn take_plain(
-    word: Replacement,
-    span: Span,
-    tokens: &mut Vec<Token>,
-    replaced: usize,
-) -> Result<usize, Fault>
-    requires { replaced ≤ most }
-    ensures { PlainTaken word span tokens.old.items replaced tokens.new.items result }
+fn take_plain(word: Replacement, span: Span, output: &mut Output) -> Result<(), Fault>
+    requires { IsAllowed output.old }
+    ensures { PlainTaken word span output.old output.new result }
 {
-    if tokens.len() >= MOST {
-        return Err(refusal(
-            15,
-            Place::Limit {
-                number: MOST as u64,
-            },
-        ));
+    if output.tokens.len() >= MOST {
+        return Err(past_limit());
     }
-    tokens.push(Token {
+    output.tokens.push(Token {
         kind: word.kind,
         span,
         text: word.text,
     })?;
-    Ok(replaced)
+    Ok(())
 }
 
-// Takes the word of the macro at a place.
+// Takes the word of the macro at an index.
 fn take_use(
     alloc: Global,
     table: &Table,
     word: &Replacement,
-    place: usize,
+    index: usize,
     span: Span,
-    tokens: &mut Vec<Token>,
-    replaced: usize,
-) -> Result<usize, Fault>
+    output: &mut Output,
+) -> Result<(), Fault>
     requires indexed { IsIndexed table.now }
-    requires place { place_of table.now.macros.items word.now.text ≡ Some place }
+    requires index { index_of table.now.macros.items word.now.text ≡ Some index }
     requires kind { token_kind word.now.text ≡ Some word.now.kind }
-    requires tokens { length tokens.old.items ≤ most }
-    requires replaced { replaced ≤ most }
-    ensures { TokenTaken table.now.macros.items word.now.text span tokens.old.items replaced tokens.new.items result }
+    requires allowed { IsAllowed output.old }
+    ensures { TokenTaken table.now.macros.items word.now.text span output.old output.new result }
 {
-    match expand(alloc, table, word, place, span, tokens, replaced)? {
-        Expansion::Done(count) => Ok(count),
+    match expand(alloc, table, word, index, span, output)? {
+        Expansion::Done => Ok(()),
         Expansion::Passed => {
-            if loops(alloc, table, place)? {
-                Err(refusal(14, place_of_span(span)))
+            if loops(alloc, table, index)? {
+                Err(refusal(14, line_of_span(span)))
             } else {
-                Err(refusal(
-                    15,
-                    Place::Limit {
-                        number: MOST as u64,
-                    },
-                ))
+                Err(past_limit())
             }
         }
     }
@@ -91,23 +75,21 @@ pub fn take_token(
     table: &Table,
     bytes: &[u8],
     span: Span,
-    tokens: &mut Vec<Token>,
-    replaced: usize,
-) -> Result<usize, Fault>
+    output: &mut Output,
+) -> Result<(), Fault>
     requires indexed { IsIndexed table.now }
-    requires tokens { length tokens.old.items ≤ most }
-    requires replaced { replaced ≤ most }
-    ensures { TokenTaken table.now.macros.items bytes.now span tokens.old.items replaced tokens.new.items result }
+    requires allowed { IsAllowed output.old }
+    ensures { TokenTaken table.now.macros.items bytes.now span output.old output.new result }
 {
     let Some(kind) = token_kind(bytes) else {
-        return Err(refusal(13, place_of_span(span)));
+        return Err(refusal(13, line_of_span(span)));
     };
     let word = Replacement {
         kind,
         text: Name::new(alloc, bytes)?,
     };
-    match table.place_of(&word.text) {
-        None => take_plain(word, span, tokens, replaced),
-        Some(place) => take_use(alloc, table, &word, place, span, tokens, replaced),
+    match table.index_of(&word.text) {
+        None => take_plain(word, span, output),
+        Some(index) => take_use(alloc, table, &word, index, span, output),
     }
 }

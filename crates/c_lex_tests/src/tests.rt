@@ -224,10 +224,14 @@ fn number_of_tokens(alloc: Global, text: &[u8]) -> Result<usize, Fail> {
     }
 }
 
-// So many uses of a macro that gives nothing.
-fn uses(alloc: Global, count: usize) -> Result<String, Fail> {
+// So many uses of a macro that gives a word of so many letters, or nothing where there are none.
+fn uses(alloc: Global, letters: usize, count: usize) -> Result<String, Fail> {
     let mut text = String::new(alloc);
-    text.push_str("#define A\n")?;
+    text.push_str("#define A ")?;
+    for _ in 0..letters {
+        text.push_str("x")?;
+    }
+    text.push_str("\n")?;
     for _ in 0..count {
         text.push_str("A ")?;
     }
@@ -242,9 +246,16 @@ fn limits(rt: HostRuntime) -> Result<(), Fail> {
     let marks = vec![in alloc; b';'; 200_001]?;
     let got = shown(alloc, &[marks.as_slice()])?;
     assert_eq!(rt; got.as_str(), "15 limit 200000");
-    let words = uses(alloc, 200_000)?;
-    assert_eq!(rt; number_of_tokens(alloc, words.as_bytes())?, 0);
-    let words = uses(alloc, 200_001)?;
+    for (letters, count, want) in [
+        (0, 200_000, 0),
+        (1, 200_000, 200_000),
+        (10_000, 99_000, 99_000),
+        (40_000, 147_000, 147_000),
+    ] {
+        let words = uses(alloc, letters, count)?;
+        assert_eq!(rt; number_of_tokens(alloc, words.as_bytes())?, want);
+    }
+    let words = uses(alloc, 0, 200_001)?;
     let got = shown(alloc, &[words.as_bytes()])?;
     assert_eq!(rt; got.as_str(), "15 limit 200000");
     Ok(())

@@ -8,8 +8,7 @@ ghost use Rattle.c_lower.specs.Forms.{has_any};
 
 use crate::around::{copied, shared};
 use crate::stop::Stop;
-use cfa::{Scope, Variable};
-use chains::Chain;
+use cfa::{Scope, Variable, Variables};
 use containers::TryClone;
 use graph_of::{Around, Parts};
 use std::alloc::{AllocError, Global};
@@ -32,7 +31,7 @@ fn before(alloc: Global, variable: &Variable, sees: Scope) -> Result<(Scope, boo
     ensures fresh { IfOk result (λ r. r.1 ≡ true) }
 {
     let Scope { variables } = sees;
-    let variables = Chain::with(alloc, cloned(alloc, variable)?, variables)?;
+    let variables = Variables::with(alloc, cloned(alloc, variable)?, variables)?;
     Ok((Scope { variables }, true))
 }
 

@@ -12,43 +12,39 @@ use crate::scopes::cloned;
 use crate::statements::block;
 use crate::stop::Stop;
 use c_values::Kind;
-use cfa::{Function, GraphParts, InputFunction, Node, Scope, StatementKind, Variable};
-use chains::Chain;
+use cfa::{Function, GraphParts, InputFunction, Node, Scope, StatementKind, Variable, Variables};
 use containers::{TryClone, Vector};
 use fq_core::{Name, Span};
 use graph_of::{Around, Parts};
 use std::alloc::{AllocError, Global};
 use typed_trees::{Global as GlobalVariable, Typed, TypedFunction};
 
-/// Variables, and then those of a chain.
+/// Variables, and then those of further out.
 fn before_all(
     alloc: Global,
     variables: &[Variable],
-    outer: Chain<Variable>,
-) -> Result<Chain<Variable>, AllocError>
+    outer: Variables,
+) -> Result<Variables, AllocError>
     ensures { IfOk result (λ chain. chain ≡ variables.now ++ outer) }
 {
     let mut chain = outer;
     let mut i = variables.len();
     while i > 0 {
         i -= 1;
-        chain = Chain::with(alloc, cloned(alloc, &variables[i])?, chain)?;
+        chain = Variables::with(alloc, cloned(alloc, &variables[i])?, chain)?;
     }
     Ok(chain)
 }
 
 /// The variables of the file's scope.
-fn global_variables(
-    alloc: Global,
-    globals: &[GlobalVariable],
-) -> Result<Chain<Variable>, AllocError>
+fn global_variables(alloc: Global, globals: &[GlobalVariable]) -> Result<Variables, AllocError>
     ensures { IfOk result (λ chain. chain ≡ map (λ (g : OneGlobal). g.variable) globals.now) }
 {
-    let mut chain = Chain::new();
+    let mut chain = Variables::new();
     let mut i = globals.len();
     while i > 0 {
         i -= 1;
-        chain = Chain::with(alloc, cloned(alloc, &globals[i].variable)?, chain)?;
+        chain = Variables::with(alloc, cloned(alloc, &globals[i].variable)?, chain)?;
     }
     Ok(chain)
 }
@@ -56,7 +52,7 @@ fn global_variables(
 /// What a function's body and its ends see.
 fn outermost(
     alloc: Global,
-    globals: &Chain<Variable>,
+    globals: &Variables,
     function: &TypedFunction,
 ) -> Result<Scope, AllocError>
     ensures { IfOk result (λ scope. scope ≡ outermost globals.now function.now) }
@@ -69,7 +65,7 @@ fn outermost(
 /// What the body of the function of a number stands in.
 fn around_of(
     alloc: Global,
-    globals: &Chain<Variable>,
+    globals: &Variables,
     number: u32,
     function: &TypedFunction,
 ) -> Result<Around, AllocError>
@@ -104,11 +100,7 @@ fn end_node(number: u32, span: Span) -> Node
 }
 
 /// The entries, exits and outermost scopes of functions.
-fn ends(
-    alloc: Global,
-    globals: &Chain<Variable>,
-    functions: &[TypedFunction],
-) -> Result<Parts, Stop>
+fn ends(alloc: Global, globals: &Variables, functions: &[TypedFunction]) -> Result<Parts, Stop>
     requires { length functions.now < 2147483648 }
     ensures made { IfOk result (λ parts. parts ≡ ends globals.now functions.now 0 0 0) }
     ensures memory { IfErr result (λ stop. stop ≡ Stop.Memory) }
@@ -131,7 +123,7 @@ fn ends(
 #[tactic(auto, using(crate::proofs::Stops::stopping))]
 fn bodies(
     alloc: Global,
-    globals: &Chain<Variable>,
+    globals: &Variables,
     functions: &[TypedFunction],
     parts: &mut Parts,
 ) -> Result<(), Stop>

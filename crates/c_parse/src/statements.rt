@@ -12,7 +12,7 @@ use crate::simple::{labels, optional, starts_with_label, stepped, test};
 use crate::statement::{Form, Group, Statement};
 use crate::stop::Stop;
 use containers::{Boxed, Vector};
-use fq_core::{Name, Span};
+use fq_core::Span;
 use std::alloc::Global;
 
 // What follows `return`.

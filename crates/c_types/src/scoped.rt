@@ -3,15 +3,14 @@ ghost use Rattle.std.specs.Prelude.{◌≡◌, IfOk};
 ghost use Rattle.c_types.specs.Scoped.{expression_in, names_in, sort_expr};
 
 use c_parse::ExprTree;
-use cfa::{Expr, Scope, Variable};
-use chains::Chain;
+use cfa::{Expr, Scope, Variable, Variables};
 use containers::{TryClone, Vector};
 use expression_types::{Bound, Cases, Meaning, Names, Scopes, Sort, Typer, copied, expr_of};
 use fq_core::Memory;
 use std::alloc::{AllocError, Global};
 
 // The variables of a scope, in a row.
-fn row_of(alloc: Global, variables: &Chain<Variable>) -> Result<Vector<Variable>, AllocError>
+fn row_of(alloc: Global, variables: &Variables) -> Result<Vector<Variable>, AllocError>
     ensures { IfOk result (λ row. row ≡ variables.now) }
 {
     let mut row = Vector::new(alloc);

@@ -5,8 +5,7 @@ use c_lex::{SourceText, are_small, tokens};
 use c_parse::{Form, Item, Unit, parse};
 use c_types::{check, type_expression};
 use c_values::Kind;
-use cfa::{Scope, Variable, VariablePlace};
-use chains::Chain;
+use cfa::{Scope, Variable, VariablePlace, Variables};
 use containers::Vector;
 use fq_core::{Fault, Memory, Name, Place};
 use printed::{show_expr, show_function, show_name, show_variable};
@@ -439,7 +438,7 @@ const IN_SCOPE: [(&str, u8, bool, Option<u32>, VariablePlace); 7] = [
 ];
 
 fn in_scope(alloc: Global) -> Result<Scope, Memory> {
-    let mut variables = Chain::new();
+    let mut variables = Variables::new();
     for (name, width, signed, length, place) in IN_SCOPE.iter().rev() {
         let variable = Variable {
             name: Name::new(alloc, name.as_bytes())?,
@@ -450,7 +449,7 @@ fn in_scope(alloc: Global) -> Result<Scope, Memory> {
             length: *length,
             place: *place,
         };
-        variables = Chain::with(alloc, variable, variables)?;
+        variables = Variables::with(alloc, variable, variables)?;
     }
     Ok(Scope { variables })
 }

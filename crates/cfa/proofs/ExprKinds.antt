@@ -37,7 +37,7 @@ same_kind_is a b h =
     let signed = same_sign_is a.signed b.signed (and_right (a.width == b.width) (same_sign a.signed b.signed) h) in
     ap (λ n. kind_made n a.signed) width ∙ ap (kind_made b.width) signed
 
-has_kind_is : (o : Option Kind) (kind : Kind) → IsTrue (has_kind o kind) → o ≡ Some kind
+pub has_kind_is : (o : Option Kind) (kind : Kind) → IsTrue (has_kind o kind) → o ≡ Some kind
 has_kind_is None kind h = absurd (cc)
 has_kind_is (Some own) kind h = ap Some (same_kind_is own kind h)
 

@@ -18,7 +18,7 @@ use Rattle.cfa.specs.declared.parts.Variable.{Variable}
 use Rattle.cfa.specs.declared.parts.VariablePlace.{VariablePlace}
 use Rattle.cfa.specs.declared.parts.VariablePlace.TheVariants as variable
 use Rattle.cfa.specs.Each.{Each, matched}
-use Rattle.cfa.specs.Rules.{Room, array_fits, place_fits, expr_fits, checked_kind, has_kind, is_length}
+use Rattle.cfa.specs.Rules.{Room, cell_count, array_fits, place_fits, expr_fits, checked_kind, has_kind, is_length}
 
 -- ---- what the numbers name
 
@@ -185,11 +185,6 @@ pub record FunctionFits (parts : GraphParts) (at : ℕ) (f : Function) : Type 0 
   -- a frame has a cell for the result and one for each integer parameter, and at most 16,384 in all
   pub least_cells : length f.parameters + 1 ≤ f.cells
   pub most_cells : f.cells ≤ 16384
-
--- how many cells a variable takes
-abbrev pub cell_count : Option ℕ → ℕ
-cell_count None = 1
-cell_count (Some length) = length
 
 -- the length of an array that is lent
 abbrev pub lent_fits : Room → ℕ → Option ℕ → Bool

@@ -19,6 +19,11 @@ pub record Room : Type 0 where
   pub cells : ℕ
   pub arrays : List ℕ
 
+-- how many cells a variable takes: one, or as many as an array has elements
+abbrev pub cell_count : Option ℕ → ℕ
+cell_count None = 1
+cell_count (Some length) = length
+
 -- an operand that meets the rules has this kind
 abbrev pub has_kind : Option Kind → Kind → Bool
 has_kind None kind = false

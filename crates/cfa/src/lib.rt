@@ -16,6 +16,7 @@ mod parts;
 mod rest;
 mod rules;
 mod state;
+mod variables;
 mod ways;
 
 pub use c_values::{BinaryOp, UnaryOp};
@@ -27,3 +28,4 @@ pub use parts::{
     Edge, Function, GraphParts, InputFunction, Node, Operation, Scope, Variable, VariablePlace,
 };
 pub use state::{Frame, Predicates, State, Trap};
+pub use variables::Variables;

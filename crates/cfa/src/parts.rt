@@ -1,7 +1,7 @@
 // The parts of a control flow automaton.
 use crate::expr::{ArrayPlace, CellPlace, Expr};
+use crate::variables::Variables;
 use c_values::Kind;
-use chains::Chain;
 use containers::Vector;
 use fq_core::{Name, Span, StatementKind};
 
@@ -129,7 +129,7 @@ pub struct Variable {
 /// The variables that a node sees, the innermost first (6.2.1). A scope shares those that an outer one sees too.
 #[derive(Debug, Drop)]
 pub struct Scope {
-    pub variables: Chain<Variable>,
+    pub variables: Variables,
 }
 
 /// All that a control flow automaton is made of. Nodes, edges, functions, input functions and scopes are numbered by

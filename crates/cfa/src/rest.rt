@@ -1,12 +1,12 @@
 // Whether the parts of a graph other than its edges meet their rules.
-ghost use Rattle.std.specs.Prelude.{◌≡◌, ◌↔◌, ◌<◌, ◌≤◌, ◌+◌, ◌^◌, length, slice_get, Some, IsTrue, IfOk};
+ghost use Rattle.std.specs.Prelude.{◌≡◌, ◌↔◌, length, slice_get, Some, IsTrue, IfOk};
 ghost use Rattle.std.specs.List.{list_all};
 ghost use Rattle.c_values.specs.Kind.{is_kind};
 ghost use Rattle.cfa.specs.Each.{Each};
-ghost use Rattle.cfa.specs.Graph.{room_of, IsNodeOf, NodeFits, FunctionFits, signature_fits, result_kind_fits, cell_count, lent_fits, variable_fits, global_fits, scope_fits, scope_fits_in, SeesFit, is_return, IsExit};
+ghost use Rattle.cfa.specs.Graph.{room_of, IsNodeOf, NodeFits, FunctionFits, signature_fits, result_kind_fits, scope_fits, scope_fits_in, SeesFit, is_return, IsExit};
 
 use crate::edge::{is_node_of, is_return};
-use crate::parts::{Edge, Function, GraphParts, Node, Scope, Variable, VariablePlace};
+use crate::parts::{Edge, Function, GraphParts, Node, Scope};
 use crate::rules::FunctionRoom;
 use c_values::{Kind, is_kind};
 use std::alloc::{AllocError, Global};
@@ -96,32 +96,10 @@ pub(crate) fn global_kinds_fit(parts: &GraphParts) -> bool
     true
 }
 
-fn cell_count(length: Option<u32>) -> u64
-    ensures value { result ≡ cell_count length }
-    ensures small { result < 2 ^ 32 }
-{
-    match length {
-        None => 1,
-        Some(length) => length as u64,
-    }
-}
-
-fn global_fits(globals: usize, length: Option<u32>, place: VariablePlace) -> bool
-    ensures { result ≡ global_fits globals length place }
-{
-    match place {
-        VariablePlace::Global(first) => first as u64 + cell_count(length) <= globals as u64,
-        VariablePlace::Local(_) | VariablePlace::Lent(_) => true,
-    }
-}
-
 fn scope_fits(parts: &GraphParts, scope: &Scope) -> bool
     ensures { result ≡ scope_fits (length parts.now.globals) scope.now }
 {
-    let globals = parts.globals.len();
-    scope.variables.iter().all(|variable| {
-        is_kind(variable.kind) && global_fits(globals, variable.length, variable.place)
-    })
+    scope.variables.are_within(parts.globals.len())
 }
 
 pub(crate) fn scopes_fit(parts: &GraphParts) -> bool
@@ -135,26 +113,10 @@ pub(crate) fn scopes_fit(parts: &GraphParts) -> bool
     true
 }
 
-fn variable_fits(room: &FunctionRoom<'_>, variable: &Variable) -> bool
-    ensures { result ≡ variable_fits room.now variable.now.length variable.now.place }
-{
-    match variable.place {
-        VariablePlace::Global(first) => room.has_globals(first, cell_count(variable.length)),
-        VariablePlace::Local(first) => room.has_locals(first, cell_count(variable.length)),
-        VariablePlace::Lent(parameter) => match variable.length {
-            None => false,
-            Some(length) => room.has_length(parameter, length),
-        },
-    }
-}
-
 fn scope_fits_in(room: &FunctionRoom<'_>, scope: &Scope) -> bool
     ensures { result ≡ scope_fits_in room.now scope.now }
 {
-    scope
-        .variables
-        .iter()
-        .all(|variable| variable_fits(room, variable))
+    scope.variables.fit_in(room)
 }
 
 fn sees_fit(parts: &GraphParts, function: u32, scope: u32) -> bool

@@ -1,5 +1,5 @@
 // Whether the expressions and places of a function meet the rules.
-ghost use Rattle.std.specs.Prelude.{◌≡◌, ◌+◌, ◌^◌, ◌<◌, nat_le, slice_get};
+ghost use Rattle.std.specs.Prelude.{◌≡◌, ◌+◌, ◌^◌, ◌<◌, ◌&&◌, nat_le, slice_get};
 ghost use Rattle.c_values.specs.Operations.{is_shift, unary_kind, binary_kind};
 ghost use Rattle.cfa.specs.Kinds.{same_kind};
 ghost use Rattle.cfa.specs.Rules.{is_length, array_fits, place_fits, checked_kind, has_kind, kind_if, right_fits};
@@ -63,6 +63,13 @@ impl<'a> FunctionRoom<'a> {
         ensures { result ≡ nat_le (first + count) self.now.cells }
     {
         first as u64 + count <= self.cells as u64
+    }
+
+    /// Whether there are so many cells of globals, and so many in the frame.
+    pub(crate) fn has_cells(&self, globals: u64, cells: u64) -> bool
+        ensures { result ≡ (nat_le globals self.now.globals && nat_le cells self.now.cells) }
+    {
+        globals <= self.globals as u64 && cells <= self.cells as u64
     }
 }
 

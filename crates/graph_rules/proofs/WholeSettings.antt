@@ -12,8 +12,8 @@ use Rattle.cfa.specs.declared.parts.Node.{Node}
 use Rattle.cfa.specs.declared.parts.Variable.{Variable}
 use Rattle.cfa.specs.declared.parts.VariablePlace.{VariablePlace}
 use Rattle.cfa.specs.declared.parts.VariablePlace.TheVariants as variable
-use Rattle.cfa.specs.Graph.{room_of, variable_fits, cell_count, result_kind_fits}
-use Rattle.cfa.specs.Rules.{Room}
+use Rattle.cfa.specs.Graph.{room_of, variable_fits, result_kind_fits}
+use Rattle.cfa.specs.Rules.{Room, cell_count}
 use Rattle.typed_trees.specs.declared.unit.Global.{Global}
 use Rattle.typed_trees.specs.declared.unit.Typed.{Typed}
 use Rattle.typed_trees.specs.declared.unit.TypedFunction.{TypedFunction}

@@ -3,8 +3,7 @@ ghost use Rattle.std.specs.Prelude.{◌≡◌, ◌++◌, map, IfOk, OnOk};
 ghost use Rattle.predicates.specs.Narrowing.{names_of, names_of_all, narrowed};
 
 use c_parse::{ExprForm, ExprTree};
-use cfa::{Scope, Variable};
-use chains::Chain;
+use cfa::{Scope, Variable, Variables};
 use containers::TryClone;
 use expression_types::{Names, copied};
 use fq_core::Memory;
@@ -64,9 +63,9 @@ fn kept(alloc: Global, names: &Names, scope: &Scope) -> Result<Vec<Variable>, Al
 fn scope_of(alloc: Global, mut row: Vec<Variable>) -> Result<Scope, AllocError>
     ensures { IfOk result (λ scope. scope ≡ record { variables = row.items }) }
 {
-    let mut variables = Chain::new();
+    let mut variables = Variables::new();
     'variables: while let Some(variable) = row.pop() {
-        variables = Chain::with(alloc, variable, variables)?;
+        variables = Variables::with(alloc, variable, variables)?;
     }
     Ok(Scope { variables })
 }

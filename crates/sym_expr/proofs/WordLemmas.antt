@@ -1,39 +1,22 @@
--- Words of any pattern, which are values of the kind without sign of 64 bits, and words of tests.
-use Rattle.std.proofs.Common.{◌≡◌, ℕ, ◌^◌, ◌<◌, Bool, false, cond, List, Some, None, refl, sym, subst, ◌∙◌, ap, ⊎_elim, bit_and, ◌/◌, arith}
+-- Words of tests, and words whose literal always holds.
+use Rattle.std.proofs.Common.{◌≡◌, ℕ, ◌^◌, ◌<◌, Bool, false, cond, List, Some, None, sym, subst, ◌∙◌, ap, ⊎_elim, bit_and, ◌/◌, arith}
 use Rattle.std.specs.Prelude.{All, ◌==◌}
 use Rattle.std.specs.Int.{bit_at}
 use Rattle.std.proofs.lemmas.Bool.Decides.{eqb_tells}
 use Rattle.std.proofs.lemmas.Nat.Bits.{shr_and_one, bit_at-lt}
 use Rattle.circuit.specs.Truth.{World}
-use Rattle.std.proofs.lemmas.Int.{ints}
 use Rattle.circuit.specs.Wires.{IsWire}
 use Rattle.circuit.specs.declared.lit.Lit.{Lit}
 use Rattle.circuit.specs.declared.lit.Gate.{Gate}
 use Rattle.c_values.specs.declared.kinds.Kind.{Kind}
-use Rattle.c_values.specs.Kind.{IsValue, IsInRange, number_of, least, greatest, int}
+use Rattle.c_values.specs.Kind.{IsValue, int}
 use Rattle.c_values.specs.Operations.{is_equal, truth_of}
-use Rattle.c_values.proofs.Fitting.{value_from_parts, IsValue-truth_of}
+use Rattle.c_values.proofs.Fitting.{IsValue-truth_of}
 use Rattle.c_values.proofs.Machine.{machine_equal}
 use Rattle.bit_words.specs.Words.{IsWord, word_value}
 use Rattle.bit_words.proofs.Digits.{word_value-lt}
 use Rattle.bit_words.proofs.Values.{yes_holds}
 use Rattle.sym_expr.specs.Stores.{outcome_in}
-
--- the kind of any pattern
-abbrev pub pattern_kind : Kind
-pattern_kind = record { width = 64; signed = false }
-
-pattern_range : (v : ℕ) → v < 2 ^ 64 → IsInRange pattern_kind (number_of pattern_kind v)
-unfolding least greatest number_of
-pattern_range v h = (omega (arith, ints), omega (arith, ints))
-
-pub any_word : (gates : List Gate) (word : List Lit) → All (IsWire gates) word → IsWord gates pattern_kind word
-any_word gates word h = record {
-  wires = h;
-  values = λ w.
-      let small = word_value-lt gates word w in
-      value_from_parts pattern_kind (word_value gates word w) (record { of_kind = refl; pattern = small; range = pattern_range (word_value gates word w) small });
-}
 
 -- what a test gives is a word of int
 pub test_is_word : (gates : List Gate) (word : List Lit) (test : World → Bool) → All (IsWire gates) word → ((w : World) → word_value gates word w ≡ truth_of (test w)) → IsWord gates int word

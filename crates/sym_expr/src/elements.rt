@@ -10,21 +10,12 @@ ghost use Rattle.bit_words.specs.Words.{Grows, IsWord, word_value};
 ghost use Rattle.sym_expr.specs.Stores.{cells_in, outcome_in};
 ghost use Rattle.sym_expr.specs.Weights.{element_weight, most_expression_wires};
 
-use crate::gates::{both, either};
 use crate::patterns::is_pattern;
-use bit_words::{Word, choose, constant, convert};
+use bit_words::gates::{both, either};
+use bit_words::{Word, choose, constant, extended};
 use c_values::Kind;
 use cfa::{ArrayPlace, Frame};
 use circuit::{Circuit, Lit, Memory};
-
-/// What a kind has of a cell's pattern.
-fn fitted(word: &Word, kind: Kind) -> Word
-    requires { IsKind kind }
-    ensures word { (gates : List Gate) → All (IsWire gates) word.now → IsWord gates kind result }
-    ensures value { (gates : List Gate) → All (IsWire gates) word.now → (w : World) → word_value gates result w ≡ wrapped kind (pos (word_value gates word.now w)) }
-{
-    convert(word, Kind::UNSIGNED_LONG, kind)
-}
 
 /// What a cell holds, as a value of a kind, beside the literal that always holds.
 pub(crate) fn held(cells: &[Word], cell: usize, kind: Kind) -> (Word, Lit)
@@ -34,7 +25,7 @@ pub(crate) fn held(cells: &[Word], cell: usize, kind: Kind) -> (Word, Lit)
     ensures wire { (gates : List Gate) → IsWire gates result.1 }
     ensures value { (gates : List Gate) → All (All (IsWire gates)) cells.now → (w : World) → outcome_in gates result w ≡ Some (wrapped kind (pos (slice_index (cells_in gates cells.now w) cell))) }
 {
-    (fitted(&cells[cell], kind), Lit::YES)
+    (extended(&cells[cell], kind), Lit::YES)
 }
 
 /// The place of an array's first cell among all cells.
@@ -76,7 +67,7 @@ pub(crate) fn element(
     }
     let (word, named) = selection(circuit, elements, &index.0)?;
     let fine = both(circuit, index.1, named)?;
-    Ok((fitted(&word, kind), fine))
+    Ok((extended(&word, kind), fine))
 }
 
 /// The word of the element that an index names, and whether it names one: each place is compared with it.

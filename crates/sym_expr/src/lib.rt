@@ -8,7 +8,6 @@
 #![tactic(auto)]
 
 mod elements;
-mod gates;
 mod operators;
 mod patterns;
 mod store;

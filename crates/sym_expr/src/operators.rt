@@ -1,5 +1,5 @@
 // Operators on words.
-ghost use Rattle.std.specs.Prelude.{◌≡◌, ◌+◌, ◌*◌, ◌≤◌, ◌^◌, false, IfOk, Some, length, not};
+ghost use Rattle.std.specs.Prelude.{◌≡◌, ◌+◌, ◌*◌, ◌≤◌, ◌^◌, false, IfOk, Some, if◌then◌else◌, length, not};
 ghost use Rattle.std.specs.Option.{option_and_then};
 ghost use Rattle.circuit.specs.Truth.{World};
 ghost use Rattle.circuit.specs.Wires.{IsWire, lit_holds};
@@ -11,8 +11,8 @@ ghost use Rattle.bit_words.specs.Words.{Grows, IsWord, word_value};
 ghost use Rattle.sym_expr.specs.Stores.{outcome_in};
 ghost use Rattle.sym_expr.specs.Weights.{unary_weight, binary_weight, most_expression_wires};
 
-use crate::gates::{both, inverse};
-use crate::patterns::{is_pattern, test_word};
+use crate::patterns::{is_pattern, matched, test_word};
+use bit_words::gates::both;
 use bit_words::{Word, add, and, div, equal, less, mul, neg, not, or, rem, shl, shr, sub, xor};
 use c_values::{BinaryOp, Kind, UnaryOp};
 use circuit::{Circuit, Lit, Memory};
@@ -80,12 +80,12 @@ pub(crate) fn binary(
         BinaryOp::And => Ok((and(circuit, a, b, kind)?, Lit::YES)),
         BinaryOp::Or => Ok((or(circuit, a, b, kind)?, Lit::YES)),
         BinaryOp::Xor => Ok((xor(circuit, a, b, kind)?, Lit::YES)),
-        BinaryOp::Less => Ok((less_word(circuit, a, b, kind)?, Lit::YES)),
-        BinaryOp::LessEqual => Ok((not_less_word(circuit, b, a, kind)?, Lit::YES)),
-        BinaryOp::Greater => Ok((less_word(circuit, b, a, kind)?, Lit::YES)),
-        BinaryOp::GreaterEqual => Ok((not_less_word(circuit, a, b, kind)?, Lit::YES)),
-        BinaryOp::Equal => Ok((equal_word(circuit, a, b, kind)?, Lit::YES)),
-        BinaryOp::NotEqual => Ok((not_equal_word(circuit, a, b, kind)?, Lit::YES)),
+        BinaryOp::Less => Ok((less_word(circuit, a, b, kind, true)?, Lit::YES)),
+        BinaryOp::LessEqual => Ok((less_word(circuit, b, a, kind, false)?, Lit::YES)),
+        BinaryOp::Greater => Ok((less_word(circuit, b, a, kind, true)?, Lit::YES)),
+        BinaryOp::GreaterEqual => Ok((less_word(circuit, a, b, kind, false)?, Lit::YES)),
+        BinaryOp::Equal => Ok((equal_word(circuit, a, b, kind, true)?, Lit::YES)),
+        BinaryOp::NotEqual => Ok((equal_word(circuit, a, b, kind, false)?, Lit::YES)),
     }
 }
 
@@ -116,56 +116,42 @@ pub(crate) fn operated(
     Ok((word, fine))
 }
 
-/// The int 1 where a value is below another of its kind, and 0 where not (6.5.8p6).
-fn less_word(circuit: &mut Circuit, a: &Word, b: &Word, kind: Kind) -> Result<Word, Memory>
+/// The int 1 where it is as expected whether a value is below another of its kind, and 0 where not (6.5.8p6).
+fn less_word(
+    circuit: &mut Circuit,
+    a: &Word,
+    b: &Word,
+    kind: Kind,
+    expected: bool,
+) -> Result<Word, Memory>
     requires left { IsWord circuit.old kind a.now }
     requires right { IsWord circuit.old kind b.now }
     requires room { length circuit.old + (most_wires (sum_weight kind.width) + 1) ≤ 2 ^ 30 }
     ensures grows { Grows circuit.old circuit.new (most_wires (sum_weight kind.width) + 1) }
     ensures word { IfOk result (λ r. IsWord circuit.new int r) }
-    ensures value { IfOk result (λ r. (w : World) → word_value circuit.new r w ≡ truth_of (is_less kind (word_value circuit.old a.now w) (word_value circuit.old b.now w))) }
+    ensures value { IfOk result (λ r. (w : World) → let is = is_less kind (word_value circuit.old a.now w) (word_value circuit.old b.now w) in word_value circuit.new r w ≡ truth_of (if expected then is else not is)) }
 {
     let test = less(circuit, a, b, kind)?;
-    Ok(test_word(test))
+    let same = matched(circuit, test, expected)?;
+    Ok(test_word(same))
 }
 
-/// The int 0 where a value is below another of its kind, and 1 where not (6.5.8p6).
-fn not_less_word(circuit: &mut Circuit, a: &Word, b: &Word, kind: Kind) -> Result<Word, Memory>
+/// The int 1 where it is as expected whether two values of a kind are equal, and 0 where not (6.5.9p3).
+fn equal_word(
+    circuit: &mut Circuit,
+    a: &Word,
+    b: &Word,
+    kind: Kind,
+    expected: bool,
+) -> Result<Word, Memory>
     requires left { IsWord circuit.old kind a.now }
     requires right { IsWord circuit.old kind b.now }
     requires room { length circuit.old + (most_wires (sum_weight kind.width) + 1) ≤ 2 ^ 30 }
     ensures grows { Grows circuit.old circuit.new (most_wires (sum_weight kind.width) + 1) }
     ensures word { IfOk result (λ r. IsWord circuit.new int r) }
-    ensures value { IfOk result (λ r. (w : World) → word_value circuit.new r w ≡ truth_of (not (is_less kind (word_value circuit.old a.now w) (word_value circuit.old b.now w)))) }
-{
-    let test = less(circuit, a, b, kind)?;
-    let other = inverse(circuit, test)?;
-    Ok(test_word(other))
-}
-
-/// The int 1 where two values of a kind are equal, and 0 where not (6.5.9p3).
-fn equal_word(circuit: &mut Circuit, a: &Word, b: &Word, kind: Kind) -> Result<Word, Memory>
-    requires left { IsWord circuit.old kind a.now }
-    requires right { IsWord circuit.old kind b.now }
-    requires room { length circuit.old + (most_wires (sum_weight kind.width) + 1) ≤ 2 ^ 30 }
-    ensures grows { Grows circuit.old circuit.new (most_wires (sum_weight kind.width) + 1) }
-    ensures word { IfOk result (λ r. IsWord circuit.new int r) }
-    ensures value { IfOk result (λ r. (w : World) → word_value circuit.new r w ≡ truth_of (is_equal kind (word_value circuit.old a.now w) (word_value circuit.old b.now w))) }
+    ensures value { IfOk result (λ r. (w : World) → let is = is_equal kind (word_value circuit.old a.now w) (word_value circuit.old b.now w) in word_value circuit.new r w ≡ truth_of (if expected then is else not is)) }
 {
     let test = equal(circuit, a, b, kind)?;
-    Ok(test_word(test))
-}
-
-/// The int 0 where two values of a kind are equal, and 1 where not (6.5.9p3).
-fn not_equal_word(circuit: &mut Circuit, a: &Word, b: &Word, kind: Kind) -> Result<Word, Memory>
-    requires left { IsWord circuit.old kind a.now }
-    requires right { IsWord circuit.old kind b.now }
-    requires room { length circuit.old + (most_wires (sum_weight kind.width) + 1) ≤ 2 ^ 30 }
-    ensures grows { Grows circuit.old circuit.new (most_wires (sum_weight kind.width) + 1) }
-    ensures word { IfOk result (λ r. IsWord circuit.new int r) }
-    ensures value { IfOk result (λ r. (w : World) → word_value circuit.new r w ≡ truth_of (not (is_equal kind (word_value circuit.old a.now w) (word_value circuit.old b.now w)))) }
-{
-    let test = equal(circuit, a, b, kind)?;
-    let other = inverse(circuit, test)?;
-    Ok(test_word(other))
+    let same = matched(circuit, test, expected)?;
+    Ok(test_word(same))
 }

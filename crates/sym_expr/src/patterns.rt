@@ -7,7 +7,7 @@ ghost use Rattle.circuit.specs.declared.lit.Gate.{Gate};
 ghost use Rattle.c_values.specs.Operations.{truth_of};
 ghost use Rattle.bit_words.specs.Words.{Grows, word_value};
 
-use crate::gates::{both, matched};
+use bit_words::gates::{both, inverse};
 use bit_words::{Word, constant};
 use circuit::{Circuit, Lit, Memory};
 
@@ -57,4 +57,19 @@ fn and_bit(circuit: &mut Circuit, alike: Lit, bit: Lit, expected: bool) -> Resul
     let same = matched(circuit, bit, expected)?;
     let all = both(circuit, alike, same)?;
     Ok(all)
+}
+
+/// A literal that holds where the bit is the one expected.
+#[tactic(auto, using(bit_words::proofs::Steps::grows_none))]
+pub(crate) fn matched(circuit: &mut Circuit, bit: Lit, expected: bool) -> Result<Lit, Memory>
+    requires wire { IsWire circuit.old bit }
+    requires room { length circuit.old + 1 ≤ 2 ^ 30 }
+    ensures grows { Grows circuit.old circuit.new 1 }
+    ensures wire { IfOk result (λ c. IsWire circuit.new c) }
+    ensures value { IfOk result (λ c. (w : World) → lit_holds circuit.new c w ≡ (if expected then lit_holds circuit.old bit w else not (lit_holds circuit.old bit w))) }
+{
+    if expected {
+        return Ok(bit);
+    }
+    inverse(circuit, bit)
 }

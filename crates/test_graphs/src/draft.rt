@@ -1,7 +1,6 @@
 // Graphs as plain tables, and the parts that they stand for.
 use c_values::Kind;
 use cfa::*;
-use chains::Chain;
 use containers::{Boxed, Vector};
 use fq_core::{Memory, Name, Span};
 use std::alloc::Global;
@@ -287,14 +286,14 @@ fn variable(alloc: Global, seen: Seen) -> Result<Variable, Memory> {
 }
 
 fn scope(alloc: Global, number: u32, table: &[Seen], change: Change) -> Result<Scope, Memory> {
-    let mut variables = Chain::new();
+    let mut variables = Variables::new();
     for (i, seen) in table.iter().enumerate().rev() {
         let seen = match change {
             Change::Seen(at, other) if at == i => other,
             _ => *seen,
         };
         if seen.scope == number {
-            variables = Chain::with(alloc, variable(alloc, seen)?, variables)?;
+            variables = Variables::with(alloc, variable(alloc, seen)?, variables)?;
         }
     }
     Ok(Scope { variables })

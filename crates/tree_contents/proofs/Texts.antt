@@ -4,17 +4,23 @@ use Rattle.std.specs.Prelude.{IsTrue, Option, map, nat_lt, cond, ⊤}
 use Rattle.std.specs.List.{list_all}
 use Rattle.std.proofs.lemmas.Bool.{lt-ltb}
 use Rattle.fq_core.specs.declared.span.Span.{Span}
+use Rattle.fq_core.specs.declared.refusal.Place.{Place}
 use Rattle.c_values.specs.declared.kinds.Kind.{Kind}
 use Rattle.c_values.specs.Kind.{is_value}
 use Rattle.c_values.proofs.Fitting.{and_both}
-use Rattle.c_lex.specs.declared.cut.Lexeme.{Lexeme}
+use Rattle.c_lex.specs.declared.directive.Directive.{Directive}
+use Rattle.c_lex.specs.declared.directive.Directive.TheVariants as says
+use Rattle.c_lex.specs.declared.piece.Piece.{Piece}
+use Rattle.c_lex.specs.declared.piece.Piece.TheVariants as piece
 use Rattle.c_lex.specs.declared.macros.Macro.{Macro}
 use Rattle.c_lex.specs.declared.macros.Replacement.{Replacement}
 use Rattle.c_lex.specs.declared.token.SourceText.{SourceText}
 use Rattle.c_lex.specs.declared.token.Token.{Token}
 use Rattle.c_lex.specs.declared.token.TokenKind.{TokenKind}
 use Rattle.c_lex.specs.declared.token.TokenKind.TheVariants as kind
-use Rattle.c_lex.specs.Lexed.{Lexed, Outcome, accepted, refused, after, Reads, all_read, too_wide, loops, too_many, a_token, included, unknown_byte, wrong, defined_twice, wide_list, defined, unknown, open_comment, ReadsTexts, no_text, refuses, accepts, token_at}
+use Rattle.c_lex.specs.Directives.{directive_of}
+use Rattle.c_lex.specs.Lexed as lexed
+use Rattle.c_lex.specs.Lexed.{Lexed, Outcome, accepted, refused, after, Effect, gives, stops, TokenComesTo, LineComesTo, ComesTo, effect_of_definition, effect_of_directive, Reads, ReadsTexts, no_text, refuses, accepts, token_at}
 use Rattle.c_lex.specs.NumbersOfKinds.{HasValue, HaveValues}
 use Rattle.c_lex.specs.Places.{span_of}
 use Rattle.c_lex.proofs.NumbersLaws.{numbers}
@@ -90,20 +96,43 @@ unfolding span_of
 spanned file text at n [] = tt
 spanned file text at n (r ∷ rs) = (omega arith, omega arith, spanned file text at n rs)
 
-reads_give : {file : ℕ} {text : List ℕ} {table : List Macro} {made replaced : ℕ} {ls : List Lexeme} {o : Outcome} → Reads file text table made replaced ls o → Gives file (file + 1) o
-reads_give all_read = tt
-reads_give (too_wide at n h) = tt
-reads_give (loops at n h k) = tt
-reads_give (too_many us m at n h k l) = tt
-reads_give {file = file} {text = text} (a_token {o = o} us m at n h k l d) = after_gives file (file + 1) _ o (spanned file text at n us) (reads_give d)
-reads_give (included line at n c e d) = reads_give d
-reads_give (unknown_byte line at n c e) = tt
-reads_give (wrong line at n c e) = tt
-reads_give (defined_twice line at n b m c e f) = tt
-reads_give (wide_list line at n b m c e f g) = tt
-reads_give (defined line list at n b m c e f g d) = reads_give d
-reads_give (unknown at) = tt
-reads_give (open_comment at) = tt
+abbrev EffectLies : ℕ → Effect → Type 0
+EffectLies file (gives ts m table) = Lies file (file + 1) ts
+EffectLies file (stops code place) = ⊤
+
+module _ (file : ℕ) (text : List ℕ) (table : List Macro) where
+  token_lies : (at n : ℕ) {bytes : List ℕ} {made replaced : ℕ} {e : Effect} → TokenComesTo table bytes (span_of file text at n) made replaced e → EffectLies file e
+  token_lies at n (lexed.too_wide h) = tt
+  token_lies at n (lexed.loops h k) = tt
+  token_lies at n (lexed.too_many us m h k l) = tt
+  token_lies at n (lexed.expands us m h k l) = spanned file text at n us
+
+  defined_lies : (place : Place) (name : List ℕ) (o l : Option (List Replacement)) → EffectLies file (effect_of_definition table place name o l)
+  defined_lies place name (Some before) l = tt
+  defined_lies place name None None = tt
+  defined_lies place name None (Some list) = tt
+
+  directive_lies : (line : List ℕ) (place : Place) (tokens : List Piece) (d : Directive) → EffectLies file (effect_of_directive table line place tokens d)
+  directive_lies line place tokens says.Include = tt
+  directive_lies line place tokens says.UnknownByte = tt
+  directive_lies line place tokens says.Wrong = tt
+  directive_lies line place tokens (says.Define at n) = defined_lies place _ _ _
+
+  line_lies : {line : List ℕ} {place : Place} {e : Effect} → LineComesTo table line place e → EffectLies file e
+  line_lies {line = line} {place = place} x = let h = directive_lies line place x.tokens (directive_of line x.tokens) in rw x.effect h
+
+  piece_lies : (made replaced : ℕ) (p : Piece) (e : Effect) → ComesTo file text table made replaced p e → EffectLies file e
+  piece_lies made replaced (piece.Gap at n) e x = rw x tt
+  piece_lies made replaced (piece.Directive at n) e x = line_lies x
+  piece_lies made replaced (piece.Token at n) e x = token_lies at n x
+  piece_lies made replaced (piece.Unknown at) e x = rw x tt
+  piece_lies made replaced (piece.Open at) e x = rw x tt
+
+reads_give : {file : ℕ} {text : List ℕ} {table : List Macro} {made replaced : ℕ} {ps : List Piece} {o : Outcome} → Reads file text table made replaced ps o → Gives file (file + 1) o
+reads_give lexed.all_read = tt
+reads_give (lexed.is_refused p code place x) = tt
+reads_give {file = file} {text = text} {table = table} {made = made} {replaced = replaced} (lexed.goes_on {o = o} p us m new x d) =
+    after_gives file (file + 1) us o (piece_lies file text table made replaced p (gives us m new) x) (reads_give d)
 
 wider : (low high least most : ℕ) (o : Outcome) → least ≤ low → high ≤ most → Gives low high o → Gives least most o
 wider low high least most (accepted ts m r) a b h = lies_wider low high least most ts a b h

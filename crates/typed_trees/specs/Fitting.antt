@@ -9,9 +9,9 @@ use Rattle.c_values.specs.Operations.{unary_kind, binary_kind, is_shift}
 use Rattle.c_values.specs.declared.kinds.Kind.{Kind}
 use Rattle.c_values.specs.declared.operators.BinaryOp.{BinaryOp}
 use Rattle.cfa.specs.Each.{matched}
-use Rattle.cfa.specs.Graph.{cell_count, variable_fits, result_kind_fits}
+use Rattle.cfa.specs.Graph.{variable_fits, result_kind_fits}
 use Rattle.cfa.specs.Kinds.{same_kind}
-use Rattle.cfa.specs.Rules.{Room, is_length}
+use Rattle.cfa.specs.Rules.{Room, is_length, cell_count}
 use Rattle.cfa.specs.declared.parts.InputFunction.{InputFunction}
 use Rattle.cfa.specs.declared.parts.Variable.{Variable}
 use Rattle.cfa.specs.declared.parts.VariablePlace.{VariablePlace}

@@ -10,7 +10,8 @@ use Rattle.c_values.proofs.Fitting.{and_left, and_right, and_both}
 use Rattle.cfa.specs.declared.parts.InputFunction.{InputFunction}
 use Rattle.cfa.specs.declared.parts.VariablePlace.{VariablePlace}
 use Rattle.cfa.specs.declared.parts.VariablePlace.TheVariants as places
-use Rattle.cfa.specs.Graph.{cell_count, variable_fits, result_kind_fits}
+use Rattle.cfa.specs.Graph.{variable_fits, result_kind_fits}
+use Rattle.cfa.specs.Rules.{cell_count}
 use Rattle.typed_trees.specs.declared.expression.Callee.{Callee}
 use Rattle.typed_trees.specs.declared.expression.Callee.TheVariants as callees
 use Rattle.typed_trees.specs.declared.unit.TypedFunction.{TypedFunction}

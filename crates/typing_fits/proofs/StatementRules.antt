@@ -22,7 +22,8 @@ use Rattle.c_parse.specs.declared.statement.Group.{Group, roll-Group}
 use Rattle.tree_contents.specs.Contents.{tree_passes, optional_passes, place_passes, initial_passes, declarator_passes, label_passes, arm_passes, arms_pass, if_there, statement_step, group_step, statement_passes, group_passes}
 use Rattle.cfa.specs.declared.parts.Variable.{Variable}
 use Rattle.cfa.specs.declared.parts.VariablePlace.TheVariants as places
-use Rattle.cfa.specs.Graph.{cell_count, result_kind_fits}
+use Rattle.cfa.specs.Graph.{result_kind_fits}
+use Rattle.cfa.specs.Rules.{cell_count}
 use Rattle.typed_trees.specs.declared.expression.TypedExpr.{TypedExpr}
 use Rattle.typed_trees.specs.declared.expression.TypedPlace.{out-TypedPlace}
 use Rattle.typed_trees.specs.declared.expression.TypedExprForm.{the_lemmas as typed_lemmas}

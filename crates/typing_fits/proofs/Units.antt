@@ -24,7 +24,8 @@ use Rattle.tree_contents.specs.Contents.{tree_passes, optional_passes, initial_p
 use Rattle.cfa.specs.declared.parts.InputFunction.{InputFunction}
 use Rattle.cfa.specs.declared.parts.Variable.{Variable}
 use Rattle.cfa.specs.declared.parts.VariablePlace.TheVariants as places
-use Rattle.cfa.specs.Graph.{cell_count, result_kind_fits}
+use Rattle.cfa.specs.Graph.{result_kind_fits}
+use Rattle.cfa.specs.Rules.{cell_count}
 use Rattle.typed_trees.specs.declared.expression.Callee.{Callee}
 use Rattle.typed_trees.specs.declared.unit.Global.{Global}
 use Rattle.typed_trees.specs.declared.unit.TypedFunction.{TypedFunction}

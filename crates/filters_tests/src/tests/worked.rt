@@ -10,7 +10,6 @@
 //     }
 use c_values::Kind;
 use cfa::*;
-use chains::Chain;
 use containers::Vector;
 use fq_core::{Memory, Name, Span, StatementKind};
 use std::alloc::Global;
@@ -173,9 +172,9 @@ pub fn parts(alloc: Global) -> Result<GraphParts, Memory> {
     functions.push(function(alloc, "f", 2, 4)?)?;
     let mut declared = names(alloc, "g")?;
     declared.push(name(alloc, "f")?)?;
-    let of_g = Chain::with(alloc, variable(alloc, "v", 1)?, Chain::new())?;
-    let of_f = Chain::with(alloc, variable(alloc, "x", 1)?, Chain::new())?;
-    let of_f = Chain::with(alloc, variable(alloc, "y", 2)?, of_f)?;
+    let of_g = Variables::with(alloc, variable(alloc, "v", 1)?, Variables::new())?;
+    let of_f = Variables::with(alloc, variable(alloc, "x", 1)?, Variables::new())?;
+    let of_f = Variables::with(alloc, variable(alloc, "y", 2)?, of_f)?;
     let mut scopes = Vector::new(alloc);
     scopes.push(Scope { variables: of_g })?;
     scopes.push(Scope { variables: of_f })?;

@@ -1,7 +1,6 @@
 // Automata of one function f, drawn edge by edge. Node 0 is its entry and node 1 its exit.
 use c_values::Kind;
 use cfa::*;
-use chains::Chain;
 use containers::Vector;
 use fq_core::{Memory, Name, Span, StatementKind};
 use std::alloc::Global;
@@ -148,7 +147,7 @@ impl Drawing {
         declared.push(Name::new(alloc, b"f")?)?;
         let mut scopes = Vector::new(alloc);
         scopes.push(Scope {
-            variables: Chain::new(),
+            variables: Variables::new(),
         })?;
         let mut functions = Vector::new(alloc);
         functions.push(Function {

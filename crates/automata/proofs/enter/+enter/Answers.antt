@@ -1,8 +1,6 @@
-use Rattle.std.proofs.Common.{◌≡◌, ℕ, length, refl, sym, ◌∙◌, ap, subst, arith}
+use Rattle.std.proofs.Common.{length, refl, ◌∙◌, ap, subst}
 use Rattle.std.proofs.lemmas.Result.{IfOk-weaker}
-use Rattle.circuit.specs.Truth.{World, Extends}
-use Rattle.automata.specs.Tree.{Tree, leaf, dot, either, leaves, Below}
-use Rattle.automata.specs.Reach.{numbered, told}
+use Rattle.automata.specs.Tree.{leaf, dot, either, leaves, Below}
 use Rattle.automata.specs.Views.{view}
 use Rattle.automata.proofs.Parts.{dot_viewed, either_viewed, leaf_viewed, entered_view, if_both, told_still, numbered_at, entered_idle, entered_leaf, entered_dot, entered_either}
 use Rattle.automata.proofs.enter.+enter.Goals as goal

@@ -1,15 +1,13 @@
-use Rattle.std.proofs.Common.{◌≡◌, ℕ, length, refl, sym, ◌∙◌, ap, subst, arith}
+use Rattle.std.proofs.Common.{◌≡◌, length, refl, sym, ◌∙◌, ap, subst}
 use Rattle.std.proofs.lemmas.Result.{IfOk-weaker}
-use Rattle.circuit.specs.Truth.{World, Extends}
-use Rattle.automata.specs.Tree.{Tree, leaf, dot, either, many, maybe, leaves, Below, Sized}
-use Rattle.automata.specs.Reach.{numbered, told}
+use Rattle.automata.specs.Tree.{leaf, dot, either, many, maybe, leaves, Below, Sized}
 use Rattle.automata.specs.Views.{view}
 use Rattle.automata.proofs.Parts.{dot_viewed, either_viewed, leaf_viewed, many_viewed, maybe_viewed, entered_same, passed_many, passed_maybe, passed_view, if_both, told_still, numbered_at, passed_idle, passed_leaf, passed_dot, passed_either}
 use Rattle.automata.proofs.pass.+pass.Goals as goal
 
-pub returns-then-is_idle-clause-passed : goal.returns-then-is_idle-clause-passed
-returns-then-is_idle-clause-passed g t c =
-    passed_idle c.args.truth.now _ (view c.args.node.now) c.args.guard.taken c.args.begin c.args.marks.now c.requires.sized c.requires.marks c.requires.mark_bits c.requires.begin (c.if-is_known_no.ensures refl) (c.if-is_idle.ensures refl)
+pub returns-then-is_idle_part-clause-passed : goal.returns-then-is_idle_part-clause-passed
+returns-then-is_idle_part-clause-passed g t c =
+    passed_idle c.args.truth.now _ (view c.args.node.now) c.args.guard.taken c.args.begin c.args.marks.now c.requires.sized c.requires.marks c.requires.mark_bits c.requires.begin (c.if-is_known_no.ensures refl) (c.if-is_idle_part.ensures refl)
 
 pub returns-in_ok-end-in-Leaf-clause-passed : goal.returns-in_ok-end-in-Leaf-clause-passed
 returns-in_ok-end-in-Leaf-clause-passed g t c =

@@ -1,6 +1,7 @@
 use Rattle.std.proofs.Common.{◌∷◌, [], length, All, sym, ◌∙◌, ap, subst, refl, arith}
 use Rattle.std.proofs.lemmas.List.{with_items_is}
 use Rattle.circuit.specs.Truth.{extends_self}
+use Rattle.automata.specs.Passing.{Silent}
 use Rattle.automata.specs.Views.{view}
 use Rattle.automata.specs.Values.{at}
 use Rattle.automata.specs.Reach.{StandsFor, told}
@@ -14,6 +15,7 @@ returns-clause-reach g c = record {
   ready = λ e. record {
     marks_fit = ap length (with_items_is c.in_ok-marks.marks c.take_step.new.marks (c.take_step.auto.marks ∙ c.deref_mut.ensures.len)) ∙ c.take_step.auto.marks ∙ ap length c.deref_mut.ensures.value ∙ c.in_ok-marks.ensures.length ∙ c.args.nfa.now.fits.1.1;
     mark_bits = subst (All (g.T.Truth.is_bit c.take_step.new.truth)) (sym (with_items_is c.in_ok-marks.marks c.take_step.new.marks (c.take_step.auto.marks ∙ c.deref_mut.ensures.len))) c.in_ok-hit.ensures.bits;
+    idle = λ known. subst (Silent g.T.Truth.holds c.take_step.new.truth) (sym (with_items_is c.in_ok-marks.marks c.take_step.new.marks (c.take_step.auto.marks ∙ c.deref_mut.ensures.len))) (c.in_ok-hit.ensures.idle known);
     hit_bit = c.in_ok-hit.ensures.bit;
   };
 }

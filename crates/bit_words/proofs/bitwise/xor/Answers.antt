@@ -1,24 +1,10 @@
-use Rattle.std.proofs.Common.{◌∙◌, arith}
-use Rattle.bit_words.proofs.Steps.{grows_within}
-use Rattle.bit_words.proofs.Values.{kind_of_word, width_of_word}
-use Rattle.bit_words.proofs.Results.{extended_word}
+use Rattle.std.proofs.Common.{◌∙◌}
+use Rattle.bit_words.proofs.Values.{kind_of_word}
 use Rattle.bit_words.proofs.BitLemmas.{xor-bits}
 use Rattle.bit_words.proofs.bitwise.xor.Goals as goal
 
-pub row-requires-clause-width : goal.row-requires-clause-width
-row-requires-clause-width c = width_of_word c.requires.left
-
-pub extended-requires : goal.extended-requires
-extended-requires c = kind_of_word c.requires.left
-
-pub returns-in_err-bits-clause-grows : goal.returns-in_err-bits-clause-grows
-returns-in_err-bits-clause-grows c = grows_within _ c.row.ensures.grows (omega arith)
-
-pub returns-clause-grows : goal.returns-clause-grows
-returns-clause-grows c = grows_within _ c.row.ensures.grows (omega arith)
-
-pub returns-clause-word : goal.returns-clause-word
-returns-clause-word c = extended_word _ c.args.kind c.in_ok-bits.bits _ (kind_of_word c.requires.left) c.in_ok-bits.ensures.wires (c.extended.ensures.wires _) (c.extended.ensures.value _)
+pub bitwise-requires-clause-kind : goal.bitwise-requires-clause-kind
+bitwise-requires-clause-kind c = kind_of_word c.requires.left
 
 pub returns-clause-value : goal.returns-clause-value
-returns-clause-value c = λ w. c.extended.ensures.value _ w ∙ xor-bits c.row.new.circuit c.args.circuit.now c.args.kind c.in_ok-bits.bits c.args.a.now c.args.b.now w c.requires.left c.requires.right (c.in_ok-bits.ensures.bits w)
+returns-clause-value c = λ w. c.in_ok-word.ensures.value w ∙ xor-bits c.args.circuit.now c.args.kind c.args.a.now c.args.b.now w c.requires.left c.requires.right

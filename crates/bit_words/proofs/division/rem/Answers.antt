@@ -1,84 +1,48 @@
-use Rattle.std.proofs.Common.{◌≡◌, ◌%◌, ◌<◌, sym, ap, ◌∙◌, arith}
-use Rattle.std.specs.Prelude.{unsigned_abs}
+use Rattle.std.proofs.Common.{◌∙◌, arith}
 use Rattle.circuit.specs.Wires.{lit_holds}
 use Rattle.c_values.specs.Kind.{number_of}
 use Rattle.bit_words.specs.Words.{word_value, low_value}
 use Rattle.bit_words.proofs.Steps.{grows_then, grows_within, same, still}
-use Rattle.bit_words.proofs.Digits.{low_value-mod}
-use Rattle.bit_words.proofs.Values.{kind_of_word, width_of_word, least_width, word_later, word_value-later}
-use Rattle.bit_words.proofs.Results.{extended_word}
-use Rattle.bit_words.proofs.QuotientLemmas.{quotient_room, sign_of_word, remainder_answer, positive, remainder_wrapped}
-use Rattle.bit_words.proofs.SignLemmas.{is_negative}
+use Rattle.bit_words.proofs.Values.{kind_of_word, least_width}
+use Rattle.bit_words.proofs.QuotientLemmas.{quotient_room, sign_later, remainder_answer, remainder_wrapped}
 use Rattle.bit_words.proofs.division.rem.Goals as goal
 
-pub quotient_exists-requires-clause-room : goal.quotient_exists-requires-clause-room
-quotient_exists-requires-clause-room c = omega (arith, least_width c.requires.left, quotient_room c.args.kind.width (least_width c.requires.left))
+pub checked_division-requires-clause-room : goal.checked_division-requires-clause-room
+checked_division-requires-clause-room c = omega (arith, least_width c.requires.left, quotient_room c.args.kind.width (least_width c.requires.left))
 
-pub divided-requires-clause-room : goal.divided-requires-clause-room
-divided-requires-clause-room c = omega (arith, least_width c.requires.left, quotient_room c.args.kind.width (least_width c.requires.left))
-
-pub with_sign-requires-clause-room : goal.with_sign-requires-clause-room
-with_sign-requires-clause-room c = omega (arith, least_width c.requires.left, quotient_room c.args.kind.width (least_width c.requires.left))
+pub signed_word-requires-clause-room : goal.signed_word-requires-clause-room
+signed_word-requires-clause-room c = omega (arith, least_width c.requires.left, quotient_room c.args.kind.width (least_width c.requires.left))
 
 pub extension-negative-requires : goal.extension-negative-requires
 extension-negative-requires c = kind_of_word c.requires.left
 
-pub with_sign-requires-clause-kind : goal.with_sign-requires-clause-kind
-with_sign-requires-clause-kind c = kind_of_word c.requires.left
-
-pub extended-requires : goal.extended-requires
-extended-requires c = kind_of_word c.requires.left
-
-pub divided-requires-clause-left : goal.divided-requires-clause-left
-divided-requires-clause-left c = word_later c.quotient_exists.ensures.grows c.args.kind c.args.a.now c.requires.left
-
-pub divided-requires-clause-right : goal.divided-requires-clause-right
-divided-requires-clause-right c = word_later c.quotient_exists.ensures.grows c.args.kind c.args.b.now c.requires.right
-
-pub returns-clause-word : goal.returns-clause-word
-returns-clause-word c = extended_word _ c.args.kind c.in_ok-bits.bits _ (kind_of_word c.requires.left) c.in_ok-bits.ensures.wires (c.extended.ensures.wires _) (c.extended.ensures.value _)
-
-pub returns-in_err-exists-clause-grows : goal.returns-in_err-exists-clause-grows
-returns-in_err-exists-clause-grows c = grows_within _ c.quotient_exists.ensures.grows (omega (arith, least_width c.requires.left, quotient_room c.args.kind.width (least_width c.requires.left)))
+pub signed_word-requires-clause-kind : goal.signed_word-requires-clause-kind
+signed_word-requires-clause-kind c = kind_of_word c.requires.left
 
 pub returns-in_err-remainder-clause-grows : goal.returns-in_err-remainder-clause-grows
-returns-in_err-remainder-clause-grows c = grows_within _ (grows_then c.quotient_exists.ensures.grows c.divided.ensures.grows) (omega (arith, least_width c.requires.left, quotient_room c.args.kind.width (least_width c.requires.left)))
+returns-in_err-remainder-clause-grows c = grows_within _ c.checked_division.ensures.grows (omega (arith, least_width c.requires.left, quotient_room c.args.kind.width (least_width c.requires.left)))
 
-pub returns-in_err-bits-clause-grows : goal.returns-in_err-bits-clause-grows
-returns-in_err-bits-clause-grows c = grows_within _ (grows_then (grows_then c.quotient_exists.ensures.grows c.divided.ensures.grows) c.with_sign.ensures.grows) (omega (arith, least_width c.requires.left, quotient_room c.args.kind.width (least_width c.requires.left)))
+pub returns-in_err-word-clause-grows : goal.returns-in_err-word-clause-grows
+returns-in_err-word-clause-grows c = grows_within _ (grows_then c.checked_division.ensures.grows c.signed_word.ensures.grows) (omega (arith, least_width c.requires.left, quotient_room c.args.kind.width (least_width c.requires.left)))
 
 pub returns-clause-grows : goal.returns-clause-grows
-returns-clause-grows c = grows_within _ (grows_then (grows_then c.quotient_exists.ensures.grows c.divided.ensures.grows) c.with_sign.ensures.grows) (omega (arith, least_width c.requires.left, quotient_room c.args.kind.width (least_width c.requires.left)))
+returns-clause-grows c = grows_within _ (grows_then c.checked_division.ensures.grows c.signed_word.ensures.grows) (omega (arith, least_width c.requires.left, quotient_room c.args.kind.width (least_width c.requires.left)))
 
 pub returns-clause-wire : goal.returns-clause-wire
-returns-clause-wire c = still (grows_then c.divided.ensures.grows c.with_sign.ensures.grows) c.in_ok-exists.exists c.in_ok-exists.ensures.wire
+returns-clause-wire c = still c.signed_word.ensures.grows c.in_ok-remainder.exists c.in_ok-remainder.ensures.wires.2
 
 pub returns-clause-value : goal.returns-clause-value
 returns-clause-value c = λ w.
     let kind = c.args.kind in
     let old = c.args.circuit.now in
-    let first = c.quotient_exists.new.circuit in
-    let second = c.divided.new.circuit in
-    let last = c.with_sign.new.circuit in
+    let first = c.checked_division.new.circuit in
+    let last = c.signed_word.new.circuit in
     let x = word_value old c.args.a.now w in
     let y = word_value old c.args.b.now w in
-    let nx = number_of kind x in
-    let ny = number_of kind y in
-    let remainder = c.in_ok-remainder.remainder in
-    let bits = c.in_ok-bits.bits in
-    let a = word_value-later c.quotient_exists.ensures.grows c.args.a.now c.requires.left.wires w in
-    let b = word_value-later c.quotient_exists.ensures.grows c.args.b.now c.requires.right.wires w in
-    let two = grows_then c.quotient_exists.ensures.grows c.divided.ensures.grows in
-    let negative : lit_holds second c.extension-negative.result w ≡ is_negative nx =
-    c.extension-negative.ensures.value second w ∙ sign_of_word second kind c.args.a.now w (word_later two kind c.args.a.now c.requires.left) ∙ ap (λ v. is_negative (number_of kind v)) (word_value-later two c.args.a.now c.requires.left.wires w) in
-    remainder_answer kind x y (word_value last c.extended.result w) (lit_holds last c.in_ok-exists.exists w) (c.requires.left.values w) (c.requires.right.values w)
-    (same (grows_then c.divided.ensures.grows c.with_sign.ensures.grows) c.in_ok-exists.exists c.in_ok-exists.ensures.wire w ∙ c.in_ok-exists.ensures.value w)
-    (λ e.
-    let some : 0 < unsigned_abs (number_of kind (word_value first c.args.b.now w)) =
-    (let p = positive kind x y (c.requires.left.values w) (c.requires.right.values w) e in let same_b = ap (λ v. unsigned_abs (number_of kind v)) b in omega arith) in
-    let magnitude : low_value kind.width second remainder w ≡ unsigned_abs nx % unsigned_abs ny =
-    c.in_ok-remainder.ensures.remainder w some
-    ∙ ap (λ v. unsigned_abs (number_of kind v) % unsigned_abs (number_of kind (word_value first c.args.b.now w))) a ∙ ap (λ v. unsigned_abs nx % unsigned_abs (number_of kind v)) b in
-    c.extended.ensures.value last w
-    ∙ remainder_wrapped kind nx ny (word_value last bits w) (low_value kind.width second remainder w) (lit_holds second c.extension-negative.result w)
-    (sym (low_value-mod kind.width last bits w (width_of_word c.requires.left)) ∙ c.in_ok-bits.ensures.value w) negative magnitude)
+    let exists = c.in_ok-remainder.exists in
+    let sign = lit_holds first c.extension-negative.result w in
+    let negative = sign_later c.checked_division.ensures.grows kind c.args.a.now w sign c.requires.left (c.extension-negative.ensures.value first w) in
+    remainder_answer kind x y (word_value last c.in_ok-word.word w) (lit_holds last exists w) (c.requires.left.values w) (c.requires.right.values w)
+    (same c.signed_word.ensures.grows exists c.in_ok-remainder.ensures.wires.2 w ∙ c.in_ok-remainder.ensures.exists w)
+    (λ e. c.in_ok-word.ensures.value w
+    ∙ remainder_wrapped kind (number_of kind x) (number_of kind y) (low_value kind.width first c.in_ok-remainder.remainder w) sign negative (c.in_ok-remainder.ensures.remainder w e))

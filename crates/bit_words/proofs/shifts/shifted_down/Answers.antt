@@ -26,4 +26,4 @@ pub loop-i-preserved : goal.loop-i-preserved
 loop-i-preserved c =
     let s = stage_by c.loop-i.i c.args.count c.args.kind.width c.loop-i-test.true c.requires.few c.requires.power in
     down_more c.lowered-moved.result c.in_ok-bits.bits c.extended-word.result _ _ c.loop-i.invariant c.row.ensures.grows c.requires.left s.0 (omega arith) (omega arith) c.requires.right (omega arith) c.in_ok-bits.ensures.wires
-    (c.extended-word.ensures.wires c.row.new.circuit) (c.lowered-moved.ensures.low c.loop-i.circuit) (c.lowered-moved.ensures.high c.loop-i.circuit) c.in_ok-bits.ensures.bits (c.extended-word.ensures.value c.row.new.circuit)
+    (λ h. (c.extended-word.ensures.word c.row.new.circuit h).wires) (c.lowered-moved.ensures.low c.loop-i.circuit) (c.lowered-moved.ensures.high c.loop-i.circuit) c.in_ok-bits.ensures.bits (c.extended-word.ensures.value c.row.new.circuit)

@@ -4,7 +4,6 @@ use Rattle.bit_words.specs.Words.{word_value, low_value}
 use Rattle.bit_words.proofs.Steps.{grows_then, grows_within, same}
 use Rattle.bit_words.proofs.Digits.{low_value-later, low_value-mod}
 use Rattle.bit_words.proofs.Values.{kind_of_word, width_of_word, least_width}
-use Rattle.bit_words.proofs.Results.{extended_word}
 use Rattle.bit_words.proofs.StageLemmas.{left_value, left_answer, low_amount}
 use Rattle.bit_words.proofs.shifts.shl.Goals as goal
 
@@ -30,7 +29,7 @@ pub returns-clause-grows : goal.returns-clause-grows
 returns-clause-grows c = grows_within _ (grows_then c.is_amount.ensures.grows c.shifted_up.ensures.grows) (omega (arith, least_width c.requires.left))
 
 pub returns-clause-word : goal.returns-clause-word
-returns-clause-word c = extended_word _ c.args.kind c.in_ok-bits.bits _ (kind_of_word c.requires.left) c.in_ok-bits.ensures.wires (c.extended.ensures.wires _) (c.extended.ensures.value _)
+returns-clause-word c = c.extended.ensures.word _ c.in_ok-bits.ensures.wires
 
 pub returns-clause-value : goal.returns-clause-value
 returns-clause-value c = λ w.

@@ -1,7 +1,7 @@
 use Rattle.std.proofs.Common.{◌∙◌, arith}
 use Rattle.bit_words.proofs.Steps.{grows_within}
 use Rattle.bit_words.proofs.Values.{kind_of_word, width_of_word}
-use Rattle.bit_words.proofs.Results.{extended_word, subtracted}
+use Rattle.bit_words.proofs.Results.{subtracted}
 use Rattle.bit_words.proofs.sums.sub.Goals as goal
 
 pub returns-in_err-bits-clause-grows : goal.returns-in_err-bits-clause-grows
@@ -11,7 +11,7 @@ pub returns-clause-grows : goal.returns-clause-grows
 returns-clause-grows c = grows_within _ c.difference.ensures.grows (omega arith)
 
 pub returns-clause-word : goal.returns-clause-word
-returns-clause-word c = extended_word _ c.args.kind c.in_ok-bits.bits _ (kind_of_word c.requires.left) c.in_ok-bits.ensures.wires.0 (c.extended.ensures.wires _) (c.extended.ensures.value _)
+returns-clause-word c = c.extended.ensures.word _ c.in_ok-bits.ensures.wires.0
 
 pub returns-clause-value : goal.returns-clause-value
 returns-clause-value c = λ w. c.extended.ensures.value _ w ∙ subtracted c.difference.new.circuit c.args.circuit.now c.args.kind c.in_ok-bits.bits c.args.a.now c.args.b.now _ w c.requires.left c.requires.right (c.in_ok-bits.ensures.value w)

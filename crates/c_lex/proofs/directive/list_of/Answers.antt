@@ -6,8 +6,8 @@ use Rattle.c_lex.proofs.directive.list_of.Goals as goal
 pub returns-in-None : goal.returns-in-None
 unfolding list_of
 returns-in-None c =
-    sym (all_there_fails (replacement_at c.args.line.now) c.args.lexemes.now c.loop-lexeme.lexeme-index _ c.loop-lexeme-test.true (sym c.in_ok-replacement.ensures ∙ c.in-None.is))
+    sym (all_there_fails (replacement_at c.args.line.now) c.args.pieces.now c.loop-piece.piece-index _ c.loop-piece-test.true (sym c.in_ok-replacement.ensures ∙ c.in-None.is))
 
-pub loop-lexeme-preserved : goal.loop-lexeme-preserved
-loop-lexeme-preserved c =
-    rw c.in_ok-push-in-Some.ensures.ok (all_there_more (replacement_at c.args.line.now) c.args.lexemes.now c.loop-lexeme.lexeme-index _ _ _ c.loop-lexeme-test.true c.loop-lexeme.invariant (sym c.in_ok-replacement.ensures ∙ c.in-Some.is))
+pub loop-piece-preserved : goal.loop-piece-preserved
+loop-piece-preserved c =
+    rw c.in_ok-push-in-Some.ensures.ok (all_there_more (replacement_at c.args.line.now) c.args.pieces.now c.loop-piece.piece-index _ _ _ c.loop-piece-test.true c.loop-piece.invariant (sym c.in_ok-replacement.ensures ∙ c.in-Some.is))

@@ -4,5 +4,5 @@ use Rattle.containers.specs.Lists.{all_there}
 use Rattle.c_lex.specs.Directives.{replacement_at}
 use Rattle.c_lex.proofs.directive.list_of.Given as goal
 
-abbrev pub invariant-loop-lexeme : goal.invariant-loop-lexeme
-invariant-loop-lexeme l = all_there (map (replacement_at l.line) (take l.lexeme-index l.lexemes)) ≡ Some l.list
+abbrev pub invariant-loop-piece : goal.invariant-loop-piece
+invariant-loop-piece l = all_there (map (replacement_at l.line) (take l.piece-index l.pieces)) ≡ Some l.list

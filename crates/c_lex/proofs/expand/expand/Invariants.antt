@@ -6,7 +6,7 @@ use Rattle.c_lex.proofs.expand.expand.Given as goal
 
 abbrev pub invariant-turns : goal.invariant-turns
 invariant-turns l =
-    Progress l.table.macros.items l.span (l.word ∷ []) (pending l.table.macros.items l.frames.items) l.fn.tokens.items l.tokens.items l.fn.replaced l.count
+    Progress l.table.macros.items l.span (l.word ∷ []) (pending l.table.macros.items l.frames.items) l.fn.output.tokens.items l.output.tokens.items l.fn.output.replaced l.output.replaced
 
 abbrev pub decreases-turns : goal.decreases-turns
-decreases-turns l = 3 * (most - length l.tokens.items) + 3 * (most - l.count) + length l.frames.items
+decreases-turns l = 3 * (most - length l.output.tokens.items) + 3 * (most - l.output.replaced) + length l.frames.items

@@ -5,7 +5,7 @@ use Rattle.c_lex.proofs.looping.loops.Given as goal
 abbrev pub invariant-turns : goal.invariant-turns
 invariant-turns l = record {
   lengths : length l.marks.items ≡ length l.table.macros.items;
-  searched : Searched l.table.macros.items l.place l.marks.items (reverse l.frames.items);
+  searched : Searched l.table.macros.items l.index l.marks.items (reverse l.frames.items);
 }
 
 abbrev pub decreases-turns : goal.decreases-turns

@@ -1,6 +1,7 @@
 use Rattle.std.proofs.Common.{rules, sym}
 use Rattle.cfa.specs.declared.expr.CellPlace.{the_lemmas}
-use Rattle.c_meaning.proofs.Values.{comes_to, constant_value, load_place, load_kind, load_made, convert_operand, convert_kind, convert_made, unary_operand, unary_of_kind, unary_made, binary_left, binary_left_of_kind, binary_right, binary_same, binary_made, element_index, element_array, element_made, global_cell, local_cell}
+use Rattle.cfa.proofs.ExprRules.{comes_to, constant_value, load_place, load_kind, convert_operand, convert_kind, unary_operand, unary_of_kind, binary_left, binary_left_of_kind, binary_right, binary_same, element_index, element_array, global_cell, local_cell}
+use Rattle.c_meaning.proofs.Values.{load_made, convert_made, unary_made, binary_made, element_made}
 use Rattle.c_meaning.proofs.evaluate.+evaluate.Goals as goal
 
 pub cell_of-value_of-requires : goal.cell_of-value_of-requires

@@ -7,5 +7,5 @@ use Rattle.run_match.proofs.matching.taken.Given as goal
 
 abbrev pub invariant-loop-at : goal.invariant-loop-at
 invariant-loop-at l =
-    IsReach {T = Plain} {B = Bool} (λ t b. Unit {0}) false l.truth l.automaton l.reach
+    IsReach {T = Plain} {B = Bool} (λ t b. Unit {0}) (λ t b w. b) false l.truth l.automaton l.reach
     × Stands {T = Plain} {B = Bool} (λ t b w. b) l.truth l.automaton l.reach (λ w. steps_to (step_of l.path) l.at)

@@ -35,10 +35,10 @@ pub returns-clause-grows : goal.returns-clause-grows
 returns-clause-grows c = grows_within _ (grows_then c.selection.ensures.grows c.both.ensures.grows) (element_room c.args.kind (length c.args.elements.now) c.requires.kind (omega arith))
 
 pub returns-clause-word : goal.returns-clause-word
-returns-clause-word c = c.fitted.ensures.word c.both.new.circuit (all_still c.both.ensures.grows c.in_ok-word.word c.in_ok-word.ensures.wires.0)
+returns-clause-word c = c.extended.ensures.word c.both.new.circuit (all_still c.both.ensures.grows c.in_ok-word.word c.in_ok-word.ensures.wires.0)
 
 pub returns-clause-value : goal.returns-clause-value
 returns-clause-value c = λ w.
-    element_value c.args.kind c.args.elements.now c.args.index.now c.in_ok-word.word c.fitted.result c.in_ok-word.named c.in_ok-fine.fine w c.selection.ensures.grows c.both.ensures.grows
+    element_value c.args.kind c.args.elements.now c.args.index.now c.in_ok-word.word c.extended.result c.in_ok-word.named c.in_ok-fine.fine w c.selection.ensures.grows c.both.ensures.grows
     c.requires.wire c.in_ok-word.ensures.wires.0 (c.in_ok-word.ensures.value w) (c.in_ok-fine.ensures.value w)
-    (c.fitted.ensures.value c.both.new.circuit (all_still c.both.ensures.grows c.in_ok-word.word c.in_ok-word.ensures.wires.0) w)
+    (c.extended.ensures.value c.both.new.circuit w)

@@ -184,23 +184,23 @@ returns-in_ok-less_word-in-Less-clause-word c = rw c.in-Less.is c.in_ok-less_wor
 pub returns-in_ok-less_word-in-Less-clause-value : goal.returns-in_ok-less_word-in-Less-clause-value
 returns-in_ok-less_word-in-Less-clause-value c = λ w. rw c.in-Less.is (sure_outcome c.less_word.new.circuit c.in_ok-less_word-in-Less.field-0 w ∙ ap Some (c.in_ok-less_word-in-Less.ensures.value w))
 
-pub not_less_word-requires-clause-room : goal.not_less_word-requires-clause-room
-not_less_word-requires-clause-room c = let room = rw c.in-LessEqual.is at c.requires.room in omega arith
+pub less_word-requires-in-LessEqual-clause-room : goal.less_word-requires-in-LessEqual-clause-room
+less_word-requires-in-LessEqual-clause-room c = let room = rw c.in-LessEqual.is at c.requires.room in omega arith
 
-pub not_less_word-requires-clause-left : goal.not_less_word-requires-clause-left
-not_less_word-requires-clause-left c = subst (λ k. IsWord c.args.circuit.now k c.args.b.now) (c.requires.same (rw c.in-LessEqual.is refl)) c.requires.right
+pub less_word-requires-in-LessEqual-clause-left : goal.less_word-requires-in-LessEqual-clause-left
+less_word-requires-in-LessEqual-clause-left c = subst (λ k. IsWord c.args.circuit.now k c.args.b.now) (c.requires.same (rw c.in-LessEqual.is refl)) c.requires.right
 
-pub returns-in_err-not_less_word-in-LessEqual-clause-grows : goal.returns-in_err-not_less_word-in-LessEqual-clause-grows
-returns-in_err-not_less_word-in-LessEqual-clause-grows c = rw c.in-LessEqual.is (grows_within _ c.not_less_word.ensures.grows (omega arith))
+pub returns-in_err-less_word-in-LessEqual-clause-grows : goal.returns-in_err-less_word-in-LessEqual-clause-grows
+returns-in_err-less_word-in-LessEqual-clause-grows c = rw c.in-LessEqual.is (grows_within _ c.less_word-in-LessEqual.ensures.grows (omega arith))
 
-pub returns-in_ok-not_less_word-in-LessEqual-clause-grows : goal.returns-in_ok-not_less_word-in-LessEqual-clause-grows
-returns-in_ok-not_less_word-in-LessEqual-clause-grows c = rw c.in-LessEqual.is (grows_within _ c.not_less_word.ensures.grows (omega arith))
+pub returns-in_ok-less_word-in-LessEqual-clause-grows : goal.returns-in_ok-less_word-in-LessEqual-clause-grows
+returns-in_ok-less_word-in-LessEqual-clause-grows c = rw c.in-LessEqual.is (grows_within _ c.less_word-in-LessEqual.ensures.grows (omega arith))
 
-pub returns-in_ok-not_less_word-in-LessEqual-clause-word : goal.returns-in_ok-not_less_word-in-LessEqual-clause-word
-returns-in_ok-not_less_word-in-LessEqual-clause-word c = rw c.in-LessEqual.is c.in_ok-not_less_word-in-LessEqual.ensures.word
+pub returns-in_ok-less_word-in-LessEqual-clause-word : goal.returns-in_ok-less_word-in-LessEqual-clause-word
+returns-in_ok-less_word-in-LessEqual-clause-word c = rw c.in-LessEqual.is c.in_ok-less_word-in-LessEqual.ensures.word
 
-pub returns-in_ok-not_less_word-in-LessEqual-clause-value : goal.returns-in_ok-not_less_word-in-LessEqual-clause-value
-returns-in_ok-not_less_word-in-LessEqual-clause-value c = λ w. rw c.in-LessEqual.is (sure_outcome c.not_less_word.new.circuit c.in_ok-not_less_word-in-LessEqual.field-0 w ∙ ap Some (c.in_ok-not_less_word-in-LessEqual.ensures.value w))
+pub returns-in_ok-less_word-in-LessEqual-clause-value : goal.returns-in_ok-less_word-in-LessEqual-clause-value
+returns-in_ok-less_word-in-LessEqual-clause-value c = λ w. rw c.in-LessEqual.is (sure_outcome c.less_word-in-LessEqual.new.circuit c.in_ok-less_word-in-LessEqual.field-0 w ∙ ap Some (c.in_ok-less_word-in-LessEqual.ensures.value w))
 
 pub less_word-requires-in-Greater-clause-room : goal.less_word-requires-in-Greater-clause-room
 less_word-requires-in-Greater-clause-room c = let room = rw c.in-Greater.is at c.requires.room in omega arith
@@ -220,23 +220,23 @@ returns-in_ok-less_word-in-Greater-clause-word c = rw c.in-Greater.is c.in_ok-le
 pub returns-in_ok-less_word-in-Greater-clause-value : goal.returns-in_ok-less_word-in-Greater-clause-value
 returns-in_ok-less_word-in-Greater-clause-value c = λ w. rw c.in-Greater.is (sure_outcome c.less_word-in-Greater.new.circuit c.in_ok-less_word-in-Greater.field-0 w ∙ ap Some (c.in_ok-less_word-in-Greater.ensures.value w))
 
-pub not_less_word-requires-in-GreaterEqual-clause-room : goal.not_less_word-requires-in-GreaterEqual-clause-room
-not_less_word-requires-in-GreaterEqual-clause-room c = let room = rw c.in-GreaterEqual.is at c.requires.room in omega arith
+pub less_word-requires-in-GreaterEqual-clause-room : goal.less_word-requires-in-GreaterEqual-clause-room
+less_word-requires-in-GreaterEqual-clause-room c = let room = rw c.in-GreaterEqual.is at c.requires.room in omega arith
 
-pub not_less_word-requires-in-GreaterEqual-clause-right : goal.not_less_word-requires-in-GreaterEqual-clause-right
-not_less_word-requires-in-GreaterEqual-clause-right c = subst (λ k. IsWord c.args.circuit.now k c.args.b.now) (c.requires.same (rw c.in-GreaterEqual.is refl)) c.requires.right
+pub less_word-requires-in-GreaterEqual-clause-right : goal.less_word-requires-in-GreaterEqual-clause-right
+less_word-requires-in-GreaterEqual-clause-right c = subst (λ k. IsWord c.args.circuit.now k c.args.b.now) (c.requires.same (rw c.in-GreaterEqual.is refl)) c.requires.right
 
-pub returns-in_err-not_less_word-in-GreaterEqual-clause-grows : goal.returns-in_err-not_less_word-in-GreaterEqual-clause-grows
-returns-in_err-not_less_word-in-GreaterEqual-clause-grows c = rw c.in-GreaterEqual.is (grows_within _ c.not_less_word-in-GreaterEqual.ensures.grows (omega arith))
+pub returns-in_err-less_word-in-GreaterEqual-clause-grows : goal.returns-in_err-less_word-in-GreaterEqual-clause-grows
+returns-in_err-less_word-in-GreaterEqual-clause-grows c = rw c.in-GreaterEqual.is (grows_within _ c.less_word-in-GreaterEqual.ensures.grows (omega arith))
 
-pub returns-in_ok-not_less_word-in-GreaterEqual-clause-grows : goal.returns-in_ok-not_less_word-in-GreaterEqual-clause-grows
-returns-in_ok-not_less_word-in-GreaterEqual-clause-grows c = rw c.in-GreaterEqual.is (grows_within _ c.not_less_word-in-GreaterEqual.ensures.grows (omega arith))
+pub returns-in_ok-less_word-in-GreaterEqual-clause-grows : goal.returns-in_ok-less_word-in-GreaterEqual-clause-grows
+returns-in_ok-less_word-in-GreaterEqual-clause-grows c = rw c.in-GreaterEqual.is (grows_within _ c.less_word-in-GreaterEqual.ensures.grows (omega arith))
 
-pub returns-in_ok-not_less_word-in-GreaterEqual-clause-word : goal.returns-in_ok-not_less_word-in-GreaterEqual-clause-word
-returns-in_ok-not_less_word-in-GreaterEqual-clause-word c = rw c.in-GreaterEqual.is c.in_ok-not_less_word-in-GreaterEqual.ensures.word
+pub returns-in_ok-less_word-in-GreaterEqual-clause-word : goal.returns-in_ok-less_word-in-GreaterEqual-clause-word
+returns-in_ok-less_word-in-GreaterEqual-clause-word c = rw c.in-GreaterEqual.is c.in_ok-less_word-in-GreaterEqual.ensures.word
 
-pub returns-in_ok-not_less_word-in-GreaterEqual-clause-value : goal.returns-in_ok-not_less_word-in-GreaterEqual-clause-value
-returns-in_ok-not_less_word-in-GreaterEqual-clause-value c = λ w. rw c.in-GreaterEqual.is (sure_outcome c.not_less_word-in-GreaterEqual.new.circuit c.in_ok-not_less_word-in-GreaterEqual.field-0 w ∙ ap Some (c.in_ok-not_less_word-in-GreaterEqual.ensures.value w))
+pub returns-in_ok-less_word-in-GreaterEqual-clause-value : goal.returns-in_ok-less_word-in-GreaterEqual-clause-value
+returns-in_ok-less_word-in-GreaterEqual-clause-value c = λ w. rw c.in-GreaterEqual.is (sure_outcome c.less_word-in-GreaterEqual.new.circuit c.in_ok-less_word-in-GreaterEqual.field-0 w ∙ ap Some (c.in_ok-less_word-in-GreaterEqual.ensures.value w))
 
 pub equal_word-requires-clause-room : goal.equal_word-requires-clause-room
 equal_word-requires-clause-room c = let room = rw c.in-Equal.is at c.requires.room in omega arith
@@ -256,20 +256,20 @@ returns-in_ok-equal_word-in-Equal-clause-word c = rw c.in-Equal.is c.in_ok-equal
 pub returns-in_ok-equal_word-in-Equal-clause-value : goal.returns-in_ok-equal_word-in-Equal-clause-value
 returns-in_ok-equal_word-in-Equal-clause-value c = λ w. rw c.in-Equal.is (sure_outcome c.equal_word.new.circuit c.in_ok-equal_word-in-Equal.field-0 w ∙ ap Some (c.in_ok-equal_word-in-Equal.ensures.value w))
 
-pub not_equal_word-requires-clause-room : goal.not_equal_word-requires-clause-room
-not_equal_word-requires-clause-room c = let room = rw c.in-NotEqual.is at c.requires.room in omega arith
+pub equal_word-requires-in-NotEqual-clause-room : goal.equal_word-requires-in-NotEqual-clause-room
+equal_word-requires-in-NotEqual-clause-room c = let room = rw c.in-NotEqual.is at c.requires.room in omega arith
 
-pub not_equal_word-requires-clause-right : goal.not_equal_word-requires-clause-right
-not_equal_word-requires-clause-right c = subst (λ k. IsWord c.args.circuit.now k c.args.b.now) (c.requires.same (rw c.in-NotEqual.is refl)) c.requires.right
+pub equal_word-requires-in-NotEqual-clause-right : goal.equal_word-requires-in-NotEqual-clause-right
+equal_word-requires-in-NotEqual-clause-right c = subst (λ k. IsWord c.args.circuit.now k c.args.b.now) (c.requires.same (rw c.in-NotEqual.is refl)) c.requires.right
 
-pub returns-in_err-not_equal_word-in-NotEqual-clause-grows : goal.returns-in_err-not_equal_word-in-NotEqual-clause-grows
-returns-in_err-not_equal_word-in-NotEqual-clause-grows c = rw c.in-NotEqual.is (grows_within _ c.not_equal_word.ensures.grows (omega arith))
+pub returns-in_err-equal_word-in-NotEqual-clause-grows : goal.returns-in_err-equal_word-in-NotEqual-clause-grows
+returns-in_err-equal_word-in-NotEqual-clause-grows c = rw c.in-NotEqual.is (grows_within _ c.equal_word-in-NotEqual.ensures.grows (omega arith))
 
-pub returns-in_ok-not_equal_word-in-NotEqual-clause-grows : goal.returns-in_ok-not_equal_word-in-NotEqual-clause-grows
-returns-in_ok-not_equal_word-in-NotEqual-clause-grows c = rw c.in-NotEqual.is (grows_within _ c.not_equal_word.ensures.grows (omega arith))
+pub returns-in_ok-equal_word-in-NotEqual-clause-grows : goal.returns-in_ok-equal_word-in-NotEqual-clause-grows
+returns-in_ok-equal_word-in-NotEqual-clause-grows c = rw c.in-NotEqual.is (grows_within _ c.equal_word-in-NotEqual.ensures.grows (omega arith))
 
-pub returns-in_ok-not_equal_word-in-NotEqual-clause-word : goal.returns-in_ok-not_equal_word-in-NotEqual-clause-word
-returns-in_ok-not_equal_word-in-NotEqual-clause-word c = rw c.in-NotEqual.is c.in_ok-not_equal_word-in-NotEqual.ensures.word
+pub returns-in_ok-equal_word-in-NotEqual-clause-word : goal.returns-in_ok-equal_word-in-NotEqual-clause-word
+returns-in_ok-equal_word-in-NotEqual-clause-word c = rw c.in-NotEqual.is c.in_ok-equal_word-in-NotEqual.ensures.word
 
-pub returns-in_ok-not_equal_word-in-NotEqual-clause-value : goal.returns-in_ok-not_equal_word-in-NotEqual-clause-value
-returns-in_ok-not_equal_word-in-NotEqual-clause-value c = λ w. rw c.in-NotEqual.is (sure_outcome c.not_equal_word.new.circuit c.in_ok-not_equal_word-in-NotEqual.field-0 w ∙ ap Some (c.in_ok-not_equal_word-in-NotEqual.ensures.value w))
+pub returns-in_ok-equal_word-in-NotEqual-clause-value : goal.returns-in_ok-equal_word-in-NotEqual-clause-value
+returns-in_ok-equal_word-in-NotEqual-clause-value c = λ w. rw c.in-NotEqual.is (sure_outcome c.equal_word-in-NotEqual.new.circuit c.in_ok-equal_word-in-NotEqual.field-0 w ∙ ap Some (c.in_ok-equal_word-in-NotEqual.ensures.value w))

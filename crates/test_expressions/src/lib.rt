@@ -1,0 +1,15 @@
+//! Expressions for the tests and the programs of bench/ that stand on `sym_expr`: read from lists of parts, tested against
+//! the rules for expressions, weighed and translated.
+//!
+//! [`translated`] meets the conditions of `sym_expr::translate` for any expression and store, or answers none.
+#![tactic(auto)]
+
+mod parts;
+mod rules;
+mod stores;
+mod weights;
+
+pub use parts::{Part, expression, left_nested};
+pub use rules::Places;
+pub use stores::{free_store, translated};
+pub use weights::weight;
