@@ -1,7 +1,7 @@
 -- Readers that agree on fewer tokens read the same: a bound on how deep expressions nest that is above the number of
 -- the tokens is none.
-use Rattle.std.proofs.Common.{◌≡◌, ℕ, zero, suc, ◌≤◌, ◌<◌, Bool, true, false, cond, List, [], ◌∷◌, length, Option, Some, None, refl, sym, ap, ◌∙◌, arith}
-use Rattle.std.specs.Prelude.{IfSome, nat_le, if◌then◌else◌}
+use Rattle.std.proofs.Common.{◌≡◌, ℕ, zero, suc, ◌≤◌, ◌<◌, Bool, true, false, cond, List, [], ◌∷◌, length, Option, Some, None, refl, ap, ◌∙◌, arith}
+use Rattle.std.specs.Prelude.{nat_le, if◌then◌else◌}
 use Rattle.fq_core.specs.declared.span.Span.{Span}
 use Rattle.c_parse.specs.declared.sign.Terminal.{Terminal}
 use Rattle.c_parse.specs.declared.sign.Sign.{Sign}
@@ -12,11 +12,11 @@ use Rattle.c_parse.specs.declared.expr.ExprTree.{ExprTree}
 use Rattle.c_parse.specs.declared.expr.ExprForm.TheVariants as form
 use Rattle.c_parse.specs.declared.operator.Prefix.{Prefix}
 use Rattle.c_parse.specs.declared.operator.Infix.{Infix}
-use Rattle.c_parse.specs.Trees.{tree, prefixed, joined, level}
+use Rattle.c_parse.specs.Trees.{tree, joined, level}
 use Rattle.c_parse.specs.Grammar.{Text, place_of}
 use Rattle.c_parse.specs.Reading.{◌>>=◌, Read, Reader, is_mark, starts, starts_type, tail, expect, type_at, infix_at, by_operator, prefix_of, arguments_at, after_name, after_open, after_prefix, operand_of, operand_at, operators_at, level_by, choice_by, expr_at, expr_in}
 use Rattle.c_parse.proofs.Steps.{expect_takes, infix_at-some}
-use Rattle.c_parse.proofs.Takes.{Takes, IsSound, length-parts, type_takes, operand_takes, level_takes, expr_takes}
+use Rattle.c_parse.proofs.Takes.{IsSound, length-parts, type_takes, operand_takes, level_takes, expr_takes}
 
 pub then_same : {A B : Type 0} (o : Option A) (f g : A → Option B) → ((x : A) → o ≡ Some x → f x ≡ g x) → (o >>= f) ≡ (o >>= g)
 then_same None f g h = refl

@@ -1,6 +1,6 @@
 -- Readers of statements that agree on fewer tokens read the same: a bound on how deep statements nest that is above the
 -- number of the tokens is none.
-use Rattle.std.proofs.Common.{◌≡◌, ℕ, zero, suc, ◌≤◌, ◌<◌, Bool, true, false, List, [], ◌∷◌, length, Option, Some, None, refl, ap, ◌∙◌, arith}
+use Rattle.std.proofs.Common.{◌≡◌, ℕ, zero, suc, ◌≤◌, ◌<◌, List, [], ◌∷◌, length, Option, Some, None, refl, ap, ◌∙◌, arith}
 use Rattle.std.specs.Prelude.{IfSome}
 use Rattle.fq_core.specs.declared.span.Span.{Span}
 use Rattle.c_parse.specs.declared.sign.Terminal.{Terminal}
@@ -14,11 +14,11 @@ use Rattle.c_parse.specs.declared.statement.Group.{Group}
 use Rattle.c_parse.specs.declared.statement.Statement.{Statement}
 use Rattle.c_parse.specs.declared.statement.Form.TheVariants as form
 use Rattle.c_parse.specs.Grammar.{Text}
-use Rattle.c_parse.specs.StatementTrees.{statement, ident, group}
+use Rattle.c_parse.specs.StatementTrees.{statement, group}
 use Rattle.c_parse.specs.Reading.{◌>>=◌, Read, starts, tail, expect}
 use Rattle.c_parse.specs.ReadingStatements.{starts_local, test_at, optional_at, begin_at, next_at, labels_at, Reads, one_at, ends_body, body_at, groups_at, arms_at, do_at, for_at, switch_at, statement_of_mark, labelled_at, statement_of, statement_by, statement_at, statement_in}
 use Rattle.c_parse.proofs.Takes.{Takes, length-parts}
-use Rattle.c_parse.proofs.TakesStatements.{IsSoundHere, test_takes, optional_takes, begin_takes, next_takes, labels_take, one_takes, body_take, statement_takes}
+use Rattle.c_parse.proofs.TakesStatements.{IsSoundHere, optional_takes, begin_takes, next_takes, labels_take, one_takes, body_take, statement_takes}
 use Rattle.c_parse.proofs.Agree.{then_same, either_same, tail_most, expect_fewer}
 use Rattle.c_parse.proofs.Shorter.{test_fewer}
 

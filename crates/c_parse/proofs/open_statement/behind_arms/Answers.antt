@@ -1,4 +1,4 @@
-use Rattle.std.proofs.Common.{◌≡◌, Some, sym, arith}
+use Rattle.std.proofs.Common.{◌≡◌, Some, sym}
 use Rattle.std.proofs.lemmas.Result.{err_from_is_err_and}
 use Rattle.c_parse.specs.Reading.{tail}
 use Rattle.c_parse.specs.ReadingStatements.{test_at}

@@ -6,6 +6,8 @@ use Rattle.c_parse.specs.ReadingStatements.{body_at, groups_at, statement_in}
 use Rattle.c_parse.proofs.Loops.{with_no_front}
 use Rattle.c_parse.proofs.TakesStatements.{statement_in_takes}
 use Rattle.c_parse.proofs.AgreeStatements.{body_most}
+use Rattle.c_parse.proofs.Agree.{expect_fewer}
+use Rattle.c_parse.proofs.Shorter.{test_fewer}
 use Rattle.c_parse.proofs.ShorterStatements.{parts_most, one_fewer, labels_fewer, end_there}
 use Rattle.c_parse.proofs.LoopsStatements.{body_ends, one_of_body_fails, body_goes_on, groups_closed, labels_of_group_fail, body_of_group_fails, groups_go_on}
 use Rattle.c_parse.proofs.OpenStatements.{starts_shorter, part_fails, part_begun, part_takes, whole_takes, first_begun, first_fails, part_goes_on, part_stops, all_read, whole_goes_on, whole_stops}
@@ -65,6 +67,17 @@ pub groups-returns-in_err-body : goal.groups-returns-in_err-body
 groups-returns-in_err-body t c =
     let p = err_from_is_err_and c.from_residual-in_err-body.result c.from_residual-in_err-body.ensures.1 in
     rw (p.1, p.2) (body_of_group_fails statement_in c.groups.list _ c.groups.rest.now _ c.groups.invariant.so_far c.in_ok-labels.labels _ (sym c.if-starts_with.ensures) c.in_ok-labels.ensures _ c.in_err-body.ensures)
+
+pub groups-body-requires : goal.groups-body-requires
+groups-body-requires t c =
+    let few = labels_fewer (length c.groups.rest.now) c.groups.rest.now c.in_ok-labels.after.now c.in_ok-labels.labels c.in_ok-labels.ensures in
+    (omega (arith, c.groups.invariant.fewer, few), tt)
+
+pub switched-groups-requires : goal.switched-groups-requires
+switched-groups-requires t c =
+    let tested = test_fewer c.args.tokens.now c.in_ok-value.rest.now c.in_ok-value.value c.in_ok-value.ensures in
+    let fewer = expect_fewer marks.OpenBrace c.in_ok-value.rest.now c.in_ok-rest.rest.now c.in_ok-rest.ensures in
+    (omega (arith, tested, fewer), tt)
 
 pub groups-groups-preserved : goal.groups-groups-preserved
 groups-groups-preserved t c =
