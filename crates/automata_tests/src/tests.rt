@@ -206,6 +206,19 @@ fn ten_edges(alloc: Global) -> Made {
     Ok(row)
 }
 
+// Steps by the edges 0 to 9 over and over, from one place of them to another.
+fn edges_from(alloc: Global, from: u32, to: u32) -> Result<Vec<Recorded>, Memory> {
+    let mut steps = Vec::new(alloc);
+    for place in from..to {
+        steps.push(Recorded {
+            edge: place % 10,
+            node: 0,
+            mask: 0,
+        })?;
+    }
+    Ok(steps)
+}
+
 // By hand: the edges 0 to 9, 300 times, on the edges 5 to 9 and then 0 to 9, 300 times. The match begins at state 5 and ends
 // at the last.
 #[test]
@@ -216,28 +229,23 @@ fn thousands_of_letters(rt: HostRuntime) -> Result<(), Fail> {
     for _ in 1..300 {
         nested = dot(alloc, ten_edges(alloc)?, nested)?;
     }
-    let mut steps = Vec::new(alloc);
-    for place in 5..3010 {
-        steps.push(Recorded {
-            edge: place % 10,
-            node: 0,
-            mask: 0,
-        })?;
-    }
     let start = Recorded {
         edge: 99,
         node: 0,
         mask: 0,
     };
-    assert_eq!(rt; steps.len(), 3005);
+    let whole = edges_from(alloc, 5, 3010)?;
+    let one_less = edges_from(alloc, 5, 3009)?;
+    let begun_late = edges_from(alloc, 11, 3010)?;
+    let begun_there = edges_from(alloc, 10, 3010)?;
     for pattern in [&repeated, &nested] {
         let free = build(alloc, pattern, false, false)?;
         let tied = build(alloc, pattern, true, false)?;
-        assert_eq!(rt; hits(alloc, &free, start, &steps)?, (true, true));
-        assert_eq!(rt; hits(alloc, &free, start, &steps[..3004])?, (false, false));
-        assert_eq!(rt; hits(alloc, &free, start, &steps[6..])?, (false, false));
-        assert_eq!(rt; hits(alloc, &tied, start, &steps)?, (false, false));
-        assert_eq!(rt; hits(alloc, &tied, start, &steps[5..])?, (true, true));
+        assert_eq!(rt; hits(alloc, &free, start, &whole)?, (true, true));
+        assert_eq!(rt; hits(alloc, &free, start, &one_less)?, (false, false));
+        assert_eq!(rt; hits(alloc, &free, start, &begun_late)?, (false, false));
+        assert_eq!(rt; hits(alloc, &tied, start, &whole)?, (false, false));
+        assert_eq!(rt; hits(alloc, &tied, start, &begun_there)?, (true, true));
     }
     Ok(())
 }
