@@ -1,21 +1,7 @@
 use c_front::*;
-use c_lex::SourceText;
-use containers::Vector;
-use fq_core::{Fault, Name};
-use std::alloc::Global;
+use fq_core::Fault;
 use std::test::Fail;
-
-fn texts(alloc: Global, sources: &[(&str, &str)]) -> Result<Vec<SourceText>, Fail> {
-    let mut texts = Vec::new(alloc);
-    for (name, source) in sources {
-        let Ok(name) = Name::new(alloc, name.as_bytes()) else {
-            return Err(Fail::from("no memory"));
-        };
-        let bytes = Vector::from_vec(source.as_bytes().to_vec(alloc)?);
-        texts.push(SourceText { name, bytes })?;
-    }
-    Ok(texts)
-}
+use test_programs::texts_of;
 
 // Two texts are one unit: its automaton has the functions of both, and the edges have the places of their own text.
 #[test]
@@ -24,7 +10,9 @@ fn an_automaton_of_two_texts(rt: HostRuntime) -> Result<(), Fail> {
         ("p1.c", "int g(int v) { return v; }\n"),
         ("p2.c", "int f(int x) {\n  return g(x);\n}\n"),
     ];
-    let texts = texts(rt.alloc(), &sources)?;
+    let Ok(texts) = texts_of(rt.alloc(), &sources) else {
+        return Err(Fail::from("no memory"));
+    };
     assert!(rt; c_lex::are_small(&texts));
     assert!(rt; texts.len() == 2);
     let Ok(graph) = automaton_of_texts(rt.alloc(), &texts) else {
@@ -57,7 +45,9 @@ fn refusals(rt: HostRuntime) -> Result<(), Fail> {
         ("int f(void) { return y; }", 30),
         ("int a[1025];", 34),
     ] {
-        let texts = texts(rt.alloc(), &[("a.c", source)])?;
+        let Ok(texts) = texts_of(rt.alloc(), &[("a.c", source)]) else {
+            return Err(Fail::from("no memory"));
+        };
         assert!(rt; c_lex::are_small(&texts));
         assert!(rt; texts.len() == 1);
         match automaton_of_texts(rt.alloc(), &texts) {

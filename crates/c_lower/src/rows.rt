@@ -1,7 +1,6 @@
 // Statements that hold no statements.
 ghost use Rattle.std.specs.Prelude.{◌≡◌, ◌+◌, ◌<◌, [], ◌∷◌, map, length, slice_get, MatchOption, IfOk, IfErr, OnOk};
 ghost use Rattle.std.specs.Option.{option_map};
-ghost use Rattle.cfa.specs.Kinds.{same_kind};
 ghost use Rattle.cfa.specs.declared.parts.Operation.TheVariants as operations;
 ghost use Rattle.graph_of.specs.Builder.{after};
 ghost use Rattle.graph_of.specs.Edges.{node_here};
@@ -24,16 +23,10 @@ use graph_of::{Around, Operand, Parts, Target};
 use std::alloc::{AllocError, Global};
 use typed_trees::{TypedCall, TypedExpr, TypedPlace};
 
-fn same_kind(a: Kind, b: Kind) -> bool
-    ensures { result ≡ same_kind a b }
-{
-    a.width == b.width && a.signed == b.signed
-}
-
 fn converted_to(alloc: Global, own: Kind, kind: Kind, value: Expr) -> Result<Expr, AllocError>
     ensures { IfOk result (λ e. e ≡ converted_to own kind value) }
 {
-    if same_kind(own, kind) {
+    if own == kind {
         Ok(value)
     } else {
         Ok(Expr::Convert(Boxed::new(alloc, value)?, kind))

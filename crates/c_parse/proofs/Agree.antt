@@ -6,15 +6,15 @@ use Rattle.fq_core.specs.declared.span.Span.{Span}
 use Rattle.c_parse.specs.declared.sign.Terminal.{Terminal}
 use Rattle.c_parse.specs.declared.sign.Sign.{Sign}
 use Rattle.c_parse.specs.declared.sign.Sign.TheVariants as sign
-use Rattle.c_parse.specs.declared.sign.Mark.{Mark}
-use Rattle.c_parse.specs.declared.sign.Mark.TheVariants as marks
+use Rattle.c_parse.specs.declared.sign.Symbol.{Symbol}
+use Rattle.c_parse.specs.declared.sign.Symbol.TheVariants as symbols
 use Rattle.c_parse.specs.declared.expr.ExprTree.{ExprTree}
 use Rattle.c_parse.specs.declared.expr.ExprForm.TheVariants as form
 use Rattle.c_parse.specs.declared.operator.Prefix.{Prefix}
 use Rattle.c_parse.specs.declared.operator.Infix.{Infix}
 use Rattle.c_parse.specs.Trees.{tree, joined, level}
-use Rattle.c_parse.specs.Grammar.{Text, place_of}
-use Rattle.c_parse.specs.Reading.{◌>>=◌, Read, Reader, is_mark, starts, starts_type, tail, expect, type_at, infix_at, by_operator, prefix_of, arguments_at, after_name, after_open, after_prefix, operand_of, operand_at, operators_at, level_by, choice_by, expr_at, expr_in}
+use Rattle.c_parse.specs.Grammar.{Text, first_span}
+use Rattle.c_parse.specs.Reading.{◌>>=◌, Read, Reader, is_symbol, starts, starts_type, tail, expect, type_at, infix_at, by_operator, prefix_of, arguments_at, after_name, after_open, after_prefix, operand_of, operand_at, operators_at, level_by, choice_by, expr_at, expr_in}
 use Rattle.c_parse.proofs.Steps.{expect_takes, infix_at-some}
 use Rattle.c_parse.proofs.Takes.{IsSound, length-parts, type_takes, operand_takes, level_takes, expr_takes}
 
@@ -34,7 +34,7 @@ pub tail_most : (ts : List Terminal) → length (tail ts) ≤ length ts
 tail_most [] = omega arith
 tail_most (t ∷ ts) = omega arith
 
-pub expect_fewer : (m : Mark) (ts rest : List Terminal) → expect m ts ≡ Some rest → length rest < length ts
+pub expect_fewer : (m : Symbol) (ts rest : List Terminal) → expect m ts ≡ Some rest → length rest < length ts
 expect_fewer m ts rest e =
     let h = expect_takes m ts in
     let d = rw e at h in
@@ -55,8 +55,8 @@ read_most r sound k ts x e =
 -- what follows the test of a choice, if there is one
 abbrev behind_test : Reader → List Terminal → ExprTree × List Terminal → Read ExprTree
 behind_test q ts c =
-    if starts marks.Question c.1
-    then (q 0 (tail c.1) >>= λ a. expect marks.Colon a.1 >>= λ rest. q 0 rest >>= λ b. Some (tree (place_of ts) (form.Choice c.0 a.0 b.0), b.1))
+    if starts symbols.Question c.1
+    then (q 0 (tail c.1) >>= λ a. expect symbols.Colon a.1 >>= λ rest. q 0 rest >>= λ b. Some (tree (first_span ts) (form.Choice c.0 a.0 b.0), b.1))
     else Some c
 
 module _ (r s : Reader) (size : ℕ) (sound : IsSound r) (agree : (k : ℕ) (ts : List Terminal) → length ts < size → r k ts ≡ s k ts) where
@@ -68,17 +68,17 @@ module _ (r s : Reader) (size : ℕ) (sound : IsSound r) (agree : (k : ℕ) (ts 
   arguments_same zero ts lt = refl
   arguments_same (suc n) ts lt =
       read_same 0 ts _ _ lt (λ first le.
-      either_same (starts marks.Comma first.1) _ _ _ _
+      either_same (starts symbols.Comma first.1) _ _ _ _
       (λ e. ap (λ (o : Read (List ExprTree)). o >>= λ others. Some (first.0 ∷ others.0, others.1)) (arguments_same n (tail first.1) (omega (arith, tail_most first.1))))
       (λ e. refl))
 
   name_same : (p : Span) (w : Text) (ts : List Terminal) → length ts < size → after_name r p w ts ≡ after_name s p w ts
   unfolding after_name
   name_same p w ts lt =
-      either_same (starts marks.OpenIndex ts) _ _ _ _
+      either_same (starts symbols.OpenIndex ts) _ _ _ _
       (λ e. read_same 0 (tail ts) _ _ (omega (arith, tail_most ts)) (λ x le. refl))
-      (λ e. either_same (starts marks.Open ts) _ _ _ _
-      (λ f. either_same (starts marks.Close (tail ts)) _ _ _ _
+      (λ e. either_same (starts symbols.Open ts) _ _ _ _
+      (λ f. either_same (starts symbols.Close (tail ts)) _ _ _ _
       (λ g. refl)
       (λ g. ap (λ (o : Read (List ExprTree)). o >>= λ x. Some (tree p (form.Call w x.0), x.1)) (arguments_same (length (tail ts)) (tail ts) (omega (arith, tail_most ts)))))
       (λ f. refl))
@@ -88,8 +88,8 @@ module _ (r s : Reader) (size : ℕ) (sound : IsSound r) (agree : (k : ℕ) (ts 
   open_same p ts lt =
       either_same (starts_type ts) _ _ _ _
       (λ e. then_same (type_at ts) _ _ (λ kind d.
-      then_same (expect marks.Close kind.1) _ _ (λ rest f.
-      read_same 11 rest _ _ (omega (arith, type_most ts kind d, expect_fewer marks.Close kind.1 rest f)) (λ x le. refl))))
+      then_same (expect symbols.Close kind.1) _ _ (λ rest f.
+      read_same 11 rest _ _ (omega (arith, type_most ts kind d, expect_fewer symbols.Close kind.1 rest f)) (λ x le. refl))))
       (λ e. read_same 0 ts _ _ lt (λ x le. refl))
 
   prefix_same : (o : Option Prefix) (p : Span) (ts : List Terminal) → length ts < size → after_prefix r o p ts ≡ after_prefix s o p ts
@@ -99,7 +99,7 @@ module _ (r s : Reader) (size : ℕ) (sound : IsSound r) (agree : (k : ℕ) (ts 
   operand_of_same : (f : Sign) (p : Span) (ts : List Terminal) → length ts < size → operand_of r f p ts ≡ operand_of s f p ts
   operand_of_same (sign.Number n kind) p ts lt = refl
   operand_of_same (sign.Name w) p ts lt = name_same p w ts lt
-  operand_of_same (sign.Mark m) p ts lt = either_same (is_mark marks.Open (sign.Mark m)) _ _ _ _ (λ e. open_same p ts lt) (λ e. prefix_same (prefix_of m) p ts lt)
+  operand_of_same (sign.Symbol m) p ts lt = either_same (is_symbol symbols.Open (sign.Symbol m)) _ _ _ _ (λ e. open_same p ts lt) (λ e. prefix_same (prefix_of m) p ts lt)
   operand_of_same (sign.Type w) p ts lt = refl
   operand_of_same sign.Foreign p ts lt = refl
   operand_of_same sign.Unknown p ts lt = refl
@@ -121,11 +121,11 @@ module _ (r s : Reader) (size : ℕ) (sound : IsSound r) (agree : (k : ℕ) (ts 
   level_same : (k : ℕ) (ts : List Terminal) → length ts ≤ size → level_by r k ts ≡ level_by s k ts
   unfolding level_by
   level_same k ts le =
-      then_same (operand_at r ts) (λ t. operators_at r (length t.1) k (place_of ts) t.0 t.1) (λ t. operators_at s (length t.1) k (place_of ts) t.0 t.1) (λ t e.
+      then_same (operand_at r ts) (λ t. operators_at r (length t.1) k (first_span ts) t.0 t.1) (λ t. operators_at s (length t.1) k (first_span ts) t.0 t.1) (λ t e.
       let h = operand_takes r sound ts in
       let d = rw e at h in
-      operators_same (length t.1) k (place_of ts) t.0 t.1 (omega (arith, length-parts ts d.front t.1 d.parts)))
-      ∙ ap (λ (o : Read ExprTree). o >>= λ t. operators_at s (length t.1) k (place_of ts) t.0 t.1) (operand_same ts le)
+      operators_same (length t.1) k (first_span ts) t.0 t.1 (omega (arith, length-parts ts d.front t.1 d.parts)))
+      ∙ ap (λ (o : Read ExprTree). o >>= λ t. operators_at s (length t.1) k (first_span ts) t.0 t.1) (operand_same ts le)
 
   choice_same : (ts : List Terminal) → length ts ≤ size → choice_by r ts ≡ choice_by s ts
   unfolding choice_by
@@ -134,16 +134,16 @@ module _ (r s : Reader) (size : ℕ) (sound : IsSound r) (agree : (k : ℕ) (ts 
       let h = level_takes r sound 1 ts in
       let d = rw e at h in
       let most = length-parts ts d.0.front c.1 d.0.parts in
-      either_same (starts marks.Question c.1) _ _ _ _
+      either_same (starts symbols.Question c.1) _ _ _ _
       (λ f.
       let fewer : length (tail c.1) < length c.1 = question_fewer c.1 f in
       read_same 0 (tail c.1) _ _ (omega (arith, most, fewer)) (λ a la.
-      then_same (expect marks.Colon a.1) _ _ (λ rest g.
-      read_same 0 rest _ _ (omega (arith, most, fewer, expect_fewer marks.Colon a.1 rest g)) (λ b lb. refl))))
+      then_same (expect symbols.Colon a.1) _ _ (λ rest g.
+      read_same 0 rest _ _ (omega (arith, most, fewer, expect_fewer symbols.Colon a.1 rest g)) (λ b lb. refl))))
       (λ f. refl))
       ∙ ap (λ (o : Read ExprTree). o >>= behind_test s ts) (level_same 1 ts le)
     where
-      question_fewer : (us : List Terminal) → starts marks.Question us ≡ true → length (tail us) < length us
+      question_fewer : (us : List Terminal) → starts symbols.Question us ≡ true → length (tail us) < length us
       question_fewer [] e = absurd cc
       question_fewer (u ∷ us) e = omega arith
 

@@ -6,8 +6,8 @@ use Rattle.fq_core.specs.declared.span.Span.{Span}
 use Rattle.c_parse.specs.declared.sign.Terminal.{Terminal}
 use Rattle.c_parse.specs.declared.sign.Sign.{Sign}
 use Rattle.c_parse.specs.declared.sign.Sign.TheVariants as sign
-use Rattle.c_parse.specs.declared.sign.Mark.{Mark}
-use Rattle.c_parse.specs.declared.sign.Mark.TheVariants as marks
+use Rattle.c_parse.specs.declared.sign.Symbol.{Symbol}
+use Rattle.c_parse.specs.declared.sign.Symbol.TheVariants as symbols
 use Rattle.c_parse.specs.declared.expr.ExprTree.{ExprTree}
 use Rattle.c_parse.specs.declared.statement.CaseLabel.{CaseLabel}
 use Rattle.c_parse.specs.declared.statement.Group.{Group}
@@ -16,7 +16,7 @@ use Rattle.c_parse.specs.declared.statement.Form.TheVariants as form
 use Rattle.c_parse.specs.Grammar.{Text}
 use Rattle.c_parse.specs.StatementTrees.{statement, group}
 use Rattle.c_parse.specs.Reading.{◌>>=◌, Read, starts, tail, expect}
-use Rattle.c_parse.specs.ReadingStatements.{starts_local, test_at, optional_at, begin_at, next_at, labels_at, Reads, one_at, ends_body, body_at, groups_at, arms_at, do_at, for_at, switch_at, statement_of_mark, labelled_at, statement_of, statement_by, statement_at, statement_in}
+use Rattle.c_parse.specs.ReadingStatements.{starts_local, test_at, optional_at, begin_at, next_at, labels_at, Reads, one_at, ends_body, body_at, groups_at, arms_at, do_at, for_at, switch_at, statement_of_symbol, labelled_at, statement_of, statement_by, statement_at, statement_in}
 use Rattle.c_parse.proofs.Takes.{Takes, length-parts}
 use Rattle.c_parse.proofs.TakesStatements.{IsSoundHere, optional_takes, begin_takes, next_takes, labels_take, one_takes, body_take, statement_takes}
 use Rattle.c_parse.proofs.Agree.{then_same, either_same, tail_most, expect_fewer}
@@ -52,8 +52,8 @@ module _ (r : Reads) (sound : IsSoundHere r) where
   arms_enough (suc n) (suc m) ts a b =
       then_same (test_at ts) _ _ (λ c e.
       then_same (r c.1) _ _ (λ s f.
-      either_same (starts marks.Else s.1) _ _ _ _
-      (λ g. either_same (starts marks.If (tail s.1)) _ _ _ _
+      either_same (starts symbols.Else s.1) _ _ _ _
+      (λ g. either_same (starts symbols.If (tail s.1)) _ _ _ _
       (λ h.
       let few : length (tail (tail s.1)) < length ts = omega (arith, test_fewer ts c.1 c.0 e, reads_most c.1 s f, tail_most s.1, tail_most (tail s.1)) in
       ap (λ (o : Read (List (ExprTree × Statement) × Option Statement)). o >>= λ x. Some (((c.0, s.0) ∷ x.0.0, x.0.1), x.1)) (arms_enough n m (tail (tail s.1)) (omega (arith, few)) (omega (arith, few))))
@@ -90,7 +90,7 @@ module _ (r s : Reads) (size : ℕ) (sound : IsSoundHere r) (agree : (ts : List 
   unfolding groups_at
   groups_same zero ts lt = refl
   groups_same (suc n) ts lt =
-      either_same (starts marks.CloseBrace ts) _ _ _ _ (λ e. refl)
+      either_same (starts symbols.CloseBrace ts) _ _ _ _ (λ e. refl)
       (λ e.
       then_same (labels_at (length ts) ts) (group_and_others r n) (group_and_others s n) (λ ls f.
       let few = labels_most (length ts) ts ls f in
@@ -104,8 +104,8 @@ module _ (r s : Reads) (size : ℕ) (sound : IsSoundHere r) (agree : (ts : List 
       then_same (test_at ts) _ _ (λ c e.
       let few = test_fewer ts c.1 c.0 e in
       read_same c.1 _ _ (omega (arith, few)) (λ x le.
-      either_same (starts marks.Else x.1) _ _ _ _
-      (λ f. either_same (starts marks.If (tail x.1)) _ _ _ _
+      either_same (starts symbols.Else x.1) _ _ _ _
+      (λ f. either_same (starts symbols.If (tail x.1)) _ _ _ _
       (λ g. ap (λ (o : Read (List (ExprTree × Statement) × Option Statement)). o >>= λ y. Some (((c.0, x.0) ∷ y.0.0, y.0.1), y.1)) (arms_same n (tail (tail x.1)) (omega (arith, few, le, tail_most x.1, tail_most (tail x.1)))))
       (λ g. read_same (tail x.1) _ _ (omega (arith, few, le, tail_most x.1)) (λ y l. refl)))
       (λ f. refl)))
@@ -113,40 +113,40 @@ module _ (r s : Reads) (size : ℕ) (sound : IsSoundHere r) (agree : (ts : List 
   for_same : (p : Span) (ts : List Terminal) → length ts < size → for_at r p ts ≡ for_at s p ts
   unfolding for_at
   for_same p ts lt =
-      then_same (expect marks.Open ts) _ _ (λ a ea.
+      then_same (expect symbols.Open ts) _ _ (λ a ea.
       then_same (begin_at a) _ _ (λ i ei.
       then_same (optional_at i.1) _ _ (λ c ec.
-      then_same (expect marks.Semicolon c.1) _ _ (λ b eb.
+      then_same (expect symbols.Semicolon c.1) _ _ (λ b eb.
       then_same (next_at b) _ _ (λ j ej.
-      then_same (expect marks.Close j.1) _ _ (λ d ed.
-      read_same d _ _ (omega (arith, expect_fewer marks.Open ts a ea, taken_most _ (begin_at a) a i ei (begin_takes a), taken_most _ (optional_at i.1) i.1 c ec (optional_takes i.1), expect_fewer marks.Semicolon c.1 b eb, taken_most _ (next_at b) b j ej (next_takes b), expect_fewer marks.Close j.1 d ed)) (λ x le. refl)))))))
+      then_same (expect symbols.Close j.1) _ _ (λ d ed.
+      read_same d _ _ (omega (arith, expect_fewer symbols.Open ts a ea, taken_most _ (begin_at a) a i ei (begin_takes a), taken_most _ (optional_at i.1) i.1 c ec (optional_takes i.1), expect_fewer symbols.Semicolon c.1 b eb, taken_most _ (next_at b) b j ej (next_takes b), expect_fewer symbols.Close j.1 d ed)) (λ x le. refl)))))))
 
   switch_same : (p : Span) (ts : List Terminal) → length ts < size → switch_at r p ts ≡ switch_at s p ts
   unfolding switch_at
   switch_same p ts lt =
       then_same (test_at ts) _ _ (λ c e.
-      then_same (expect marks.OpenBrace c.1) _ _ (λ a f.
-      ap (λ (o : Read (List Group)). o >>= λ gs. Some (statement p (form.Switch c.0 gs.0), gs.1)) (groups_same (length a) a (omega (arith, test_fewer ts c.1 c.0 e, expect_fewer marks.OpenBrace c.1 a f)))))
+      then_same (expect symbols.OpenBrace c.1) _ _ (λ a f.
+      ap (λ (o : Read (List Group)). o >>= λ gs. Some (statement p (form.Switch c.0 gs.0), gs.1)) (groups_same (length a) a (omega (arith, test_fewer ts c.1 c.0 e, expect_fewer symbols.OpenBrace c.1 a f)))))
 
   do_same : (p : Span) (ts : List Terminal) → length ts < size → do_at r p ts ≡ do_at s p ts
   unfolding do_at
   do_same p ts lt = read_same ts _ _ lt (λ x le. refl)
 
-  of_mark_same : (m : Mark) (p : Span) (ts : List Terminal) → length ts < size → statement_of_mark r m p ts ≡ statement_of_mark s m p ts
-  of_mark_same marks.OpenBrace p ts lt = ap (λ (o : Read (List Statement)). o >>= λ ss. expect marks.CloseBrace ss.1 >>= λ rest. Some (statement p (form.Block ss.0), rest)) (body_same (length ts) ts lt)
-  of_mark_same marks.If p ts lt = ap (λ (o : Read (List (ExprTree × Statement) × Option Statement)). o >>= λ x. Some (statement p (form.If x.0.0 x.0.1), x.1)) (arms_same (length ts) ts lt)
-  of_mark_same marks.While p ts lt = then_same (test_at ts) _ _ (λ c e. read_same c.1 _ _ (omega (arith, test_fewer ts c.1 c.0 e)) (λ x le. refl))
-  of_mark_same marks.Do p ts lt = do_same p ts lt
-  of_mark_same marks.For p ts lt = for_same p ts lt
-  of_mark_same marks.Switch p ts lt = switch_same p ts lt
-  of_mark_same _ p ts lt = refl
+  of_symbol_same : (m : Symbol) (p : Span) (ts : List Terminal) → length ts < size → statement_of_symbol r m p ts ≡ statement_of_symbol s m p ts
+  of_symbol_same symbols.OpenBrace p ts lt = ap (λ (o : Read (List Statement)). o >>= λ ss. expect symbols.CloseBrace ss.1 >>= λ rest. Some (statement p (form.Block ss.0), rest)) (body_same (length ts) ts lt)
+  of_symbol_same symbols.If p ts lt = ap (λ (o : Read (List (ExprTree × Statement) × Option Statement)). o >>= λ x. Some (statement p (form.If x.0.0 x.0.1), x.1)) (arms_same (length ts) ts lt)
+  of_symbol_same symbols.While p ts lt = then_same (test_at ts) _ _ (λ c e. read_same c.1 _ _ (omega (arith, test_fewer ts c.1 c.0 e)) (λ x le. refl))
+  of_symbol_same symbols.Do p ts lt = do_same p ts lt
+  of_symbol_same symbols.For p ts lt = for_same p ts lt
+  of_symbol_same symbols.Switch p ts lt = switch_same p ts lt
+  of_symbol_same _ p ts lt = refl
 
   labelled_same : (p : Span) (w : Text) (ts : List Terminal) → length ts < size → labelled_at r p w ts ≡ labelled_at s p w ts
   unfolding labelled_at
-  labelled_same p w ts lt = either_same (starts marks.Colon ts) _ _ _ _ (λ e. read_same (tail ts) _ _ (omega (arith, tail_most ts)) (λ x le. refl)) (λ e. refl)
+  labelled_same p w ts lt = either_same (starts symbols.Colon ts) _ _ _ _ (λ e. read_same (tail ts) _ _ (omega (arith, tail_most ts)) (λ x le. refl)) (λ e. refl)
 
   of_sign_same : (f : Sign) (p : Span) (ts : List Terminal) → length ts < size → statement_of r f p ts ≡ statement_of s f p ts
-  of_sign_same (sign.Mark m) p ts lt = of_mark_same m p ts lt
+  of_sign_same (sign.Symbol m) p ts lt = of_symbol_same m p ts lt
   of_sign_same (sign.Name w) p ts lt = labelled_same p w ts lt
   of_sign_same _ p ts lt = refl
 

@@ -3,8 +3,8 @@ use Rattle.std.proofs.Common.{◌≡◌, ◌<◌, Bool, true, false, List, ◌�
 use Rattle.c_parse.specs.declared.sign.Terminal.{Terminal}
 use Rattle.c_parse.specs.declared.sign.Sign.{Sign}
 use Rattle.c_parse.specs.declared.sign.Sign.TheVariants as sign
-use Rattle.c_parse.specs.declared.sign.Mark.{Mark}
-use Rattle.c_parse.specs.Grammar.{mark}
+use Rattle.c_parse.specs.declared.sign.Symbol.{Symbol}
+use Rattle.c_parse.specs.Grammar.{symbol}
 use Rattle.c_parse.specs.Reading.{starts, tail}
 use Rattle.c_parse.proofs.Steps.{starts-true}
 
@@ -21,15 +21,15 @@ BeginsBy-append xs ys b = record { head = b.head; others = b.others ++ ys; is = 
 pub some_first : {f : Sign → Bool} (xs : List Terminal) → BeginsBy f xs → 0 < length xs
 some_first xs b = rw b.is (omega arith)
 
--- a mark that is none of them does not come first
-pub not_first : {f : Sign → Bool} (m : Mark) → f (sign.Mark m) ≡ false → (xs ys : List Terminal) → BeginsBy f xs → starts m (xs ++ ys) ≡ false
+-- a symbol that is none of them does not come first
+pub not_first : {f : Sign → Bool} (m : Symbol) → f (sign.Symbol m) ≡ false → (xs ys : List Terminal) → BeginsBy f xs → starts m (xs ++ ys) ≡ false
 not_first {f} m other xs ys b = at (starts m (xs ++ ys)) refl
   where
     at : (o : Bool) → starts m (xs ++ ys) ≡ o → starts m (xs ++ ys) ≡ false
     at false e = e
     at true e =
         let h = starts-true m (xs ++ ys) e in
-        let whole : b.head ∷ (b.others ++ ys) ≡ mark m h.0 ∷ tail (xs ++ ys) = sym (ap (λ us. us ++ ys) b.is) ∙ h.1 in
-        let same : b.head ≡ mark m h.0 = cc in
+        let whole : b.head ∷ (b.others ++ ys) ≡ symbol m h.0 ∷ tail (xs ++ ys) = sym (ap (λ us. us ++ ys) b.is) ∙ h.1 in
+        let same : b.head ≡ symbol m h.0 = cc in
         let no_more : true ≡ false = sym b.fits ∙ ap (λ u. f u.sign) same ∙ other in
         absurd cc

@@ -2,7 +2,7 @@
 use Rattle.std.proofs.Common.{◌≡◌, ℕ, zero, suc, ◌+◌, ◌-◌, ◌≤◌, ◌<◌, true, false, leb, add-one, List, [], ◌∷◌, ◌++◌, length, Some, None, refl, sym, ap, ◌∙◌, append_assoc, arith}
 use Rattle.std.proofs.lemmas.Bool.{le-leb}
 use Rattle.c_parse.specs.declared.sign.Terminal.{Terminal}
-use Rattle.c_parse.specs.declared.sign.Mark.TheVariants as marks
+use Rattle.c_parse.specs.declared.sign.Symbol.TheVariants as symbols
 use Rattle.c_parse.specs.declared.stop.Stop.{Stop}
 use Rattle.c_parse.specs.declared.stop.Stop.TheVariants.{Memory, Syntax}
 use Rattle.c_parse.specs.declared.operator.Infix.{Infix}
@@ -10,7 +10,7 @@ use Rattle.c_parse.specs.declared.expr.ExprTree.{ExprTree}
 use Rattle.fq_core.specs.declared.span.Span.{Span}
 use Rattle.c_parse.specs.Gives.{Fails}
 use Rattle.c_parse.specs.Trees.{tree, joined, level}
-use Rattle.c_parse.specs.Grammar.{place_of}
+use Rattle.c_parse.specs.Grammar.{first_span}
 use Rattle.c_parse.specs.Reading.{Read, Reader, ◌>>=◌, starts, tail, expect, infix_at, arguments_at, operand_at, operators_at, level_by, expr_in}
 use Rattle.c_parse.proofs.Steps.{Stops}
 use Rattle.c_parse.proofs.Again.{operators_end}
@@ -24,7 +24,7 @@ with_no_front None = refl
 with_no_front (Some x) = refl
 
 -- an operand at a level is an operand, and the operators behind it
-pub operand_read : (k : ℕ) (ts : List Terminal) (t : ExprTree) (rest : List Terminal) → operand_at expr_in ts ≡ Some (t, rest) → operators_at expr_in (length rest) k (place_of ts) t rest ≡ level_by expr_in k ts
+pub operand_read : (k : ℕ) (ts : List Terminal) (t : ExprTree) (rest : List Terminal) → operand_at expr_in ts ≡ Some (t, rest) → operators_at expr_in (length rest) k (first_span ts) t rest ≡ level_by expr_in k ts
 unfolding level_by
 operand_read k ts t rest e = rw e refl
 
@@ -42,7 +42,7 @@ module _ (r : Reader) (list : List ExprTree) (n : ℕ) (rest : List Terminal) (t
       at zero = refl
       at (suc m) = rw h refl
 
-  pub close_fails : (e : Stop) (a : ExprTree) (after : List Terminal) → r 0 rest ≡ Some (a, after) → starts marks.Comma after ≡ false → Fails e (expect marks.Close after) → Fails e total
+  pub close_fails : (e : Stop) (a : ExprTree) (after : List Terminal) → r 0 rest ≡ Some (a, after) → starts symbols.Comma after ≡ false → Fails e (expect symbols.Close after) → Fails e total
   unfolding arguments_at
   close_fails Memory a after h comma c = tt
   close_fails Syntax a after h comma c = none_is (at n)
@@ -51,11 +51,11 @@ module _ (r : Reader) (list : List ExprTree) (n : ℕ) (rest : List Terminal) (t
       at zero = refl
       at (suc m) = rw (h, comma, c) refl
 
-  pub arguments_end : (a : ExprTree) (after behind : List Terminal) → 0 < n → r 0 rest ≡ Some (a, after) → starts marks.Comma after ≡ false → expect marks.Close after ≡ Some behind → total ≡ Some ((list ++ a ∷ []), behind)
+  pub arguments_end : (a : ExprTree) (after behind : List Terminal) → 0 < n → r 0 rest ≡ Some (a, after) → starts symbols.Comma after ≡ false → expect symbols.Close after ≡ Some behind → total ≡ Some ((list ++ a ∷ []), behind)
   unfolding arguments_at
   arguments_end a after behind lt h comma c = let k : n ≡ suc (n - 1) = omega arith in sym so_far ∙ rw (k, h, comma, c) refl
 
-  pub arguments_go_on : (a : ExprTree) (after : List Terminal) → 0 < n → r 0 rest ≡ Some (a, after) → starts marks.Comma after ≡ true → with_front (list ++ a ∷ []) (arguments_at r (n - 1) (tail after)) ≡ total
+  pub arguments_go_on : (a : ExprTree) (after : List Terminal) → 0 < n → r 0 rest ≡ Some (a, after) → starts symbols.Comma after ≡ true → with_front (list ++ a ∷ []) (arguments_at r (n - 1) (tail after)) ≡ total
   unfolding arguments_at
   arguments_go_on a after lt h comma =
       let k : n ≡ suc (n - 1) = omega arith in

@@ -3,8 +3,8 @@ use Rattle.std.proofs.Common.{◌≡◌, ℕ, zero, suc, ◌-◌, ◌<◌, Bool,
 use Rattle.std.specs.Prelude.{◌&&◌}
 use Rattle.std.proofs.lemmas.List.{append-nil}
 use Rattle.c_parse.specs.declared.sign.Terminal.{Terminal}
-use Rattle.c_parse.specs.declared.sign.Mark.{Mark}
-use Rattle.c_parse.specs.declared.sign.Mark.TheVariants as marks
+use Rattle.c_parse.specs.declared.sign.Symbol.{Symbol}
+use Rattle.c_parse.specs.declared.sign.Symbol.TheVariants as symbols
 use Rattle.c_parse.specs.declared.stop.Stop.{Stop}
 use Rattle.c_parse.specs.declared.stop.Stop.TheVariants.{Memory, Syntax}
 use Rattle.c_parse.specs.declared.statement.CaseLabel.{CaseLabel}
@@ -22,7 +22,7 @@ regroup front y None = refl
 regroup front y (Some x) = ap (λ ys. Some (ys, x.1)) (sym (append_assoc front (y ∷ []) x.0))
 
 -- The n of a loop is a bound on what is still read.
-module _ {Y : Type 0} (one : List Terminal → Read Y) (comma : Bool) (last : Mark) (list : List Y) (n : ℕ) (rest : List Terminal) (total : Read (List Y)) (so_far : with_front list (separated_at one comma last n rest) ≡ total) where
+module _ {Y : Type 0} (one : List Terminal → Read Y) (comma : Bool) (last : Symbol) (list : List Y) (n : ℕ) (rest : List Terminal) (total : Read (List Y)) (so_far : with_front list (separated_at one comma last n rest) ≡ total) where
   no_form : separated_at one comma last n rest ≡ None → total ≡ None
   no_form e = sym so_far ∙ ap (λ (o : Read (List Y)). with_front list o) e
 
@@ -36,7 +36,7 @@ module _ {Y : Type 0} (one : List Terminal → Read Y) (comma : Bool) (last : Ma
       at (suc m) = rw h refl
 
   module _ (d : Y) (after : List Terminal) (h : one rest ≡ Some (d, after)) where
-    pub close_fails : (e : Stop) → starts marks.Comma after ≡ false → Fails e (expect last after) → Fails e total
+    pub close_fails : (e : Stop) → starts symbols.Comma after ≡ false → Fails e (expect last after) → Fails e total
     unfolding separated_at
     close_fails Memory no_comma c = tt
     close_fails Syntax no_comma c = no_form (at n)
@@ -45,15 +45,15 @@ module _ {Y : Type 0} (one : List Terminal → Read Y) (comma : Bool) (last : Ma
         at zero = refl
         at (suc m) = rw (h, no_comma, c) refl
 
-    pub closes : (behind : List Terminal) → 0 < n → starts marks.Comma after ≡ false → expect last after ≡ Some behind → total ≡ Some (list ++ d ∷ [], behind)
+    pub closes : (behind : List Terminal) → 0 < n → starts symbols.Comma after ≡ false → expect last after ≡ Some behind → total ≡ Some (list ++ d ∷ [], behind)
     unfolding separated_at
     closes behind lt no_comma c = let k : n ≡ suc (n - 1) = omega arith in sym so_far ∙ rw (k, h, no_comma, c) refl
 
-    pub comma_closes : 0 < n → starts marks.Comma after ≡ true → (comma && starts last (tail after)) ≡ true → total ≡ Some (list ++ d ∷ [], tail (tail after))
+    pub comma_closes : 0 < n → starts symbols.Comma after ≡ true → (comma && starts last (tail after)) ≡ true → total ≡ Some (list ++ d ∷ [], tail (tail after))
     unfolding separated_at
     comma_closes lt a b = let k : n ≡ suc (n - 1) = omega arith in sym so_far ∙ rw (k, h, a, b) refl
 
-    pub goes_on : 0 < n → starts marks.Comma after ≡ true → (comma && starts last (tail after)) ≡ false → with_front (list ++ d ∷ []) (separated_at one comma last (n - 1) (tail after)) ≡ total
+    pub goes_on : 0 < n → starts symbols.Comma after ≡ true → (comma && starts last (tail after)) ≡ false → with_front (list ++ d ∷ []) (separated_at one comma last (n - 1) (tail after)) ≡ total
     unfolding separated_at
     goes_on lt a b =
         let k : n ≡ suc (n - 1) = omega arith in
@@ -106,11 +106,11 @@ module _ (r : Reads) (list : List Group) (n : ℕ) (rest : List Terminal) (total
   no_groups : groups_at r n rest ≡ None → total ≡ None
   no_groups e = sym so_far ∙ ap (λ (o : Read (List Group)). with_front list o) e
 
-  pub groups_closed : 0 < n → starts marks.CloseBrace rest ≡ true → total ≡ Some (list, tail rest)
+  pub groups_closed : 0 < n → starts symbols.CloseBrace rest ≡ true → total ≡ Some (list, tail rest)
   unfolding groups_at
   groups_closed lt e = let k : n ≡ suc (n - 1) = omega arith in sym so_far ∙ rw (k, e, append-nil) refl
 
-  pub labels_of_group_fail : (e : Stop) → starts marks.CloseBrace rest ≡ false → Fails e (labels_at (length rest) rest) → Fails e total
+  pub labels_of_group_fail : (e : Stop) → starts symbols.CloseBrace rest ≡ false → Fails e (labels_at (length rest) rest) → Fails e total
   unfolding groups_at
   labels_of_group_fail Memory c h = tt
   labels_of_group_fail Syntax c h = no_groups (at n)
@@ -119,7 +119,7 @@ module _ (r : Reads) (list : List Group) (n : ℕ) (rest : List Terminal) (total
       at zero = refl
       at (suc m) = rw (c, h) refl
 
-  module _ (ls : List CaseLabel) (behind : List Terminal) (c : starts marks.CloseBrace rest ≡ false) (l : labels_at (length rest) rest ≡ Some (ls, behind)) where
+  module _ (ls : List CaseLabel) (behind : List Terminal) (c : starts symbols.CloseBrace rest ≡ false) (l : labels_at (length rest) rest ≡ Some (ls, behind)) where
     pub body_of_group_fails : (e : Stop) → Fails e (body_at r (length behind) behind) → Fails e total
     unfolding groups_at
     body_of_group_fails Memory h = tt

@@ -3,7 +3,7 @@
 use Rattle.std.specs.Prelude.{◌≡◌, true, false, List, [], ◌∷◌, ◌++◌, Option, Some, None}
 use Rattle.fq_core.specs.declared.span.Span.{Span}
 use Rattle.c_values.specs.declared.kinds.Kind.{Kind}
-use Rattle.c_parse.specs.declared.sign.Mark.TheVariants as marks
+use Rattle.c_parse.specs.declared.sign.Symbol.TheVariants as symbols
 use Rattle.c_parse.specs.declared.sign.TypeWord.{TypeWord}
 use Rattle.c_parse.specs.declared.sign.Terminal.{Terminal}
 use Rattle.c_parse.specs.declared.expr.ExprTree.{ExprTree}
@@ -11,7 +11,7 @@ use Rattle.c_parse.specs.declared.statement.Initial.{Initial}
 use Rattle.c_parse.specs.declared.statement.Initial.TheVariants as initial
 use Rattle.c_parse.specs.declared.statement.Declarator.{Declarator}
 use Rattle.c_parse.specs.Types.{kind_of}
-use Rattle.c_parse.specs.Grammar.{Text, mark, name_token, AreWords, DerivesChoice}
+use Rattle.c_parse.specs.Grammar.{Text, symbol, name_token, AreWords, DerivesChoice}
 use Rattle.c_parse.specs.StatementTrees.{declarator}
 use Rattle.c_parse.specs.Separated.{DerivesSeparated}
 
@@ -23,14 +23,14 @@ pub data DerivesType : Kind → List Terminal → Type 0 where
 pub data DerivesBracketed : Option ExprTree → List Terminal → Type 0 where
   no_bracket : DerivesBracketed None []
   in_brackets : {t : ExprTree} {ts : List Terminal} (p q : Span) → DerivesChoice t ts
-      → DerivesBracketed (Some t) (mark marks.OpenIndex p ∷ (ts ++ mark marks.CloseIndex q ∷ []))
+      → DerivesBracketed (Some t) (symbol symbols.OpenIndex p ∷ (ts ++ symbol symbols.CloseIndex q ∷ []))
 
 -- what a name begins as, behind `=`, or nothing; a list may end in a comma
 pub data DerivesFirst : Option Initial → List Terminal → Type 0 where
   no_first : DerivesFirst None []
-  one_first : {t : ExprTree} {ts : List Terminal} (p : Span) → DerivesChoice t ts → DerivesFirst (Some (initial.One t)) (mark marks.Assign p ∷ ts)
-  some_first : {es : List ExprTree} {ts : List Terminal} (p q : Span) → DerivesSeparated DerivesChoice true marks.CloseBrace es ts
-      → DerivesFirst (Some (initial.List es)) (mark marks.Assign p ∷ mark marks.OpenBrace q ∷ ts)
+  one_first : {t : ExprTree} {ts : List Terminal} (p : Span) → DerivesChoice t ts → DerivesFirst (Some (initial.One t)) (symbol symbols.Assign p ∷ ts)
+  some_first : {es : List ExprTree} {ts : List Terminal} (p q : Span) → DerivesSeparated DerivesChoice true symbols.CloseBrace es ts
+      → DerivesFirst (Some (initial.List es)) (symbol symbols.Assign p ∷ symbol symbols.OpenBrace q ∷ ts)
 
 pub data DerivesDeclarator : Declarator → List Terminal → Type 0 where
   a_declarator : {w : Text} {p : Span} {length : Option ExprTree} {first : Option Initial} {xs ys : List Terminal} → DerivesBracketed length xs → DerivesFirst first ys
@@ -38,4 +38,4 @@ pub data DerivesDeclarator : Declarator → List Terminal → Type 0 where
 
 -- declarators with commas between them, and a semicolon
 abbrev pub DerivesDeclarators : List Declarator → List Terminal → Type 0
-DerivesDeclarators ds ts = DerivesSeparated DerivesDeclarator false marks.Semicolon ds ts
+DerivesDeclarators ds ts = DerivesSeparated DerivesDeclarator false symbols.Semicolon ds ts

@@ -3,8 +3,8 @@
 use Rattle.std.specs.Prelude.{true, false, List, [], ◌∷◌, ◌++◌, Option, Some, None}
 use Rattle.fq_core.specs.declared.span.Span.{Span}
 use Rattle.c_values.specs.declared.kinds.Kind.{Kind}
-use Rattle.c_parse.specs.declared.sign.Mark.{Mark}
-use Rattle.c_parse.specs.declared.sign.Mark.TheVariants as marks
+use Rattle.c_parse.specs.declared.sign.Symbol.{Symbol}
+use Rattle.c_parse.specs.declared.sign.Symbol.TheVariants as symbols
 use Rattle.c_parse.specs.declared.sign.Terminal.{Terminal}
 use Rattle.c_parse.specs.declared.expr.Ident.{Ident}
 use Rattle.c_parse.specs.declared.expr.ExprTree.{ExprTree}
@@ -14,30 +14,30 @@ use Rattle.c_parse.specs.declared.unit.Parameter.{Parameter}
 use Rattle.c_parse.specs.declared.unit.Body.{Body}
 use Rattle.c_parse.specs.declared.unit.Item.{Item}
 use Rattle.c_parse.specs.declared.unit.Item.TheVariants as item
-use Rattle.c_parse.specs.Grammar.{Text, mark, name_token, place_of, DerivesChoice}
+use Rattle.c_parse.specs.Grammar.{Text, symbol, name_token, first_span, DerivesChoice}
 use Rattle.c_parse.specs.StatementTrees.{ident}
 use Rattle.c_parse.specs.Separated.{DerivesSeparated}
 use Rattle.c_parse.specs.Declarations.{DerivesType, DerivesBracketed, DerivesDeclarators}
 use Rattle.c_parse.specs.Statements.{AreConsts, DerivesBody}
 
 -- words that a function's declaration may begin with, and a variable's; they leave no trace (6.7.1, 6.7.3, 6.7.4)
-pub data ForFunction : Mark → Type 0 where
-  static_function : ForFunction marks.Static
-  extern_function : ForFunction marks.Extern
-  inline_function : ForFunction marks.Inline
-  const_function : ForFunction marks.Const
+pub data ForFunction : Symbol → Type 0 where
+  static_function : ForFunction symbols.Static
+  extern_function : ForFunction symbols.Extern
+  inline_function : ForFunction symbols.Inline
+  const_function : ForFunction symbols.Const
 
-pub data ForVariable : Mark → Type 0 where
-  static_variable : ForVariable marks.Static
-  const_variable : ForVariable marks.Const
+pub data ForVariable : Symbol → Type 0 where
+  static_variable : ForVariable symbols.Static
+  const_variable : ForVariable symbols.Const
 
-pub data AreAll (Fits : Mark → Type 0) : List Terminal → Type 0 where
+pub data AreAll (Fits : Symbol → Type 0) : List Terminal → Type 0 where
   none_left : AreAll Fits []
-  one_more_word : {ts : List Terminal} (m : Mark) (p : Span) → Fits m → AreAll Fits ts → AreAll Fits (mark m p ∷ ts)
+  one_more_word : {ts : List Terminal} (m : Symbol) (p : Span) → Fits m → AreAll Fits ts → AreAll Fits (symbol m p ∷ ts)
 
 -- the result of a function
 pub data DerivesResult : Option Kind → List Terminal → Type 0 where
-  nothing_given : (p : Span) → DerivesResult None (mark marks.Void p ∷ [])
+  nothing_given : (p : Span) → DerivesResult None (symbol symbols.Void p ∷ [])
   a_kind : {kind : Kind} {ts : List Terminal} → DerivesType kind ts → DerivesResult (Some kind) ts
 
 -- the name and the length of a parameter, which may be left out (6.7.6, 6.7.7)
@@ -47,19 +47,19 @@ pub data DerivesNamed : Option Ident → Option ExprTree → List Terminal → T
 
 pub data DerivesParameter : Parameter → List Terminal → Type 0 where
   a_parameter : {kind : Kind} {name : Option Ident} {length : Option ExprTree} {consts type ts : List Terminal} → AreConsts consts → DerivesType kind type → DerivesNamed name length ts
-      → DerivesParameter (record { span = place_of (consts ++ type); kind = kind; name = name; length = length }) (consts ++ (type ++ ts))
+      → DerivesParameter (record { span = first_span (consts ++ type); kind = kind; name = name; length = length }) (consts ++ (type ++ ts))
 
 -- the parameters, with the closing parenthesis; `void` stands for none (6.7.6.3p10)
 pub data DerivesParameters : List Parameter → List Terminal → Type 0 where
-  no_parameter : (q : Span) → DerivesParameters [] (mark marks.Close q ∷ [])
-  void_parameter : (p q : Span) → DerivesParameters [] (mark marks.Void p ∷ mark marks.Close q ∷ [])
-  some_parameters : {ps : List Parameter} {ts : List Terminal} → DerivesSeparated DerivesParameter false marks.Close ps ts → DerivesParameters ps ts
+  no_parameter : (q : Span) → DerivesParameters [] (symbol symbols.Close q ∷ [])
+  void_parameter : (p q : Span) → DerivesParameters [] (symbol symbols.Void p ∷ symbol symbols.Close q ∷ [])
+  some_parameters : {ps : List Parameter} {ts : List Terminal} → DerivesSeparated DerivesParameter false symbols.Close ps ts → DerivesParameters ps ts
 
 -- the block of a function, or a semicolon where it is declared
 pub data DerivesEnd : Option Body → List Terminal → Type 0 where
-  declared : (p : Span) → DerivesEnd None (mark marks.Semicolon p ∷ [])
+  declared : (p : Span) → DerivesEnd None (symbol symbols.Semicolon p ∷ [])
   defined : {ss : List Statement} {ts : List Terminal} (p q : Span) → DerivesBody ss ts
-      → DerivesEnd (Some (record { statements = ss; close = q })) (mark marks.OpenBrace p ∷ (ts ++ mark marks.CloseBrace q ∷ []))
+      → DerivesEnd (Some (record { statements = ss; close = q })) (symbol symbols.OpenBrace p ∷ (ts ++ symbol symbols.CloseBrace q ∷ []))
 
 -- the name of an `enum`, which leaves no trace (6.7.2.2)
 pub data AreTag : List Terminal → Type 0 where
@@ -69,16 +69,16 @@ pub data AreTag : List Terminal → Type 0 where
 -- an enum constant, with its value or without
 pub data DerivesConstant : Ident × Option ExprTree → List Terminal → Type 0 where
   plain_constant : {w : Text} {p : Span} → DerivesConstant (ident w p, None) (name_token w p ∷ [])
-  with_value : {w : Text} {p : Span} {t : ExprTree} {ts : List Terminal} (q : Span) → DerivesChoice t ts → DerivesConstant (ident w p, Some t) (name_token w p ∷ mark marks.Assign q ∷ ts)
+  with_value : {w : Text} {p : Span} {t : ExprTree} {ts : List Terminal} (q : Span) → DerivesChoice t ts → DerivesConstant (ident w p, Some t) (name_token w p ∷ symbol symbols.Assign q ∷ ts)
 
 pub data DerivesItem : Item → List Terminal → Type 0 where
   a_function : {result : Option Kind} {w : Text} {ps : List Parameter} {body : Option Body} {before type ts us : List Terminal} (p q : Span)
       → AreAll ForFunction before → DerivesResult result type → DerivesParameters ps ts → DerivesEnd body us
-      → DerivesItem (item.Function (place_of (before ++ type)) result (ident w p) ps body) (before ++ (type ++ name_token w p ∷ mark marks.Open q ∷ (ts ++ us)))
+      → DerivesItem (item.Function (first_span (before ++ type)) result (ident w p) ps body) (before ++ (type ++ name_token w p ∷ symbol symbols.Open q ∷ (ts ++ us)))
   some_variables : {kind : Kind} {ds : List Declarator} {before type ts : List Terminal} → AreAll ForVariable before → DerivesType kind type → DerivesDeclarators ds ts
-      → DerivesItem (item.Variables (place_of (before ++ type)) kind ds) (before ++ (type ++ ts))
-  some_constants : {cs : List (Ident × Option ExprTree)} {tag ts : List Terminal} (p q r : Span) → AreTag tag → DerivesSeparated DerivesConstant true marks.CloseBrace cs ts
-      → DerivesItem (item.Constants p cs) (mark marks.Enum p ∷ (tag ++ mark marks.OpenBrace q ∷ (ts ++ mark marks.Semicolon r ∷ [])))
+      → DerivesItem (item.Variables (first_span (before ++ type)) kind ds) (before ++ (type ++ ts))
+  some_constants : {cs : List (Ident × Option ExprTree)} {tag ts : List Terminal} (p q r : Span) → AreTag tag → DerivesSeparated DerivesConstant true symbols.CloseBrace cs ts
+      → DerivesItem (item.Constants p cs) (symbol symbols.Enum p ∷ (tag ++ symbol symbols.OpenBrace q ∷ (ts ++ symbol symbols.Semicolon r ∷ [])))
 
 -- items, one after the other
 pub data DerivesItems : List Item → List Terminal → Type 0 where

@@ -6,7 +6,7 @@ pub mod Grammar
 pub mod Items
 pub mod Laws
 pub mod Limits
-pub mod Marks
+pub mod Symbols
 pub mod OpenStatements
 pub mod Outcome
 pub mod Reading

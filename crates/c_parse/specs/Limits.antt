@@ -3,8 +3,8 @@
 use Rattle.std.specs.Prelude.{ℕ, ◌+◌, ◌-◌, Bool, true, false, if◌then◌else◌, nat_lt, List, [], ◌∷◌, map, fold, find, filter_map, Option, Some, None}
 use Rattle.c_parse.specs.declared.sign.Sign.{Sign}
 use Rattle.c_parse.specs.declared.sign.Sign.TheVariants as sign
-use Rattle.c_parse.specs.declared.sign.Mark.{Mark}
-use Rattle.c_parse.specs.declared.sign.Mark.TheVariants as marks
+use Rattle.c_parse.specs.declared.sign.Symbol.{Symbol}
+use Rattle.c_parse.specs.declared.sign.Symbol.TheVariants as symbols
 use Rattle.c_parse.specs.declared.sign.Terminal.{Terminal}
 
 -- a token that the profile leaves out
@@ -16,33 +16,33 @@ is_foreign _ = false
 abbrev pub first_foreign : List Terminal → Option Terminal
 first_foreign ts = find (λ t. is_foreign t.sign) ts
 
--- the marks that open a bracket, those that close one, and those that end a row of tokens
-abbrev pub is_opening : Mark → Bool
-is_opening marks.Open = true
-is_opening marks.OpenIndex = true
-is_opening marks.OpenBrace = true
+-- the symbols that open a bracket, those that close one, and those that end a row of tokens
+abbrev pub is_opening : Symbol → Bool
+is_opening symbols.Open = true
+is_opening symbols.OpenIndex = true
+is_opening symbols.OpenBrace = true
 is_opening _ = false
 
-abbrev pub is_closing : Mark → Bool
-is_closing marks.Close = true
-is_closing marks.CloseIndex = true
-is_closing marks.CloseBrace = true
+abbrev pub is_closing : Symbol → Bool
+is_closing symbols.Close = true
+is_closing symbols.CloseIndex = true
+is_closing symbols.CloseBrace = true
 is_closing _ = false
 
-abbrev pub is_ending : Mark → Bool
-is_ending marks.Semicolon = true
-is_ending marks.Comma = true
-is_ending marks.OpenBrace = true
-is_ending marks.CloseBrace = true
+abbrev pub is_ending : Symbol → Bool
+is_ending symbols.Semicolon = true
+is_ending symbols.Comma = true
+is_ending symbols.OpenBrace = true
+is_ending symbols.CloseBrace = true
 is_ending _ = false
 
-abbrev pub has_mark : (Mark → Bool) → Sign → Bool
-has_mark test (sign.Mark m) = test m
-has_mark test _ = false
+abbrev pub has_symbol : (Symbol → Bool) → Sign → Bool
+has_symbol test (sign.Symbol m) = test m
+has_symbol test _ = false
 
--- one more token: an opening mark adds 1, and a closing mark of any kind takes 1 off, down to 0
+-- one more token: an opening symbol adds 1, and a closing symbol of any kind takes 1 off, down to 0
 abbrev pub with_bracket : ℕ → Terminal → ℕ
-with_bracket n t = if has_mark is_opening t.sign then n + 1 else (if has_mark is_closing t.sign then n - 1 else n)
+with_bracket n t = if has_symbol is_opening t.sign then n + 1 else (if has_symbol is_closing t.sign then n - 1 else n)
 
 -- how many brackets are open after these tokens
 abbrev pub open_brackets : List Terminal → ℕ
@@ -50,7 +50,7 @@ open_brackets ts = fold with_bracket 0 ts
 
 -- how many tokens stand at the end of these with none of `;` `,` `{` `}` among them
 abbrev pub in_row : ℕ → Terminal → ℕ
-in_row n t = if has_mark is_ending t.sign then 0 else n + 1
+in_row n t = if has_symbol is_ending t.sign then 0 else n + 1
 
 abbrev pub row_length : List Terminal → ℕ
 row_length ts = fold in_row 0 ts

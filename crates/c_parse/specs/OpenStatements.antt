@@ -2,8 +2,8 @@
 -- Only proofs rest on this: no public contract speaks of it.
 use Rattle.std.specs.Prelude.{◌≡◌, ℕ, Bool, true, false, if◌then◌else◌, List, [], ◌∷◌, ◌++◌, length, Option, Some, None, Result, Ok, Err}
 use Rattle.fq_core.specs.declared.span.Span.{Span}
-use Rattle.c_parse.specs.declared.sign.Mark.{Mark}
-use Rattle.c_parse.specs.declared.sign.Mark.TheVariants as marks
+use Rattle.c_parse.specs.declared.sign.Symbol.{Symbol}
+use Rattle.c_parse.specs.declared.sign.Symbol.TheVariants as symbols
 use Rattle.c_parse.specs.declared.sign.Terminal.{Terminal}
 use Rattle.c_parse.specs.declared.stop.Stop.{Stop}
 use Rattle.c_parse.specs.declared.expr.ExprTree.{ExprTree}
@@ -19,7 +19,7 @@ use Rattle.c_parse.specs.StatementTrees.{statement}
 use Rattle.c_parse.specs.Reading.{Read, ◌>>=◌, starts, tail, expect}
 use Rattle.c_parse.specs.ReadingStatements.{test_at, optional_at, begin_at, next_at, Reads, arms_at, statement_in}
 
--- a statement that is read this far, whose first token has this place
+-- a statement that is read this far, whose first token has this span
 abbrev pub open_statement : Span → OpenForm → OpenStatement
 open_statement p f = record { span = p; form = f }
 
@@ -28,31 +28,31 @@ abbrev pub Leads : {X Y : Type 0} → (X → Option Y) → Result X Stop → Opt
 Leads view (Ok x) read = read ≡ view x
 Leads view (Err e) read = Fails e read
 
--- whether a statement that begins with this mark is read in two steps
-abbrev pub opens : Mark → Bool
-opens marks.If = true
-opens marks.While = true
-opens marks.Do = true
-opens marks.For = true
+-- whether a statement that begins with this symbol is read in two steps
+abbrev pub opens : Symbol → Bool
+opens symbols.If = true
+opens symbols.While = true
+opens symbols.Do = true
+opens symbols.For = true
 opens _ = false
 
 -- what follows `for`, up to the body
 unfoldable pub for_part : List Terminal → Read OpenForm
 for_part ts =
-    expect marks.Open ts >>= λ a. begin_at a >>= λ i. optional_at i.1 >>= λ c. expect marks.Semicolon c.1 >>= λ b. next_at b >>= λ j. expect marks.Close j.1 >>= λ d.
+    expect symbols.Open ts >>= λ a. begin_at a >>= λ i. optional_at i.1 >>= λ c. expect symbols.Semicolon c.1 >>= λ b. next_at b >>= λ j. expect symbols.Close j.1 >>= λ d.
     Some (begun.For i.0 c.0 j.0, d)
 
--- what follows a mark that opens a statement, up to a part of the statement
-abbrev pub part_of_mark : Mark → List Terminal → Read OpenForm
-part_of_mark marks.If ts = test_at ts >>= λ c. Some (begun.Arm [] c.0, c.1)
-part_of_mark marks.While ts = test_at ts >>= λ c. Some (begun.While c.0, c.1)
-part_of_mark marks.Do ts = Some (begun.Do, ts)
-part_of_mark marks.For ts = for_part ts
-part_of_mark _ ts = None
+-- what follows a symbol that opens a statement, up to a part of the statement
+abbrev pub part_of_symbol : Symbol → List Terminal → Read OpenForm
+part_of_symbol symbols.If ts = test_at ts >>= λ c. Some (begun.Arm [] c.0, c.1)
+part_of_symbol symbols.While ts = test_at ts >>= λ c. Some (begun.While c.0, c.1)
+part_of_symbol symbols.Do ts = Some (begun.Do, ts)
+part_of_symbol symbols.For ts = for_part ts
+part_of_symbol _ ts = None
 
 -- what follows the body of a `do`
 unfoldable pub do_end : Span → Statement → List Terminal → Read Statement
-do_end p s ts = expect marks.While ts >>= λ a. test_at a >>= λ c. expect marks.Semicolon c.1 >>= λ rest. Some (statement p (form.Do s c.0), rest)
+do_end p s ts = expect symbols.While ts >>= λ a. test_at a >>= λ c. expect symbols.Semicolon c.1 >>= λ rest. Some (statement p (form.Do s c.0), rest)
 
 -- the arms of an `if`, each with its test
 abbrev pub Arms : Type 0
@@ -61,8 +61,8 @@ Arms = List (ExprTree × Statement)
 -- what follows the arms of an `if`: another arm, `else`, or nothing of it
 unfoldable pub behind_arms : Reads → Span → Arms → List Terminal → Read Statement
 behind_arms r p arms ts =
-    if starts marks.Else ts
-    then (if starts marks.If (tail ts)
+    if starts symbols.Else ts
+    then (if starts symbols.If (tail ts)
     then (arms_at r (length ts) (tail (tail ts)) >>= λ x. Some (statement p (form.If (arms ++ x.0.0) x.0.1), x.1))
     else (r (tail ts) >>= λ o. Some (statement p (form.If arms (Some o.0)), o.1)))
     else Some (statement p (form.If arms None), ts)

@@ -6,8 +6,8 @@ use Rattle.fq_core.specs.declared.span.Span.{Span}
 use Rattle.c_values.specs.declared.kinds.Kind.{Kind}
 use Rattle.c_values.specs.declared.operators.UnaryOp.TheVariants as unaries
 use Rattle.c_values.specs.declared.operators.BinaryOp.TheVariants as ops
-use Rattle.c_parse.specs.declared.sign.Mark.{Mark}
-use Rattle.c_parse.specs.declared.sign.Mark.TheVariants as marks
+use Rattle.c_parse.specs.declared.sign.Symbol.{Symbol}
+use Rattle.c_parse.specs.declared.sign.Symbol.TheVariants as symbols
 use Rattle.c_parse.specs.declared.sign.TypeWord.{TypeWord}
 use Rattle.c_parse.specs.declared.sign.Sign.{Sign}
 use Rattle.c_parse.specs.declared.sign.Sign.TheVariants as sign
@@ -20,8 +20,8 @@ use Rattle.c_parse.specs.declared.operator.Infix.{Infix}
 use Rattle.c_parse.specs.declared.operator.Infix.TheVariants as infixes
 use Rattle.c_parse.specs.Types.{kind_of}
 use Rattle.c_parse.specs.Trees.{tree, prefixed, joined, level}
-use Rattle.c_parse.specs.Grammar.{Text, place_of}
-pub use Rattle.c_parse.specs.Marks.{code_of, is_mark, starts}
+use Rattle.c_parse.specs.Grammar.{Text, first_span}
+pub use Rattle.c_parse.specs.Symbols.{code_of, is_symbol, starts}
 
 infixl 10 ◌>>=◌
 abbrev pub ◌>>=◌ : {A B : Type 0} → Option A → (A → Option B) → Option B
@@ -36,8 +36,8 @@ abbrev pub tail : List Terminal → List Terminal
 tail [] = []
 tail (t ∷ ts) = ts
 
--- what follows this mark
-abbrev pub expect : Mark → List Terminal → Option (List Terminal)
+-- what follows this symbol
+abbrev pub expect : Symbol → List Terminal → Option (List Terminal)
 expect m ts = if starts m ts then Some (tail ts) else None
 
 -- the first token is a word of a type
@@ -73,42 +73,42 @@ past_words (t ∷ ts) = if is_type t.sign then past_words ts else t ∷ ts
 unfoldable pub type_at : List Terminal → Read Kind
 type_at ts = kind_of (words_of ts) >>= λ kind. Some (kind, past_words ts)
 
--- the operator that a mark is
-abbrev pub infix_of : Mark → Option Infix
-infix_of marks.Plus = Some (infixes.Binary ops.Add)
-infix_of marks.Minus = Some (infixes.Binary ops.Sub)
-infix_of marks.Star = Some (infixes.Binary ops.Mul)
-infix_of marks.Slash = Some (infixes.Binary ops.Div)
-infix_of marks.Percent = Some (infixes.Binary ops.Rem)
-infix_of marks.Shl = Some (infixes.Binary ops.Shl)
-infix_of marks.Shr = Some (infixes.Binary ops.Shr)
-infix_of marks.And = Some (infixes.Binary ops.And)
-infix_of marks.Or = Some (infixes.Binary ops.Or)
-infix_of marks.Caret = Some (infixes.Binary ops.Xor)
-infix_of marks.Less = Some (infixes.Binary ops.Less)
-infix_of marks.LessEqual = Some (infixes.Binary ops.LessEqual)
-infix_of marks.Greater = Some (infixes.Binary ops.Greater)
-infix_of marks.GreaterEqual = Some (infixes.Binary ops.GreaterEqual)
-infix_of marks.Equal = Some (infixes.Binary ops.Equal)
-infix_of marks.NotEqual = Some (infixes.Binary ops.NotEqual)
-infix_of marks.AndAnd = Some infixes.Both
-infix_of marks.OrOr = Some infixes.Either
+-- the operator that a symbol is
+abbrev pub infix_of : Symbol → Option Infix
+infix_of symbols.Plus = Some (infixes.Binary ops.Add)
+infix_of symbols.Minus = Some (infixes.Binary ops.Sub)
+infix_of symbols.Star = Some (infixes.Binary ops.Mul)
+infix_of symbols.Slash = Some (infixes.Binary ops.Div)
+infix_of symbols.Percent = Some (infixes.Binary ops.Rem)
+infix_of symbols.Shl = Some (infixes.Binary ops.Shl)
+infix_of symbols.Shr = Some (infixes.Binary ops.Shr)
+infix_of symbols.And = Some (infixes.Binary ops.And)
+infix_of symbols.Or = Some (infixes.Binary ops.Or)
+infix_of symbols.Caret = Some (infixes.Binary ops.Xor)
+infix_of symbols.Less = Some (infixes.Binary ops.Less)
+infix_of symbols.LessEqual = Some (infixes.Binary ops.LessEqual)
+infix_of symbols.Greater = Some (infixes.Binary ops.Greater)
+infix_of symbols.GreaterEqual = Some (infixes.Binary ops.GreaterEqual)
+infix_of symbols.Equal = Some (infixes.Binary ops.Equal)
+infix_of symbols.NotEqual = Some (infixes.Binary ops.NotEqual)
+infix_of symbols.AndAnd = Some infixes.Both
+infix_of symbols.OrOr = Some infixes.Either
 infix_of _ = None
 
 abbrev pub infix_of_sign : Sign → Option Infix
-infix_of_sign (sign.Mark m) = infix_of m
+infix_of_sign (sign.Symbol m) = infix_of m
 infix_of_sign _ = None
 
 abbrev pub infix_at : List Terminal → Option Infix
 infix_at [] = None
 infix_at (t ∷ ts) = infix_of_sign t.sign
 
--- the operator before an operand that a mark is
-abbrev pub prefix_of : Mark → Option Prefix
-prefix_of marks.Plus = Some prefixes.Plus
-prefix_of marks.Minus = Some (prefixes.Unary unaries.Neg)
-prefix_of marks.Tilde = Some (prefixes.Unary unaries.Complement)
-prefix_of marks.Not = Some (prefixes.Unary unaries.Not)
+-- the operator before an operand that a symbol is
+abbrev pub prefix_of : Symbol → Option Prefix
+prefix_of symbols.Plus = Some prefixes.Plus
+prefix_of symbols.Minus = Some (prefixes.Unary unaries.Neg)
+prefix_of symbols.Tilde = Some (prefixes.Unary unaries.Complement)
+prefix_of symbols.Not = Some (prefixes.Unary unaries.Not)
 prefix_of _ = None
 
 -- goes on by an operator of level k or above
@@ -125,17 +125,17 @@ unfoldable pub arguments_at : Reader → ℕ → List Terminal → Read (List Ex
 arguments_at r zero ts = None
 arguments_at r (suc n) ts =
     r 0 ts >>= λ first.
-    if starts marks.Comma first.1
+    if starts symbols.Comma first.1
     then (arguments_at r n (tail first.1) >>= λ others. Some (first.0 ∷ others.0, others.1))
-    else (expect marks.Close first.1 >>= λ rest. Some (first.0 ∷ [], rest))
+    else (expect symbols.Close first.1 >>= λ rest. Some (first.0 ∷ [], rest))
 
 -- what follows a name
 unfoldable pub after_name : Reader → Span → Text → List Terminal → Read ExprTree
 after_name r p w ts =
-    if starts marks.OpenIndex ts
-    then (r 0 (tail ts) >>= λ x. expect marks.CloseIndex x.1 >>= λ rest. Some (tree p (form.Element w x.0), rest))
-    else (if starts marks.Open ts
-    then (if starts marks.Close (tail ts)
+    if starts symbols.OpenIndex ts
+    then (r 0 (tail ts) >>= λ x. expect symbols.CloseIndex x.1 >>= λ rest. Some (tree p (form.Element w x.0), rest))
+    else (if starts symbols.Open ts
+    then (if starts symbols.Close (tail ts)
     then Some (tree p (form.Call w []), tail (tail ts))
     else (arguments_at r (length (tail ts)) (tail ts) >>= λ x. Some (tree p (form.Call w x.0), x.1)))
     else Some (tree p (form.Name w), ts))
@@ -144,8 +144,8 @@ after_name r p w ts =
 unfoldable pub after_open : Reader → Span → List Terminal → Read ExprTree
 after_open r p ts =
     if starts_type ts
-    then (type_at ts >>= λ kind. expect marks.Close kind.1 >>= λ rest. r 11 rest >>= λ x. Some (tree p (form.Cast kind.0 x.0), x.1))
-    else (r 0 ts >>= λ x. expect marks.Close x.1 >>= λ rest. Some (x.0, rest))
+    then (type_at ts >>= λ kind. expect symbols.Close kind.1 >>= λ rest. r 11 rest >>= λ x. Some (tree p (form.Cast kind.0 x.0), x.1))
+    else (r 0 ts >>= λ x. expect symbols.Close x.1 >>= λ rest. Some (x.0, rest))
 
 -- what follows an operator before its operand
 abbrev pub after_prefix : Reader → Option Prefix → Span → List Terminal → Read ExprTree
@@ -156,7 +156,7 @@ after_prefix r (Some op) p ts = r 11 ts >>= λ x. Some (tree p (prefixed op x.0)
 abbrev pub operand_of : Reader → Sign → Span → List Terminal → Read ExprTree
 operand_of r (sign.Number n kind) p ts = Some (tree p (form.Number n kind), ts)
 operand_of r (sign.Name w) p ts = after_name r p w ts
-operand_of r (sign.Mark m) p ts = if is_mark marks.Open (sign.Mark m) then after_open r p ts else after_prefix r (prefix_of m) p ts
+operand_of r (sign.Symbol m) p ts = if is_symbol symbols.Open (sign.Symbol m) then after_open r p ts else after_prefix r (prefix_of m) p ts
 operand_of r _ p ts = None
 
 unfoldable pub operand_at : Reader → List Terminal → Read ExprTree
@@ -173,14 +173,14 @@ operators_at r (suc n) k p t ts =
 
 -- an operand at level k
 unfoldable pub level_by : Reader → ℕ → List Terminal → Read ExprTree
-level_by r k ts = operand_at r ts >>= λ t. operators_at r (length t.1) k (place_of ts) t.0 t.1
+level_by r k ts = operand_at r ts >>= λ t. operators_at r (length t.1) k (first_span ts) t.0 t.1
 
 -- an expression
 unfoldable pub choice_by : Reader → List Terminal → Read ExprTree
 choice_by r ts =
     level_by r 1 ts >>= λ c.
-    if starts marks.Question c.1
-    then (r 0 (tail c.1) >>= λ a. expect marks.Colon a.1 >>= λ rest. r 0 rest >>= λ b. Some (tree (place_of ts) (form.Choice c.0 a.0 b.0), b.1))
+    if starts symbols.Question c.1
+    then (r 0 (tail c.1) >>= λ a. expect symbols.Colon a.1 >>= λ rest. r 0 rest >>= λ b. Some (tree (first_span ts) (form.Choice c.0 a.0 b.0), b.1))
     else Some c
 
 -- the same, with a bound on how deep it nests, since a definition's recursion is on a number or on a list

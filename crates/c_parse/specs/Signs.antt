@@ -6,8 +6,8 @@ use Rattle.c_lex.specs.declared.token.Token.{Token}
 use Rattle.c_lex.specs.declared.token.TokenKind.{TokenKind}
 use Rattle.c_lex.specs.declared.token.TokenKind.TheVariants as kind
 use Rattle.c_lex.specs.Constants.{is_among, is_foreign_word, foreign_marks}
-use Rattle.c_parse.specs.declared.sign.Mark.{Mark}
-use Rattle.c_parse.specs.declared.sign.Mark.TheVariants as marks
+use Rattle.c_parse.specs.declared.sign.Symbol.{Symbol}
+use Rattle.c_parse.specs.declared.sign.Symbol.TheVariants as symbols
 use Rattle.c_parse.specs.declared.sign.TypeWord.{TypeWord}
 use Rattle.c_parse.specs.declared.sign.TypeWord.TheVariants as words
 use Rattle.c_parse.specs.declared.sign.Sign.{Sign}
@@ -15,69 +15,69 @@ use Rattle.c_parse.specs.declared.sign.Sign.TheVariants as sign
 use Rattle.c_parse.specs.declared.sign.Terminal.{Terminal}
 
 -- how a punctuator (6.4.6) or a keyword (6.4.1) is spelled
-abbrev pub spelling : Mark → List ℕ
-spelling marks.Open = codes "("
-spelling marks.Close = codes ")"
-spelling marks.OpenIndex = codes "["
-spelling marks.CloseIndex = codes "]"
-spelling marks.OpenBrace = codes "{"
-spelling marks.CloseBrace = codes "}"
-spelling marks.Semicolon = codes ";"
-spelling marks.Comma = codes ","
-spelling marks.Question = codes "?"
-spelling marks.Colon = codes ":"
-spelling marks.Plus = codes "+"
-spelling marks.Minus = codes "-"
-spelling marks.Star = codes "*"
-spelling marks.Slash = codes "/"
-spelling marks.Percent = codes "%"
-spelling marks.Tilde = codes "~"
-spelling marks.Not = codes "!"
-spelling marks.And = codes "&"
-spelling marks.Caret = codes "^"
-spelling marks.Or = codes "|"
-spelling marks.Less = codes "<"
-spelling marks.Greater = codes ">"
-spelling marks.LessEqual = codes "<="
-spelling marks.GreaterEqual = codes ">="
-spelling marks.Equal = codes "=="
-spelling marks.NotEqual = codes "!="
-spelling marks.Shl = codes "<<"
-spelling marks.Shr = codes ">>"
-spelling marks.AndAnd = codes "&&"
-spelling marks.OrOr = codes "||"
-spelling marks.Assign = codes "="
-spelling marks.AddAssign = codes "+="
-spelling marks.SubAssign = codes "-="
-spelling marks.MulAssign = codes "*="
-spelling marks.DivAssign = codes "/="
-spelling marks.RemAssign = codes "%="
-spelling marks.ShlAssign = codes "<<="
-spelling marks.ShrAssign = codes ">>="
-spelling marks.AndAssign = codes "&="
-spelling marks.XorAssign = codes "^="
-spelling marks.OrAssign = codes "|="
-spelling marks.Increment = codes "++"
-spelling marks.Decrement = codes "--"
-spelling marks.Static = codes "static"
-spelling marks.Extern = codes "extern"
-spelling marks.Inline = codes "inline"
-spelling marks.Const = codes "const"
-spelling marks.Enum = codes "enum"
-spelling marks.Void = codes "void"
-spelling marks.If = codes "if"
-spelling marks.Else = codes "else"
-spelling marks.While = codes "while"
-spelling marks.Do = codes "do"
-spelling marks.For = codes "for"
-spelling marks.Switch = codes "switch"
-spelling marks.Case = codes "case"
-spelling marks.Default = codes "default"
-spelling marks.Break = codes "break"
-spelling marks.Continue = codes "continue"
-spelling marks.Return = codes "return"
-spelling marks.Assert = codes "assert"
-spelling marks.Assume = codes "assume"
+abbrev pub spelling : Symbol → List ℕ
+spelling symbols.Open = codes "("
+spelling symbols.Close = codes ")"
+spelling symbols.OpenIndex = codes "["
+spelling symbols.CloseIndex = codes "]"
+spelling symbols.OpenBrace = codes "{"
+spelling symbols.CloseBrace = codes "}"
+spelling symbols.Semicolon = codes ";"
+spelling symbols.Comma = codes ","
+spelling symbols.Question = codes "?"
+spelling symbols.Colon = codes ":"
+spelling symbols.Plus = codes "+"
+spelling symbols.Minus = codes "-"
+spelling symbols.Star = codes "*"
+spelling symbols.Slash = codes "/"
+spelling symbols.Percent = codes "%"
+spelling symbols.Tilde = codes "~"
+spelling symbols.Not = codes "!"
+spelling symbols.And = codes "&"
+spelling symbols.Caret = codes "^"
+spelling symbols.Or = codes "|"
+spelling symbols.Less = codes "<"
+spelling symbols.Greater = codes ">"
+spelling symbols.LessEqual = codes "<="
+spelling symbols.GreaterEqual = codes ">="
+spelling symbols.Equal = codes "=="
+spelling symbols.NotEqual = codes "!="
+spelling symbols.Shl = codes "<<"
+spelling symbols.Shr = codes ">>"
+spelling symbols.AndAnd = codes "&&"
+spelling symbols.OrOr = codes "||"
+spelling symbols.Assign = codes "="
+spelling symbols.AddAssign = codes "+="
+spelling symbols.SubAssign = codes "-="
+spelling symbols.MulAssign = codes "*="
+spelling symbols.DivAssign = codes "/="
+spelling symbols.RemAssign = codes "%="
+spelling symbols.ShlAssign = codes "<<="
+spelling symbols.ShrAssign = codes ">>="
+spelling symbols.AndAssign = codes "&="
+spelling symbols.XorAssign = codes "^="
+spelling symbols.OrAssign = codes "|="
+spelling symbols.Increment = codes "++"
+spelling symbols.Decrement = codes "--"
+spelling symbols.Static = codes "static"
+spelling symbols.Extern = codes "extern"
+spelling symbols.Inline = codes "inline"
+spelling symbols.Const = codes "const"
+spelling symbols.Enum = codes "enum"
+spelling symbols.Void = codes "void"
+spelling symbols.If = codes "if"
+spelling symbols.Else = codes "else"
+spelling symbols.While = codes "while"
+spelling symbols.Do = codes "do"
+spelling symbols.For = codes "for"
+spelling symbols.Switch = codes "switch"
+spelling symbols.Case = codes "case"
+spelling symbols.Default = codes "default"
+spelling symbols.Break = codes "break"
+spelling symbols.Continue = codes "continue"
+spelling symbols.Return = codes "return"
+spelling symbols.Assert = codes "assert"
+spelling symbols.Assume = codes "assume"
 
 -- the words that types are made of: type specifiers (6.7.2p1), and names of `<stdint.h>` (7.20.1.1) and `<stddef.h>` (7.19p2)
 abbrev pub type_spelling : TypeWord → List ℕ
@@ -97,21 +97,21 @@ type_spelling words.Uint32 = codes "uint32_t"
 type_spelling words.Uint64 = codes "uint64_t"
 type_spelling words.Size = codes "size_t"
 
-abbrev pub punctuators : List Mark
+abbrev pub punctuators : List Symbol
 punctuators =
-    marks.Open ∷ marks.Close ∷ marks.OpenIndex ∷ marks.CloseIndex ∷ marks.OpenBrace ∷ marks.CloseBrace ∷ marks.Semicolon ∷
-    marks.Comma ∷ marks.Question ∷ marks.Colon ∷ marks.Plus ∷ marks.Minus ∷ marks.Star ∷ marks.Slash ∷ marks.Percent ∷
-    marks.Tilde ∷ marks.Not ∷ marks.And ∷ marks.Caret ∷ marks.Or ∷ marks.Less ∷ marks.Greater ∷ marks.LessEqual ∷
-    marks.GreaterEqual ∷ marks.Equal ∷ marks.NotEqual ∷ marks.Shl ∷ marks.Shr ∷ marks.AndAnd ∷ marks.OrOr ∷ marks.Assign ∷
-    marks.AddAssign ∷ marks.SubAssign ∷ marks.MulAssign ∷ marks.DivAssign ∷ marks.RemAssign ∷ marks.ShlAssign ∷
-    marks.ShrAssign ∷ marks.AndAssign ∷ marks.XorAssign ∷ marks.OrAssign ∷ marks.Increment ∷ marks.Decrement ∷
+    symbols.Open ∷ symbols.Close ∷ symbols.OpenIndex ∷ symbols.CloseIndex ∷ symbols.OpenBrace ∷ symbols.CloseBrace ∷ symbols.Semicolon ∷
+    symbols.Comma ∷ symbols.Question ∷ symbols.Colon ∷ symbols.Plus ∷ symbols.Minus ∷ symbols.Star ∷ symbols.Slash ∷ symbols.Percent ∷
+    symbols.Tilde ∷ symbols.Not ∷ symbols.And ∷ symbols.Caret ∷ symbols.Or ∷ symbols.Less ∷ symbols.Greater ∷ symbols.LessEqual ∷
+    symbols.GreaterEqual ∷ symbols.Equal ∷ symbols.NotEqual ∷ symbols.Shl ∷ symbols.Shr ∷ symbols.AndAnd ∷ symbols.OrOr ∷ symbols.Assign ∷
+    symbols.AddAssign ∷ symbols.SubAssign ∷ symbols.MulAssign ∷ symbols.DivAssign ∷ symbols.RemAssign ∷ symbols.ShlAssign ∷
+    symbols.ShrAssign ∷ symbols.AndAssign ∷ symbols.XorAssign ∷ symbols.OrAssign ∷ symbols.Increment ∷ symbols.Decrement ∷
     []
 
-abbrev pub keywords : List Mark
+abbrev pub keywords : List Symbol
 keywords =
-    marks.Static ∷ marks.Extern ∷ marks.Inline ∷ marks.Const ∷ marks.Enum ∷ marks.Void ∷ marks.If ∷ marks.Else ∷
-    marks.While ∷ marks.Do ∷ marks.For ∷ marks.Switch ∷ marks.Case ∷ marks.Default ∷ marks.Break ∷ marks.Continue ∷
-    marks.Return ∷ marks.Assert ∷ marks.Assume ∷ []
+    symbols.Static ∷ symbols.Extern ∷ symbols.Inline ∷ symbols.Const ∷ symbols.Enum ∷ symbols.Void ∷ symbols.If ∷ symbols.Else ∷
+    symbols.While ∷ symbols.Do ∷ symbols.For ∷ symbols.Switch ∷ symbols.Case ∷ symbols.Default ∷ symbols.Break ∷ symbols.Continue ∷
+    symbols.Return ∷ symbols.Assert ∷ symbols.Assume ∷ []
 
 abbrev pub type_words : List TypeWord
 type_words =
@@ -126,8 +126,8 @@ abbrev pub type_or_name : Option TypeWord → List ℕ → Sign
 type_or_name (Some w) text = sign.Type w
 type_or_name None text = name_or_foreign text
 
-abbrev pub keyword_or_other : Option Mark → List ℕ → Sign
-keyword_or_other (Some m) text = sign.Mark m
+abbrev pub keyword_or_other : Option Symbol → List ℕ → Sign
+keyword_or_other (Some m) text = sign.Symbol m
 keyword_or_other None text = type_or_name (find (λ w. bytes_eq (type_spelling w) text) type_words) text
 
 unfoldable pub word_sign : List ℕ → Sign
@@ -137,17 +137,17 @@ word_sign text = keyword_or_other (find (λ m. bytes_eq (spelling m) text) keywo
 abbrev pub foreign_or_unknown : List ℕ → Sign
 foreign_or_unknown text = if is_among foreign_marks text then sign.Foreign else sign.Unknown
 
-abbrev pub mark_or_foreign : Option Mark → List ℕ → Sign
-mark_or_foreign (Some m) text = sign.Mark m
-mark_or_foreign None text = foreign_or_unknown text
+abbrev pub punctuator_or_foreign : Option Symbol → List ℕ → Sign
+punctuator_or_foreign (Some m) text = sign.Symbol m
+punctuator_or_foreign None text = foreign_or_unknown text
 
-unfoldable pub mark_sign : List ℕ → Sign
-mark_sign text = mark_or_foreign (find (λ m. bytes_eq (spelling m) text) punctuators) text
+unfoldable pub punctuator_sign : List ℕ → Sign
+punctuator_sign text = punctuator_or_foreign (find (λ m. bytes_eq (spelling m) text) punctuators) text
 
 abbrev pub sign_of : TokenKind → List ℕ → Sign
 sign_of kind.Word text = word_sign text
 sign_of (kind.Number value k) text = sign.Number value k
-sign_of kind.Mark text = mark_sign text
+sign_of kind.Mark text = punctuator_sign text
 sign_of kind.Foreign text = sign.Foreign
 
 -- a token as the grammar sees it

@@ -4,8 +4,8 @@ use Rattle.std.specs.Prelude.{ℕ, Bool, true, false, List, Option, Some, None}
 use Rattle.fq_core.specs.declared.span.Span.{Span}
 use Rattle.c_values.specs.declared.operators.BinaryOp.{BinaryOp}
 use Rattle.c_values.specs.declared.operators.BinaryOp.TheVariants as ops
-use Rattle.c_parse.specs.declared.sign.Mark.{Mark}
-use Rattle.c_parse.specs.declared.sign.Mark.TheVariants as marks
+use Rattle.c_parse.specs.declared.sign.Symbol.{Symbol}
+use Rattle.c_parse.specs.declared.sign.Symbol.TheVariants as symbols
 use Rattle.c_parse.specs.declared.expr.Ident.{Ident}
 use Rattle.c_parse.specs.declared.expr.ExprTree.{ExprTree}
 use Rattle.c_parse.specs.declared.statement.PlaceTree.{PlaceTree}
@@ -16,7 +16,7 @@ use Rattle.c_parse.specs.declared.statement.Group.{Group, roll-Group}
 use Rattle.c_parse.specs.declared.statement.Statement.{Statement, roll-Statement}
 use Rattle.c_parse.specs.declared.statement.Form.{Form}
 
--- a statement of this form, whose first token has this place
+-- a statement of this form, whose first token has this span
 abbrev pub statement : Span → Form → Statement
 statement s f = roll-Statement (record { span = s; form = f })
 
@@ -35,23 +35,23 @@ case_label s value = record { span = s; value = value }
 abbrev pub group : List CaseLabel → List Statement → Group
 group labels body = roll-Group (record { labels = labels; body = body })
 
--- the operator in an assignment by a mark, if it has one (6.5.16)
-abbrev pub assigned_by : Mark → Option (Option BinaryOp)
-assigned_by marks.Assign = Some None
-assigned_by marks.MulAssign = Some (Some ops.Mul)
-assigned_by marks.DivAssign = Some (Some ops.Div)
-assigned_by marks.RemAssign = Some (Some ops.Rem)
-assigned_by marks.AddAssign = Some (Some ops.Add)
-assigned_by marks.SubAssign = Some (Some ops.Sub)
-assigned_by marks.ShlAssign = Some (Some ops.Shl)
-assigned_by marks.ShrAssign = Some (Some ops.Shr)
-assigned_by marks.AndAssign = Some (Some ops.And)
-assigned_by marks.XorAssign = Some (Some ops.Xor)
-assigned_by marks.OrAssign = Some (Some ops.Or)
+-- the operator in an assignment by a symbol, if it has one (6.5.16)
+abbrev pub assigned_by : Symbol → Option (Option BinaryOp)
+assigned_by symbols.Assign = Some None
+assigned_by symbols.MulAssign = Some (Some ops.Mul)
+assigned_by symbols.DivAssign = Some (Some ops.Div)
+assigned_by symbols.RemAssign = Some (Some ops.Rem)
+assigned_by symbols.AddAssign = Some (Some ops.Add)
+assigned_by symbols.SubAssign = Some (Some ops.Sub)
+assigned_by symbols.ShlAssign = Some (Some ops.Shl)
+assigned_by symbols.ShrAssign = Some (Some ops.Shr)
+assigned_by symbols.AndAssign = Some (Some ops.And)
+assigned_by symbols.XorAssign = Some (Some ops.Xor)
+assigned_by symbols.OrAssign = Some (Some ops.Or)
 assigned_by _ = None
 
--- whether a mark adds 1 or takes 1 off (6.5.2.4, 6.5.3.1)
-abbrev pub step_by : Mark → Option Bool
-step_by marks.Increment = Some true
-step_by marks.Decrement = Some false
+-- whether a symbol adds 1 or takes 1 off (6.5.2.4, 6.5.3.1)
+abbrev pub step_by : Symbol → Option Bool
+step_by symbols.Increment = Some true
+step_by symbols.Decrement = Some false
 step_by _ = None

@@ -5,8 +5,8 @@ use Rattle.fq_core.specs.declared.span.Span.{Span}
 use Rattle.c_values.specs.declared.operators.UnaryOp.TheVariants as unaries
 use Rattle.c_values.specs.declared.operators.BinaryOp.{BinaryOp}
 use Rattle.c_values.specs.declared.operators.BinaryOp.TheVariants as ops
-use Rattle.c_parse.specs.declared.sign.Mark.{Mark}
-use Rattle.c_parse.specs.declared.sign.Mark.TheVariants as marks
+use Rattle.c_parse.specs.declared.sign.Symbol.{Symbol}
+use Rattle.c_parse.specs.declared.sign.Symbol.TheVariants as symbols
 use Rattle.c_parse.specs.declared.expr.ExprTree.{ExprTree, roll-ExprTree}
 use Rattle.c_parse.specs.declared.expr.ExprForm.{ExprForm}
 use Rattle.c_parse.specs.declared.expr.ExprForm.TheVariants as form
@@ -15,7 +15,7 @@ use Rattle.c_parse.specs.declared.operator.Prefix.TheVariants as prefixes
 use Rattle.c_parse.specs.declared.operator.Infix.{Infix}
 use Rattle.c_parse.specs.declared.operator.Infix.TheVariants as infixes
 
--- an expression of this form, whose first token has this place
+-- an expression of this form, whose first token has this span
 abbrev pub tree : Span → ExprForm → ExprTree
 tree s f = roll-ExprTree (record { span = s; form = f })
 
@@ -31,34 +31,34 @@ joined infixes.Both a b = form.Both a b
 joined infixes.Either a b = form.Either a b
 
 -- how the operators are written
-abbrev pub prefix_mark : Prefix → Mark
-prefix_mark prefixes.Plus = marks.Plus
-prefix_mark (prefixes.Unary unaries.Neg) = marks.Minus
-prefix_mark (prefixes.Unary unaries.Complement) = marks.Tilde
-prefix_mark (prefixes.Unary unaries.Not) = marks.Not
+abbrev pub prefix_symbol : Prefix → Symbol
+prefix_symbol prefixes.Plus = symbols.Plus
+prefix_symbol (prefixes.Unary unaries.Neg) = symbols.Minus
+prefix_symbol (prefixes.Unary unaries.Complement) = symbols.Tilde
+prefix_symbol (prefixes.Unary unaries.Not) = symbols.Not
 
-abbrev pub binary_mark : BinaryOp → Mark
-binary_mark ops.Add = marks.Plus
-binary_mark ops.Sub = marks.Minus
-binary_mark ops.Mul = marks.Star
-binary_mark ops.Div = marks.Slash
-binary_mark ops.Rem = marks.Percent
-binary_mark ops.Shl = marks.Shl
-binary_mark ops.Shr = marks.Shr
-binary_mark ops.And = marks.And
-binary_mark ops.Or = marks.Or
-binary_mark ops.Xor = marks.Caret
-binary_mark ops.Less = marks.Less
-binary_mark ops.LessEqual = marks.LessEqual
-binary_mark ops.Greater = marks.Greater
-binary_mark ops.GreaterEqual = marks.GreaterEqual
-binary_mark ops.Equal = marks.Equal
-binary_mark ops.NotEqual = marks.NotEqual
+abbrev pub binary_symbol : BinaryOp → Symbol
+binary_symbol ops.Add = symbols.Plus
+binary_symbol ops.Sub = symbols.Minus
+binary_symbol ops.Mul = symbols.Star
+binary_symbol ops.Div = symbols.Slash
+binary_symbol ops.Rem = symbols.Percent
+binary_symbol ops.Shl = symbols.Shl
+binary_symbol ops.Shr = symbols.Shr
+binary_symbol ops.And = symbols.And
+binary_symbol ops.Or = symbols.Or
+binary_symbol ops.Xor = symbols.Caret
+binary_symbol ops.Less = symbols.Less
+binary_symbol ops.LessEqual = symbols.LessEqual
+binary_symbol ops.Greater = symbols.Greater
+binary_symbol ops.GreaterEqual = symbols.GreaterEqual
+binary_symbol ops.Equal = symbols.Equal
+binary_symbol ops.NotEqual = symbols.NotEqual
 
-abbrev pub infix_mark : Infix → Mark
-infix_mark (infixes.Binary op) = binary_mark op
-infix_mark infixes.Both = marks.AndAnd
-infix_mark infixes.Either = marks.OrOr
+abbrev pub infix_symbol : Infix → Symbol
+infix_symbol (infixes.Binary op) = binary_symbol op
+infix_symbol infixes.Both = symbols.AndAnd
+infix_symbol infixes.Either = symbols.OrOr
 
 -- how tightly an operator binds: that of 6.5.5 the most, that of 6.5.14 the least
 abbrev pub binary_level : BinaryOp → ℕ

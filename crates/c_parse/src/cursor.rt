@@ -1,37 +1,37 @@
 // The first of the tokens that are left.
 ghost use Rattle.std.specs.Prelude.{◌≡◌, ◌==◌};
 ghost use Rattle.c_parse.specs.Gives.{Gives};
-ghost use Rattle.c_parse.specs.Grammar.{place_of};
+ghost use Rattle.c_parse.specs.Grammar.{first_span};
 ghost use Rattle.c_parse.specs.Trees.{level};
 ghost use Rattle.c_parse.specs.Reading.{code_of, starts, starts_type, word_at, expect, tail, type_at, infix_of, infix_at, prefix_of};
 
 use crate::operator::{Infix, Prefix};
-use crate::sign::{Mark, Sign, Terminal, TypeWord};
+use crate::sign::{Sign, Symbol, Terminal, TypeWord};
 use crate::stop::Stop;
 use crate::types::kind_of;
 use c_values::{BinaryOp, Kind, UnaryOp};
 use fq_core::Span;
 use std::alloc::Global;
 
-fn code(mark: Mark) -> u8
-    ensures { result ≡ code_of mark }
+fn code(symbol: Symbol) -> u8
+    ensures { result ≡ code_of symbol }
 {
-    mark as u8
+    symbol as u8
 }
 
-pub fn is_same(a: Mark, b: Mark) -> bool
+pub fn is_same(a: Symbol, b: Symbol) -> bool
     ensures { result ≡ code_of a == code_of b }
 {
     code(a) == code(b)
 }
 
-pub fn starts_with(tokens: &[Terminal], mark: Mark) -> bool
-    ensures { result ≡ starts mark tokens.now }
+pub fn starts_with(tokens: &[Terminal], symbol: Symbol) -> bool
+    ensures { result ≡ starts symbol tokens.now }
 {
     match tokens {
         [] => false,
         [first, ..] => match &first.sign {
-            Sign::Mark(other) => is_same(*other, mark),
+            Sign::Symbol(other) => is_same(*other, symbol),
             _ => false,
         },
     }
@@ -47,10 +47,10 @@ pub fn tail(tokens: &[Terminal]) -> &[Terminal]
     }
 }
 
-pub fn expect_mark(tokens: &[Terminal], mark: Mark) -> Result<&[Terminal], Stop>
-    ensures { Gives (λ x. x.now) result (expect mark tokens.now) }
+pub fn expect_symbol(tokens: &[Terminal], symbol: Symbol) -> Result<&[Terminal], Stop>
+    ensures { Gives (λ x. x.now) result (expect symbol tokens.now) }
 {
-    if starts_with(tokens, mark) {
+    if starts_with(tokens, symbol) {
         Ok(tail(tokens))
     } else {
         Err(Stop::Syntax)
@@ -59,7 +59,7 @@ pub fn expect_mark(tokens: &[Terminal], mark: Mark) -> Result<&[Terminal], Stop>
 
 // Where the first token stands.
 pub fn first_span(tokens: &[Terminal]) -> Span
-    ensures { result ≡ place_of tokens.now }
+    ensures { result ≡ first_span tokens.now }
 {
     match tokens {
         [] => Span {
@@ -113,28 +113,28 @@ pub fn take_type(alloc: Global, tokens: &[Terminal]) -> Result<(Kind, &[Terminal
     }
 }
 
-fn infix_of_mark(mark: Mark) -> Option<Infix>
-    ensures { result ≡ infix_of mark }
+fn infix_of_symbol(symbol: Symbol) -> Option<Infix>
+    ensures { result ≡ infix_of symbol }
 {
-    match mark {
-        Mark::Plus => Some(Infix::Binary(BinaryOp::Add)),
-        Mark::Minus => Some(Infix::Binary(BinaryOp::Sub)),
-        Mark::Star => Some(Infix::Binary(BinaryOp::Mul)),
-        Mark::Slash => Some(Infix::Binary(BinaryOp::Div)),
-        Mark::Percent => Some(Infix::Binary(BinaryOp::Rem)),
-        Mark::Shl => Some(Infix::Binary(BinaryOp::Shl)),
-        Mark::Shr => Some(Infix::Binary(BinaryOp::Shr)),
-        Mark::And => Some(Infix::Binary(BinaryOp::And)),
-        Mark::Or => Some(Infix::Binary(BinaryOp::Or)),
-        Mark::Caret => Some(Infix::Binary(BinaryOp::Xor)),
-        Mark::Less => Some(Infix::Binary(BinaryOp::Less)),
-        Mark::LessEqual => Some(Infix::Binary(BinaryOp::LessEqual)),
-        Mark::Greater => Some(Infix::Binary(BinaryOp::Greater)),
-        Mark::GreaterEqual => Some(Infix::Binary(BinaryOp::GreaterEqual)),
-        Mark::Equal => Some(Infix::Binary(BinaryOp::Equal)),
-        Mark::NotEqual => Some(Infix::Binary(BinaryOp::NotEqual)),
-        Mark::AndAnd => Some(Infix::Both),
-        Mark::OrOr => Some(Infix::Either),
+    match symbol {
+        Symbol::Plus => Some(Infix::Binary(BinaryOp::Add)),
+        Symbol::Minus => Some(Infix::Binary(BinaryOp::Sub)),
+        Symbol::Star => Some(Infix::Binary(BinaryOp::Mul)),
+        Symbol::Slash => Some(Infix::Binary(BinaryOp::Div)),
+        Symbol::Percent => Some(Infix::Binary(BinaryOp::Rem)),
+        Symbol::Shl => Some(Infix::Binary(BinaryOp::Shl)),
+        Symbol::Shr => Some(Infix::Binary(BinaryOp::Shr)),
+        Symbol::And => Some(Infix::Binary(BinaryOp::And)),
+        Symbol::Or => Some(Infix::Binary(BinaryOp::Or)),
+        Symbol::Caret => Some(Infix::Binary(BinaryOp::Xor)),
+        Symbol::Less => Some(Infix::Binary(BinaryOp::Less)),
+        Symbol::LessEqual => Some(Infix::Binary(BinaryOp::LessEqual)),
+        Symbol::Greater => Some(Infix::Binary(BinaryOp::Greater)),
+        Symbol::GreaterEqual => Some(Infix::Binary(BinaryOp::GreaterEqual)),
+        Symbol::Equal => Some(Infix::Binary(BinaryOp::Equal)),
+        Symbol::NotEqual => Some(Infix::Binary(BinaryOp::NotEqual)),
+        Symbol::AndAnd => Some(Infix::Both),
+        Symbol::OrOr => Some(Infix::Either),
         _ => None,
     }
 }
@@ -145,20 +145,20 @@ pub fn first_infix(tokens: &[Terminal]) -> Option<Infix>
     match tokens {
         [] => None,
         [first, ..] => match &first.sign {
-            Sign::Mark(mark) => infix_of_mark(*mark),
+            Sign::Symbol(symbol) => infix_of_symbol(*symbol),
             _ => None,
         },
     }
 }
 
-pub fn prefix_of(mark: Mark) -> Option<Prefix>
-    ensures { result ≡ prefix_of mark }
+pub fn prefix_of(symbol: Symbol) -> Option<Prefix>
+    ensures { result ≡ prefix_of symbol }
 {
-    match mark {
-        Mark::Plus => Some(Prefix::Plus),
-        Mark::Minus => Some(Prefix::Unary(UnaryOp::Neg)),
-        Mark::Tilde => Some(Prefix::Unary(UnaryOp::Complement)),
-        Mark::Not => Some(Prefix::Unary(UnaryOp::Not)),
+    match symbol {
+        Symbol::Plus => Some(Prefix::Plus),
+        Symbol::Minus => Some(Prefix::Unary(UnaryOp::Neg)),
+        Symbol::Tilde => Some(Prefix::Unary(UnaryOp::Complement)),
+        Symbol::Not => Some(Prefix::Unary(UnaryOp::Not)),
         _ => None,
     }
 }

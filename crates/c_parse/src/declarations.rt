@@ -4,11 +4,11 @@ ghost use Rattle.c_parse.specs.Gives.{Gives};
 ghost use Rattle.c_parse.specs.StatementTrees.{statement};
 ghost use Rattle.c_parse.specs.ReadingStatements.{choice_in, name_at, bracketed_at, first_at, declarator_at, declarators_at, past_consts, starts_local, local_at};
 
-use crate::cursor::{expect_mark, first_span, starts_with, starts_with_type, tail, take_type};
+use crate::cursor::{expect_symbol, first_span, starts_with, starts_with_type, tail, take_type};
 use crate::expr::{ExprTree, Ident};
 use crate::expressions::expression_at;
 use crate::separated::{Part, separated};
-use crate::sign::{Mark, Sign, Terminal};
+use crate::sign::{Sign, Symbol, Terminal};
 use crate::statement::{Declarator, Form, Initial, Statement};
 use crate::stop::Stop;
 use containers::{Boxed, Vector};
@@ -63,11 +63,11 @@ pub fn bracketed(
 ) -> Result<(Option<ExprTree>, &[Terminal]), Stop>
     ensures { Gives (λ x. (x.0, x.1.now)) result (bracketed_at tokens.now) }
 {
-    if !starts_with(tokens, Mark::OpenIndex) {
+    if !starts_with(tokens, Symbol::OpenIndex) {
         return Ok((None, tokens));
     }
     let (tree, rest) = expression(alloc, tail(tokens))?;
-    let rest = expect_mark(rest, Mark::CloseIndex)?;
+    let rest = expect_symbol(rest, Symbol::CloseIndex)?;
     Ok((Some(tree.into_inner()), rest))
 }
 
@@ -76,12 +76,12 @@ pub fn bracketed(
 fn first_value(alloc: Global, tokens: &[Terminal]) -> Result<(Option<Initial>, &[Terminal]), Stop>
     ensures { Gives (λ x. (x.0, x.1.now)) result (first_at tokens.now) }
 {
-    if !starts_with(tokens, Mark::Assign) {
+    if !starts_with(tokens, Symbol::Assign) {
         return Ok((None, tokens));
     }
     let rest = tail(tokens);
-    if starts_with(rest, Mark::OpenBrace) {
-        let (list, rest) = separated(alloc, true, Mark::CloseBrace, tail(rest))?;
+    if starts_with(rest, Symbol::OpenBrace) {
+        let (list, rest) = separated(alloc, true, Symbol::CloseBrace, tail(rest))?;
         return Ok((Some(Initial::List(list)), rest));
     }
     let (tree, rest) = expression(alloc, rest)?;
@@ -114,7 +114,7 @@ pub fn after_consts(tokens: &[Terminal]) -> &[Terminal]
     ensures { result.now ≡ past_consts tokens.now }
 {
     let mut rest = tokens;
-    while starts_with(rest, Mark::Const) {
+    while starts_with(rest, Symbol::Const) {
         rest = tail(rest);
     }
     rest
@@ -123,7 +123,7 @@ pub fn after_consts(tokens: &[Terminal]) -> &[Terminal]
 pub fn starts_with_local(tokens: &[Terminal]) -> bool
     ensures { result ≡ starts_local tokens.now }
 {
-    starts_with(tokens, Mark::Const) || starts_with_type(tokens)
+    starts_with(tokens, Symbol::Const) || starts_with_type(tokens)
 }
 
 // A declaration in a block.
@@ -133,6 +133,6 @@ pub fn local(alloc: Global, tokens: &[Terminal]) -> Result<(Boxed<Statement>, &[
 {
     let span = first_span(tokens);
     let (kind, rest) = take_type(alloc, after_consts(tokens))?;
-    let (list, rest) = separated(alloc, false, Mark::Semicolon, rest)?;
+    let (list, rest) = separated(alloc, false, Symbol::Semicolon, rest)?;
     Ok((node(alloc, span, Form::Local { kind, list })?, rest))
 }

@@ -17,7 +17,7 @@ pub struct Ident {
 #[cycle(expr)]
 #[derive(Debug)]
 pub struct ExprTree {
-    /// The place of its first token, parentheses round the whole expression left out.
+    /// The span of its first token, parentheses round the whole expression left out.
     pub span: Span,
     pub form: ExprForm,
 }

@@ -6,12 +6,12 @@ ghost use Rattle.c_parse.specs.Choices.{closed};
 ghost use Rattle.c_parse.specs.Reading.{arguments_at, after_name, after_open, after_prefix, operand_at, operators_at, level_by, choice_by, expr_in, whole_at};
 
 use crate::cursor::{
-    expect_mark, first_infix, first_span, is_same, level_of, prefix_of, starts_with,
+    expect_symbol, first_infix, first_span, is_same, level_of, prefix_of, starts_with,
     starts_with_type, tail, take_type,
 };
 use crate::expr::{ExprForm, ExprTree};
 use crate::operator::{Infix, Prefix};
-use crate::sign::{Mark, Sign, Terminal};
+use crate::sign::{Sign, Symbol, Terminal};
 use crate::stop::Stop;
 use containers::{Boxed, Vector};
 use fq_core::{Name, Span};
@@ -56,8 +56,8 @@ pub fn arguments(
     'arguments: loop {
         let (argument, after) = expression_at(alloc, 0, rest)?;
         list.push(argument.into_inner())?;
-        if !starts_with(after, Mark::Comma) {
-            let after = expect_mark(after, Mark::Close)?;
+        if !starts_with(after, Symbol::Comma) {
+            let after = expect_symbol(after, Symbol::Close)?;
             return Ok((list, after));
         }
         rest = tail(after);
@@ -75,16 +75,16 @@ fn named(
 ) -> Result<(Boxed<ExprTree>, &[Terminal]), Stop>
     ensures { Gives (λ x. (x.0, x.1.now)) result (after_name expr_in span name tokens.now) }
 {
-    if starts_with(tokens, Mark::OpenIndex) {
+    if starts_with(tokens, Symbol::OpenIndex) {
         let (index, rest) = expression_at(alloc, 0, tail(tokens))?;
-        let rest = expect_mark(rest, Mark::CloseIndex)?;
+        let rest = expect_symbol(rest, Symbol::CloseIndex)?;
         return Ok((node(alloc, span, ExprForm::Element(name, index))?, rest));
     }
-    if !starts_with(tokens, Mark::Open) {
+    if !starts_with(tokens, Symbol::Open) {
         return Ok((node(alloc, span, ExprForm::Name(name))?, tokens));
     }
     let rest = tail(tokens);
-    if starts_with(rest, Mark::Close) {
+    if starts_with(rest, Symbol::Close) {
         let call = ExprForm::Call(name, Vector::new(alloc));
         return Ok((node(alloc, span, call)?, tail(rest)));
     }
@@ -104,12 +104,12 @@ fn parenthesized(
 {
     if starts_with_type(tokens) {
         let (kind, rest) = take_type(alloc, tokens)?;
-        let rest = expect_mark(rest, Mark::Close)?;
+        let rest = expect_symbol(rest, Symbol::Close)?;
         let (operand, rest) = expression_at(alloc, 11, rest)?;
         Ok((node(alloc, span, ExprForm::Cast(kind, operand))?, rest))
     } else {
         let (inner, rest) = expression_at(alloc, 0, tokens)?;
-        let rest = expect_mark(rest, Mark::Close)?;
+        let rest = expect_symbol(rest, Symbol::Close)?;
         Ok((inner, rest))
     }
 }
@@ -149,11 +149,11 @@ fn operand(alloc: Global, tokens: &[Terminal]) -> Result<(Boxed<ExprTree>, &[Ter
             let name = name.clone()?;
             named(alloc, span, name, rest)
         }
-        Sign::Mark(mark) => {
-            if is_same(*mark, Mark::Open) {
+        Sign::Symbol(symbol) => {
+            if is_same(*symbol, Symbol::Open) {
                 parenthesized(alloc, span, rest)
             } else {
-                prefix(alloc, span, prefix_of(*mark), rest)
+                prefix(alloc, span, prefix_of(*symbol), rest)
             }
         }
         _ => Err(Stop::Syntax),
@@ -221,11 +221,11 @@ fn conditional_expression(
     'choices: loop {
         let span = first_span(rest);
         let (test, after) = operation(alloc, 1, rest)?;
-        if !starts_with(after, Mark::Question) {
+        if !starts_with(after, Symbol::Question) {
             return Ok((closed(alloc, outer, test)?, after));
         }
         let (yes, after) = expression_at(alloc, 0, tail(after))?;
-        rest = expect_mark(after, Mark::Colon)?;
+        rest = expect_symbol(after, Symbol::Colon)?;
         outer.push(OpenChoice { span, test, yes })?;
     }
 }

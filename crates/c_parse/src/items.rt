@@ -1,15 +1,15 @@
 // Reading items from tokens (ISO/IEC 9899:2011, 6.9 and 6.7).
 ghost use Rattle.std.specs.Prelude.{◌≡◌, length, option_map, IfOk};
 ghost use Rattle.c_parse.specs.Gives.{Gives};
-ghost use Rattle.c_parse.specs.Marks.{is_mark};
+ghost use Rattle.c_parse.specs.Symbols.{is_symbol};
 ghost use Rattle.c_parse.specs.ReadingStatements.{name_at};
 ghost use Rattle.c_parse.specs.ReadingItems.{is_shared, is_of_functions, is_before, starts_before, past_before, for_variables, by_name, parameter_at, parameters_at, end_at, function_at, past_named, constant_at, enum_at, typed_at, void_at, item_at, items_at};
 
-use crate::cursor::{expect_mark, first_span, is_same, starts_with, tail, take_type};
+use crate::cursor::{expect_symbol, first_span, is_same, starts_with, tail, take_type};
 use crate::declarations::{after_consts, bracketed, expression, first_name};
 use crate::expr::{ExprTree, Ident};
 use crate::separated::{Part, separated};
-use crate::sign::{Mark, Sign, Terminal};
+use crate::sign::{Sign, Symbol, Terminal};
 use crate::statements::body;
 use crate::stop::Stop;
 use crate::unit::{Body, Item, Parameter};
@@ -18,11 +18,11 @@ use containers::Vector;
 use fq_core::{Name, Span};
 use std::alloc::{AllocError, Global};
 
-fn is_mark(sign: &Sign, mark: Mark) -> bool
-    ensures { result ≡ is_mark mark sign.now }
+fn is_symbol(sign: &Sign, symbol: Symbol) -> bool
+    ensures { result ≡ is_symbol symbol sign.now }
 {
     match sign {
-        Sign::Mark(other) => is_same(*other, mark),
+        Sign::Symbol(other) => is_same(*other, symbol),
         _ => false,
     }
 }
@@ -31,13 +31,13 @@ fn is_mark(sign: &Sign, mark: Mark) -> bool
 fn is_shared(sign: &Sign) -> bool
     ensures { result ≡ is_shared sign.now }
 {
-    is_mark(sign, Mark::Static) || is_mark(sign, Mark::Const)
+    is_symbol(sign, Symbol::Static) || is_symbol(sign, Symbol::Const)
 }
 
 fn is_of_functions(sign: &Sign) -> bool
     ensures { result ≡ is_of_functions sign.now }
 {
-    is_mark(sign, Mark::Extern) || is_mark(sign, Mark::Inline)
+    is_symbol(sign, Symbol::Extern) || is_symbol(sign, Symbol::Inline)
 }
 
 fn starts_with_word(tokens: &[Terminal]) -> bool
@@ -135,14 +135,14 @@ impl Part for Parameter {
 fn parameters(alloc: Global, tokens: &[Terminal]) -> Result<(Vector<Parameter>, &[Terminal]), Stop>
     ensures { Gives (λ x. (x.0, x.1.now)) result (parameters_at tokens.now) }
 {
-    if starts_with(tokens, Mark::Close) {
+    if starts_with(tokens, Symbol::Close) {
         return Ok((Vector::new(alloc), tail(tokens)));
     }
-    if starts_with(tokens, Mark::Void) {
-        let rest = expect_mark(tail(tokens), Mark::Close)?;
+    if starts_with(tokens, Symbol::Void) {
+        let rest = expect_symbol(tail(tokens), Symbol::Close)?;
         return Ok((Vector::new(alloc), rest));
     }
-    separated(alloc, false, Mark::Close, tokens)
+    separated(alloc, false, Symbol::Close, tokens)
 }
 
 // A semicolon, or the block of a function.
@@ -150,13 +150,13 @@ fn parameters(alloc: Global, tokens: &[Terminal]) -> Result<(Vector<Parameter>, 
 fn end(alloc: Global, tokens: &[Terminal]) -> Result<(Option<Body>, &[Terminal]), Stop>
     ensures { Gives (λ x. (x.0, x.1.now)) result (end_at tokens.now) }
 {
-    if starts_with(tokens, Mark::Semicolon) {
+    if starts_with(tokens, Symbol::Semicolon) {
         return Ok((None, tail(tokens)));
     }
-    let rest = expect_mark(tokens, Mark::OpenBrace)?;
+    let rest = expect_symbol(tokens, Symbol::OpenBrace)?;
     let (statements, rest) = body(alloc, rest)?;
     let close = first_span(rest);
-    let rest = expect_mark(rest, Mark::CloseBrace)?;
+    let rest = expect_symbol(rest, Symbol::CloseBrace)?;
     Ok((Some(Body { statements, close }), rest))
 }
 
@@ -171,7 +171,7 @@ fn function(
 ) -> Result<(Item, &[Terminal]), Stop>
     ensures { Gives (λ x. (x.0, x.1.now)) result (function_at span result_kind name tokens.now) }
 {
-    let rest = expect_mark(tokens, Mark::Open)?;
+    let rest = expect_symbol(tokens, Symbol::Open)?;
     let (parameters, rest) = parameters(alloc, rest)?;
     let (body, rest) = end(alloc, rest)?;
     Ok((
@@ -198,7 +198,7 @@ impl Part for (Ident, Option<ExprTree>) {
         let name = first_name(tokens)?;
         let name = Ident { name, span };
         let rest = tail(tokens);
-        if !starts_with(rest, Mark::Assign) {
+        if !starts_with(rest, Symbol::Assign) {
             return Ok(((name, None), rest));
         }
         let (value, rest) = expression(alloc, tail(rest))?;
@@ -222,9 +222,9 @@ fn after_tag(tokens: &[Terminal]) -> &[Terminal]
 fn constants(alloc: Global, span: Span, tokens: &[Terminal]) -> Result<(Item, &[Terminal]), Stop>
     ensures { Gives (λ x. (x.0, x.1.now)) result (enum_at span tokens.now) }
 {
-    let rest = expect_mark(after_tag(tokens), Mark::OpenBrace)?;
-    let (list, rest) = separated(alloc, true, Mark::CloseBrace, rest)?;
-    let rest = expect_mark(rest, Mark::Semicolon)?;
+    let rest = expect_symbol(after_tag(tokens), Symbol::OpenBrace)?;
+    let (list, rest) = separated(alloc, true, Symbol::CloseBrace, rest)?;
+    let rest = expect_symbol(rest, Symbol::Semicolon)?;
     Ok((Item::Constants { span, list }, rest))
 }
 
@@ -239,17 +239,20 @@ fn typed<'a>(
 {
     let span = first_span(all);
     let (kind, rest) = take_type(alloc, tokens)?;
-    let place = first_span(rest);
+    let name_span = first_span(rest);
     let name = first_name(rest)?;
     let behind = tail(rest);
-    if starts_with(behind, Mark::Open) {
-        let name = Ident { name, span: place };
+    if starts_with(behind, Symbol::Open) {
+        let name = Ident {
+            name,
+            span: name_span,
+        };
         return function(alloc, span, Some(kind), name, behind);
     }
     if !are_for_variables(all) {
         return Err(Stop::Syntax);
     }
-    let (list, rest) = separated(alloc, false, Mark::Semicolon, rest)?;
+    let (list, rest) = separated(alloc, false, Symbol::Semicolon, rest)?;
     Ok((Item::Variables { span, kind, list }, rest))
 }
 
@@ -273,11 +276,11 @@ fn void_function<'a>(
 fn item(alloc: Global, tokens: &[Terminal]) -> Result<(Item, &[Terminal]), Stop>
     ensures { Gives (λ x. (x.0, x.1.now)) result (item_at tokens.now) }
 {
-    if starts_with(tokens, Mark::Enum) {
+    if starts_with(tokens, Symbol::Enum) {
         return constants(alloc, first_span(tokens), tail(tokens));
     }
     let rest = after_words(tokens);
-    if starts_with(rest, Mark::Void) {
+    if starts_with(rest, Symbol::Void) {
         void_function(alloc, tokens, tail(rest))
     } else {
         typed(alloc, tokens, rest)

@@ -1,8 +1,8 @@
 // What is refused before the grammar is looked at.
 ghost use Rattle.std.specs.Prelude.{◌≡◌, ◌<◌, ◌^◌, option_map};
-ghost use Rattle.c_parse.specs.Limits.{is_foreign, first_foreign, is_opening, is_closing, is_ending, has_mark, with_bracket, in_row, passed_by, first_passed};
+ghost use Rattle.c_parse.specs.Limits.{is_foreign, first_foreign, is_opening, is_closing, is_ending, has_symbol, with_bracket, in_row, passed_by, first_passed};
 
-use crate::sign::{Mark, Sign, Terminal};
+use crate::sign::{Sign, Symbol, Terminal};
 use fq_core::Span;
 
 fn is_foreign(sign: &Sign) -> bool
@@ -14,7 +14,7 @@ fn is_foreign(sign: &Sign) -> bool
     }
 }
 
-/// The place of the first token that the profile leaves out.
+/// The span of the first token that the profile leaves out.
 pub fn first_foreign(tokens: &[Terminal]) -> Option<Span>
     ensures { result ≡ option_map (λ t. t.span) (first_foreign tokens.now) }
 {
@@ -27,11 +27,11 @@ pub fn first_foreign(tokens: &[Terminal]) -> Option<Span>
 }
 
 fn is_opening(sign: &Sign) -> bool
-    ensures { result ≡ has_mark is_opening sign.now }
+    ensures { result ≡ has_symbol is_opening sign.now }
 {
     match sign {
-        Sign::Mark(mark) => match mark {
-            Mark::Open | Mark::OpenIndex | Mark::OpenBrace => true,
+        Sign::Symbol(symbol) => match symbol {
+            Symbol::Open | Symbol::OpenIndex | Symbol::OpenBrace => true,
             _ => false,
         },
         _ => false,
@@ -39,11 +39,11 @@ fn is_opening(sign: &Sign) -> bool
 }
 
 fn is_closing(sign: &Sign) -> bool
-    ensures { result ≡ has_mark is_closing sign.now }
+    ensures { result ≡ has_symbol is_closing sign.now }
 {
     match sign {
-        Sign::Mark(mark) => match mark {
-            Mark::Close | Mark::CloseIndex | Mark::CloseBrace => true,
+        Sign::Symbol(symbol) => match symbol {
+            Symbol::Close | Symbol::CloseIndex | Symbol::CloseBrace => true,
             _ => false,
         },
         _ => false,
@@ -51,11 +51,11 @@ fn is_closing(sign: &Sign) -> bool
 }
 
 fn is_ending(sign: &Sign) -> bool
-    ensures { result ≡ has_mark is_ending sign.now }
+    ensures { result ≡ has_symbol is_ending sign.now }
 {
     match sign {
-        Sign::Mark(mark) => match mark {
-            Mark::Semicolon | Mark::Comma | Mark::OpenBrace | Mark::CloseBrace => true,
+        Sign::Symbol(symbol) => match symbol {
+            Symbol::Semicolon | Symbol::Comma | Symbol::OpenBrace | Symbol::CloseBrace => true,
             _ => false,
         },
         _ => false,

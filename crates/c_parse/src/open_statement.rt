@@ -1,13 +1,13 @@
 // Statements that are read in two steps: up to a statement in them, and from there on.
 ghost use Rattle.std.specs.Prelude.{◌≡◌, ◌+◌, ◌≤◌, length, IfOk};
 ghost use Rattle.c_parse.specs.Gives.{Gives};
-ghost use Rattle.c_parse.specs.OpenStatements.{Leads, opens, part_of_mark, for_part, do_end, behind_arms, resume, progress_at, parts_of};
+ghost use Rattle.c_parse.specs.OpenStatements.{Leads, opens, part_of_symbol, for_part, do_end, behind_arms, resume, progress_at, parts_of};
 ghost use Rattle.c_parse.specs.ReadingStatements.{labelled_at, statement_in};
 
-use crate::cursor::{expect_mark, starts_with, tail};
+use crate::cursor::{expect_symbol, starts_with, tail};
 use crate::declarations::node;
 use crate::expr::{ExprTree, Ident};
-use crate::sign::{Mark, Terminal};
+use crate::sign::{Symbol, Terminal};
 use crate::simple::{begin, named, next, optional, test};
 use crate::statement::{Form, Statement};
 use crate::stop::Stop;
@@ -18,7 +18,7 @@ use std::alloc::Global;
 /// A statement of which a part, a statement in it, is still to be read.
 #[derive(Drop)]
 pub struct OpenStatement {
-    /// The place of its first token.
+    /// The span of its first token.
     pub span: Span,
     pub form: OpenForm,
 }
@@ -50,12 +50,12 @@ pub enum Progress {
     Whole(Boxed<Statement>),
 }
 
-// Whether a statement that begins with this mark is read in two steps.
-pub fn opens(mark: Mark) -> bool
-    ensures { result ≡ opens mark }
+// Whether a statement that begins with this symbol is read in two steps.
+pub fn opens(symbol: Symbol) -> bool
+    ensures { result ≡ opens symbol }
 {
-    match mark {
-        Mark::If | Mark::While | Mark::Do | Mark::For => true,
+    match symbol {
+        Symbol::If | Symbol::While | Symbol::Do | Symbol::For => true,
         _ => false,
     }
 }
@@ -65,18 +65,18 @@ pub fn opens(mark: Mark) -> bool
 fn for_head(alloc: Global, tokens: &[Terminal]) -> Result<(OpenForm, &[Terminal]), Stop>
     ensures { Gives (λ x. (x.0, x.1.now)) result (for_part tokens.now) }
 {
-    let rest = expect_mark(tokens, Mark::Open)?;
+    let rest = expect_symbol(tokens, Symbol::Open)?;
     let (first, rest) = begin(alloc, rest)?;
     let (test, rest) = optional(alloc, rest)?;
-    let rest = expect_mark(rest, Mark::Semicolon)?;
+    let rest = expect_symbol(rest, Symbol::Semicolon)?;
     let (next, rest) = next(alloc, rest)?;
-    let rest = expect_mark(rest, Mark::Close)?;
+    let rest = expect_symbol(rest, Symbol::Close)?;
     Ok((OpenForm::For { first, test, next }, rest))
 }
 
 // What follows `if`, up to the statement of its first arm.
 fn first_arm(alloc: Global, tokens: &[Terminal]) -> Result<(OpenForm, &[Terminal]), Stop>
-    ensures { Gives (λ x. (x.0, x.1.now)) result (part_of_mark Mark.If tokens.now) }
+    ensures { Gives (λ x. (x.0, x.1.now)) result (part_of_symbol Symbol.If tokens.now) }
 {
     let (test, rest) = test(alloc, tokens)?;
     let form = OpenForm::Arm {
@@ -86,22 +86,22 @@ fn first_arm(alloc: Global, tokens: &[Terminal]) -> Result<(OpenForm, &[Terminal
     Ok((form, rest))
 }
 
-// What follows a mark that opens a statement, up to a part of the statement.
+// What follows a symbol that opens a statement, up to a part of the statement.
 pub fn open_form(
     alloc: Global,
-    mark: Mark,
+    symbol: Symbol,
     tokens: &[Terminal],
 ) -> Result<(OpenForm, &[Terminal]), Stop>
-    ensures { Gives (λ x. (x.0, x.1.now)) result (part_of_mark mark tokens.now) }
+    ensures { Gives (λ x. (x.0, x.1.now)) result (part_of_symbol symbol tokens.now) }
 {
-    match mark {
-        Mark::If => first_arm(alloc, tokens),
-        Mark::While => {
+    match symbol {
+        Symbol::If => first_arm(alloc, tokens),
+        Symbol::While => {
             let (test, rest) = test(alloc, tokens)?;
             Ok((OpenForm::While(test.into_inner()), rest))
         }
-        Mark::Do => Ok((OpenForm::Do, tokens)),
-        Mark::For => for_head(alloc, tokens),
+        Symbol::Do => Ok((OpenForm::Do, tokens)),
+        Symbol::For => for_head(alloc, tokens),
         _ => Err(Stop::Syntax),
     }
 }
@@ -117,13 +117,13 @@ pub fn labelled(
     ensures same { Leads (λ x. progress_at statement_in x.0 x.1.now) result (labelled_at statement_in span name tokens.now) }
     ensures shorter { IfOk result (λ x. length x.1.now ≤ length tokens.now) }
 {
-    if starts_with(tokens, Mark::Colon) {
+    if starts_with(tokens, Symbol::Colon) {
         let form = OpenForm::Label(Ident { name, span });
         let part = OpenStatement { span, form };
         return Ok((Progress::Part(part), tail(tokens)));
     }
     let (simple, rest) = named(alloc, span, name, tokens)?;
-    let rest = expect_mark(rest, Mark::Semicolon)?;
+    let rest = expect_symbol(rest, Symbol::Semicolon)?;
     Ok((Progress::Whole(simple), rest))
 }
 
@@ -137,9 +137,9 @@ fn do_end(
 ) -> Result<(Boxed<Statement>, &[Terminal]), Stop>
     ensures { Gives (λ x. (x.0, x.1.now)) result (do_end span body tokens.now) }
 {
-    let rest = expect_mark(tokens, Mark::While)?;
+    let rest = expect_symbol(tokens, Symbol::While)?;
     let (test, rest) = test(alloc, rest)?;
-    let rest = expect_mark(rest, Mark::Semicolon)?;
+    let rest = expect_symbol(rest, Symbol::Semicolon)?;
     let test = test.into_inner();
     Ok((node(alloc, span, Form::Do { body, test })?, rest))
 }
@@ -155,13 +155,13 @@ fn behind_arms(
     ensures same { Leads (λ x. progress_at statement_in x.0 x.1.now) result (behind_arms statement_in span arms tokens.now) }
     ensures shorter { IfOk result (λ x. length x.1.now + parts_of x.0 ≤ length tokens.now) }
 {
-    if !starts_with(tokens, Mark::Else) {
+    if !starts_with(tokens, Symbol::Else) {
         let otherwise = None;
         let whole = node(alloc, span, Form::If { arms, otherwise })?;
         return Ok((Progress::Whole(whole), tokens));
     }
     let behind = tail(tokens);
-    if !starts_with(behind, Mark::If) {
+    if !starts_with(behind, Symbol::If) {
         let form = OpenForm::Otherwise(arms);
         let part = OpenStatement { span, form };
         return Ok((Progress::Part(part), behind));

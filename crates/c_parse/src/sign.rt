@@ -1,16 +1,16 @@
 // What the grammar calls a token (ISO/IEC 9899:2011, 5.1.1.2p1, phase 7, and annex A).
 ghost use Rattle.std.specs.Prelude.{◌≡◌, find, map, IfOk};
 ghost use Rattle.std.specs.Str.{bytes_eq};
-ghost use Rattle.c_parse.specs.Signs.{spelling, type_spelling, name_or_foreign, word_sign, mark_sign, sign_of, terminal_of};
+ghost use Rattle.c_parse.specs.Signs.{spelling, type_spelling, name_or_foreign, word_sign, punctuator_sign, sign_of, terminal_of};
 
 use c_lex::{Token, TokenKind, is_foreign_mark, is_foreign_word};
 use c_values::Kind;
 use fq_core::{Memory, Name, Span};
 use std::alloc::Global;
 
-/// The punctuators (6.4.6) and the keywords (6.4.1) of the grammar, `assert` and `assume` among them.
+/// The special symbols of the grammar: its punctuators (6.4.6) and keywords (6.4.1), `assert` and `assume` among them.
 #[derive(Clone, Copy, Debug, PartialEq, Eq)]
-pub enum Mark {
+pub enum Symbol {
     Open,
     Close,
     OpenIndex,
@@ -101,10 +101,10 @@ pub enum Sign {
     Number(u64, Kind),
     Name(Name),
     Type(TypeWord),
-    Mark(Mark),
+    Symbol(Symbol),
     /// C that the profile leaves out.
     Foreign,
-    /// No word and no mark of C.
+    /// No word and no punctuator of C.
     Unknown,
 }
 
@@ -115,72 +115,72 @@ pub struct Terminal {
     pub span: Span,
 }
 
-const PUNCTUATORS: [Mark; 43] = [
-    Mark::Open,
-    Mark::Close,
-    Mark::OpenIndex,
-    Mark::CloseIndex,
-    Mark::OpenBrace,
-    Mark::CloseBrace,
-    Mark::Semicolon,
-    Mark::Comma,
-    Mark::Question,
-    Mark::Colon,
-    Mark::Plus,
-    Mark::Minus,
-    Mark::Star,
-    Mark::Slash,
-    Mark::Percent,
-    Mark::Tilde,
-    Mark::Not,
-    Mark::And,
-    Mark::Caret,
-    Mark::Or,
-    Mark::Less,
-    Mark::Greater,
-    Mark::LessEqual,
-    Mark::GreaterEqual,
-    Mark::Equal,
-    Mark::NotEqual,
-    Mark::Shl,
-    Mark::Shr,
-    Mark::AndAnd,
-    Mark::OrOr,
-    Mark::Assign,
-    Mark::AddAssign,
-    Mark::SubAssign,
-    Mark::MulAssign,
-    Mark::DivAssign,
-    Mark::RemAssign,
-    Mark::ShlAssign,
-    Mark::ShrAssign,
-    Mark::AndAssign,
-    Mark::XorAssign,
-    Mark::OrAssign,
-    Mark::Increment,
-    Mark::Decrement,
+const PUNCTUATORS: [Symbol; 43] = [
+    Symbol::Open,
+    Symbol::Close,
+    Symbol::OpenIndex,
+    Symbol::CloseIndex,
+    Symbol::OpenBrace,
+    Symbol::CloseBrace,
+    Symbol::Semicolon,
+    Symbol::Comma,
+    Symbol::Question,
+    Symbol::Colon,
+    Symbol::Plus,
+    Symbol::Minus,
+    Symbol::Star,
+    Symbol::Slash,
+    Symbol::Percent,
+    Symbol::Tilde,
+    Symbol::Not,
+    Symbol::And,
+    Symbol::Caret,
+    Symbol::Or,
+    Symbol::Less,
+    Symbol::Greater,
+    Symbol::LessEqual,
+    Symbol::GreaterEqual,
+    Symbol::Equal,
+    Symbol::NotEqual,
+    Symbol::Shl,
+    Symbol::Shr,
+    Symbol::AndAnd,
+    Symbol::OrOr,
+    Symbol::Assign,
+    Symbol::AddAssign,
+    Symbol::SubAssign,
+    Symbol::MulAssign,
+    Symbol::DivAssign,
+    Symbol::RemAssign,
+    Symbol::ShlAssign,
+    Symbol::ShrAssign,
+    Symbol::AndAssign,
+    Symbol::XorAssign,
+    Symbol::OrAssign,
+    Symbol::Increment,
+    Symbol::Decrement,
 ];
 
-const KEYWORDS: [Mark; 19] = [
-    Mark::Static,
-    Mark::Extern,
-    Mark::Inline,
-    Mark::Const,
-    Mark::Enum,
-    Mark::Void,
-    Mark::If,
-    Mark::Else,
-    Mark::While,
-    Mark::Do,
-    Mark::For,
-    Mark::Switch,
-    Mark::Case,
-    Mark::Default,
-    Mark::Break,
-    Mark::Continue,
-    Mark::Return,
-    Mark::Assert,
-    Mark::Assume,
+const KEYWORDS: [Symbol; 19] = [
+    Symbol::Static,
+    Symbol::Extern,
+    Symbol::Inline,
+    Symbol::Const,
+    Symbol::Enum,
+    Symbol::Void,
+    Symbol::If,
+    Symbol::Else,
+    Symbol::While,
+    Symbol::Do,
+    Symbol::For,
+    Symbol::Switch,
+    Symbol::Case,
+    Symbol::Default,
+    Symbol::Break,
+    Symbol::Continue,
+    Symbol::Return,
+    Symbol::Assert,
+    Symbol::Assume,
 ];
 
 const TYPE_WORDS: [TypeWord; 15] = [
@@ -201,72 +201,72 @@ const TYPE_WORDS: [TypeWord; 15] = [
     TypeWord::Size,
 ];
 
-fn spelling(mark: Mark) -> &'static [u8]
-    ensures { result.now ≡ spelling mark }
+fn spelling(symbol: Symbol) -> &'static [u8]
+    ensures { result.now ≡ spelling symbol }
 {
-    match mark {
-        Mark::Open => b"(",
-        Mark::Close => b")",
-        Mark::OpenIndex => b"[",
-        Mark::CloseIndex => b"]",
-        Mark::OpenBrace => b"{",
-        Mark::CloseBrace => b"}",
-        Mark::Semicolon => b";",
-        Mark::Comma => b",",
-        Mark::Question => b"?",
-        Mark::Colon => b":",
-        Mark::Plus => b"+",
-        Mark::Minus => b"-",
-        Mark::Star => b"*",
-        Mark::Slash => b"/",
-        Mark::Percent => b"%",
-        Mark::Tilde => b"~",
-        Mark::Not => b"!",
-        Mark::And => b"&",
-        Mark::Caret => b"^",
-        Mark::Or => b"|",
-        Mark::Less => b"<",
-        Mark::Greater => b">",
-        Mark::LessEqual => b"<=",
-        Mark::GreaterEqual => b">=",
-        Mark::Equal => b"==",
-        Mark::NotEqual => b"!=",
-        Mark::Shl => b"<<",
-        Mark::Shr => b">>",
-        Mark::AndAnd => b"&&",
-        Mark::OrOr => b"||",
-        Mark::Assign => b"=",
-        Mark::AddAssign => b"+=",
-        Mark::SubAssign => b"-=",
-        Mark::MulAssign => b"*=",
-        Mark::DivAssign => b"/=",
-        Mark::RemAssign => b"%=",
-        Mark::ShlAssign => b"<<=",
-        Mark::ShrAssign => b">>=",
-        Mark::AndAssign => b"&=",
-        Mark::XorAssign => b"^=",
-        Mark::OrAssign => b"|=",
-        Mark::Increment => b"++",
-        Mark::Decrement => b"--",
-        Mark::Static => b"static",
-        Mark::Extern => b"extern",
-        Mark::Inline => b"inline",
-        Mark::Const => b"const",
-        Mark::Enum => b"enum",
-        Mark::Void => b"void",
-        Mark::If => b"if",
-        Mark::Else => b"else",
-        Mark::While => b"while",
-        Mark::Do => b"do",
-        Mark::For => b"for",
-        Mark::Switch => b"switch",
-        Mark::Case => b"case",
-        Mark::Default => b"default",
-        Mark::Break => b"break",
-        Mark::Continue => b"continue",
-        Mark::Return => b"return",
-        Mark::Assert => b"assert",
-        Mark::Assume => b"assume",
+    match symbol {
+        Symbol::Open => b"(",
+        Symbol::Close => b")",
+        Symbol::OpenIndex => b"[",
+        Symbol::CloseIndex => b"]",
+        Symbol::OpenBrace => b"{",
+        Symbol::CloseBrace => b"}",
+        Symbol::Semicolon => b";",
+        Symbol::Comma => b",",
+        Symbol::Question => b"?",
+        Symbol::Colon => b":",
+        Symbol::Plus => b"+",
+        Symbol::Minus => b"-",
+        Symbol::Star => b"*",
+        Symbol::Slash => b"/",
+        Symbol::Percent => b"%",
+        Symbol::Tilde => b"~",
+        Symbol::Not => b"!",
+        Symbol::And => b"&",
+        Symbol::Caret => b"^",
+        Symbol::Or => b"|",
+        Symbol::Less => b"<",
+        Symbol::Greater => b">",
+        Symbol::LessEqual => b"<=",
+        Symbol::GreaterEqual => b">=",
+        Symbol::Equal => b"==",
+        Symbol::NotEqual => b"!=",
+        Symbol::Shl => b"<<",
+        Symbol::Shr => b">>",
+        Symbol::AndAnd => b"&&",
+        Symbol::OrOr => b"||",
+        Symbol::Assign => b"=",
+        Symbol::AddAssign => b"+=",
+        Symbol::SubAssign => b"-=",
+        Symbol::MulAssign => b"*=",
+        Symbol::DivAssign => b"/=",
+        Symbol::RemAssign => b"%=",
+        Symbol::ShlAssign => b"<<=",
+        Symbol::ShrAssign => b">>=",
+        Symbol::AndAssign => b"&=",
+        Symbol::XorAssign => b"^=",
+        Symbol::OrAssign => b"|=",
+        Symbol::Increment => b"++",
+        Symbol::Decrement => b"--",
+        Symbol::Static => b"static",
+        Symbol::Extern => b"extern",
+        Symbol::Inline => b"inline",
+        Symbol::Const => b"const",
+        Symbol::Enum => b"enum",
+        Symbol::Void => b"void",
+        Symbol::If => b"if",
+        Symbol::Else => b"else",
+        Symbol::While => b"while",
+        Symbol::Do => b"do",
+        Symbol::For => b"for",
+        Symbol::Switch => b"switch",
+        Symbol::Case => b"case",
+        Symbol::Default => b"default",
+        Symbol::Break => b"break",
+        Symbol::Continue => b"continue",
+        Symbol::Return => b"return",
+        Symbol::Assert => b"assert",
+        Symbol::Assume => b"assume",
     }
 }
 
@@ -292,13 +292,13 @@ pub fn type_spelling(word: TypeWord) -> &'static [u8]
     }
 }
 
-// The first of these marks that is spelled so.
-fn mark_spelled(marks: &[Mark], text: &[u8]) -> Option<Mark>
-    ensures { result ≡ find (λ m. bytes_eq (spelling m) text.now) marks.now }
+// The first of these symbols that is spelled so.
+fn symbol_spelled(symbols: &[Symbol], text: &[u8]) -> Option<Symbol>
+    ensures { result ≡ find (λ m. bytes_eq (spelling m) text.now) symbols.now }
 {
-    for mark in marks {
-        if spelling(*mark) == text {
-            return Some(*mark);
+    for symbol in symbols {
+        if spelling(*symbol) == text {
+            return Some(*symbol);
         }
     }
     None
@@ -331,8 +331,8 @@ fn name_or_foreign(text: &Name) -> Result<Sign, Memory>
 fn word_sign(text: &Name) -> Result<Sign, Memory>
     ensures { IfOk result (λ sign. sign ≡ word_sign text.now) }
 {
-    if let Some(mark) = mark_spelled(&KEYWORDS, text.bytes()) {
-        return Ok(Sign::Mark(mark));
+    if let Some(symbol) = symbol_spelled(&KEYWORDS, text.bytes()) {
+        return Ok(Sign::Symbol(symbol));
     }
     if let Some(word) = type_word_spelled(&TYPE_WORDS, text.bytes()) {
         return Ok(Sign::Type(word));
@@ -340,12 +340,12 @@ fn word_sign(text: &Name) -> Result<Sign, Memory>
     name_or_foreign(text)
 }
 
-#[tactic(auto, unfolding(crate::specs::Signs::mark_sign))]
-fn mark_sign(text: &[u8]) -> Sign
-    ensures { result ≡ mark_sign text.now }
+#[tactic(auto, unfolding(crate::specs::Signs::punctuator_sign))]
+fn punctuator_sign(text: &[u8]) -> Sign
+    ensures { result ≡ punctuator_sign text.now }
 {
-    if let Some(mark) = mark_spelled(&PUNCTUATORS, text) {
-        return Sign::Mark(mark);
+    if let Some(symbol) = symbol_spelled(&PUNCTUATORS, text) {
+        return Sign::Symbol(symbol);
     }
     if is_foreign_mark(text) {
         Sign::Foreign
@@ -360,7 +360,7 @@ fn sign_of(kind: TokenKind, text: &Name) -> Result<Sign, Memory>
     match kind {
         TokenKind::Number { value, kind } => Ok(Sign::Number(value, kind)),
         TokenKind::Word => word_sign(text),
-        TokenKind::Mark => Ok(mark_sign(text.bytes())),
+        TokenKind::Mark => Ok(punctuator_sign(text.bytes())),
         TokenKind::Foreign => Ok(Sign::Foreign),
     }
 }

@@ -2,13 +2,13 @@
 ghost use Rattle.std.specs.Prelude.{◌≡◌, length};
 ghost use Rattle.c_parse.specs.Gives.{Gives};
 ghost use Rattle.c_parse.specs.StatementTrees.{assigned_by, step_by};
-ghost use Rattle.c_parse.specs.ReadingStatements.{mark_at, changed_by, changed_at, named_at, stepped_at, simple_at, test_at, optional_at, begin_at, next_at, starts_label, label_at, labels_at};
+ghost use Rattle.c_parse.specs.ReadingStatements.{symbol_at, changed_by, changed_at, named_at, stepped_at, simple_at, test_at, optional_at, begin_at, next_at, starts_label, label_at, labels_at};
 
-use crate::cursor::{expect_mark, first_span, starts_with, tail};
+use crate::cursor::{expect_symbol, first_span, starts_with, tail};
 use crate::declarations::{bracketed, expression, first_name, local, node, starts_with_local};
 use crate::expr::{ExprTree, Ident};
 use crate::expressions::arguments;
-use crate::sign::{Mark, Sign, Terminal};
+use crate::sign::{Sign, Symbol, Terminal};
 use crate::statement::{CaseLabel, Form, PlaceTree, Statement};
 use crate::stop::Stop;
 use c_values::BinaryOp;
@@ -16,50 +16,50 @@ use containers::{Boxed, Vector};
 use fq_core::{Name, Span};
 use std::alloc::Global;
 
-// The operator in an assignment by a mark, if it has one (6.5.16).
-fn assigned_by(mark: Mark) -> Option<Option<BinaryOp>>
-    ensures { result ≡ assigned_by mark }
+// The operator in an assignment by a symbol, if it has one (6.5.16).
+fn assigned_by(symbol: Symbol) -> Option<Option<BinaryOp>>
+    ensures { result ≡ assigned_by symbol }
 {
-    match mark {
-        Mark::Assign => Some(None),
-        Mark::MulAssign => Some(Some(BinaryOp::Mul)),
-        Mark::DivAssign => Some(Some(BinaryOp::Div)),
-        Mark::RemAssign => Some(Some(BinaryOp::Rem)),
-        Mark::AddAssign => Some(Some(BinaryOp::Add)),
-        Mark::SubAssign => Some(Some(BinaryOp::Sub)),
-        Mark::ShlAssign => Some(Some(BinaryOp::Shl)),
-        Mark::ShrAssign => Some(Some(BinaryOp::Shr)),
-        Mark::AndAssign => Some(Some(BinaryOp::And)),
-        Mark::XorAssign => Some(Some(BinaryOp::Xor)),
-        Mark::OrAssign => Some(Some(BinaryOp::Or)),
+    match symbol {
+        Symbol::Assign => Some(None),
+        Symbol::MulAssign => Some(Some(BinaryOp::Mul)),
+        Symbol::DivAssign => Some(Some(BinaryOp::Div)),
+        Symbol::RemAssign => Some(Some(BinaryOp::Rem)),
+        Symbol::AddAssign => Some(Some(BinaryOp::Add)),
+        Symbol::SubAssign => Some(Some(BinaryOp::Sub)),
+        Symbol::ShlAssign => Some(Some(BinaryOp::Shl)),
+        Symbol::ShrAssign => Some(Some(BinaryOp::Shr)),
+        Symbol::AndAssign => Some(Some(BinaryOp::And)),
+        Symbol::XorAssign => Some(Some(BinaryOp::Xor)),
+        Symbol::OrAssign => Some(Some(BinaryOp::Or)),
         _ => None,
     }
 }
 
-// Whether a mark adds 1 or takes 1 off (6.5.2.4, 6.5.3.1).
-fn step_by(mark: Mark) -> Option<bool>
-    ensures { result ≡ step_by mark }
+// Whether a symbol adds 1 or takes 1 off (6.5.2.4, 6.5.3.1).
+fn step_by(symbol: Symbol) -> Option<bool>
+    ensures { result ≡ step_by symbol }
 {
-    match mark {
-        Mark::Increment => Some(true),
-        Mark::Decrement => Some(false),
+    match symbol {
+        Symbol::Increment => Some(true),
+        Symbol::Decrement => Some(false),
         _ => None,
     }
 }
 
-fn first_mark(tokens: &[Terminal]) -> Option<Mark>
-    ensures { result ≡ mark_at tokens.now }
+fn first_symbol(tokens: &[Terminal]) -> Option<Symbol>
+    ensures { result ≡ symbol_at tokens.now }
 {
     match tokens {
         [] => None,
         [first, ..] => match &first.sign {
-            Sign::Mark(mark) => Some(*mark),
+            Sign::Symbol(symbol) => Some(*symbol),
             _ => None,
         },
     }
 }
 
-// What is done with a place, by the mark behind it.
+// What is done with a place, by the symbol behind it.
 fn changed_by(
     alloc: Global,
     step: Option<bool>,
@@ -94,13 +94,13 @@ fn changed(
 ) -> Result<(Boxed<Statement>, &[Terminal]), Stop>
     ensures { Gives (λ x. (x.0, x.1.now)) result (changed_at span place tokens.now) }
 {
-    let Some(mark) = first_mark(tokens) else {
+    let Some(symbol) = first_symbol(tokens) else {
         return Err(Stop::Syntax);
     };
     changed_by(
         alloc,
-        step_by(mark),
-        assigned_by(mark),
+        step_by(symbol),
+        assigned_by(symbol),
         span,
         place,
         tail(tokens),
@@ -118,12 +118,12 @@ pub fn named(
     ensures { Gives (λ x. (x.0, x.1.now)) result (named_at span name tokens.now) }
 {
     let name = Ident { name, span };
-    if !starts_with(tokens, Mark::Open) {
+    if !starts_with(tokens, Symbol::Open) {
         let (index, rest) = bracketed(alloc, tokens)?;
         return changed(alloc, span, PlaceTree { name, index }, rest);
     }
     let rest = tail(tokens);
-    if starts_with(rest, Mark::Close) {
+    if starts_with(rest, Symbol::Close) {
         let arguments = Vector::new(alloc);
         let form = Form::Call { name, arguments };
         return Ok((node(alloc, span, form)?, tail(rest)));
@@ -133,17 +133,17 @@ pub fn named(
     Ok((node(alloc, span, form)?, rest))
 }
 
-// What follows the mark of a step.
+// What follows the symbol of a step.
 #[tactic(auto, unfolding(crate::specs::ReadingStatements::stepped_at))]
 pub fn stepped(
     alloc: Global,
     span: Span,
-    mark: Mark,
+    symbol: Symbol,
     tokens: &[Terminal],
 ) -> Result<(Boxed<Statement>, &[Terminal]), Stop>
-    ensures { Gives (λ x. (x.0, x.1.now)) result (stepped_at span mark tokens.now) }
+    ensures { Gives (λ x. (x.0, x.1.now)) result (stepped_at span symbol tokens.now) }
 {
-    let Some(up) = step_by(mark) else {
+    let Some(up) = step_by(symbol) else {
         return Err(Stop::Syntax);
     };
     let at = first_span(tokens);
@@ -167,7 +167,7 @@ fn simple(alloc: Global, tokens: &[Terminal]) -> Result<(Boxed<Statement>, &[Ter
             let name = name.clone()?;
             named(alloc, span, name, rest)
         }
-        Sign::Mark(mark) => stepped(alloc, span, *mark, rest),
+        Sign::Symbol(symbol) => stepped(alloc, span, *symbol, rest),
         _ => Err(Stop::Syntax),
     }
 }
@@ -177,9 +177,9 @@ fn simple(alloc: Global, tokens: &[Terminal]) -> Result<(Boxed<Statement>, &[Ter
 pub fn test(alloc: Global, tokens: &[Terminal]) -> Result<(Boxed<ExprTree>, &[Terminal]), Stop>
     ensures { Gives (λ x. (x.0, x.1.now)) result (test_at tokens.now) }
 {
-    let rest = expect_mark(tokens, Mark::Open)?;
+    let rest = expect_symbol(tokens, Symbol::Open)?;
     let (tree, rest) = expression(alloc, rest)?;
-    let rest = expect_mark(rest, Mark::Close)?;
+    let rest = expect_symbol(rest, Symbol::Close)?;
     Ok((tree, rest))
 }
 
@@ -188,7 +188,7 @@ pub fn test(alloc: Global, tokens: &[Terminal]) -> Result<(Boxed<ExprTree>, &[Te
 pub fn optional(alloc: Global, tokens: &[Terminal]) -> Result<(Option<ExprTree>, &[Terminal]), Stop>
     ensures { Gives (λ x. (x.0, x.1.now)) result (optional_at tokens.now) }
 {
-    if starts_with(tokens, Mark::Semicolon) {
+    if starts_with(tokens, Symbol::Semicolon) {
         return Ok((None, tokens));
     }
     let (tree, rest) = expression(alloc, tokens)?;
@@ -203,7 +203,7 @@ pub fn begin(
 ) -> Result<(Option<Boxed<Statement>>, &[Terminal]), Stop>
     ensures { Gives (λ x. (x.0, x.1.now)) result (begin_at tokens.now) }
 {
-    if starts_with(tokens, Mark::Semicolon) {
+    if starts_with(tokens, Symbol::Semicolon) {
         return Ok((None, tail(tokens)));
     }
     if starts_with_local(tokens) {
@@ -211,7 +211,7 @@ pub fn begin(
         return Ok((Some(first), rest));
     }
     let (first, rest) = simple(alloc, tokens)?;
-    let rest = expect_mark(rest, Mark::Semicolon)?;
+    let rest = expect_symbol(rest, Symbol::Semicolon)?;
     Ok((Some(first), rest))
 }
 
@@ -223,7 +223,7 @@ pub fn next(
 ) -> Result<(Option<Boxed<Statement>>, &[Terminal]), Stop>
     ensures { Gives (λ x. (x.0, x.1.now)) result (next_at tokens.now) }
 {
-    if starts_with(tokens, Mark::Close) {
+    if starts_with(tokens, Symbol::Close) {
         return Ok((None, tokens));
     }
     let (next, rest) = simple(alloc, tokens)?;
@@ -233,7 +233,7 @@ pub fn next(
 pub fn starts_with_label(tokens: &[Terminal]) -> bool
     ensures { result ≡ starts_label tokens.now }
 {
-    starts_with(tokens, Mark::Case) || starts_with(tokens, Mark::Default)
+    starts_with(tokens, Symbol::Case) || starts_with(tokens, Symbol::Default)
 }
 
 #[tactic(auto, unfolding(crate::specs::ReadingStatements::label_at))]
@@ -241,14 +241,14 @@ fn label(alloc: Global, tokens: &[Terminal]) -> Result<(CaseLabel, &[Terminal]),
     ensures { Gives (λ x. (x.0, x.1.now)) result (label_at tokens.now) }
 {
     let span = first_span(tokens);
-    if starts_with(tokens, Mark::Case) {
+    if starts_with(tokens, Symbol::Case) {
         let (value, rest) = expression(alloc, tail(tokens))?;
-        let rest = expect_mark(rest, Mark::Colon)?;
+        let rest = expect_symbol(rest, Symbol::Colon)?;
         let value = Some(value.into_inner());
         return Ok((CaseLabel { span, value }, rest));
     }
-    let rest = expect_mark(tokens, Mark::Default)?;
-    let rest = expect_mark(rest, Mark::Colon)?;
+    let rest = expect_symbol(tokens, Symbol::Default)?;
+    let rest = expect_symbol(rest, Symbol::Colon)?;
     Ok((CaseLabel { span, value: None }, rest))
 }
 

@@ -29,7 +29,7 @@ pub struct Declarator {
 /// A `case` with its value, or `default` where there is none (6.8.1).
 #[derive(Debug, Drop)]
 pub struct CaseLabel {
-    /// The place of the word `case` or `default`.
+    /// The span of the word `case` or `default`.
     pub span: Span,
     pub value: Option<ExprTree>,
 }
@@ -46,7 +46,7 @@ pub struct Group {
 #[cycle(statement)]
 #[derive(Debug)]
 pub struct Statement {
-    /// The place of its first token.
+    /// The span of its first token.
     pub span: Span,
     pub form: Form,
 }

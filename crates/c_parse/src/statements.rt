@@ -2,12 +2,12 @@
 ghost use Rattle.std.specs.Prelude.{◌≡◌, ◌≤◌, ◌<◌, false, length, IfOk};
 ghost use Rattle.c_parse.specs.Gives.{Gives};
 ghost use Rattle.c_parse.specs.OpenStatements.{Leads, opens, progress_at};
-ghost use Rattle.c_parse.specs.ReadingStatements.{one_at, ends_body, body_at, groups_at, switch_at, return_at, assert_at, assume_at, statement_of_mark, statement_by, statement_in};
+ghost use Rattle.c_parse.specs.ReadingStatements.{one_at, ends_body, body_at, groups_at, switch_at, return_at, assert_at, assume_at, statement_of_symbol, statement_by, statement_in};
 
-use crate::cursor::{expect_mark, starts_with, tail};
+use crate::cursor::{expect_symbol, starts_with, tail};
 use crate::declarations::{local, node, starts_with_local};
 use crate::open_statement::{OpenStatement, Progress, labelled, open_form, opens, resumed};
-use crate::sign::{Mark, Sign, Terminal};
+use crate::sign::{Sign, Symbol, Terminal};
 use crate::simple::{labels, optional, starts_with_label, stepped, test};
 use crate::statement::{Form, Group, Statement};
 use crate::stop::Stop;
@@ -25,7 +25,7 @@ fn returned(
     ensures { Gives (λ x. (x.0, x.1.now)) result (return_at span tokens.now) }
 {
     let (value, rest) = optional(alloc, tokens)?;
-    let rest = expect_mark(rest, Mark::Semicolon)?;
+    let rest = expect_symbol(rest, Symbol::Semicolon)?;
     Ok((node(alloc, span, Form::Return(value))?, rest))
 }
 
@@ -39,7 +39,7 @@ fn asserted(
     ensures { Gives (λ x. (x.0, x.1.now)) result (assert_at span tokens.now) }
 {
     let (tree, rest) = test(alloc, tokens)?;
-    let rest = expect_mark(rest, Mark::Semicolon)?;
+    let rest = expect_symbol(rest, Symbol::Semicolon)?;
     Ok((node(alloc, span, Form::Assert(tree.into_inner()))?, rest))
 }
 
@@ -53,7 +53,7 @@ fn assumed(
     ensures { Gives (λ x. (x.0, x.1.now)) result (assume_at span tokens.now) }
 {
     let (tree, rest) = test(alloc, tokens)?;
-    let rest = expect_mark(rest, Mark::Semicolon)?;
+    let rest = expect_symbol(rest, Symbol::Semicolon)?;
     Ok((node(alloc, span, Form::Assume(tree.into_inner()))?, rest))
 }
 
@@ -61,7 +61,7 @@ fn assumed(
 fn ends_body(tokens: &[Terminal]) -> bool
     ensures { result ≡ ends_body tokens.now }
 {
-    starts_with(tokens, Mark::CloseBrace) || starts_with_label(tokens)
+    starts_with(tokens, Symbol::CloseBrace) || starts_with_label(tokens)
 }
 
 // A declaration or a statement.
@@ -101,7 +101,7 @@ fn groups(alloc: Global, tokens: &[Terminal]) -> Result<(Vector<Group>, &[Termin
     let mut list = Vector::new(alloc);
     let mut rest = tokens;
     'groups: loop {
-        if starts_with(rest, Mark::CloseBrace) {
+        if starts_with(rest, Symbol::CloseBrace) {
             return Ok((list, tail(rest)));
         }
         let (labels, after) = labels(alloc, rest)?;
@@ -122,67 +122,67 @@ fn switched(
     ensures { Gives (λ x. (x.0, x.1.now)) result (switch_at statement_in span tokens.now) }
 {
     let (value, rest) = test(alloc, tokens)?;
-    let rest = expect_mark(rest, Mark::OpenBrace)?;
+    let rest = expect_symbol(rest, Symbol::OpenBrace)?;
     let (groups, rest) = groups(alloc, rest)?;
     let value = value.into_inner();
     Ok((node(alloc, span, Form::Switch { value, groups })?, rest))
 }
 
-// What follows a mark that opens no statement.
+// What follows a symbol that opens no statement.
 #[cycle(statement)]
 fn closed_statement(
     alloc: Global,
     span: Span,
-    mark: Mark,
+    symbol: Symbol,
     tokens: &[Terminal],
 ) -> Result<(Boxed<Statement>, &[Terminal]), Stop>
-    requires { opens mark ≡ false }
-    ensures { Gives (λ x. (x.0, x.1.now)) result (statement_of_mark statement_in mark span tokens.now) }
+    requires { opens symbol ≡ false }
+    ensures { Gives (λ x. (x.0, x.1.now)) result (statement_of_symbol statement_in symbol span tokens.now) }
 {
-    match mark {
-        Mark::OpenBrace => {
+    match symbol {
+        Symbol::OpenBrace => {
             let (list, rest) = body(alloc, tokens)?;
-            let rest = expect_mark(rest, Mark::CloseBrace)?;
+            let rest = expect_symbol(rest, Symbol::CloseBrace)?;
             Ok((node(alloc, span, Form::Block(list))?, rest))
         }
-        Mark::Semicolon => Ok((node(alloc, span, Form::Empty)?, tokens)),
-        Mark::Switch => switched(alloc, span, tokens),
-        Mark::Break => {
-            let rest = expect_mark(tokens, Mark::Semicolon)?;
+        Symbol::Semicolon => Ok((node(alloc, span, Form::Empty)?, tokens)),
+        Symbol::Switch => switched(alloc, span, tokens),
+        Symbol::Break => {
+            let rest = expect_symbol(tokens, Symbol::Semicolon)?;
             Ok((node(alloc, span, Form::Break)?, rest))
         }
-        Mark::Continue => {
-            let rest = expect_mark(tokens, Mark::Semicolon)?;
+        Symbol::Continue => {
+            let rest = expect_symbol(tokens, Symbol::Semicolon)?;
             Ok((node(alloc, span, Form::Continue)?, rest))
         }
-        Mark::Return => returned(alloc, span, tokens),
-        Mark::Assert => asserted(alloc, span, tokens),
-        Mark::Assume => assumed(alloc, span, tokens),
+        Symbol::Return => returned(alloc, span, tokens),
+        Symbol::Assert => asserted(alloc, span, tokens),
+        Symbol::Assume => assumed(alloc, span, tokens),
         _ => {
-            let (step, rest) = stepped(alloc, span, mark, tokens)?;
-            let rest = expect_mark(rest, Mark::Semicolon)?;
+            let (step, rest) = stepped(alloc, span, symbol, tokens)?;
+            let rest = expect_symbol(rest, Symbol::Semicolon)?;
             Ok((step, rest))
         }
     }
 }
 
-// What follows a mark, up to a part of the statement or to its end.
+// What follows a symbol, up to a part of the statement or to its end.
 #[cycle(statement)]
-fn by_mark(
+fn by_symbol(
     alloc: Global,
     span: Span,
-    mark: Mark,
+    symbol: Symbol,
     tokens: &[Terminal],
 ) -> Result<(Progress, &[Terminal]), Stop>
-    ensures same { Leads (λ x. progress_at statement_in x.0 x.1.now) result (statement_of_mark statement_in mark span tokens.now) }
+    ensures same { Leads (λ x. progress_at statement_in x.0 x.1.now) result (statement_of_symbol statement_in symbol span tokens.now) }
     ensures shorter { IfOk result (λ x. length x.1.now ≤ length tokens.now) }
 {
-    if opens(mark) {
-        let (form, rest) = open_form(alloc, mark, tokens)?;
+    if opens(symbol) {
+        let (form, rest) = open_form(alloc, symbol, tokens)?;
         let part = OpenStatement { span, form };
         return Ok((Progress::Part(part), rest));
     }
-    let (whole, rest) = closed_statement(alloc, span, mark, tokens)?;
+    let (whole, rest) = closed_statement(alloc, span, symbol, tokens)?;
     Ok((Progress::Whole(whole), rest))
 }
 
@@ -201,7 +201,7 @@ fn statement_front(alloc: Global, tokens: &[Terminal]) -> Result<(Progress, &[Te
             let name = name.clone()?;
             labelled(alloc, first.span, name, rest)
         }
-        Sign::Mark(mark) => by_mark(alloc, first.span, *mark, rest),
+        Sign::Symbol(symbol) => by_symbol(alloc, first.span, *symbol, rest),
         _ => Err(Stop::Syntax),
     }
 }

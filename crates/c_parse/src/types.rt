@@ -1,29 +1,86 @@
-// Which words name an integer type (ISO/IEC 9899:2011, 6.7.2p2).
-ghost use Rattle.std.specs.Prelude.{◌≡◌, ◌+◌, nat_le};
+// Which words name an integer type (ISO/IEC 9899:2011, 6.7.2p2, 7.20.1.1 and 7.19p2).
+ghost use Rattle.std.specs.Prelude.{◌≡◌, ◌==◌};
 ghost use Rattle.std.specs.List.{list_all};
-ghost use Rattle.c_parse.specs.Types.{alias_of, is_none, times, width_of, are_specifiers, specified, kind_of};
+ghost use Rattle.std.specs.Map.{lookup};
+ghost use Rattle.c_parse.specs.Types.{times, are_same_words, kind_of};
 
 use crate::sign::{TypeWord, type_spelling};
 use c_values::Kind;
 
-// The kind of a typedef name (7.20.1.1, 7.19p2).
-fn alias_of(word: TypeWord) -> Option<Kind>
-    ensures { result ≡ alias_of word }
-{
-    match word {
-        TypeWord::Int8 => Some(Kind::CHAR),
-        TypeWord::Int16 => Some(Kind::SHORT),
-        TypeWord::Int32 => Some(Kind::INT),
-        TypeWord::Int64 => Some(Kind::LONG),
-        TypeWord::Uint8 => Some(Kind::UNSIGNED_CHAR),
-        TypeWord::Uint16 => Some(Kind::UNSIGNED_SHORT),
-        TypeWord::Uint32 => Some(Kind::UNSIGNED_INT),
-        TypeWord::Uint64 => Some(Kind::UNSIGNED_LONG),
-        TypeWord::Size => Some(Kind::UNSIGNED_LONG),
-        _ => None,
-    }
-}
+// The names of the kinds: the lists of type specifiers, and the names of `<stdint.h>` and `<stddef.h>`.
+const NAMED_KINDS: [(&'static [TypeWord], Kind); 35] = [
+    (&[TypeWord::Char], Kind::CHAR),
+    (&[TypeWord::Signed, TypeWord::Char], Kind::CHAR),
+    (&[TypeWord::Unsigned, TypeWord::Char], Kind::UNSIGNED_CHAR),
+    (&[TypeWord::Short], Kind::SHORT),
+    (&[TypeWord::Signed, TypeWord::Short], Kind::SHORT),
+    (&[TypeWord::Short, TypeWord::Int], Kind::SHORT),
+    (
+        &[TypeWord::Signed, TypeWord::Short, TypeWord::Int],
+        Kind::SHORT,
+    ),
+    (&[TypeWord::Unsigned, TypeWord::Short], Kind::UNSIGNED_SHORT),
+    (
+        &[TypeWord::Unsigned, TypeWord::Short, TypeWord::Int],
+        Kind::UNSIGNED_SHORT,
+    ),
+    (&[TypeWord::Int], Kind::INT),
+    (&[TypeWord::Signed], Kind::INT),
+    (&[TypeWord::Signed, TypeWord::Int], Kind::INT),
+    (&[TypeWord::Unsigned], Kind::UNSIGNED_INT),
+    (&[TypeWord::Unsigned, TypeWord::Int], Kind::UNSIGNED_INT),
+    (&[TypeWord::Long], Kind::LONG),
+    (&[TypeWord::Signed, TypeWord::Long], Kind::LONG),
+    (&[TypeWord::Long, TypeWord::Int], Kind::LONG),
+    (
+        &[TypeWord::Signed, TypeWord::Long, TypeWord::Int],
+        Kind::LONG,
+    ),
+    (&[TypeWord::Unsigned, TypeWord::Long], Kind::UNSIGNED_LONG),
+    (
+        &[TypeWord::Unsigned, TypeWord::Long, TypeWord::Int],
+        Kind::UNSIGNED_LONG,
+    ),
+    (&[TypeWord::Long, TypeWord::Long], Kind::LONG),
+    (
+        &[TypeWord::Signed, TypeWord::Long, TypeWord::Long],
+        Kind::LONG,
+    ),
+    (&[TypeWord::Long, TypeWord::Long, TypeWord::Int], Kind::LONG),
+    (
+        &[
+            TypeWord::Signed,
+            TypeWord::Long,
+            TypeWord::Long,
+            TypeWord::Int,
+        ],
+        Kind::LONG,
+    ),
+    (
+        &[TypeWord::Unsigned, TypeWord::Long, TypeWord::Long],
+        Kind::UNSIGNED_LONG,
+    ),
+    (
+        &[
+            TypeWord::Unsigned,
+            TypeWord::Long,
+            TypeWord::Long,
+            TypeWord::Int,
+        ],
+        Kind::UNSIGNED_LONG,
+    ),
+    (&[TypeWord::Int8], Kind::CHAR),
+    (&[TypeWord::Int16], Kind::SHORT),
+    (&[TypeWord::Int32], Kind::INT),
+    (&[TypeWord::Int64], Kind::LONG),
+    (&[TypeWord::Uint8], Kind::UNSIGNED_CHAR),
+    (&[TypeWord::Uint16], Kind::UNSIGNED_SHORT),
+    (&[TypeWord::Uint32], Kind::UNSIGNED_INT),
+    (&[TypeWord::Uint64], Kind::UNSIGNED_LONG),
+    (&[TypeWord::Size], Kind::UNSIGNED_LONG),
+];
 
+// How often a word is among some.
 fn times(word: TypeWord, words: &[TypeWord]) -> usize
     ensures { result ≡ times word words.now }
 {
@@ -34,80 +91,41 @@ fn times(word: TypeWord, words: &[TypeWord]) -> usize
         .count()
 }
 
-fn width_of(char_words: usize, shorts: usize, ints: usize, longs: usize) -> Option<u8>
-    ensures { result ≡ width_of char_words shorts ints longs }
+fn is_as_often(word: TypeWord, words: &[TypeWord], others: &[TypeWord]) -> bool
+    ensures { result ≡ times word words.now == times word others.now }
 {
-    if char_words == 1 && shorts == 0 && ints == 0 && longs == 0 {
-        Some(8)
-    } else if char_words == 0 && shorts == 1 && ints <= 1 && longs == 0 {
-        Some(16)
-    } else if char_words == 0 && shorts == 0 && ints <= 1 && longs == 0 {
-        Some(32)
-    } else if char_words == 0 && shorts == 0 && ints <= 1 && longs <= 2 {
-        Some(64)
-    } else {
-        None
+    times(word, words) == times(word, others)
+}
+
+fn are_as_often(words: &[TypeWord], others: &[TypeWord]) -> bool
+    ensures { result ≡ list_all (λ w. times w words.now == times w others.now) words.now }
+{
+    words.iter().all(|word| is_as_often(*word, words, others))
+}
+
+// Whether two lists have the same words, in any order.
+fn are_same_words(words: &[TypeWord], others: &[TypeWord]) -> bool
+    ensures { result ≡ are_same_words words.now others.now }
+{
+    words.len() == others.len() && are_as_often(words, others)
+}
+
+// The kind of the first of these names that has the words.
+fn kind_named(names: &[(&[TypeWord], Kind)], words: &[TypeWord]) -> Option<Kind>
+    ensures { result ≡ lookup (λ name. are_same_words name.now words.now) names.now }
+{
+    for (name, kind) in names {
+        if are_same_words(name, words) {
+            return Some(*kind);
+        }
     }
+    None
 }
 
-fn is_specifier(word: TypeWord) -> bool
-    ensures { result ≡ is_none (alias_of word) }
-{
-    alias_of(word).is_none()
-}
-
-fn is_one_at_most(a: usize, b: usize) -> bool
-    ensures { result ≡ nat_le (a + b) 1 }
-{
-    a <= 1 && b <= 1 - a
-}
-
-fn are_all_specifiers(words: &[TypeWord]) -> bool
-    ensures { result ≡ list_all (λ w. is_none (alias_of w)) words.now }
-{
-    words.iter().all(|word| is_specifier(*word))
-}
-
-fn are_specifiers(words: &[TypeWord]) -> bool
-    ensures { result ≡ are_specifiers words.now }
-{
-    are_all_specifiers(words)
-        && is_one_at_most(
-            times(TypeWord::Signed, words),
-            times(TypeWord::Unsigned, words),
-        )
-}
-
-fn specified(words: &[TypeWord]) -> Option<Kind>
-    ensures { result ≡ specified words.now }
-{
-    if !are_specifiers(words) {
-        return None;
-    }
-    let width = width_of(
-        times(TypeWord::Char, words),
-        times(TypeWord::Short, words),
-        times(TypeWord::Int, words),
-        times(TypeWord::Long, words),
-    )?;
-    let signed = times(TypeWord::Unsigned, words) == 0;
-    Some(Kind { width, signed })
-}
-
-/// The kind that words name: one typedef name, or type specifiers in any order.
+/// The kind that words name.
 #[tactic(auto, unfolding(crate::specs::Types::kind_of))]
 pub fn kind_of(words: &[TypeWord]) -> Option<Kind>
     ensures { result ≡ kind_of words.now }
 {
-    match words {
-        [] => None,
-        [word] => {
-            if is_specifier(*word) {
-                specified(words)
-            } else {
-                alias_of(*word)
-            }
-        }
-        _ => specified(words),
-    }
+    kind_named(&NAMED_KINDS, words)
 }

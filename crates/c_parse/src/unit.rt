@@ -43,7 +43,7 @@ pub struct Parameter {
     pub length: Option<ExprTree>,
 }
 
-/// The block of a defined function, with the place of its closing brace.
+/// The block of a defined function, with the span of its closing brace.
 #[derive(Debug, Drop)]
 pub struct Body {
     pub statements: Vector<Statement>,

@@ -13,7 +13,7 @@ use c_parse::{Body, Ident, Parameter};
 use c_values::Kind;
 use cfa::Variable;
 use containers::{TryClone, Vector};
-use expression_types::{Bound, Cases, Meaning, Names, ParameterKind, Signature, Typer, same_kind};
+use expression_types::{Bound, Cases, Meaning, Names, ParameterKind, Signature, Typer};
 use fq_core::{Name, Span};
 use std::alloc::{AllocError, Global};
 use std::mem::replace;
@@ -64,7 +64,7 @@ fn same_result(a: Option<Kind>, b: Option<Kind>) -> bool
 {
     match (a, b) {
         (None, None) => true,
-        (Some(a), Some(b)) => same_kind(a, b),
+        (Some(a), Some(b)) => a == b,
         (None, Some(_)) | (Some(_), None) => false,
     }
 }
@@ -72,7 +72,7 @@ fn same_result(a: Option<Kind>, b: Option<Kind>) -> bool
 fn same_parameter(a: ParameterKind, b: ParameterKind) -> bool
     ensures { result ≡ same_parameter a b }
 {
-    same_kind(a.kind, b.kind) && same_optional(a.length, b.length)
+    a.kind == b.kind && same_optional(a.length, b.length)
 }
 
 fn same_parameters(a: &[ParameterKind], b: &[ParameterKind]) -> bool

@@ -31,5 +31,5 @@ pub use conversions::{common, convert, is_value, promoted};
 pub use division::{div, has_quotient, is_overflow_divisor, is_zero_divisor, rem};
 pub use evaluation::{binary_value, unary_value};
 pub use kinds::{Kind, is_kind};
-pub use operators::{BinaryOp, UnaryOp};
+pub use operators::{BinaryOp, UnaryOp, binary_kind, is_shift, unary_kind};
 pub use shifts::{is_shift_amount, shl, shr};

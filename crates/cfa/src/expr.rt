@@ -1,9 +1,8 @@
 // Expressions without side effects, and the places of cells.
 ghost use Rattle.std.specs.Prelude.{◌≡◌, ◌↔◌, IsTrue, IfOk};
-ghost use Rattle.c_values.specs.Operations.{unary_kind, binary_kind, is_comparison};
 ghost use Rattle.cfa.specs.Kinds.{kind_of};
 
-use c_values::{BinaryOp, Kind, UnaryOp};
+use c_values::{BinaryOp, Kind, UnaryOp, binary_kind, unary_kind};
 use containers::{Boxed, Same, TryClone};
 use std::alloc::{AllocError, Global};
 
@@ -49,37 +48,6 @@ pub enum Expr {
     /// An operator on two operands of the kind; the right operand of a shift has a kind of its own. A comparison
     /// gives int, the others the kind (6.5.5 to 6.5.12).
     Binary(BinaryOp, Boxed<Expr>, Boxed<Expr>, Kind),
-}
-
-/// The kind of what an operator with one operand gives.
-pub(crate) fn unary_kind(op: UnaryOp, kind: Kind) -> Kind
-    ensures { result ≡ unary_kind op kind }
-{
-    match op {
-        UnaryOp::Not => Kind::INT,
-        UnaryOp::Neg | UnaryOp::Complement => kind,
-    }
-}
-
-fn is_comparison(op: BinaryOp) -> bool
-    ensures { result ≡ is_comparison op }
-{
-    matches!(
-        op,
-        BinaryOp::Less
-            | BinaryOp::LessEqual
-            | BinaryOp::Greater
-            | BinaryOp::GreaterEqual
-            | BinaryOp::Equal
-            | BinaryOp::NotEqual
-    )
-}
-
-/// The kind of what an operator with two operands gives.
-pub(crate) fn binary_kind(op: BinaryOp, kind: Kind) -> Kind
-    ensures { result ≡ binary_kind op kind }
-{
-    if is_comparison(op) { Kind::INT } else { kind }
 }
 
 impl Expr {

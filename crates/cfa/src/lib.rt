@@ -27,5 +27,6 @@ pub use graph::Graph;
 pub use parts::{
     Edge, Function, GraphParts, InputFunction, Node, Operation, Scope, Variable, VariablePlace,
 };
+pub use rules::{FunctionRoom, checked_kind};
 pub use state::{Frame, Predicates, State, Trap};
 pub use variables::Variables;

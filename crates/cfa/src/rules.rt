@@ -1,18 +1,16 @@
 // Whether the expressions and places of a function meet the rules.
 ghost use Rattle.std.specs.Prelude.{◌≡◌, ◌+◌, ◌^◌, ◌<◌, ◌&&◌, nat_le, slice_get};
-ghost use Rattle.c_values.specs.Operations.{is_shift, unary_kind, binary_kind};
-ghost use Rattle.cfa.specs.Kinds.{same_kind};
 ghost use Rattle.cfa.specs.Rules.{is_length, array_fits, place_fits, checked_kind, has_kind, kind_if, right_fits};
 
-use crate::expr::{ArrayPlace, CellPlace, Expr, binary_kind, unary_kind};
+use crate::expr::{ArrayPlace, CellPlace, Expr};
 use crate::parts::{Function, GraphParts};
-use c_values::{BinaryOp, Kind, is_kind, is_value};
+use c_values::{BinaryOp, Kind, binary_kind, is_kind, is_shift, is_value, unary_kind};
 use std::marker::Model;
 
 /// What the places of a function may name: how many cells the globals and the function's frame have, and the lengths of
 /// its array parameters.
 #[derive(Drop)]
-pub(crate) struct FunctionRoom<'a> {
+pub struct FunctionRoom<'a> {
     globals: usize,
     cells: u32,
     arrays: &'a [u32],
@@ -29,14 +27,21 @@ impl<'a> Model for FunctionRoom<'a> {
 impl<'a> FunctionRoom<'a> {
     ghost use Rattle.cfa.specs.Graph.{room_of};
 
+    /// The room between so many cells of globals, so many of a frame, and array parameters of these lengths.
+    pub fn new(globals: usize, cells: u32, arrays: &'a [u32]) -> FunctionRoom<'a>
+        ensures { result ≡ record { globals = globals; cells = cells; arrays = arrays.now } }
+    {
+        FunctionRoom {
+            globals,
+            cells,
+            arrays,
+        }
+    }
+
     pub(crate) fn of(parts: &'a GraphParts, function: &'a Function) -> FunctionRoom<'a>
         ensures { result ≡ room_of parts.now function.now }
     {
-        FunctionRoom {
-            globals: parts.globals.len(),
-            cells: function.cells,
-            arrays: &function.arrays,
-        }
+        FunctionRoom::new(parts.globals.len(), function.cells, &function.arrays)
     }
 
     /// Whether an array parameter has this length.
@@ -73,18 +78,6 @@ impl<'a> FunctionRoom<'a> {
     }
 }
 
-fn same_kind(a: Kind, b: Kind) -> bool
-    ensures { result ≡ same_kind a b }
-{
-    a.width == b.width && a.signed == b.signed
-}
-
-fn is_shift(op: BinaryOp) -> bool
-    ensures { result ≡ is_shift op }
-{
-    matches!(op, BinaryOp::Shl | BinaryOp::Shr)
-}
-
 // An array of this length lies, whole, within the globals or the frame, or is an array parameter of this length.
 pub(crate) fn array_fits(room: &FunctionRoom<'_>, place: ArrayPlace, length: u32) -> bool
     ensures { result ≡ array_fits room.now place length }
@@ -117,7 +110,7 @@ pub(crate) fn has_kind(own: Option<Kind>, kind: Kind) -> bool
 {
     match own {
         None => false,
-        Some(own) => same_kind(own, kind),
+        Some(own) => own == kind,
     }
 }
 
@@ -137,10 +130,10 @@ fn kind_if(fits: bool, kind: Kind) -> Option<Kind>
     if fits { Some(kind) } else { None }
 }
 
-// The kind of an expression that meets the rules.
+/// The kind of an expression's value where the expression meets the rules in this room, else none.
 #[cycle(rules)]
 #[tactic(auto, using(crate::proofs::ExprLaws::expr_laws), unfolding(crate::specs::Rules::place_fits, crate::specs::Rules::checked_kind))]
-pub(crate) fn checked_kind(room: &FunctionRoom<'_>, expr: &Expr) -> Option<Kind>
+pub fn checked_kind(room: &FunctionRoom<'_>, expr: &Expr) -> Option<Kind>
     ensures { result ≡ checked_kind room.now expr.now }
 {
     match expr {

@@ -3,8 +3,9 @@ ghost use Rattle.std.specs.Prelude.{◌≡◌, ◌&&◌, ◌||◌};
 ghost use Rattle.c_values.specs.Operations.{is_shift};
 ghost use Rattle.expression_types.specs.Constants.{folded, varies, value_if_any, truth_folded, converted_folded, unary_folded, is_operation, binary_folded, both_folded, either_folded, choice_folded};
 
-use crate::kinds::{is_shift, same_kind};
-use c_values::{BinaryOp, Kind, UnaryOp, binary_value, convert, is_kind, is_value, unary_value};
+use c_values::{
+    BinaryOp, Kind, UnaryOp, binary_value, convert, is_kind, is_shift, is_value, unary_value,
+};
 use typed_trees::{TypedExpr, TypedExprForm};
 
 /// What an expression is as a constant (ISO/IEC 9899:2011, 6.6).
@@ -69,7 +70,7 @@ fn value_if_any(value: Option<u64>) -> Folded
 fn is_operation(op: BinaryOp, kind: Kind, right: Kind, v: u64, w: u64) -> bool
     ensures { result ≡ is_operation op kind right v w }
 {
-    is_value(v, kind) && is_value(w, right) && (is_shift(op) || same_kind(right, kind))
+    is_value(v, kind) && is_value(w, right) && (is_shift(op) || right == kind)
 }
 
 #[tactic(auto, using(crate::proofs::ConstantLaws::operation_laws))]

@@ -5,7 +5,7 @@ ghost use Rattle.expression_types.specs.Rule.{after, made_by};
 ghost use Rattle.expression_types.specs.Expressions.{integer, piece, typing, argument, arguments, call_rule, constant, joined, lent, same_length};
 
 use crate::constants::{Folded, constant_value};
-use crate::kinds::{promotion, same_kind};
+use crate::kinds::promotion;
 use crate::parts::{
     binary_of, call_of, called, choice_of, converted_to, fitted, load_of, missing_at, unary_of,
 };
@@ -256,7 +256,7 @@ fn parameter_at(parameters: &[ParameterKind], i: usize) -> Option<ParameterKind>
 fn is_array_of(variable: &Variable, kind: Kind, length: u32) -> bool
     ensures { result ≡ (same_kind variable.now.kind kind && same_length variable.now.length length) }
 {
-    same_kind(variable.kind, kind)
+    variable.kind == kind
         && match variable.length {
             None => false,
             Some(own) => own == length,

@@ -1,16 +1,8 @@
 // The kinds of operands and results.
 ghost use Rattle.std.specs.Prelude.{◌≡◌};
-ghost use Rattle.c_values.specs.Operations.{is_shift, is_comparison, unary_kind, binary_kind};
-ghost use Rattle.cfa.specs.Kinds.{same_kind};
 ghost use Rattle.expression_types.specs.Kinds.{promotion, meeting, operand_kind, left_kind, right_kind};
 
-use c_values::{BinaryOp, Kind, UnaryOp, common, is_kind, promoted};
-
-pub fn same_kind(a: Kind, b: Kind) -> bool
-    ensures { result ≡ same_kind a b }
-{
-    a.width == b.width && a.signed == b.signed
-}
+use c_values::{BinaryOp, Kind, UnaryOp, common, is_kind, is_shift, promoted};
 
 #[tactic(auto, unfolding(crate::specs::Kinds::promotion))]
 pub fn promotion(kind: Kind) -> Kind
@@ -39,35 +31,6 @@ pub fn operand_kind(op: UnaryOp, kind: Kind) -> Kind
     }
 }
 
-pub fn unary_kind(op: UnaryOp, kind: Kind) -> Kind
-    ensures { result ≡ unary_kind op kind }
-{
-    match op {
-        UnaryOp::Not => Kind::INT,
-        UnaryOp::Neg | UnaryOp::Complement => kind,
-    }
-}
-
-pub(crate) fn is_shift(op: BinaryOp) -> bool
-    ensures { result ≡ is_shift op }
-{
-    matches!(op, BinaryOp::Shl | BinaryOp::Shr)
-}
-
-fn is_comparison(op: BinaryOp) -> bool
-    ensures { result ≡ is_comparison op }
-{
-    matches!(
-        op,
-        BinaryOp::Less
-            | BinaryOp::LessEqual
-            | BinaryOp::Greater
-            | BinaryOp::GreaterEqual
-            | BinaryOp::Equal
-            | BinaryOp::NotEqual
-    )
-}
-
 pub fn left_kind(op: BinaryOp, a: Kind, b: Kind) -> Kind
     ensures { result ≡ left_kind op a b }
 {
@@ -86,10 +49,4 @@ pub fn right_kind(op: BinaryOp, a: Kind, b: Kind) -> Kind
     } else {
         meeting(a, b)
     }
-}
-
-pub fn binary_kind(op: BinaryOp, kind: Kind) -> Kind
-    ensures { result ≡ binary_kind op kind }
-{
-    if is_comparison(op) { Kind::INT } else { kind }
 }

@@ -19,7 +19,7 @@ mod values;
 
 pub use constants::Folded;
 pub use faults::Found;
-pub use kinds::{left_kind, promotion, right_kind, same_kind};
+pub use kinds::{left_kind, promotion, right_kind};
 pub use parts::{converted_to, copied, no_variable};
 pub use scopes::{Bound, Cases, Meaning, Names, ParameterKind, Scopes, Signature};
 pub use typer::{Given, Sort, Typer};

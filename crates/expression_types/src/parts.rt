@@ -2,12 +2,10 @@
 ghost use Rattle.std.specs.Prelude.{◌≡◌, IfOk};
 ghost use Rattle.expression_types.specs.Expressions.{converted_to, unary_of, binary_of, choice_of, load_of, missing_at, no_variable, called, call_of, fitted};
 
-use crate::kinds::{
-    binary_kind, left_kind, meeting, operand_kind, right_kind, same_kind, unary_kind,
-};
+use crate::kinds::{left_kind, meeting, operand_kind, right_kind};
 use crate::scopes::Signature;
 use crate::typer::{Given, Sort};
-use c_values::{BinaryOp, Kind, UnaryOp};
+use c_values::{BinaryOp, Kind, UnaryOp, binary_kind, unary_kind};
 use cfa::{Variable, VariablePlace};
 use containers::{Boxed, TryClone};
 use fq_core::{Name, Span};
@@ -18,7 +16,7 @@ use typed_trees::{Callee, TypedCall, TypedExpr, TypedExprForm, TypedPlace};
 pub fn converted_to(alloc: Global, kind: Kind, e: TypedExpr) -> Result<TypedExpr, AllocError>
     ensures { IfOk result (λ r. r ≡ converted_to kind e) }
 {
-    if same_kind(e.kind, kind) {
+    if e.kind == kind {
         return Ok(e);
     }
     let span = e.span;

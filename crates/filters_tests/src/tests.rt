@@ -7,9 +7,10 @@ use cfa::Graph;
 use filters::{TargetGraph, apply};
 use fq_core::{Fault, Place, Refusal};
 use fql_read::{CoverTree, Filter, read_query};
-use sources::{ARRAYS, KEPT_OF_ARRAYS, KEPT_OF_LOOPS, LOOPS, texts};
+use sources::{ARRAYS, KEPT_OF_ARRAYS, KEPT_OF_LOOPS, LOOPS};
 use std::alloc::Global;
 use std::test::Fail;
+use test_programs::texts_of;
 use worked::parts;
 
 type Case = (&'static str, &'static [u32], &'static [u32]);
@@ -142,7 +143,9 @@ fn filters_keep_of_sources(rt: HostRuntime) -> Result<(), Fail> {
         (LOOPS.as_slice(), KEPT_OF_LOOPS.as_slice()),
         (ARRAYS.as_slice(), KEPT_OF_ARRAYS.as_slice()),
     ] {
-        let texts = texts(alloc, files)?;
+        let Ok(texts) = texts_of(alloc, files) else {
+            return Err(Fail::from("no memory"));
+        };
         assert!(rt; c_lex::are_small(&texts));
         assert!(rt; texts.len() < 10);
         let Ok(graph) = automaton_of_texts(alloc, &texts) else {

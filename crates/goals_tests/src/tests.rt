@@ -2,10 +2,11 @@
 mod shown;
 
 use fq_core::Fault;
-use shown::{graph_of, planned, show_names, show_pattern, show_refusal, show_words};
+use shown::{planned, show_names, show_pattern, show_refusal, show_words};
 use std::alloc::Global;
 use std::fmt::Write;
 use std::test::Fail;
+use test_programs::graph_of;
 
 // Nodes 0 (entry), 1 (exit), 2, 3; e0: 0 to 3, true; e1: 0 to 2, false; e2: 3 to 1, line 3; e3: 2 to 1, line 5.
 const RETURNS: &str = "int f(int x) {
@@ -36,7 +37,7 @@ const CONDITIONS: &str = "int f(int a, int b, int c) {
 // The words of the goals, or the refusal.
 fn goals_text(alloc: Global, source: &str, query: &str) -> Result<String, Fail> {
     let mut text = String::new(alloc);
-    let graph = match graph_of(alloc, source) {
+    let graph = match graph_of(alloc, b"t.c", source) {
         Ok(graph) => graph,
         Err(_fault) => {
             text.push_str("no graph")?;
@@ -152,7 +153,7 @@ fn refusals(rt: HostRuntime) -> Result<(), Fail> {
 // The patterns of the goals, the texts of the quoted letters, and the pattern of the passing clause.
 fn patterns_text(alloc: Global, query: &str) -> Result<String, Fail> {
     let mut text = String::new(alloc);
-    let graph = match graph_of(alloc, RETURNS) {
+    let graph = match graph_of(alloc, b"t.c", RETURNS) {
         Ok(graph) => graph,
         Err(_fault) => return Ok(text),
     };
@@ -238,7 +239,7 @@ fn limits_of_paths_and_words(rt: HostRuntime) -> Result<(), Fail> {
         assert_eq!(rt; text.as_str(), expected, "{query}");
     }
     let source = branches(rt.alloc(), 0, 98)?;
-    let Ok(graph) = graph_of(rt.alloc(), source.as_str()) else {
+    let Ok(graph) = graph_of(rt.alloc(), b"t.c", source.as_str()) else {
         assert!(rt; false, "the source has no graph");
         return Ok(());
     };
@@ -266,7 +267,7 @@ fn long_source(alloc: Global) -> Result<String, Fail> {
 
 // How many goals a query has, and how many letters in all; none where it has no plan.
 fn sizes(alloc: Global, source: &str, query: &str) -> (usize, u64) {
-    let Ok(graph) = graph_of(alloc, source) else {
+    let Ok(graph) = graph_of(alloc, b"t.c", source) else {
         return (0, 0);
     };
     let Ok(plan) = planned(alloc, &graph, query) else {

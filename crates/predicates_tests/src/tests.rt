@@ -1,14 +1,12 @@
 // Queries whose predicates are resolved over the automata of sources.
-use c_front::automaton_of_texts;
-use c_lex::{SourceText, are_small};
 use cfa::{CellPlace, Expr, Graph, Predicates};
-use containers::Vector;
-use fq_core::{Fault, Memory, Name, Place, Refusal};
+use fq_core::{Fault, Place, Refusal};
 use fql_read::read_query;
 use predicates::resolve;
 use std::alloc::Global;
 use std::fmt::Write;
 use std::test::Fail;
+use test_programs::graph_of;
 
 // Scope 0 has g's v, scope 1 f's x, and scope 2, behind the declaration, x and y; y is cell 2 of f's frame, behind the
 // result and x.
@@ -26,16 +24,6 @@ const ARRAYS: &str = "int a[4];
 int b;
 int g(void) { return 0; }
 int f(int n) { return n; }";
-
-fn graph_of(alloc: Global, source: &str) -> Result<Graph, Fault> {
-    let name = Name::new(alloc, b"p.c")?;
-    let bytes = Vector::from_vec(Vec::from_slice(alloc, source.as_bytes())?);
-    let texts = [SourceText { name, bytes }];
-    if !are_small(&texts) {
-        return Err(Fault::Memory);
-    }
-    automaton_of_texts(alloc, &texts)
-}
 
 fn resolved(alloc: Global, graph: &Graph, query: &str) -> Result<Predicates, Fault> {
     let query = read_query(alloc, query.as_bytes())?;
@@ -113,7 +101,7 @@ fn show_refusal(text: &mut String, refusal: &Refusal) -> Result<(), Fail> {
 
 fn answer(alloc: Global, source: &str, query: &str) -> Result<String, Fail> {
     let mut text = String::new(alloc);
-    let graph = match graph_of(alloc, source) {
+    let graph = match graph_of(alloc, b"p.c", source) {
         Ok(graph) => graph,
         Err(_fault) => {
             text.push_str("no graph")?;
@@ -221,7 +209,7 @@ fn a_large_automaton(rt: HostRuntime) -> Result<(), Fail> {
         write!(source, "  int y{number} = x + {number};\n")?;
     }
     source.push_str("  return x;\n}\n")?;
-    let Ok(graph) = graph_of(alloc, source.as_str()) else {
+    let Ok(graph) = graph_of(alloc, b"p.c", source.as_str()) else {
         return Err(Fail::from("no graph"));
     };
     assert_eq!(rt; graph.scopes().len(), 1001);

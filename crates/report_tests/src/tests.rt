@@ -1,37 +1,17 @@
 //! Printed texts, byte for byte, of graphs and goals that are worked by hand.
-use c_front::automaton_of_texts;
-use c_lex::{SourceText, are_small};
 use cfa::{Graph, Trap};
 use containers::Vector;
-use fq_core::{Fault, Name};
+use fq_core::Fault;
 use fql_read::read_query;
 use goals::{Answer, Plan, plan_of};
 use path_runner::RunEnd;
 use report::{goals_text, measured_json, measured_text, runs_text};
 use std::alloc::{AllocError, Global};
 use std::test::Fail;
+use test_programs::{graph_of, graph_of_texts, text_of};
 
 // Nodes 0 (entry), 1 (exit), 2, 3; e0: 0 to 3, true; e1: 0 to 2, false; e2: 3 to 1, line 3; e3: 2 to 1, line 5.
 const RETURNS: &str = "int f(int x) {\n  if (x > 10) {\n    return 1;\n  }\n  return 0;\n}\n";
-
-fn source(alloc: Global, name: &[u8], text: &str) -> Result<SourceText, Fault> {
-    Ok(SourceText {
-        name: Name::new(alloc, name)?,
-        bytes: Vector::from_vec(Vec::from_slice(alloc, text.as_bytes())?),
-    })
-}
-
-fn graph_of(alloc: Global, texts: &[SourceText]) -> Result<Graph, Fault> {
-    if texts.len() < 3 && are_small(texts) {
-        automaton_of_texts(alloc, texts)
-    } else {
-        Err(Fault::Memory)
-    }
-}
-
-fn graph(alloc: Global, name: &[u8], text: &str) -> Result<Graph, Fault> {
-    graph_of(alloc, &[source(alloc, name, text)?])
-}
 
 fn plan(alloc: Global, graph: &Graph, query: &str) -> Result<Plan, Fault> {
     plan_of(alloc, &read_query(alloc, query.as_bytes())?, graph)
@@ -61,7 +41,7 @@ fn measured(
 #[test]
 fn a_measured_graph(rt: HostRuntime) -> Result<(), Fail> {
     let alloc = rt.alloc();
-    let Ok(graph) = graph(alloc, b"a.c", RETURNS) else {
+    let Ok(graph) = graph_of(alloc, b"a.c", RETURNS) else {
         return Err(Fail::from("no graph"));
     };
     let ends = [returned(0), returned(1)];
@@ -115,7 +95,7 @@ covered 0 of 4
 #[test]
 fn ends_and_answers(rt: HostRuntime) -> Result<(), Fail> {
     let alloc = rt.alloc();
-    let Ok(graph) = graph(alloc, b"b\xff.c", "void f(void) {}") else {
+    let Ok(graph) = graph_of(alloc, b"b\xff.c", "void f(void) {}") else {
         return Err(Fail::from("no graph"));
     };
     let ends = [
@@ -163,7 +143,7 @@ covered 1 of 2
 #[test]
 fn runs(rt: HostRuntime) -> Result<(), Fail> {
     let alloc = rt.alloc();
-    let Ok(graph) = graph(alloc, b"a.c", RETURNS) else {
+    let Ok(graph) = graph_of(alloc, b"a.c", RETURNS) else {
         return Err(Fail::from("no graph"));
     };
     let runs = [
@@ -197,7 +177,7 @@ fn goals_of_queries(rt: HostRuntime) -> Result<(), Fail> {
     let alloc = rt.alloc();
     let conditions =
         "int f(int a, int b, int c) {\n  if (a > 0 && b > 0 && c > 0) {\n    return 1;\n  }\n  return 0;\n}\n";
-    let Ok(graph) = graph(alloc, b"q.c", conditions) else {
+    let Ok(graph) = graph_of(alloc, b"q.c", conditions) else {
         return Err(Fail::from("no graph"));
     };
     for (query, text) in [
@@ -221,8 +201,8 @@ fn goals_of_queries(rt: HostRuntime) -> Result<(), Fail> {
 #[test]
 fn goals_in_two_sources(rt: HostRuntime) -> Result<(), Fail> {
     let alloc = rt.alloc();
-    let first = source(alloc, b"p1.c", "int g(int v) { return v; }\n");
-    let second = source(
+    let first = text_of(alloc, b"p1.c", "int g(int v) { return v; }\n");
+    let second = text_of(
         alloc,
         b"p2.c",
         "int f(int x) {\n  int y = 0;\n  if (x > 3) {\n    y = g(x);\n  }\n  return y;\n}\n",
@@ -230,7 +210,7 @@ fn goals_in_two_sources(rt: HostRuntime) -> Result<(), Fail> {
     let (Ok(first), Ok(second)) = (first, second) else {
         return Err(Fail::from("no memory"));
     };
-    let Ok(graph) = graph_of(alloc, &[first, second]) else {
+    let Ok(graph) = graph_of_texts(alloc, &[first, second]) else {
         return Err(Fail::from("no graph"));
     };
     let Ok(text) = listed(alloc, &graph, "cover EDGES(ID)") else {
@@ -267,7 +247,7 @@ fn long_source(alloc: Global, count: u32) -> Result<String, AllocError> {
 fn ten_thousand_goals(rt: HostRuntime) -> Result<(), Fail> {
     let alloc = rt.alloc();
     let source = long_source(alloc, 10_000)?;
-    let Ok(graph) = graph(alloc, b"l.c", source.as_str()) else {
+    let Ok(graph) = graph_of(alloc, b"l.c", source.as_str()) else {
         return Err(Fail::from("no graph"));
     };
     let answers = vec![in alloc; Answer::Covered { input: 1 }; 10_000]?;

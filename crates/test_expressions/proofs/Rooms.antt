@@ -10,7 +10,7 @@ use Rattle.circuit.specs.declared.lit.Lit.{Lit}
 use Rattle.circuit.specs.declared.lit.Gate.{Gate}
 use Rattle.cfa.specs.declared.state.Frame.{Frame}
 use Rattle.sym_expr.specs.Stores.{HasRoom}
-use Rattle.test_expressions.specs.declared.rules.Places.{Places}
+use Rattle.test_expressions.specs.declared.stores.Places.{Places}
 use Rattle.test_expressions.specs.Rooms.{room_of}
 
 pub has_room : (count : ℕ) (frame : Frame) (places : Places) → frame.base ≡ places.base → frame.arrays ≡ places.lent.0 ∷ [] → places.globals ≤ count → places.base + places.locals ≤ count → places.lent.0 + places.lent.1 ≤ count

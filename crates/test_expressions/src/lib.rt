@@ -5,11 +5,9 @@
 #![tactic(auto)]
 
 mod parts;
-mod rules;
 mod stores;
 mod weights;
 
 pub use parts::{Part, expression, left_nested};
-pub use rules::Places;
-pub use stores::{free_store, translated};
+pub use stores::{Places, free_store, translated};
 pub use weights::weight;

@@ -4,15 +4,28 @@ ghost use Rattle.circuit.specs.Wires.{IsWire};
 ghost use Rattle.cfa.specs.Rules.{expr_fits};
 ghost use Rattle.test_expressions.specs.Rooms.{room_of};
 
-use crate::rules::{Places, checked_kind};
 use crate::weights::weight;
 use bit_words::Word;
-use cfa::{Expr, Frame};
+use cfa::{Expr, Frame, FunctionRoom, checked_kind};
 use circuit::{Circuit, Lit, Memory};
 use containers::Vector;
 use std::alloc::Global;
 use sym_expr::{SymStore, translate};
 use test_words::free_word;
+
+/// Where the cells lie that an expression may name.
+#[derive(Clone, Copy)]
+pub struct Places {
+    /// How many cells there are.
+    pub cells: u32,
+    /// How many of them are globals, from the first cell on.
+    pub globals: u32,
+    /// The frame's first cell, and how many it has.
+    pub base: u32,
+    pub locals: u32,
+    /// The first cell and the length of the one array that the frame is lent.
+    pub lent: (u32, u32),
+}
 
 /// A store of so many cells, whose words are new inputs: the first 64 inputs are the first cell's.
 pub fn free_store(alloc: Global, circuit: &mut Circuit, cells: u32) -> Result<SymStore, Memory>
@@ -55,7 +68,9 @@ fn lie_within(places: &Places, count: usize) -> bool
 fn fits(places: &Places, expr: &Expr) -> bool
     ensures { IsTrue result → IsTrue (expr_fits (room_of places.now) expr.now) }
 {
-    checked_kind(places, expr).is_some()
+    let lengths = [places.lent.1];
+    let room = FunctionRoom::new(places.globals as usize, places.locals, &lengths);
+    checked_kind(&room, expr).is_some()
 }
 
 /// What [`translate`] answers, and none where its conditions on the expression and on the room for wires don't hold.

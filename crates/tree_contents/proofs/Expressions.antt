@@ -13,10 +13,10 @@ use Rattle.c_parse.specs.declared.operator.Infix.{Infix}
 use Rattle.c_parse.specs.declared.operator.Infix.TheVariants as infixes
 use Rattle.c_parse.specs.declared.operator.Prefix.{Prefix}
 use Rattle.c_parse.specs.declared.operator.Prefix.TheVariants as prefixes
-use Rattle.c_parse.specs.declared.sign.Mark.TheVariants as marks
+use Rattle.c_parse.specs.declared.sign.Symbol.TheVariants as symbols
 use Rattle.c_parse.specs.declared.sign.Terminal.{Terminal}
-use Rattle.c_parse.specs.Grammar.{Text, mark, name_token, number_token, place_of, Derives, DerivesChoice, DerivesArguments, a_plain, a_choice, a_number, a_name, an_element, a_bare_call, a_call, parens, a_cast, a_prefix, an_infix, the_last, one_more}
-use Rattle.c_parse.specs.Trees.{tree, prefixed, joined, prefix_mark, infix_mark}
+use Rattle.c_parse.specs.Grammar.{Text, symbol, name_token, number_token, first_span, Derives, DerivesChoice, DerivesArguments, a_plain, a_choice, a_number, a_name, an_element, a_bare_call, a_call, parens, a_cast, a_prefix, an_infix, the_last, one_more}
+use Rattle.c_parse.specs.Trees.{tree, prefixed, joined, prefix_symbol, infix_symbol}
 use Rattle.tree_contents.specs.Contents.{tree_passes}
 use Rattle.tree_contents.proofs.WrittenKinds.{words_kind}
 use Rattle.tree_contents.proofs.Tokens.{Good, good_left, good_right, good_tail, good_span, good_sign, good_place, some_behind}
@@ -82,7 +82,7 @@ module _ (number : ℕ → Kind → Bool) (place : Span → Bool) where
   all_more : (t : ExprTree) (ts : List ExprTree) → Passes t → AllPass ts → AllPass (t ∷ ts)
   all_more t ts h k = and_both (tree_passes number place t) (list_all (tree_passes number place) ts) h k
 
-  -- ---- the tokens between two marks, and behind one
+  -- ---- the tokens between two symbols, and behind one
 
   abbrev pub Fine : List Terminal → Type 0
   Fine ts = Good number place ts
@@ -107,41 +107,41 @@ module _ (number : ℕ → Kind → Bool) (place : Span → Bool) where
   operand_some (parens p q d) e = cc
   operand_some (a_cast q w h d) e = cc
   operand_some (a_prefix op d) e = cc
-  operand_some (an_infix op {xs = xs} {ys = ys} p h a b) e = some_behind xs (mark (infix_mark op) p) ys e
+  operand_some (an_infix op {xs = xs} {ys = ys} p h a b) e = some_behind xs (symbol (infix_symbol op) p) ys e
 
   pub choice_some : {t : ExprTree} {ts : List Terminal} → DerivesChoice t ts → ts ≢ []
   choice_some (a_plain d) e = operand_some d e
-  choice_some (a_choice {xs = xs} {ys = ys} {zs = zs} p q c a b) e = some_behind xs (mark marks.Question p) (ys ++ mark marks.Colon q ∷ zs) e
+  choice_some (a_choice {xs = xs} {ys = ys} {zs = zs} p q c a b) e = some_behind xs (symbol symbols.Question p) (ys ++ symbol symbols.Colon q ∷ zs) e
 
   mutual
     pub choice_passes : {t : ExprTree} {ts : List Terminal} → DerivesChoice t ts → Fine ts → Passes t
     choice_passes (a_plain d) h = operand_passes d h
     choice_passes (a_choice {xs = xs} {ys = ys} {zs = zs} p q c a b) h =
-        let rest = behind xs (mark marks.Question p) (ys ++ mark marks.Colon q ∷ zs) h in
-        let front = before xs (mark marks.Question p) (ys ++ mark marks.Colon q ∷ zs) h in
-        choice_form_passes (place_of xs) _ _ _ (good_place number place xs (operand_some c) front) (operand_passes c front)
-        (choice_passes a (before ys (mark marks.Colon q) zs rest)) (choice_passes b (behind ys (mark marks.Colon q) zs rest))
+        let rest = behind xs (symbol symbols.Question p) (ys ++ symbol symbols.Colon q ∷ zs) h in
+        let front = before xs (symbol symbols.Question p) (ys ++ symbol symbols.Colon q ∷ zs) h in
+        choice_form_passes (first_span xs) _ _ _ (good_place number place xs (operand_some c) front) (operand_passes c front)
+        (choice_passes a (before ys (symbol symbols.Colon q) zs rest)) (choice_passes b (behind ys (symbol symbols.Colon q) zs rest))
 
     operand_passes : {k : ℕ} {t : ExprTree} {ts : List Terminal} → Derives k t ts → Fine ts → Passes t
     operand_passes (a_number {n = n} {kind = kind} {p = p}) h = number_passes p n kind (good_span number place (number_token n kind p) [] h) (good_sign number place (number_token n kind p) [] h)
     operand_passes (a_name {w = w} {p = p}) h = name_passes p w (good_span number place (name_token w p) [] h)
     operand_passes (an_element {w = w} {p = p} {ts = ts} q r d) h =
-        let rest = good_tail number place (name_token w p) (mark marks.OpenIndex q ∷ (ts ++ mark marks.CloseIndex r ∷ [])) h in
-        element_passes p w _ (good_span number place (name_token w p) (mark marks.OpenIndex q ∷ (ts ++ mark marks.CloseIndex r ∷ [])) h) (choice_passes d (inner (mark marks.OpenIndex q) (mark marks.CloseIndex r) ts rest))
-    operand_passes (a_bare_call {w = w} {p = p} q r) h = call_passes p w [] (good_span number place (name_token w p) (mark marks.Open q ∷ mark marks.Close r ∷ []) h) refl
+        let rest = good_tail number place (name_token w p) (symbol symbols.OpenIndex q ∷ (ts ++ symbol symbols.CloseIndex r ∷ [])) h in
+        element_passes p w _ (good_span number place (name_token w p) (symbol symbols.OpenIndex q ∷ (ts ++ symbol symbols.CloseIndex r ∷ [])) h) (choice_passes d (inner (symbol symbols.OpenIndex q) (symbol symbols.CloseIndex r) ts rest))
+    operand_passes (a_bare_call {w = w} {p = p} q r) h = call_passes p w [] (good_span number place (name_token w p) (symbol symbols.Open q ∷ symbol symbols.Close r ∷ []) h) refl
     operand_passes (a_call {w = w} {p = p} {ts = ts} q r d) h =
-        let rest = good_tail number place (name_token w p) (mark marks.Open q ∷ (ts ++ mark marks.Close r ∷ [])) h in
-        call_passes p w _ (good_span number place (name_token w p) (mark marks.Open q ∷ (ts ++ mark marks.Close r ∷ [])) h) (arguments_pass d (inner (mark marks.Open q) (mark marks.Close r) ts rest))
-    operand_passes (parens {ts = ts} p q d) h = choice_passes d (inner (mark marks.Open p) (mark marks.Close q) ts h)
+        let rest = good_tail number place (name_token w p) (symbol symbols.Open q ∷ (ts ++ symbol symbols.Close r ∷ [])) h in
+        call_passes p w _ (good_span number place (name_token w p) (symbol symbols.Open q ∷ (ts ++ symbol symbols.Close r ∷ [])) h) (arguments_pass d (inner (symbol symbols.Open q) (symbol symbols.Close r) ts rest))
+    operand_passes (parens {ts = ts} p q d) h = choice_passes d (inner (symbol symbols.Open p) (symbol symbols.Close q) ts h)
     operand_passes (a_cast {p = p} {kind = kind} {type = type} {ts = ts} q w k d) h =
-        let rest = good_tail number place (mark marks.Open p) (type ++ mark marks.Close q ∷ ts) h in
-        cast_passes p kind _ (good_span number place (mark marks.Open p) (type ++ mark marks.Close q ∷ ts) h) (words_kind _ kind k) (operand_passes d (behind type (mark marks.Close q) ts rest))
+        let rest = good_tail number place (symbol symbols.Open p) (type ++ symbol symbols.Close q ∷ ts) h in
+        cast_passes p kind _ (good_span number place (symbol symbols.Open p) (type ++ symbol symbols.Close q ∷ ts) h) (words_kind _ kind k) (operand_passes d (behind type (symbol symbols.Close q) ts rest))
     operand_passes (a_prefix {p = p} op {ts = ts} d) h =
-        prefixed_passes p op _ (good_span number place (mark (prefix_mark op) p) ts h) (operand_passes d (good_tail number place (mark (prefix_mark op) p) ts h))
+        prefixed_passes p op _ (good_span number place (symbol (prefix_symbol op) p) ts h) (operand_passes d (good_tail number place (symbol (prefix_symbol op) p) ts h))
     operand_passes (an_infix op {xs = xs} {ys = ys} p k a b) h =
-        let front = before xs (mark (infix_mark op) p) ys h in
-        joined_passes (place_of xs) op _ _ (good_place number place xs (operand_some a) front) (operand_passes a front) (operand_passes b (behind xs (mark (infix_mark op) p) ys h))
+        let front = before xs (symbol (infix_symbol op) p) ys h in
+        joined_passes (first_span xs) op _ _ (good_place number place xs (operand_some a) front) (operand_passes a front) (operand_passes b (behind xs (symbol (infix_symbol op) p) ys h))
 
     pub arguments_pass : {args : List ExprTree} {ts : List Terminal} → DerivesArguments args ts → Fine ts → AllPass args
     arguments_pass (the_last d) h = all_more _ [] (choice_passes d h) refl
-    arguments_pass (one_more {ts = ts} {us = us} p d ds) h = all_more _ _ (choice_passes d (before ts (mark marks.Comma p) us h)) (arguments_pass ds (behind ts (mark marks.Comma p) us h))
+    arguments_pass (one_more {ts = ts} {us = us} p d ds) h = all_more _ _ (choice_passes d (before ts (symbol symbols.Comma p) us h)) (arguments_pass ds (behind ts (symbol symbols.Comma p) us h))

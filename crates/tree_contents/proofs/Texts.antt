@@ -24,10 +24,10 @@ use Rattle.c_lex.specs.Lexed.{Lexed, Outcome, accepted, refused, after, Effect, 
 use Rattle.c_lex.specs.NumbersOfKinds.{HasValue, HaveValues}
 use Rattle.c_lex.specs.Places.{span_of}
 use Rattle.c_lex.proofs.NumbersLaws.{numbers}
-use Rattle.c_parse.specs.declared.sign.Mark.{Mark}
+use Rattle.c_parse.specs.declared.sign.Symbol.{Symbol}
 use Rattle.c_parse.specs.declared.sign.Sign.TheVariants as sign
 use Rattle.c_parse.specs.declared.sign.TypeWord.{TypeWord}
-use Rattle.c_parse.specs.Signs.{terminal_of, sign_of, word_sign, mark_sign, keyword_or_other, type_or_name, mark_or_foreign}
+use Rattle.c_parse.specs.Signs.{terminal_of, sign_of, word_sign, punctuator_sign, keyword_or_other, type_or_name, punctuator_or_foreign}
 use Rattle.tree_contents.specs.Contents.{token_passes, sign_passes, ExpressionsOfTexts, UnitsOfTexts}
 use Rattle.tree_contents.proofs.Expressions.{choice_passes}
 use Rattle.tree_contents.proofs.Items.{items_pass}
@@ -43,7 +43,7 @@ module _ (number : ℕ → Kind → Bool) (place : Span → Bool) where
   named (Some w) t text = refl
   named None t text = foreign_name _ text
 
-  keyed : (o : Option Mark) (text : List ℕ) → sign_passes number place (keyword_or_other o text) ≡ true
+  keyed : (o : Option Symbol) (text : List ℕ) → sign_passes number place (keyword_or_other o text) ≡ true
   keyed (Some m) text = refl
   keyed None text = named _ true text
 
@@ -55,18 +55,18 @@ module _ (number : ℕ → Kind → Bool) (place : Span → Bool) where
   foreign_mark true = refl
   foreign_mark false = refl
 
-  marked : (o : Option Mark) (text : List ℕ) → sign_passes number place (mark_or_foreign o text) ≡ true
+  marked : (o : Option Symbol) (text : List ℕ) → sign_passes number place (punctuator_or_foreign o text) ≡ true
   marked (Some m) text = refl
   marked None text = foreign_mark _
 
-  mark_passes : (text : List ℕ) → sign_passes number place (mark_sign text) ≡ true
-  unfolding mark_sign
-  mark_passes text = marked _ text
+  symbol_passes : (text : List ℕ) → sign_passes number place (punctuator_sign text) ≡ true
+  unfolding punctuator_sign
+  symbol_passes text = marked _ text
 
 valued_sign : (k : TokenKind) (text : List ℕ) (place : Span → Bool) → HasValue k → sign_passes (λ n kind. is_value kind n) place (sign_of k text) ≡ true
 valued_sign kind.Word text place h = word_passes (λ n kind. is_value kind n) place text
 valued_sign (kind.Number n k) text place h = h
-valued_sign kind.Mark text place h = mark_passes (λ n kind. is_value kind n) place text
+valued_sign kind.Mark text place h = symbol_passes (λ n kind. is_value kind n) place text
 valued_sign kind.Foreign text place h = refl
 
 -- ---- files

@@ -6,7 +6,7 @@ use Rattle.fq_core.specs.declared.span.Span.{Span}
 use Rattle.c_values.specs.declared.kinds.Kind.{Kind}
 use Rattle.c_values.proofs.Fitting.{and_left, and_right, and_both}
 use Rattle.c_parse.specs.declared.sign.Terminal.{Terminal}
-use Rattle.c_parse.specs.Grammar.{place_of}
+use Rattle.c_parse.specs.Grammar.{first_span}
 use Rattle.tree_contents.specs.Contents.{token_passes, sign_passes}
 
 module _ (number : ℕ → Kind → Bool) (place : Span → Bool) where
@@ -41,7 +41,7 @@ module _ (number : ℕ → Kind → Bool) (place : Span → Bool) where
   good_sign t ts h = and_right (place t.span) (sign_passes number place t.sign) (and_left (token_passes number place t) (list_all (token_passes number place) ts) h)
 
   -- the place of a form with some token is the first one's
-  pub good_place : (ts : List Terminal) → ts ≢ [] → Good ts → IsTrue (place (place_of ts))
+  pub good_place : (ts : List Terminal) → ts ≢ [] → Good ts → IsTrue (place (first_span ts))
   good_place [] some h = absurd (some refl)
   good_place (t ∷ ts) some h = good_span t ts h
 

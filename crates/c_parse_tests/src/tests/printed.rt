@@ -8,7 +8,7 @@ use fq_core::Name;
 use std::fmt::Write;
 use std::test::Fail;
 
-fn mark_of(op: BinaryOp) -> &'static str {
+fn symbol_of(op: BinaryOp) -> &'static str {
     match op {
         BinaryOp::Add => "+",
         BinaryOp::Sub => "-",
@@ -65,7 +65,7 @@ fn show_head(text: &mut String, form: &ExprForm) -> Result<(), Fail> {
         ExprForm::Unary(UnaryOp::Neg, _) => text.push_str("-")?,
         ExprForm::Unary(UnaryOp::Complement, _) => text.push_str("~")?,
         ExprForm::Unary(UnaryOp::Not, _) => text.push_str("!")?,
-        ExprForm::Binary(op, _, _) => text.push_str(mark_of(*op))?,
+        ExprForm::Binary(op, _, _) => text.push_str(symbol_of(*op))?,
         ExprForm::Both(_, _) => text.push_str("&&")?,
         ExprForm::Either(_, _) => text.push_str("||")?,
         ExprForm::Choice(_, _, _) => text.push_str("?")?,
@@ -202,7 +202,7 @@ fn show_simple(text: &mut String, form: &Form) -> Result<(), Fail> {
             value,
         } => {
             if let Some(operator) = operator {
-                text.push_str(mark_of(*operator))?;
+                text.push_str(symbol_of(*operator))?;
             }
             text.push_str("=")?;
             show_place(text, place)?;

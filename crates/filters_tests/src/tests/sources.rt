@@ -1,10 +1,5 @@
 // Sources, and what filters keep of their automata.
 use super::Case;
-use c_lex::SourceText;
-use containers::Vector;
-use fq_core::Name;
-use std::alloc::Global;
-use std::test::Fail;
 
 // `sum` has the nodes 0 (entry), 1 (exit), 4 (the second return), 5 (the first return) and 6 (behind the call), and these
 // edges: e0, e1 the guards; e2 the first return; e3 the call, e4 its return edge, e5 the second return. `pick` has the
@@ -143,16 +138,3 @@ pub static KEPT_OF_ARRAYS: [Case; 5] = [
     ("cover @USE(b)", &[0, 5], &[5]),
     ("cover @CALL(first)", &[0, 5], &[5]),
 ];
-
-// The texts of these files.
-pub fn texts(alloc: Global, files: &[(&str, &str)]) -> Result<Vec<SourceText>, Fail> {
-    let mut texts = Vec::new(alloc);
-    for (name, source) in files {
-        let Ok(name) = Name::new(alloc, name.as_bytes()) else {
-            return Err(Fail::from("no memory"));
-        };
-        let bytes = Vector::from_vec(source.as_bytes().to_vec(alloc)?);
-        texts.push(SourceText { name, bytes })?;
-    }
-    Ok(texts)
-}

@@ -1,10 +1,5 @@
 // Plans of queries over sources, as text.
-use c_lex::{SourceText, are_small, tokens};
-use c_lower::make_parts;
-use c_parse::parse;
-use c_types::check;
 use cfa::Graph;
-use containers::Vector;
 use fq_core::{Fault, Name, Place, Refusal};
 use fql_read::read_query;
 use goals::{Goal, GoalLetter, Plan, plan_of};
@@ -12,33 +7,6 @@ use patterns::{Letter, Pattern};
 use std::alloc::{AllocError, Global};
 use std::fmt::Write;
 use std::test::Fail;
-use typed_trees::Typed;
-
-fn typed_of(alloc: Global, source: &str) -> Result<Typed, Fault> {
-    let name = Name::new(alloc, b"t.c")?;
-    let bytes = Vector::from_vec(Vec::from_slice(alloc, source.as_bytes()).map_err(
-        |_| Fault::Memory,
-    )?);
-    let texts = [SourceText { name, bytes }];
-    if !are_small(&texts) {
-        return Err(Fault::Memory);
-    }
-    let tokens = tokens(alloc, &texts)?;
-    check(alloc, parse(alloc, &tokens)?)
-}
-
-pub(crate) fn graph_of(alloc: Global, source: &str) -> Result<Graph, Fault> {
-    let mut files = Vector::new(alloc);
-    files.push(Name::new(alloc, b"t.c")?)?;
-    let typed = typed_of(alloc, source)?;
-    match make_parts(alloc, &typed, files) {
-        Ok(parts) => match Graph::new(alloc, parts) {
-            Ok(graph) => Ok(graph),
-            Err(_) => Err(Fault::Memory),
-        },
-        Err(_) => Err(Fault::Memory),
-    }
-}
 
 pub(crate) fn planned(alloc: Global, graph: &Graph, query: &str) -> Result<Plan, Fault> {
     let query = read_query(alloc, query.as_bytes())?;

@@ -1,14 +1,12 @@
 // Plans of queries over sources, and recorded runs by hand.
-use c_front::automaton_of_texts;
-use c_lex::{SourceText, are_small};
-use cfa::Graph;
 use containers::Vector;
-use fq_core::{Fault, Name};
+use fq_core::Fault;
 use fql_read::read_query;
 use goals::{Plan, plan_of};
 use path_runner::{PathRecord, RunEnd};
 use std::alloc::Global;
 use std::test::Fail;
+use test_programs::graph_of;
 
 // Nodes 0 (entry), 1 (exit), 2, 3; e0: 0 to 3, true; e1: 0 to 2, false; e2: 3 to 1; e3: 2 to 1.
 pub(crate) const RETURNS: &str = "int f(int x) {
@@ -18,23 +16,9 @@ pub(crate) const RETURNS: &str = "int f(int x) {
   return 0;
 }";
 
-// The control flow automaton of a source.
-pub(crate) fn graph_of(alloc: Global, source: &str) -> Result<Graph, Fault> {
-    let name = Name::new(alloc, b"p.c")?;
-    let Ok(bytes) = Vec::from_slice(alloc, source.as_bytes()) else {
-        return Err(Fault::Memory);
-    };
-    let bytes = Vector::from_vec(bytes);
-    let texts = [SourceText { name, bytes }];
-    if !are_small(&texts) {
-        return Err(Fault::Memory);
-    }
-    automaton_of_texts(alloc, &texts)
-}
-
 // The plan of a query over a source.
 fn planned(alloc: Global, source: &str, query: &str) -> Result<Plan, Fault> {
-    let graph = graph_of(alloc, source)?;
+    let graph = graph_of(alloc, b"p.c", source)?;
     let query = read_query(alloc, query.as_bytes())?;
     plan_of(alloc, &query, &graph)
 }

@@ -6,7 +6,6 @@ ghost use Rattle.cfa.specs.Predicates.{IsPredicates};
 
 use crate::tests::compared::slow_text;
 use crate::tests::hits_of;
-use crate::tests::plans::graph_of;
 use cfa::{Graph, Predicates};
 use containers::Vector;
 use fq_core::{Fault, Memory};
@@ -71,7 +70,7 @@ fn runs_on(
 }
 
 fn runs_of(alloc: Global, query: &str) -> Result<Traced, Fault> {
-    let graph = graph_of(alloc, COUNTS)?;
+    let graph = graph_of(alloc, b"p.c", COUNTS)?;
     let query = read_query(alloc, query.as_bytes())?;
     let predicates = resolve(alloc, &query, &graph)?;
     let plan = plan_of(alloc, &query, &graph)?;

@@ -1,7 +1,7 @@
 use Rattle.std.proofs.Common.{◌+◌, ◌-◌, ◌<◌, length, sym, ◌∙◌, arith}
 use Rattle.std.proofs.lemmas.Result.{err_from_is_err_and}
 use Rattle.std.proofs.lemmas.Option.{same_Some}
-use Rattle.c_parse.specs.declared.sign.Mark.TheVariants as marks
+use Rattle.c_parse.specs.declared.sign.Symbol.TheVariants as symbols
 use Rattle.c_parse.specs.Trees.{level}
 use Rattle.c_parse.specs.Reading.{tail, arguments_at, choice_by, expr_in}
 use Rattle.c_parse.proofs.Agree.{tail_most, expect_fewer, type_most, choice_unbounded, level_unbounded}
@@ -106,7 +106,7 @@ pub conditional_expression-choices-preserved : goal.conditional_expression-choic
 conditional_expression-choices-preserved t c =
     let tested = level_fewer 1 c.choices.rest.now c.in_ok-test.after.now c.in_ok-test.test c.in_ok-test.ensures in
     let second = expression_fewer 0 (tail c.in_ok-test.after.now) c.in_ok-yes.after.now c.in_ok-yes.yes (rw (← c.tail.ensures) c.in_ok-yes.ensures) in
-    let colon = expect_fewer marks.Colon c.in_ok-yes.after.now c.in_ok-rest.rest.now c.in_ok-rest.ensures in
+    let colon = expect_fewer symbols.Colon c.in_ok-yes.after.now c.in_ok-rest.rest.now c.in_ok-rest.ensures in
     let most = tail_most c.in_ok-test.after.now in
     record {
       fewer = omega (arith, c.choices.invariant.fewer, tested, second, colon, most);
@@ -117,7 +117,7 @@ pub conditional_expression-choices-smaller : goal.conditional_expression-choices
 conditional_expression-choices-smaller t c =
     let tested = level_fewer 1 c.choices.rest.now c.in_ok-test.after.now c.in_ok-test.test c.in_ok-test.ensures in
     let second = expression_fewer 0 (tail c.in_ok-test.after.now) c.in_ok-yes.after.now c.in_ok-yes.yes (rw (← c.tail.ensures) c.in_ok-yes.ensures) in
-    let colon = expect_fewer marks.Colon c.in_ok-yes.after.now c.in_ok-rest.rest.now c.in_ok-rest.ensures in
+    let colon = expect_fewer symbols.Colon c.in_ok-yes.after.now c.in_ok-rest.rest.now c.in_ok-rest.ensures in
     let most = tail_most c.in_ok-test.after.now in
     omega (arith, tested, second, colon, most)
 
@@ -138,7 +138,7 @@ conditional_expression-expression_at-requires t c =
 pub parenthesized-expression_at-requires : goal.parenthesized-expression_at-requires
 parenthesized-expression_at-requires t c =
     let most = type_most c.args.tokens.now (c.in_ok-kind.kind, c.in_ok-kind.rest.now) c.in_ok-kind.ensures in
-    let fewer = expect_fewer marks.Close c.in_ok-kind.rest.now c.in_ok-rest.rest.now c.in_ok-rest.ensures in
+    let fewer = expect_fewer symbols.Close c.in_ok-kind.rest.now c.in_ok-rest.rest.now c.in_ok-rest.ensures in
     (omega (arith, most, fewer), omega arith)
 
 pub expression_at-returns-then-level-eq0 : goal.expression_at-returns-then-level-eq0

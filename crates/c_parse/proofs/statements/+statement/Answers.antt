@@ -1,7 +1,7 @@
 use Rattle.std.proofs.Common.{◌≡◌, ◌-◌, [], ◌∷◌, ◌++◌, length, sym, ap, arith}
 use Rattle.std.proofs.lemmas.List.{length-append}
 use Rattle.std.proofs.lemmas.Result.{err_from_is_err_and}
-use Rattle.c_parse.specs.declared.sign.Mark.TheVariants as marks
+use Rattle.c_parse.specs.declared.sign.Symbol.TheVariants as symbols
 use Rattle.c_parse.specs.ReadingStatements.{body_at, groups_at, statement_in}
 use Rattle.c_parse.proofs.Loops.{with_no_front}
 use Rattle.c_parse.proofs.TakesStatements.{statement_in_takes}
@@ -56,7 +56,7 @@ groups-groups-init t c = record {
 pub groups-returns-then-starts_with : goal.groups-returns-then-starts_with
 groups-returns-then-starts_with t c =
     let i = c.groups.invariant in
-    rw c.tail.ensures (groups_closed statement_in c.groups.list _ c.groups.rest.now _ i.so_far (omega (arith, i.enough, starts_shorter marks.CloseBrace c.groups.rest.now (sym c.if-starts_with.ensures))) (sym c.if-starts_with.ensures))
+    rw c.tail.ensures (groups_closed statement_in c.groups.list _ c.groups.rest.now _ i.so_far (omega (arith, i.enough, starts_shorter symbols.CloseBrace c.groups.rest.now (sym c.if-starts_with.ensures))) (sym c.if-starts_with.ensures))
 
 pub groups-returns-in_err-labels : goal.groups-returns-in_err-labels
 groups-returns-in_err-labels t c =
@@ -76,7 +76,7 @@ groups-body-requires t c =
 pub switched-groups-requires : goal.switched-groups-requires
 switched-groups-requires t c =
     let tested = test_fewer c.args.tokens.now c.in_ok-value.rest.now c.in_ok-value.value c.in_ok-value.ensures in
-    let fewer = expect_fewer marks.OpenBrace c.in_ok-value.rest.now c.in_ok-rest.rest.now c.in_ok-rest.ensures in
+    let fewer = expect_fewer symbols.OpenBrace c.in_ok-value.rest.now c.in_ok-rest.rest.now c.in_ok-rest.ensures in
     (omega (arith, tested, fewer), tt)
 
 pub groups-groups-preserved : goal.groups-groups-preserved
@@ -97,22 +97,22 @@ groups-groups-smaller t c =
     let most = body_most statement_in statement_in_takes (length c.in_ok-labels.after.now) c.in_ok-labels.after.now (c.in_ok-body.body, c.in_ok-body.after.now) c.in_ok-body.ensures in
     omega (arith, few, most)
 
-pub by_mark-returns-in_err-form-clause-same : goal.by_mark-returns-in_err-form-clause-same
-by_mark-returns-in_err-form-clause-same t c =
+pub by_symbol-returns-in_err-form-clause-same : goal.by_symbol-returns-in_err-form-clause-same
+by_symbol-returns-in_err-form-clause-same t c =
     let p = err_from_is_err_and c.from_residual.result c.from_residual.ensures.1 in
-    rw (p.1, p.2) (part_fails _ c.args.mark c.args.span c.args.tokens.now (sym c.if-opens.ensures) c.in_err-form.ensures)
+    rw (p.1, p.2) (part_fails _ c.args.symbol c.args.span c.args.tokens.now (sym c.if-opens.ensures) c.in_err-form.ensures)
 
-pub by_mark-returns-then-opens-clause-same : goal.by_mark-returns-then-opens-clause-same
-by_mark-returns-then-opens-clause-same t c =
-    part_begun c.args.mark c.args.span c.args.tokens.now c.in_ok-form.rest.now c.in_ok-form.form (sym c.if-opens.ensures) c.in_ok-form.ensures
+pub by_symbol-returns-then-opens-clause-same : goal.by_symbol-returns-then-opens-clause-same
+by_symbol-returns-then-opens-clause-same t c =
+    part_begun c.args.symbol c.args.span c.args.tokens.now c.in_ok-form.rest.now c.in_ok-form.form (sym c.if-opens.ensures) c.in_ok-form.ensures
 
-pub by_mark-returns-then-opens-clause-shorter : goal.by_mark-returns-then-opens-clause-shorter
-by_mark-returns-then-opens-clause-shorter t c =
-    part_takes c.args.mark c.args.tokens.now c.in_ok-form.rest.now c.in_ok-form.form c.in_ok-form.ensures
+pub by_symbol-returns-then-opens-clause-shorter : goal.by_symbol-returns-then-opens-clause-shorter
+by_symbol-returns-then-opens-clause-shorter t c =
+    part_takes c.args.symbol c.args.tokens.now c.in_ok-form.rest.now c.in_ok-form.form c.in_ok-form.ensures
 
-pub by_mark-returns-clause-shorter : goal.by_mark-returns-clause-shorter
-by_mark-returns-clause-shorter t c =
-    whole_takes c.args.mark c.args.span c.args.tokens.now c.in_ok-whole.rest.now c.in_ok-whole.whole c.in_ok-whole.ensures
+pub by_symbol-returns-clause-shorter : goal.by_symbol-returns-clause-shorter
+by_symbol-returns-clause-shorter t c =
+    whole_takes c.args.symbol c.args.span c.args.tokens.now c.in_ok-whole.rest.now c.in_ok-whole.whole c.in_ok-whole.ensures
 
 pub statement-returns-in_err-progress : goal.statement-returns-in_err-progress
 statement-returns-in_err-progress t c =

@@ -26,8 +26,8 @@ decreases-switched l = 10 * length l.tokens.now + 5
 abbrev pub decreases-closed_statement : goal.decreases-closed_statement
 decreases-closed_statement l = 10 * length l.tokens.now + 6
 
-abbrev pub decreases-by_mark : goal.decreases-by_mark
-decreases-by_mark l = 10 * length l.tokens.now + 7
+abbrev pub decreases-by_symbol : goal.decreases-by_symbol
+decreases-by_symbol l = 10 * length l.tokens.now + 7
 
 abbrev pub decreases-body-statements : goal.decreases-body-statements
 decreases-body-statements l = length l.rest
