@@ -17,7 +17,7 @@ use std::alloc::{AllocError, Global};
 
 // An expression.
 #[tactic(auto, unfolding(crate::specs::ReadingStatements::choice_in))]
-pub fn expression(
+pub fn first_expression(
     alloc: Global,
     tokens: &[Terminal],
 ) -> Result<(Boxed<ExprTree>, &[Terminal]), Stop>
@@ -30,13 +30,17 @@ impl Part for ExprTree {
     ghost reads = { choice_in };
 
     fn read(alloc: Global, tokens: &[Terminal]) -> Result<(ExprTree, &[Terminal]), Stop> {
-        let (tree, rest) = expression(alloc, tokens)?;
+        let (tree, rest) = first_expression(alloc, tokens)?;
         Ok((tree.into_inner(), rest))
     }
 }
 
 // A statement in a box of its own.
-pub fn node(alloc: Global, span: Span, form: Form) -> Result<Boxed<Statement>, AllocError>
+pub fn boxed_statement(
+    alloc: Global,
+    span: Span,
+    form: Form,
+) -> Result<Boxed<Statement>, AllocError>
     ensures { IfOk result (λ x. x ≡ statement span form) }
 {
     Boxed::new(alloc, Statement { span, form })
@@ -66,7 +70,7 @@ pub fn bracketed(
     if !starts_with(tokens, Symbol::OpenIndex) {
         return Ok((None, tokens));
     }
-    let (tree, rest) = expression(alloc, tail(tokens))?;
+    let (tree, rest) = first_expression(alloc, tail(tokens))?;
     let rest = expect_symbol(rest, Symbol::CloseIndex)?;
     Ok((Some(tree.into_inner()), rest))
 }
@@ -84,7 +88,7 @@ fn first_value(alloc: Global, tokens: &[Terminal]) -> Result<(Option<Initial>, &
         let (list, rest) = separated(alloc, true, Symbol::CloseBrace, tail(rest))?;
         return Ok((Some(Initial::List(list)), rest));
     }
-    let (tree, rest) = expression(alloc, rest)?;
+    let (tree, rest) = first_expression(alloc, rest)?;
     Ok((Some(Initial::One(tree.into_inner())), rest))
 }
 
@@ -134,5 +138,8 @@ pub fn local(alloc: Global, tokens: &[Terminal]) -> Result<(Boxed<Statement>, &[
     let span = first_span(tokens);
     let (kind, rest) = take_type(alloc, after_consts(tokens))?;
     let (list, rest) = separated(alloc, false, Symbol::Semicolon, rest)?;
-    Ok((node(alloc, span, Form::Local { kind, list })?, rest))
+    Ok((
+        boxed_statement(alloc, span, Form::Local { kind, list })?,
+        rest,
+    ))
 }

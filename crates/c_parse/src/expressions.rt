@@ -18,7 +18,7 @@ use fq_core::{Name, Span};
 use std::alloc::{AllocError, Global};
 
 // A tree in a box of its own.
-fn node(alloc: Global, span: Span, form: ExprForm) -> Result<Boxed<ExprTree>, AllocError>
+fn boxed_tree(alloc: Global, span: Span, form: ExprForm) -> Result<Boxed<ExprTree>, AllocError>
     ensures { IfOk result (λ x. x ≡ tree span form) }
 {
     Boxed::new(alloc, ExprTree { span, form })
@@ -67,7 +67,7 @@ pub fn arguments(
 // What follows a name.
 #[cycle(expr)]
 #[tactic(auto, unfolding(crate::specs::Reading::after_name))]
-fn named(
+fn operand_of_name(
     alloc: Global,
     span: Span,
     name: Name,
@@ -78,18 +78,21 @@ fn named(
     if starts_with(tokens, Symbol::OpenIndex) {
         let (index, rest) = expression_at(alloc, 0, tail(tokens))?;
         let rest = expect_symbol(rest, Symbol::CloseIndex)?;
-        return Ok((node(alloc, span, ExprForm::Element(name, index))?, rest));
+        return Ok((
+            boxed_tree(alloc, span, ExprForm::Element(name, index))?,
+            rest,
+        ));
     }
     if !starts_with(tokens, Symbol::Open) {
-        return Ok((node(alloc, span, ExprForm::Name(name))?, tokens));
+        return Ok((boxed_tree(alloc, span, ExprForm::Name(name))?, tokens));
     }
     let rest = tail(tokens);
     if starts_with(rest, Symbol::Close) {
         let call = ExprForm::Call(name, Vector::new(alloc));
-        return Ok((node(alloc, span, call)?, tail(rest)));
+        return Ok((boxed_tree(alloc, span, call)?, tail(rest)));
     }
     let (list, rest) = arguments(alloc, rest)?;
-    Ok((node(alloc, span, ExprForm::Call(name, list))?, rest))
+    Ok((boxed_tree(alloc, span, ExprForm::Call(name, list))?, rest))
 }
 
 // What follows an opening parenthesis.
@@ -106,7 +109,10 @@ fn parenthesized(
         let (kind, rest) = take_type(alloc, tokens)?;
         let rest = expect_symbol(rest, Symbol::Close)?;
         let (operand, rest) = expression_at(alloc, 11, rest)?;
-        Ok((node(alloc, span, ExprForm::Cast(kind, operand))?, rest))
+        Ok((
+            boxed_tree(alloc, span, ExprForm::Cast(kind, operand))?,
+            rest,
+        ))
     } else {
         let (inner, rest) = expression_at(alloc, 0, tokens)?;
         let rest = expect_symbol(rest, Symbol::Close)?;
@@ -128,7 +134,7 @@ fn prefix(
         return Err(Stop::Syntax);
     };
     let (operand, rest) = expression_at(alloc, 11, tokens)?;
-    Ok((node(alloc, span, prefixed(op, operand))?, rest))
+    Ok((boxed_tree(alloc, span, prefixed(op, operand))?, rest))
 }
 
 // An operand.
@@ -143,11 +149,14 @@ fn operand(alloc: Global, tokens: &[Terminal]) -> Result<(Boxed<ExprTree>, &[Ter
     let span = first.span;
     match &first.sign {
         Sign::Number(value, kind) => {
-            Ok((node(alloc, span, ExprForm::Number(*value, *kind))?, rest))
+            Ok((
+                boxed_tree(alloc, span, ExprForm::Number(*value, *kind))?,
+                rest,
+            ))
         }
         Sign::Name(name) => {
             let name = name.clone()?;
-            named(alloc, span, name, rest)
+            operand_of_name(alloc, span, name, rest)
         }
         Sign::Symbol(symbol) => {
             if is_same(*symbol, Symbol::Open) {
@@ -179,7 +188,7 @@ fn operation(
             break;
         }
         let (right, after) = expression_at(alloc, binds + 1, tail(rest))?;
-        tree = node(alloc, span, joined(op, tree, right))?;
+        tree = boxed_tree(alloc, span, joined(op, tree, right))?;
         rest = after;
     }
     Ok((tree, rest))
@@ -203,7 +212,7 @@ fn closed(
 {
     let mut tree = last;
     'choices: while let Some(OpenChoice { span, test, yes }) = outer.pop() {
-        tree = node(alloc, span, ExprForm::Choice(test, yes, tree))?;
+        tree = boxed_tree(alloc, span, ExprForm::Choice(test, yes, tree))?;
     }
     Ok(tree)
 }

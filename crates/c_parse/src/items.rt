@@ -6,7 +6,7 @@ ghost use Rattle.c_parse.specs.ReadingStatements.{name_at};
 ghost use Rattle.c_parse.specs.ReadingItems.{is_shared, is_of_functions, is_before, starts_before, past_before, for_variables, by_name, parameter_at, parameters_at, end_at, function_at, past_named, constant_at, enum_at, typed_at, void_at, item_at, items_at};
 
 use crate::cursor::{expect_symbol, first_span, is_same, starts_with, tail, take_type};
-use crate::declarations::{after_consts, bracketed, expression, first_name};
+use crate::declarations::{after_consts, bracketed, first_expression, first_name};
 use crate::expr::{ExprTree, Ident};
 use crate::separated::{Part, separated};
 use crate::sign::{Sign, Symbol, Terminal};
@@ -201,7 +201,7 @@ impl Part for (Ident, Option<ExprTree>) {
         if !starts_with(rest, Symbol::Assign) {
             return Ok(((name, None), rest));
         }
-        let (value, rest) = expression(alloc, tail(rest))?;
+        let (value, rest) = first_expression(alloc, tail(rest))?;
         Ok(((name, Some(value.into_inner())), rest))
     }
 }

@@ -5,10 +5,10 @@ ghost use Rattle.c_parse.specs.OpenStatements.{Leads, opens, part_of_symbol, for
 ghost use Rattle.c_parse.specs.ReadingStatements.{labelled_at, statement_in};
 
 use crate::cursor::{expect_symbol, starts_with, tail};
-use crate::declarations::node;
+use crate::declarations::boxed_statement;
 use crate::expr::{ExprTree, Ident};
 use crate::sign::{Symbol, Terminal};
-use crate::simple::{begin, named, next, optional, test};
+use crate::simple::{begin, next, optional, statement_of_name, test};
 use crate::statement::{Form, Statement};
 use crate::stop::Stop;
 use containers::{Boxed, Vector};
@@ -122,7 +122,7 @@ pub fn labelled(
         let part = OpenStatement { span, form };
         return Ok((Progress::Part(part), tail(tokens)));
     }
-    let (simple, rest) = named(alloc, span, name, tokens)?;
+    let (simple, rest) = statement_of_name(alloc, span, name, tokens)?;
     let rest = expect_symbol(rest, Symbol::Semicolon)?;
     Ok((Progress::Whole(simple), rest))
 }
@@ -141,7 +141,7 @@ fn do_end(
     let (test, rest) = test(alloc, rest)?;
     let rest = expect_symbol(rest, Symbol::Semicolon)?;
     let test = test.into_inner();
-    Ok((node(alloc, span, Form::Do { body, test })?, rest))
+    Ok((boxed_statement(alloc, span, Form::Do { body, test })?, rest))
 }
 
 // What follows the arms of an `if`: another arm, `else`, or nothing of it.
@@ -157,7 +157,7 @@ fn behind_arms(
 {
     if !starts_with(tokens, Symbol::Else) {
         let otherwise = None;
-        let whole = node(alloc, span, Form::If { arms, otherwise })?;
+        let whole = boxed_statement(alloc, span, Form::If { arms, otherwise })?;
         return Ok((Progress::Whole(whole), tokens));
     }
     let behind = tail(tokens);
@@ -209,6 +209,6 @@ pub fn resumed(
             return behind_arms(alloc, span, arms, tokens);
         }
     };
-    let whole = node(alloc, span, form)?;
+    let whole = boxed_statement(alloc, span, form)?;
     Ok((Progress::Whole(whole), tokens))
 }

@@ -5,7 +5,9 @@ ghost use Rattle.c_parse.specs.StatementTrees.{assigned_by, step_by};
 ghost use Rattle.c_parse.specs.ReadingStatements.{symbol_at, changed_by, changed_at, named_at, stepped_at, simple_at, test_at, optional_at, begin_at, next_at, starts_label, label_at, labels_at};
 
 use crate::cursor::{expect_symbol, first_span, starts_with, tail};
-use crate::declarations::{bracketed, expression, first_name, local, node, starts_with_local};
+use crate::declarations::{
+    boxed_statement, bracketed, first_expression, first_name, local, starts_with_local,
+};
 use crate::expr::{ExprTree, Ident};
 use crate::expressions::arguments;
 use crate::sign::{Sign, Symbol, Terminal};
@@ -71,18 +73,21 @@ fn changed_by(
     ensures { Gives (λ x. (x.0, x.1.now)) result (changed_by step how span place tokens.now) }
 {
     if let Some(up) = step {
-        return Ok((node(alloc, span, Form::Step { place, up })?, tokens));
+        return Ok((
+            boxed_statement(alloc, span, Form::Step { place, up })?,
+            tokens,
+        ));
     }
     let Some(operator) = how else {
         return Err(Stop::Syntax);
     };
-    let (value, rest) = expression(alloc, tokens)?;
+    let (value, rest) = first_expression(alloc, tokens)?;
     let form = Form::Assign {
         place,
         operator,
         value: value.into_inner(),
     };
-    Ok((node(alloc, span, form)?, rest))
+    Ok((boxed_statement(alloc, span, form)?, rest))
 }
 
 #[tactic(auto, unfolding(crate::specs::ReadingStatements::changed_at))]
@@ -109,7 +114,7 @@ fn changed(
 
 // What follows a name that is no label: a call, an assignment or a step.
 #[tactic(auto, unfolding(crate::specs::ReadingStatements::named_at))]
-pub fn named(
+pub fn statement_of_name(
     alloc: Global,
     span: Span,
     name: Name,
@@ -126,11 +131,11 @@ pub fn named(
     if starts_with(rest, Symbol::Close) {
         let arguments = Vector::new(alloc);
         let form = Form::Call { name, arguments };
-        return Ok((node(alloc, span, form)?, tail(rest)));
+        return Ok((boxed_statement(alloc, span, form)?, tail(rest)));
     }
     let (arguments, rest) = arguments(alloc, rest)?;
     let form = Form::Call { name, arguments };
-    Ok((node(alloc, span, form)?, rest))
+    Ok((boxed_statement(alloc, span, form)?, rest))
 }
 
 // What follows the symbol of a step.
@@ -151,7 +156,10 @@ pub fn stepped(
     let (index, rest) = bracketed(alloc, tail(tokens))?;
     let name = Ident { name, span: at };
     let place = PlaceTree { name, index };
-    Ok((node(alloc, span, Form::Step { place, up })?, rest))
+    Ok((
+        boxed_statement(alloc, span, Form::Step { place, up })?,
+        rest,
+    ))
 }
 
 #[tactic(auto, unfolding(crate::specs::ReadingStatements::simple_at))]
@@ -165,7 +173,7 @@ fn simple(alloc: Global, tokens: &[Terminal]) -> Result<(Boxed<Statement>, &[Ter
     match &first.sign {
         Sign::Name(name) => {
             let name = name.clone()?;
-            named(alloc, span, name, rest)
+            statement_of_name(alloc, span, name, rest)
         }
         Sign::Symbol(symbol) => stepped(alloc, span, *symbol, rest),
         _ => Err(Stop::Syntax),
@@ -178,7 +186,7 @@ pub fn test(alloc: Global, tokens: &[Terminal]) -> Result<(Boxed<ExprTree>, &[Te
     ensures { Gives (λ x. (x.0, x.1.now)) result (test_at tokens.now) }
 {
     let rest = expect_symbol(tokens, Symbol::Open)?;
-    let (tree, rest) = expression(alloc, rest)?;
+    let (tree, rest) = first_expression(alloc, rest)?;
     let rest = expect_symbol(rest, Symbol::Close)?;
     Ok((tree, rest))
 }
@@ -191,7 +199,7 @@ pub fn optional(alloc: Global, tokens: &[Terminal]) -> Result<(Option<ExprTree>,
     if starts_with(tokens, Symbol::Semicolon) {
         return Ok((None, tokens));
     }
-    let (tree, rest) = expression(alloc, tokens)?;
+    let (tree, rest) = first_expression(alloc, tokens)?;
     Ok((Some(tree.into_inner()), rest))
 }
 
@@ -242,7 +250,7 @@ fn label(alloc: Global, tokens: &[Terminal]) -> Result<(CaseLabel, &[Terminal]),
 {
     let span = first_span(tokens);
     if starts_with(tokens, Symbol::Case) {
-        let (value, rest) = expression(alloc, tail(tokens))?;
+        let (value, rest) = first_expression(alloc, tail(tokens))?;
         let rest = expect_symbol(rest, Symbol::Colon)?;
         let value = Some(value.into_inner());
         return Ok((CaseLabel { span, value }, rest));

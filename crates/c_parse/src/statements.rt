@@ -5,7 +5,7 @@ ghost use Rattle.c_parse.specs.OpenStatements.{Leads, opens, progress_at};
 ghost use Rattle.c_parse.specs.ReadingStatements.{one_at, ends_body, body_at, groups_at, switch_at, return_at, assert_at, assume_at, statement_of_symbol, statement_by, statement_in};
 
 use crate::cursor::{expect_symbol, starts_with, tail};
-use crate::declarations::{local, node, starts_with_local};
+use crate::declarations::{boxed_statement, local, starts_with_local};
 use crate::open_statement::{OpenStatement, Progress, labelled, open_form, opens, resumed};
 use crate::sign::{Sign, Symbol, Terminal};
 use crate::simple::{labels, optional, starts_with_label, stepped, test};
@@ -26,7 +26,7 @@ fn returned(
 {
     let (value, rest) = optional(alloc, tokens)?;
     let rest = expect_symbol(rest, Symbol::Semicolon)?;
-    Ok((node(alloc, span, Form::Return(value))?, rest))
+    Ok((boxed_statement(alloc, span, Form::Return(value))?, rest))
 }
 
 // What follows `assert`.
@@ -40,7 +40,10 @@ fn asserted(
 {
     let (tree, rest) = test(alloc, tokens)?;
     let rest = expect_symbol(rest, Symbol::Semicolon)?;
-    Ok((node(alloc, span, Form::Assert(tree.into_inner()))?, rest))
+    Ok((
+        boxed_statement(alloc, span, Form::Assert(tree.into_inner()))?,
+        rest,
+    ))
 }
 
 // What follows `assume`.
@@ -54,7 +57,10 @@ fn assumed(
 {
     let (tree, rest) = test(alloc, tokens)?;
     let rest = expect_symbol(rest, Symbol::Semicolon)?;
-    Ok((node(alloc, span, Form::Assume(tree.into_inner()))?, rest))
+    Ok((
+        boxed_statement(alloc, span, Form::Assume(tree.into_inner()))?,
+        rest,
+    ))
 }
 
 // Whether a body ends before these tokens.
@@ -125,7 +131,10 @@ fn switched(
     let rest = expect_symbol(rest, Symbol::OpenBrace)?;
     let (groups, rest) = groups(alloc, rest)?;
     let value = value.into_inner();
-    Ok((node(alloc, span, Form::Switch { value, groups })?, rest))
+    Ok((
+        boxed_statement(alloc, span, Form::Switch { value, groups })?,
+        rest,
+    ))
 }
 
 // What follows a symbol that opens no statement.
@@ -143,17 +152,17 @@ fn closed_statement(
         Symbol::OpenBrace => {
             let (list, rest) = body(alloc, tokens)?;
             let rest = expect_symbol(rest, Symbol::CloseBrace)?;
-            Ok((node(alloc, span, Form::Block(list))?, rest))
+            Ok((boxed_statement(alloc, span, Form::Block(list))?, rest))
         }
-        Symbol::Semicolon => Ok((node(alloc, span, Form::Empty)?, tokens)),
+        Symbol::Semicolon => Ok((boxed_statement(alloc, span, Form::Empty)?, tokens)),
         Symbol::Switch => switched(alloc, span, tokens),
         Symbol::Break => {
             let rest = expect_symbol(tokens, Symbol::Semicolon)?;
-            Ok((node(alloc, span, Form::Break)?, rest))
+            Ok((boxed_statement(alloc, span, Form::Break)?, rest))
         }
         Symbol::Continue => {
             let rest = expect_symbol(tokens, Symbol::Semicolon)?;
-            Ok((node(alloc, span, Form::Continue)?, rest))
+            Ok((boxed_statement(alloc, span, Form::Continue)?, rest))
         }
         Symbol::Return => returned(alloc, span, tokens),
         Symbol::Assert => asserted(alloc, span, tokens),

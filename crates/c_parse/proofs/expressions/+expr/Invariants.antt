@@ -20,8 +20,8 @@ decreases-expression_at l = 10 * length l.tokens.now + 3
 abbrev pub decreases-arguments : goal.decreases-arguments
 decreases-arguments l = 10 * length l.tokens.now + 4
 
-abbrev pub decreases-named : goal.decreases-named
-decreases-named l = 10 * length l.tokens.now + 5
+abbrev pub decreases-operand_of_name : goal.decreases-operand_of_name
+decreases-operand_of_name l = 10 * length l.tokens.now + 5
 
 abbrev pub decreases-parenthesized : goal.decreases-parenthesized
 decreases-parenthesized l = 10 * length l.tokens.now + 5
