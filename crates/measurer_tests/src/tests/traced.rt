@@ -15,6 +15,7 @@ use path_runner::{Input, PathRecord, trace_run};
 use predicates::resolve;
 use std::alloc::Global;
 use std::test::Fail;
+use test_programs::graph_of;
 
 const COUNTS: &str = "int f(int n) {
   int i = 0;
