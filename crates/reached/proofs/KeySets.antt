@@ -1,0 +1,63 @@
+-- Sets of keys, seen as lists of words.
+use Rattle.std.proofs.Common.{◌≡◌, ℕ, zero, suc, ◌<◌, Bool, true, false, not, if◌then◌else◌, ◌||◌, List, [], ◌∷◌, ◌++◌, map, length, get_or, Vec, Global, Option, Some, None, refl, sym, ap, ◌∙◌, subst, arith, nat_eq}
+use Rattle.std.specs.Prelude.{slice_get, position, Contains, MatchOption}
+use Rattle.std.specs.Option.{is_some}
+use Rattle.std.specs.Cmp.Lexicographic.{pointwise, bytes_decides, nat_list_eq_equiv}
+use Rattle.std.specs.List.{list_any}
+use Rattle.std.proofs.lemmas.Bool.{false≢true}
+use Rattle.std.proofs.lemmas.List.{map-append}
+use Rattle.std.proofs.lemmas.List.Quantifiers.{position-Some}
+use Rattle.std.proofs.lemmas.Map.Views.{Contains-from_any, list_any-from_Contains}
+use Rattle.indexmap.specs.IndexSet.{insert_key}
+use Rattle.reached.specs.Searching.{IsAdded}
+
+abbrev pub KeyVec : Type 0
+KeyVec = Vec ℕ Global
+
+abbrev pub words : KeyVec → List ℕ
+words v = v.items
+
+abbrev pub key_eq : KeyVec → KeyVec → Bool
+key_eq v w = pointwise nat_eq v.items w.items
+
+any_words : (v : KeyVec) (ks : List KeyVec) → list_any (key_eq v) ks ≡ list_any (pointwise nat_eq v.items) (map words ks)
+any_words v [] = refl
+any_words v (k ∷ ks) = ap (λ b. key_eq v k || b) (any_words v ks)
+
+same_words : (xs ys : List ℕ) → pointwise nat_eq xs ys ≡ true → xs ≡ ys
+same_words xs ys t = (bytes_decides xs ys).0 t
+
+has : (v : KeyVec) (ks : List KeyVec) → list_any (key_eq v) ks ≡ true → Contains (map words ks) v.items
+has v ks t = Contains-from_any {eq = pointwise nat_eq} same_words v.items (map words ks) (sym (any_words v ks) ∙ t)
+
+lacks : (v : KeyVec) (ks : List KeyVec) → list_any (key_eq v) ks ≡ false → ¬ Contains (map words ks) v.items
+lacks v ks t h = false≢true (sym t ∙ any_words v ks ∙ list_any-from_Contains {eq = pointwise nat_eq} nat_list_eq_equiv v.items (map words ks) h)
+
+-- an insertion, seen through the words
+pub key_added : (ks new : List KeyVec) (v : KeyVec) (added : Bool) → added ≡ not (list_any (key_eq v) ks) → new ≡ insert_key key_eq ks v → IsAdded added (map words ks) v.items (map words new)
+key_added ks new v added is made = by (list_any (key_eq v) ks) refl
+  where
+    by : (b : Bool) → list_any (key_eq v) ks ≡ b → IsAdded added (map words ks) v.items (map words new)
+    by true e =
+        subst (λ a. IsAdded a (map words ks) v.items (map words new)) (sym (is ∙ ap not e))
+        (has v ks e, ap (map words) (made ∙ ap (λ b. if b then ks else ks ++ v ∷ []) e))
+    by false e =
+        subst (λ a. IsAdded a (map words ks) v.items (map words new)) (sym (is ∙ ap not e))
+        (lacks v ks e, ap (map words) (made ∙ ap (λ b. if b then ks else ks ++ v ∷ []) e) ∙ map-append words ks (v ∷ []))
+
+pub not_there : (v : KeyVec) (ks : List KeyVec) → false ≡ list_any (key_eq v) ks → ¬ Contains (map words ks) v.items
+not_there v ks e = lacks v ks (sym e)
+
+read_words : (ks : List KeyVec) (i : ℕ) (d : KeyVec) → i < length ks → slice_get (map words ks) i ≡ Some (get_or ks i d).items
+read_words [] i d h = absurd (omega (arith, h))
+read_words (k ∷ ks) zero d h = refl
+read_words (k ∷ ks) (suc i) d h = read_words ks i d (omega (arith, h))
+
+pub numbered : (v : KeyVec) (ks : List KeyVec) (i : ℕ) → position (key_eq v) ks ≡ Some i → slice_get (map words ks) i ≡ Some v.items
+numbered v ks i e =
+    let at = position-Some (key_eq v) ks i v e in
+    read_words ks i v at.0 ∙ ap Some (sym (same_words v.items (get_or ks i v).items at.1))
+
+pub number_tells : (v : KeyVec) (ks : List KeyVec) (all : List (List ℕ)) (r : Option ℕ) → map words ks ≡ all → r ≡ position (key_eq v) ks → is_some r ≡ list_any (key_eq v) ks → MatchOption r (¬ Contains all v.items) (λ n. slice_get all n ≡ Some v.items)
+number_tells v ks all None seen index there = subst (λ l. ¬ Contains l v.items) seen (not_there v ks there)
+number_tells v ks all (Some i) seen index there = subst (λ (l : List (List ℕ)). slice_get l i ≡ Some v.items) seen (numbered v ks i (sym index))

@@ -1,0 +1,13 @@
+pub mod Counters
+pub mod Withins
+pub mod KeyLaws
+pub mod KeySets
+pub mod WayLaws
+pub mod Next
+pub mod Lookups
+pub mod Lists
+pub mod Trails
+pub mod SearchLaws
+pub mod Visits
+pub mod StepLaws
+pub mod Listed

@@ -1,0 +1,7 @@
+use Rattle.reached.proofs.search.search_from.Goals as goal
+
+pub returns-in-Err-clause-err : goal.returns-in-Err-clause-err
+returns-in-Err-clause-err c = c.in-Err.ensures.err c.args.bounds.now
+
+pub pairs-preserved : goal.pairs-preserved
+pairs-preserved c = let kept = c.pairs.invariant in (kept.0, c.in-Ok-advance.ensures.ok kept.0 c.args.function.now kept.1)

@@ -1,0 +1,6 @@
+use Rattle.reached.proofs.StepLaws.{all_steps}
+use Rattle.reached.proofs.steps.steps_of.Goals as goal
+
+pub returns : goal.returns
+returns c =
+    all_steps c.args.graph.now c.args.bounds.now c.args.keys.now c.args.pair.now c.in_ok-ways.ways.items c.deref.result.now c.in_ok-steps.steps c.deref.ensures.value c.in_ok-ways.ensures c.in_ok-steps.ensures

@@ -1,0 +1,27 @@
+//! The pairs of node and context that walks from a function's entry reach within bounds, guards ignored, and the steps
+//! between them.
+//!
+//! It stands on `cfa`, whose specs/Contexts say what a context is and which pair follows another. `reached` lists the
+//! pairs so that each step leads to a later one, and refuses, with code 80, where there are more than 50,000. The
+//! definitions are in specs/Reaching, and what the search keeps is in specs/Searching.
+//!
+//! Frames share their callers, so a step costs one cell. But the key of a pair has the words of all its frames, and each
+//! context is compared with the bounds frame by frame: a table of callers would spare both.
+#![tactic(auto)]
+
+mod bounds;
+mod context;
+mod key;
+mod keys;
+pub mod laws;
+mod pair;
+mod search;
+mod step;
+mod steps;
+mod walks;
+mod ways;
+
+pub use bounds::Bounds;
+pub use pair::{CallFrame, NodeInContext};
+pub use step::{Reached, Step};
+pub use walks::reached;

@@ -1,0 +1,42 @@
+// The pairs that are reached, and their steps.
+ghost use Rattle.std.specs.Prelude.{◌≡◌, ◌<◌, ◌≤◌, length, slice_get, IfOk, IfErr, Some};
+ghost use Rattle.cfa.specs.declared.parts.Function.{Function as OneFunction};
+ghost use Rattle.cfa.specs.Contexts.{IsOnce};
+ghost use Rattle.reached.specs.Reaching.{AreReached, IsReachedFault};
+
+use crate::bounds::Bounds;
+use crate::search::pairs_in_order;
+use crate::step::Reached;
+use crate::steps::{keys_of, rows_of};
+use cfa::Graph;
+use containers::Vector;
+use fq_core::Fault;
+use std::alloc::Global;
+
+/// The pairs of node and context that walks from the entry of a function reach within bounds, guards ignored: the first
+/// one first, and each before those to which its steps lead.
+///
+/// # Errors
+///
+/// Code 80 says that more than 50,000 pairs are reached, and comes wherever they are, unless memory runs out first.
+/// `Memory` comes where an allocation is refused, or a number would pass 2^32 - 1.
+pub fn reached(alloc: Global, graph: &Graph, entry: u32, bounds: Bounds) -> Result<Reached, Fault>
+    requires once { IsOnce graph.now }
+    requires entry { entry < length graph.now.functions }
+    requires frames { 1 ≤ bounds.frames }
+    ensures accepted { IfOk result (λ r. (f : OneFunction) → slice_get graph.now.functions entry ≡ Some f → AreReached graph.now bounds f r.pairs r.steps) }
+    ensures few { IfOk result (λ r. length r.pairs ≤ 50000) }
+    ensures refused { IfErr result (λ fault. (f : OneFunction) → slice_get graph.now.functions entry ≡ Some f → IsReachedFault graph.now bounds f fault) }
+{
+    let function = &graph.functions()[entry as usize];
+    let pairs = match pairs_in_order(alloc, graph, &bounds, function) {
+        Err(fault) => return Err(fault),
+        Ok(pairs) => pairs,
+    };
+    let keys = keys_of(alloc, &pairs)?;
+    let rows = rows_of(alloc, graph, &bounds, &keys, &pairs)?;
+    Ok(Reached {
+        pairs: Vector::from_vec(pairs),
+        steps: Vector::from_vec(rows),
+    })
+}

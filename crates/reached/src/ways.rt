@@ -1,0 +1,101 @@
+// The ways on from a pair.
+ghost use Rattle.std.specs.Prelude.{◌≡◌, ◌<◌, ◌↔◌, length, IsTrue, IfOk};
+ghost use Rattle.cfa.specs.Graph.{IsExit};
+ghost use Rattle.cfa.specs.Table.{outgoing_of};
+ghost use Rattle.reached.specs.Searching.{return_after, running_call, AreWays, IsNextAlong};
+
+use crate::bounds::Bounds;
+use crate::context::{is_within, leaves, pair_along, running_call};
+use crate::pair::NodeInContext;
+use cfa::Graph;
+use cfa::laws::outgoing_edges;
+use fq_core::Memory;
+use std::alloc::Global;
+
+// Whether a node is the exit of a function.
+fn is_exit(graph: &Graph, node: u32) -> bool
+    ensures { IsTrue result ↔ IsExit graph.now node }
+{
+    graph.well_formed();
+    match graph.nodes().get(node as usize) {
+        None => false,
+        Some(n) => match graph.functions().get(n.function as usize) {
+            None => false,
+            Some(function) => function.exit == node,
+        },
+    }
+}
+
+// The edge that goes back to a pair's caller: it follows the edge of the call.
+fn return_way(alloc: Global, pair: &NodeInContext) -> Result<Vec<u32>, Memory>
+    ensures { IfOk result (λ ways. ways.items ≡ return_after (running_call pair.now.context.frames)) }
+{
+    let mut ways = Vec::new(alloc);
+    match running_call(pair.frames()) {
+        None => {}
+        Some(call) => {
+            if call == u32::MAX {
+                return Err(Memory);
+            }
+            ways.push(call + 1)?;
+        }
+    }
+    Ok(ways)
+}
+
+// The edges that leave a node.
+fn outgoing_ways(alloc: Global, graph: &Graph, node: u32) -> Result<Vec<u32>, Memory>
+    ensures { IfOk result (λ ways. node < length graph.now.nodes → ways.items ≡ outgoing_of graph.now node) }
+{
+    let mut ways = Vec::new(alloc);
+    if (node as usize) < graph.nodes().len() {
+        ways.extend_from_slice(graph.outgoing(node))?;
+    }
+    Ok(ways)
+}
+
+/// The edges by which a pair may go on: from the exit of a function the return to its caller alone, however many calls
+/// there are, and else those that leave its node.
+pub(crate) fn ways(alloc: Global, graph: &Graph, pair: &NodeInContext) -> Result<Vec<u32>, Memory>
+    ensures { IfOk result (λ ways. AreWays graph.now pair.now ways.items) }
+{
+    graph.well_formed();
+    outgoing_edges();
+    let node = pair.node();
+    if is_exit(graph, node) {
+        let back = return_way(alloc, pair)?;
+        return Ok(back);
+    }
+    let outgoing = outgoing_ways(alloc, graph, node)?;
+    Ok(outgoing)
+}
+
+/// The pair that follows along an edge within the bounds, if one does.
+pub(crate) fn next_along(
+    alloc: Global,
+    graph: &Graph,
+    bounds: &Bounds,
+    pair: &NodeInContext,
+    at: u32,
+) -> Result<Option<NodeInContext>, Memory>
+    ensures { IfOk result (λ next. IsNextAlong graph.now bounds.now at pair.now next) }
+{
+    let Some(edge) = graph.edges().get(at as usize) else {
+        return Ok(None);
+    };
+    if !leaves(edge, pair) {
+        return Ok(None);
+    }
+    let _turns = bounds.turns;
+    let _answers = bounds.answers;
+    match pair_along(alloc, graph, at, edge, pair)? {
+        None => Ok(None),
+        Some(next) => {
+            if is_within(&next, bounds) {
+                Ok(Some(next))
+            } else {
+                Ok(None)
+            }
+        }
+    }
+}
