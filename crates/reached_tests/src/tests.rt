@@ -86,9 +86,17 @@ fn a_recursion(rt: HostRuntime) -> Result<(), Fail> {
     Ok(())
 }
 
+// As many turns of the loop as 50,000 pairs have room for: four pairs outside of it, and three for each turn and once more.
+#[test]
+fn most_pairs(rt: HostRuntime) -> Result<(), Fail> {
+    assert_eq!(rt; count(rt.alloc(), LOOP, 16_664, 1)?, (49_999, 66_662));
+    Ok(())
+}
+
+// One turn more.
 #[test]
 fn too_many_pairs(rt: HostRuntime) -> Result<(), Fail> {
-    match reached_in(rt.alloc(), LOOP, 60_000, 1)? {
+    match reached_in(rt.alloc(), LOOP, 16_665, 1)? {
         Ok(_) => Err(Fail::from("not too many")),
         Err(code) => {
             assert_eq!(rt; code, 80);
