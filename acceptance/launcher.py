@@ -1,4 +1,4 @@
-"""What bin/fshell does around the program, on a small tree of its own where a script stands for rt."""
+"""What the scripts of bin/ do around the program, on a small tree of its own where a script stands for rt."""
 
 import os
 import shutil
@@ -6,17 +6,18 @@ import subprocess
 import tempfile
 
 HERE = os.path.dirname(os.path.abspath(__file__))
-LAUNCHER = os.path.join(HERE, "..", "bin", "fshell")
+SCRIPTS = os.path.join(HERE, "..", "bin")
+NOBODY = 65534
 
-# It "proves" by writing its crate and verb down, and "builds" a program that names its version and words.
+# It writes down what it was called for, and "builds" a program that names its version and words.
 RT = """#!/bin/sh
-echo "$(basename "$PWD") $1" >>"$TREE/calls"
+[ "$1" != version ] || exec cat "$TREE/kit"
+echo "$*: $(echo crates/*)" >>"$TREE/calls"
 [ ! -e "$TREE/broken" ] || { echo "error: a proof is missing"; exit 1; }
-[ "$1" = run ] || exit 0
-mkdir -p out
-printf '#!/bin/sh\\necho %s "$@"\\n' "$(cat src/main.rt)" >out/fshell
-chmod +x out/fshell
-exit 2
+sed 's/:.*//; s/.*/rt: & proved/' crates.txt
+mkdir -p crates/fshell/out
+printf '#!/bin/sh\\necho %s "$@"\\n' "$(cat crates/fshell/src/main.rt)" >crates/fshell/out/fshell
+chmod +x crates/fshell/out/fshell
 """
 
 
@@ -29,52 +30,81 @@ class Tree:
             "crates.txt": "# crates\nlow:\nfshell: low\nother: low\n",
             "HANDLES": "Handles allowed: none.\n",
             "crates/low/src/lib.rt": "low\n",
+            "crates/low/specs/Low.antt": "low\n",
             "crates/fshell/src/main.rt": "one\n",
             "crates/other/src/lib.rt": "other\n",
             "tools/rt": RT,
+            "kit": "a kit\n",
         }.items():
             self.write(name, text)
-        os.chmod(os.path.join(self.root, "tools/rt"), 0o755)
-        os.mkdir(os.path.join(self.root, "bin"))
-        shutil.copy(LAUNCHER, os.path.join(self.root, "bin/fshell"))
+        os.chmod(self.path("tools/rt"), 0o755)
+        shutil.copytree(SCRIPTS, self.path("bin"))
+
+    def path(self, name):
+        return os.path.join(self.root, name)
 
     def write(self, name, text):
-        path = os.path.join(self.root, name)
-        os.makedirs(os.path.dirname(path), exist_ok=True)
-        with open(path, "w") as file:
+        os.makedirs(os.path.dirname(self.path(name)), exist_ok=True)
+        with open(self.path(name), "w") as file:
             file.write(text)
+
+    def text(self, name):
+        with open(self.path(name)) as file:
+            return file.read()
+
+    def set_time(self, name, seconds):
+        """Sets the time of a file, so many seconds from its own."""
+        time = os.stat(self.path(name)).st_mtime + seconds
+        os.utime(self.path(name), (time, time))
 
     def make_newer(self, name, text):
         """Writes a source, and sets its time behind that of all that was built."""
         self.write(name, text)
-        later = os.stat(os.path.join(self.root, name)).st_mtime + 5
-        os.utime(os.path.join(self.root, name), (later, later))
+        self.set_time(name, 5)
 
     def calls(self):
         """What rt was called for since the last question."""
-        path = os.path.join(self.root, "calls")
-        if not os.path.exists(path):
+        if not os.path.exists(self.path("calls")):
             return []
-        with open(path) as file:
-            lines = file.read().split("\n")[:-1]
-        os.remove(path)
+        lines = self.text("calls").split("\n")[:-1]
+        os.remove(self.path("calls"))
         return lines
 
+    def call(self, script, *words, user=None):
+        path = self.path("tools") + os.pathsep + os.environ["PATH"]
+        return subprocess.run([script, *words], cwd=self.elsewhere, env={**os.environ, "PATH": path, "TREE": self.root},
+                              stdin=subprocess.DEVNULL, capture_output=True, text=True, user=user)
+
     def run(self, launcher=None, user=None):
-        path = os.path.join(self.root, "tools") + os.pathsep + os.environ["PATH"]
-        return subprocess.run([launcher or os.path.join(self.root, "bin/fshell"), "a", "b c"], cwd=self.elsewhere,
-                              env={**os.environ, "PATH": path, "TREE": self.root}, stdin=subprocess.DEVNULL,
-                              capture_output=True, text=True, user=user)
+        return self.call(launcher or self.path("bin/fshell"), "a", "b c", user=user)
+
+    def release(self):
+        """Builds the program, releases it, and leaves the tree as a fresh clone has it."""
+        self.run()
+        ended = self.call(self.path("bin/release"))
+        shutil.rmtree(self.path("crates/fshell/out"))
+        self.calls()
+        return ended
+
+    def for_nobody(self):
+        """A user who can read the tree and can't write it."""
+        if os.getuid() == 0:
+            for folder, _, _ in os.walk(os.path.dirname(self.root)):
+                os.chmod(folder, 0o755)
+            return NOBODY
+        os.chmod(self.path("crates/fshell"), 0o555)
+        return None
 
 
-PROVED = ["low lib", "fshell run"]
+PROVED = ["ci: crates/fshell crates/low"]
+ANEW = ["ci --anew: crates/fshell crates/low"]
 
 
 def first_run_builds(tree):
     ran = tree.run()
     yield ran.returncode == 0 and ran.stdout == "one a b c\n"
     yield tree.calls() == PROVED
-    yield "proving low (1 of 2)" in ran.stderr and "proving fshell (2 of 2)" in ran.stderr
+    yield "low is proved (1 of 2)" in ran.stderr and "fshell is proved (2 of 2)" in ran.stderr
 
 
 def second_run_builds_nothing(tree):
@@ -111,27 +141,141 @@ def old_program_is_not_run(tree):
 
 def links_are_followed(tree):
     program = os.path.join(tree.elsewhere, "program")
-    os.symlink(os.path.join(tree.root, "bin/fshell"), program)
+    os.symlink(tree.path("bin/fshell"), program)
     yield tree.run(program).stdout == "one a b c\n"
     folder = os.path.join(tree.elsewhere, "folder")
-    os.symlink(os.path.join(tree.root, "bin"), folder)
+    os.symlink(tree.path("bin"), folder)
     yield tree.run(os.path.join(folder, "fshell")).stdout == "one a b c\n"
 
 
 def unwritable_tree_is_told(tree):
-    nobody = 65534 if os.getuid() == 0 else None
-    if nobody:
-        for folder, _, _ in os.walk(os.path.dirname(tree.root)):
-            os.chmod(folder, 0o755)
-    else:
-        os.chmod(os.path.join(tree.root, "crates/low"), 0o555)
-    ran = tree.run(user=nobody)
+    ran = tree.run(user=tree.for_nobody())
     yield ran.returncode == 70 and ran.stdout == "" and tree.calls() == []
     yield ran.stderr.count("\n") == 1 and "can't be written" in ran.stderr
 
 
+def released_program_needs_no_kit(tree):
+    yield tree.release().returncode == 0
+    tree.write("broken", "")
+    for _ in range(2):
+        ran = tree.run()
+        yield (ran.returncode, ran.stdout, ran.stderr) == (0, "one a b c\n", "") and tree.calls() == []
+
+
+def released_program_runs_in_unwritable_tree(tree):
+    tree.release()
+    user = tree.for_nobody()
+    for _ in range(2):
+        ran = tree.run(user=user)
+        yield (ran.returncode, ran.stdout, ran.stderr) == (0, "one a b c\n", "") and tree.calls() == []
+    yield not os.path.exists(tree.path("crates/fshell/out"))
+
+
+def released_program_is_taken_for_newer_sources(tree):
+    """As after a pull: the sources and the release are newer than the program that stands."""
+    tree.write("crates/fshell/src/main.rt", "two\n")
+    tree.release()
+    tree.write("crates/fshell/out/fshell", "#!/bin/sh\necho older\n")
+    os.chmod(tree.path("crates/fshell/out/fshell"), 0o755)
+    tree.set_time("crates/fshell/out/fshell", -100)
+    yield tree.run().stdout == "two a b c\n" and tree.calls() == []
+
+
+def changed_sources_are_never_answered_by_the_release(tree):
+    changes = [("crates/low/src/lib.rt", "other\n"), ("crates/low/specs/Low.antt", "other\n"), ("crates/low/proofs/New.antt", "new\n"),
+               ("HANDLES", "Handles allowed: Threads.\n"), ("crates.txt", "low:\nfshell: low other\nother: low\n"),
+               ("crates/low/src/lib.rt", None)]
+    tree.release()
+    tree.write("broken", "")
+    for name, text in changes:
+        for was_taken in (False, True):
+            before = tree.text(name) if os.path.exists(tree.path(name)) else None
+            if was_taken:
+                yield tree.run().returncode == 0
+            tree.write(name, text) if text else os.remove(tree.path(name))
+            if text:
+                tree.set_time(name, -1000)
+            ran = tree.run()
+            yield ran.returncode == 70 and ran.stdout == "" and len(tree.calls()) == 1
+            tree.write(name, before) if before else os.remove(tree.path(name))
+            shutil.rmtree(tree.path("crates/fshell/out"), ignore_errors=True)
+    yield tree.run().stdout == "one a b c\n"
+
+
+def what_is_no_source_leaves_the_release(tree):
+    tree.release()
+    tree.write("crates.txt", "other: low\n# a heading\nfshell:   low\nlow: # the lowest\nnewest:\n")
+    tree.write("crates/other/src/lib.rt", "newer\n")
+    tree.write("crates/low/must-fail/wrong.edit", "newer\n")
+    yield tree.run().stdout == "one a b c\n" and tree.calls() == []
+
+
+def damaged_release_is_never_run(tree):
+    for name, text in (("release/fshell", "#!/bin/sh\necho damaged\n"), ("release/fshell", ""), ("release/fshell.sha256", ""),
+                       ("release/fshell.sha256", "0" * 64 + "  fshell\n")):
+        tree.release()
+        tree.write(name, text)
+        tree.write("broken", "")
+        ran = tree.run()
+        yield ran.returncode == 70 and ran.stdout == "" and "isn't what release/fshell.sha256 says" in ran.stderr
+        os.remove(tree.path("broken"))
+        yield tree.run().stdout == "one a b c\n" and len(tree.calls()) == 2
+
+
+def release_without_its_sum_is_not_run(tree):
+    for name in ("KIT", "SOURCES.sha256"):
+        tree.release()
+        os.remove(tree.path(f"release/{name}"))
+        yield tree.run().stdout == "one a b c\n" and tree.calls() == PROVED
+        shutil.rmtree(tree.path("crates/fshell/out"))
+
+
+def prove_compares_with_the_release(tree):
+    proved = tree.call(tree.path("bin/prove"))
+    yield proved.returncode == 1 and "no release/fshell" in proved.stdout and tree.calls() == ANEW
+    tree.release()
+    proved = tree.call(tree.path("bin/prove"))
+    yield proved.returncode == 0 and "byte for byte" in proved.stdout and tree.calls() == ANEW
+    yield tree.run().stdout == "one a b c\n" and tree.calls() == []
+    tree.write("crates/fshell/src/main.rt", "two\n")
+    proved = tree.call(tree.path("bin/prove"))
+    yield proved.returncode == 1 and "another program" in proved.stdout and tree.calls() == ANEW
+    yield tree.run().stdout == "two a b c\n" and tree.calls() == []
+    tree.write("broken", "")
+    yield tree.call(tree.path("bin/prove")).returncode == 70
+
+
+def release_is_checked(tree):
+    def check():
+        return tree.call(tree.path("bin/release"), "--check")
+    tree.run()
+    yield check().returncode == 1 and "bin/release" in check().stdout
+    yield tree.call(tree.path("bin/release")).returncode == 0
+    yield (check().returncode, check().stdout) == (0, "release/ is what was built\n")
+    for name, text in (("crates/low/src/lib.rt", "newer\n"), ("kit", "another kit\n"), ("crates/fshell/out/fshell", "another\n"),
+                       ("release/fshell", "another\n"), ("release/fshell.sha256", "another\n")):
+        before = tree.text(name)
+        tree.write(name, text)
+        yield check().returncode == 1 and "bin/release" in check().stdout
+        tree.write(name, before)
+    yield check().returncode == 0
+
+
+def old_program_is_not_released(tree):
+    yield tree.call(tree.path("bin/release")).returncode == 70
+    tree.run()
+    tree.make_newer("crates/low/src/lib.rt", "newer\n")
+    yield tree.call(tree.path("bin/release")).returncode == 70
+    yield not os.path.exists(tree.path("release"))
+    yield tree.call(tree.path("bin/release"), tree.path("crates/fshell/out/fshell")).returncode == 0
+
+
 CASES = [first_run_builds, second_run_builds_nothing, newer_source_is_built, other_crates_are_left_alone,
-         old_program_is_not_run, links_are_followed, unwritable_tree_is_told]
+         old_program_is_not_run, links_are_followed, unwritable_tree_is_told, released_program_needs_no_kit,
+         released_program_runs_in_unwritable_tree, released_program_is_taken_for_newer_sources,
+         changed_sources_are_never_answered_by_the_release, what_is_no_source_leaves_the_release,
+         damaged_release_is_never_run, release_without_its_sum_is_not_run, prove_compares_with_the_release,
+         release_is_checked, old_program_is_not_released]
 
 
 def failures():
