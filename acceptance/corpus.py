@@ -1,18 +1,21 @@
 """Some hundred small sources over the whole grammar, made by its rules, and how many items each has.
 
 Each repetition of the grammar is made with none, one, two, three and four elements, and each choice is taken, by a
-generator of fixed seed. The program count_items must count the items of every one of them: an answer of another number, a
-refusal or a want of memory fails.
+generator of fixed seed. The program must read every one of them: it refuses none for its tokens or its syntax (what they
+mean is mostly refused later, since their names are declared nowhere), and with a bracket too many on a line behind, it
+refuses that bracket. Where count_items is built, as rt ci leaves it, it must count the items of every one.
 """
 
 import os
 import random
+import re
 import subprocess
 import tempfile
 
-HERE = os.path.dirname(os.path.abspath(__file__))
-PROGRAM = os.path.join(HERE, "..", "crates", "count_items", "out", "count_items")
+import programs
+
 COUNT = 400
+LATER = re.compile(r"error (29|3\d|41|72) ")  # refused by its types, by its automaton's size, or since it has no edge
 TYPES = ["int", "char", "signed char", "short", "unsigned short int", "long", "long long", "long unsigned int long",
          "unsigned", "int8_t", "uint64_t", "size_t"]
 INFIX = [["||"], ["&&"], ["|"], ["^"], ["&"], ["==", "!="], ["<", "<=", ">", ">="], ["<<", ">>"], ["+", "-"], ["*", "/", "%"]]
@@ -165,18 +168,42 @@ def sources():
     yield "int f(void) { return 1; }\n" * 18_000 + "int x;\n" * 6_000, 24_000
 
 
+def answer(program, folder, name):
+    """What the program answers of a source: its status and its line on standard error."""
+    ended = subprocess.run([program, "goals", "cover EDGES(ID)", name], cwd=folder, capture_output=True, text=True)
+    return ended.returncode, ended.stderr.strip()
+
+
+def fault(program, folder, source):
+    """What is wrong with the answers of a source, and of the source with a bracket too many on a line behind, if anything is."""
+    for name, text in (("a.c", source), ("b.c", source + ")\n")):
+        with open(os.path.join(folder, name), "w") as file:
+            file.write(text)
+    status, line = answer(program, folder, "a.c")
+    if status and not LATER.match(line):
+        return f"status {status} {line}"
+    line = answer(program, folder, "b.c")[1]
+    due = f"error 20 Syntax b.c:{source.count(chr(10)) + 1}"
+    return None if line == due else f"with a bracket too many: {line}, not {due}"
+
+
+def counts(folder, sources):
+    """What count_items says of each source."""
+    names = [f"{number}.c" for number in range(len(sources))]
+    for name, source in zip(names, sources):
+        with open(os.path.join(folder, name), "w") as file:
+            file.write(source)
+    lines = subprocess.run([programs.COUNT_ITEMS, *names], cwd=folder, capture_output=True, text=True).stdout.split("\n")
+    return lines + [""] * len(names)
+
+
 def failures():
-    """The number of sources, and a line for each whose items aren't counted."""
-    if not os.path.exists(PROGRAM):
-        subprocess.run(["rt", "run"], cwd=os.path.join(HERE, "..", "crates", "count_items"), stdin=subprocess.DEVNULL,
-                       stdout=subprocess.DEVNULL, stderr=subprocess.DEVNULL)
-    made = list(sources())
+    """The number of sources, and a line for each that isn't read, or whose items aren't counted."""
+    made, program = list(sources()), programs.program()
     with tempfile.TemporaryDirectory() as folder:
-        names = []
-        for number, (source, _) in enumerate(made):
-            names.append(f"{number}.c")
-            with open(os.path.join(folder, names[-1]), "w") as file:
-                file.write(source)
-        lines = subprocess.run([PROGRAM, *names], cwd=folder, capture_output=True, text=True).stdout.split("\n")
-    return len(made), [f"corpus: source {number}: {line}, not {count}" for number, (line, (_, count)) in
-                       enumerate(zip(lines + [""] * len(made), made)) if line != str(count)]
+        found = [fault(program, folder, source) for source, _ in made]
+        if os.path.exists(programs.COUNT_ITEMS):
+            lines = counts(folder, [source for source, _ in made])
+            found = [fault or (None if line == str(count) else f"{line} items, not {count}")
+                     for fault, line, (_, count) in zip(found, lines, made)]
+    return len(made), [f"corpus: source {number}: {wrong}" for number, wrong in enumerate(found) if wrong]

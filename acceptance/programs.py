@@ -1,0 +1,18 @@
+"""The program that the cases run, and where it comes from."""
+
+import os
+import subprocess
+import sys
+
+HERE = os.path.dirname(os.path.abspath(__file__))
+ROOT = os.path.normpath(os.path.join(HERE, ".."))
+LAUNCHER = os.path.join(ROOT, "bin", "fshell")
+COUNT_ITEMS = os.path.join(ROOT, "crates", "count_items", "out", "count_items")
+
+
+def program():
+    """The path of the program that the launcher runs, which is made ready first; ends where there is none."""
+    found = subprocess.run([os.path.join(ROOT, "bin", "program")], stdin=subprocess.DEVNULL, stdout=subprocess.PIPE, text=True)
+    if found.returncode:
+        sys.exit(1)
+    return found.stdout.removesuffix("\n")
