@@ -16,10 +16,17 @@ def built(name):
 
 
 def program():
-    """The path of the program, which is built first where it must be; the variable FSHELL may name another one."""
+    """The path of the program's launcher, which makes it ready first; the variable FSHELL may name another program."""
     path = os.environ.get("FSHELL", os.path.join(ROOT, "bin", "fshell"))
     subprocess.run([path], stdout=subprocess.DEVNULL, stderr=subprocess.DEVNULL)
     return path
+
+
+def program_itself():
+    """The path of the program that the launcher starts, since the launcher raises the stack."""
+    if "FSHELL" in os.environ:
+        return os.environ["FSHELL"]
+    return subprocess.run([os.path.join(ROOT, "bin", "program")], check=True, stdout=subprocess.PIPE, text=True).stdout[:-1]
 
 
 def refused(words, folder=None, stack=None):
