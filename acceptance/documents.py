@@ -4,8 +4,9 @@ An example is an indented block that begins with a line `FOLDER$ fshell WORD..`,
 `$ bin/fshell WORD..`, which is run at the top of the repository. The rest of the block is what standard output gets; the
 status is 0, and standard error gets nothing.
 
-A path is a text between backquotes, or the target of a link, that begins as one from the top of the repository does, or, for
-a link, from the document's folder.
+A path is a text between backquotes that begins as one from the top of the repository does, or the target of a link. In
+docs/PROVED.md those that begin with specs/ or src/ are of the crate whose section it is. The sections there and the table
+of layers in docs/ARCHITECTURE.md must have the crates of crates.txt, in its order.
 """
 
 import glob
@@ -56,6 +57,45 @@ def paths(document, text):
         yield os.path.normpath(os.path.join(os.path.dirname(document), path))
 
 
+def sections(text):
+    """The crates that have a section of docs/PROVED.md, with its text."""
+    parts = re.split(r"^### (\w+)$", text, flags=re.MULTILINE)
+    return list(zip(parts[1::2], parts[2::2]))
+
+
+def paths_of_crates(text):
+    """The paths that the sections of docs/PROVED.md name of their crates, from the top."""
+    for crate, section in sections(text):
+        for path in re.findall(r"`((?:specs|src)/[\w./-]+)`", section):
+            yield f"crates/{crate}/{path}"
+
+
+def layers():
+    """The layers of crates.txt with their crates, but for tests; those with laws alone stand in the same layer."""
+    found = {}
+    with open(os.path.join(programs.ROOT, "crates.txt"), encoding="utf-8") as file:
+        for line in file.read().split("\n\n", 1)[1].splitlines():
+            name = line.split(":")[0]
+            if name.startswith("# "):
+                layer = found.setdefault(name[2:], [])
+            elif name and not name.endswith("_tests") and not name.startswith("test_"):
+                layer.append(name)
+    found.popitem()  # the programs of bench/ and of the tests
+    return found
+
+
+def disorders(all_texts):
+    """What doesn't have the crates as crates.txt has them."""
+    ordered = layers()
+    crates = [crate for layer in ordered.values() for crate in layer]
+    if [crate for crate, _ in sections(all_texts["docs/PROVED.md"])] != crates:
+        yield "docs/PROVED.md: the sections aren't the crates of crates.txt in their order"
+    for layer, names in ordered.items():
+        row = re.search(rf"^\| {layer} \|(.*)\|(.*)\|.*\|$", all_texts["docs/ARCHITECTURE.md"], re.MULTILINE)
+        if not row or re.findall(r"\w+", row.group(1) + row.group(2)) != names:
+            yield f"docs/ARCHITECTURE.md: the layer {layer} doesn't have its crates of crates.txt"
+
+
 def is_built(path):
     """Whether a path is in a folder that rt makes."""
     return "/out/" in path
@@ -70,8 +110,9 @@ def failures():
             got = outcome(folder, words)
             if got != (0, expected, ""):
                 wrong.append(f"{document}: {folder}: {' '.join(words)}: {got!r}"[:600])
-        for path in sorted(set(paths(document, text))):
+        named = set(paths(document, text)) | (set(paths_of_crates(text)) if document == "docs/PROVED.md" else set())
+        for path in sorted(named):
             count += 1
             if not is_built(path) and not os.path.exists(os.path.join(programs.ROOT, path)):
                 wrong.append(f"{document}: there is no {path}")
-    return count, wrong
+    return count + 1, wrong + list(disorders(dict(texts())))

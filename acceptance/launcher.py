@@ -1,5 +1,6 @@
 """What the scripts of bin/ do around the program, on a small tree of its own where a script stands for rt."""
 
+import hashlib
 import os
 import shutil
 import subprocess
@@ -222,6 +223,14 @@ def damaged_release_is_never_run(tree):
         yield tree.run().stdout == "one a b c\n" and len(tree.calls()) == 2
 
 
+def release_that_cannot_start_is_not_run(tree):
+    tree.release()
+    tree.write("release/fshell", "#!/no/such/interpreter\n")
+    tree.write("release/fshell.sha256", hashlib.sha256(tree.text("release/fshell").encode()).hexdigest() + "  fshell\n")
+    ran = tree.run()
+    yield ran.stdout == "one a b c\n" and "can't be started" in ran.stderr and tree.calls() == PROVED
+
+
 def release_without_its_sum_is_not_run(tree):
     for name in ("KIT", "SOURCES.sha256"):
         tree.release()
@@ -267,15 +276,15 @@ def old_program_is_not_released(tree):
     tree.make_newer("crates/low/src/lib.rt", "newer\n")
     yield tree.call(tree.path("bin/release")).returncode == 70
     yield not os.path.exists(tree.path("release"))
-    yield tree.call(tree.path("bin/release"), tree.path("crates/fshell/out/fshell")).returncode == 0
+    yield tree.call(tree.path("bin/release"), os.path.relpath(tree.path("crates/fshell/out/fshell"), tree.elsewhere)).returncode == 0
 
 
 CASES = [first_run_builds, second_run_builds_nothing, newer_source_is_built, other_crates_are_left_alone,
          old_program_is_not_run, links_are_followed, unwritable_tree_is_told, released_program_needs_no_kit,
          released_program_runs_in_unwritable_tree, released_program_is_taken_for_newer_sources,
          changed_sources_are_never_answered_by_the_release, what_is_no_source_leaves_the_release,
-         damaged_release_is_never_run, release_without_its_sum_is_not_run, prove_compares_with_the_release,
-         release_is_checked, old_program_is_not_released]
+         damaged_release_is_never_run, release_that_cannot_start_is_not_run, release_without_its_sum_is_not_run,
+         prove_compares_with_the_release, release_is_checked, old_program_is_not_released]
 
 
 def failures():
