@@ -279,12 +279,31 @@ def old_program_is_not_released(tree):
     yield tree.call(tree.path("bin/release"), os.path.relpath(tree.path("crates/fshell/out/fshell"), tree.elsewhere)).returncode == 0
 
 
+def gate_runs_all(tree):
+    def gate():
+        ended = tree.call(tree.path("bin/test"), "--proofs")
+        return ended.returncode, ended.stdout.split("\n")[-3:-1], tree.calls()
+    tree.write("acceptance/run", "#!/bin/sh\n[ ! -e differs ] && bin/fshell accepted\n")
+    os.chmod(tree.path("acceptance/run"), 0o755)
+    all_crates = ["ci: crates/fshell crates/low crates/other"]
+    status, lines, calls = gate()
+    yield status == 1 and lines[0] == "one accepted" and "bin/release" in lines[1] and calls == all_crates
+    tree.call(tree.path("bin/release"))
+    yield gate() == (0, ["one accepted", "release/ is what was built"], all_crates)
+    tree.write("differs", "")
+    yield gate()[0] == 1
+    os.remove(tree.path("differs"))
+    tree.write("broken", "")
+    status, lines, calls = gate()
+    yield status == 1 and "one accepted" not in lines and calls == all_crates
+
+
 CASES = [first_run_builds, second_run_builds_nothing, newer_source_is_built, other_crates_are_left_alone,
          old_program_is_not_run, links_are_followed, unwritable_tree_is_told, released_program_needs_no_kit,
          released_program_runs_in_unwritable_tree, released_program_is_taken_for_newer_sources,
          changed_sources_are_never_answered_by_the_release, what_is_no_source_leaves_the_release,
          damaged_release_is_never_run, release_that_cannot_start_is_not_run, release_without_its_sum_is_not_run,
-         prove_compares_with_the_release, release_is_checked, old_program_is_not_released]
+         prove_compares_with_the_release, release_is_checked, old_program_is_not_released, gate_runs_all]
 
 
 def failures():
