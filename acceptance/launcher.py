@@ -73,8 +73,9 @@ class Tree:
 
     def call(self, script, *words, user=None):
         path = self.path("tools") + os.pathsep + os.environ["PATH"]
-        return subprocess.run([script, *words], cwd=self.elsewhere, env={**os.environ, "PATH": path, "TREE": self.root},
-                              stdin=subprocess.DEVNULL, capture_output=True, text=True, user=user)
+        env = {**os.environ, "PATH": path, "TREE": self.root, "TMPDIR": self.elsewhere}  # (the log of a failed build is kept)
+        return subprocess.run([script, *words], cwd=self.elsewhere, env=env, stdin=subprocess.DEVNULL, capture_output=True,
+                              text=True, user=user)
 
     def run(self, launcher=None, user=None):
         return self.call(launcher or self.path("bin/fshell"), "a", "b c", user=user)
