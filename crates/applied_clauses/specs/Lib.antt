@@ -3,3 +3,4 @@ pub mod Limits
 pub mod Missing
 pub mod Outcome
 pub mod Trees
+pub mod Within

@@ -1,12 +1,14 @@
 // Clauses with their filters applied.
-ghost use Rattle.std.specs.Prelude.{◌≡◌, IfOk, None};
+ghost use Rattle.std.specs.Prelude.{◌≡◌, ℕ, IfOk, IsTrue, None, true};
 ghost use Rattle.applied_clauses.specs.Applied.{anywhere, applied, kept};
 ghost use Rattle.applied_clauses.specs.Missing.{missing_in};
 ghost use Rattle.applied_clauses.specs.Outcome.{IsClauseOutcome, too_many};
 ghost use Rattle.applied_clauses.specs.Trees.{nodes, edges, paths, predicate, dot, plus, quoted, repeat, tree_of};
+ghost use Rattle.applied_clauses.specs.Within.{tree_within};
 ghost use Rattle.filters.specs.Names.{missing_name};
 ghost use Rattle.filters.specs.Parts.{IsWithin, part_of};
 ghost use Rattle.fq_core.specs.declared.refusal.Fault.TheVariants as fault;
+ghost use Rattle.fql_read.specs.Usable.{is_within};
 ghost use Rattle.graph_paths.specs.Paths.{paths_of};
 
 use crate::applied_tree::AppliedTree;
@@ -169,7 +171,7 @@ fn anywhere(alloc: Global, graph: &Graph, base: &TargetGraph) -> Result<AppliedT
 ///
 /// Code 71 with the limit that the first `PATHS` passes, in the order of the text, that passes one: that of 10,000 paths
 /// first, and then that of 1,000,000 edges in all of them.
-#[tactic(auto, unfolding(crate::specs::Applied::applied, crate::specs::Missing::missing_in))]
+#[tactic(auto, using(crate::proofs::Leaves::nodes_there, crate::proofs::Leaves::edges_there, crate::proofs::Leaves::paths_there, crate::proofs::Leaves::anywhere_there), unfolding(crate::specs::Applied::applied, crate::specs::Missing::missing_in, fql_read::specs::Usable::is_within))]
 pub fn apply_clause(
     alloc: Global,
     graph: &Graph,
@@ -178,7 +180,8 @@ pub fn apply_clause(
 ) -> Result<AppliedTree, Fault>
     requires within { IsWithin graph.now (part_of base.now) }
     requires named { missing_in graph.now tree.now ≡ None }
-    ensures { IsClauseOutcome (applied graph.now (part_of base.now) tree.now) result }
+    ensures outcome { IsClauseOutcome (applied graph.now (part_of base.now) tree.now) result }
+    ensures within { (count : ℕ) → IsTrue (is_within count tree.now) → IfOk result (λ clause. tree_within graph.now count (tree_of clause) ≡ true) }
 {
     match tree {
         CoverTree::Nodes(filter) => Ok(nodes_of(alloc, graph, base, filter)?),

@@ -25,14 +25,10 @@ pub(crate) fn kept(
     ensures part { IfOk result (λ t. part_of t ≡ kept_by graph.now filter.now (part_of base.now)) }
     ensures within { IfOk result (λ t. IsWithin graph.now (part_of t)) }
 {
-    match apply(alloc, filter, graph, base) {
-        Ok(target) => {
-            let _nodes = target.nodes.as_slice();
-            let _edges = target.edges.as_slice();
-            Ok(target)
-        }
-        Err(_) => Err(Memory),
-    }
+    let target = apply(alloc, filter, graph, base)?;
+    let _nodes = target.nodes.as_slice();
+    let _edges = target.edges.as_slice();
+    Ok(target)
 }
 
 fn shared(alloc: Global, target: &TargetGraph) -> Result<TargetGraph, Memory>

@@ -2,7 +2,6 @@ pub mod Combining
 pub mod Kept
 pub mod Kinds
 pub mod Names
-pub mod Outcome
 pub mod Parts
 pub mod Properties
 pub mod Standing

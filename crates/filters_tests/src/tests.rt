@@ -4,8 +4,8 @@ mod worked;
 
 use c_front::automaton_of_texts;
 use cfa::Graph;
-use filters::{TargetGraph, apply};
-use fq_core::{Fault, Place, Refusal};
+use filters::{TargetGraph, apply, missing};
+use fq_core::{Fault, Memory};
 use fql_read::{CoverTree, Filter, read_query};
 use sources::{ARRAYS, KEPT_OF_ARRAYS, KEPT_OF_LOOPS, LOOPS};
 use std::alloc::Global;
@@ -64,7 +64,7 @@ static KEPT: [Case; 20] = [
 ];
 
 // A query, and the column of the filter whose name isn't there.
-static REFUSED: [(&str, u32); 6] = [
+static MISSING: [(&str, u32); 6] = [
     ("cover @FUNC(h)", 7),
     ("cover @FILE(q.c)", 7),
     ("cover @LABEL(M)", 7),
@@ -73,20 +73,31 @@ static REFUSED: [(&str, u32); 6] = [
     ("cover COMPOSE(@USE(z),@ENTRY(h))", 15),
 ];
 
-fn applied(alloc: Global, graph: &Graph, filter: &Filter) -> Result<TargetGraph, Fault> {
-    let whole = TargetGraph::whole(alloc, graph)?;
-    apply(alloc, filter, graph, &whole)
+// What a filter comes to over the whole automaton.
+#[derive(Drop)]
+enum Applied {
+    Kept(TargetGraph),
+    /// The column of a filter whose name isn't there.
+    Missing(u32),
 }
 
-fn of_cover(alloc: Global, graph: &Graph, cover: &CoverTree) -> Result<TargetGraph, Fault> {
+fn applied(alloc: Global, graph: &Graph, filter: &Filter) -> Result<Applied, Memory> {
+    if let Some(column) = missing(alloc, graph, filter)? {
+        return Ok(Applied::Missing(column));
+    }
+    let whole = TargetGraph::whole(alloc, graph)?;
+    Ok(Applied::Kept(apply(alloc, filter, graph, &whole)?))
+}
+
+fn of_cover(alloc: Global, graph: &Graph, cover: &CoverTree) -> Result<Applied, Fault> {
     match cover {
-        CoverTree::Edges(filter) => applied(alloc, graph, filter),
+        CoverTree::Edges(filter) => Ok(applied(alloc, graph, filter)?),
         _ => Err(Fault::Memory),
     }
 }
 
 // What the filter of a query keeps of the whole automaton.
-fn kept(alloc: Global, graph: &Graph, text: &str) -> Result<TargetGraph, Fault> {
+fn kept(alloc: Global, graph: &Graph, text: &str) -> Result<Applied, Fault> {
     match read_query(alloc, text.as_bytes()) {
         Ok(query) => of_cover(alloc, graph, &query.cover.body),
         Err(fault) => Err(fault),
@@ -95,21 +106,16 @@ fn kept(alloc: Global, graph: &Graph, text: &str) -> Result<TargetGraph, Fault> 
 
 fn is_kept(alloc: Global, graph: &Graph, case: &Case) -> bool {
     match kept(alloc, graph, case.0) {
-        Ok(target) => target.nodes.as_slice() == case.1 && target.edges.as_slice() == case.2,
-        Err(_) => false,
+        Ok(Applied::Kept(target)) => {
+            target.nodes.as_slice() == case.1 && target.edges.as_slice() == case.2
+        }
+        _ => false,
     }
 }
 
-fn is_refused(alloc: Global, graph: &Graph, text: &str, column: u32) -> bool {
+fn is_missing(alloc: Global, graph: &Graph, text: &str, column: u32) -> bool {
     match kept(alloc, graph, text) {
-        Err(
-            Fault::Refused(
-                Refusal {
-                    code: 70,
-                    place: Place::Query { column: own },
-                },
-            ),
-        ) => own == column,
+        Ok(Applied::Missing(own)) => own == column,
         _ => false,
     }
 }
@@ -126,9 +132,9 @@ fn filters_keep(rt: HostRuntime) -> Result<(), Fail> {
         let text = case.0;
         assert!(rt; is_kept(alloc, &graph, case), "{text}");
     }
-    for case in &REFUSED {
+    for case in &MISSING {
         let text = case.0;
-        assert!(rt; is_refused(alloc, &graph, text, case.1), "{text}");
+        assert!(rt; is_missing(alloc, &graph, text, case.1), "{text}");
     }
     let whole = TargetGraph::whole(alloc, &graph)?;
     assert!(rt; whole.has_node(7) && !whole.has_node(8) && whole.has_edge(0) && !whole.has_edge(8));

@@ -7,3 +7,6 @@ pub mod Long
 pub mod Products
 pub mod Same
 pub mod Seen
+pub mod OverWords
+pub mod OverPatterns
+pub mod OverLaws

@@ -5,3 +5,4 @@ pub mod GoalForm
 pub mod Plans
 pub mod Quotes
 pub mod Words
+pub mod Over

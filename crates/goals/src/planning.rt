@@ -1,17 +1,20 @@
 // Plans of queries.
-ghost use Rattle.std.specs.Prelude.{◌≡◌, ◌||◌, [], false, map, nat_lt, None, IfOk, option_and_then, option_map};
+ghost use Rattle.std.specs.Prelude.{◌≡◌, ◌||◌, ℕ, [], false, true, map, nat_lt, None, IfOk, IfSome, IsTrue, option_and_then, option_map};
 ghost use Rattle.std.specs.Option.{option_map_or};
 ghost use Rattle.applied_clauses.specs.Applied.{applied, base_of};
 ghost use Rattle.applied_clauses.specs.Limits.{passed_limit};
 ghost use Rattle.applied_clauses.specs.Missing.{missing_in};
 ghost use Rattle.applied_clauses.specs.Outcome.{too_many};
 ghost use Rattle.applied_clauses.specs.Trees.{tree_of};
+ghost use Rattle.applied_clauses.specs.Within.{tree_within};
 ghost use Rattle.cfa.specs.declared.parts.GraphParts.{GraphParts};
 ghost use Rattle.filters.specs.Names.{missing_name};
 ghost use Rattle.filters.specs.Parts.{IsWithin, part_of, whole};
+ghost use Rattle.fql_read.specs.Usable.{IsUsable, is_within};
 ghost use Rattle.goals.specs.Counts.{tree_letters};
 ghost use Rattle.goals.specs.CountedCauses.{counted_causes, is_long_tree};
 ghost use Rattle.goals.specs.Forms.{pattern_of, quote_patterns, word_pattern};
+ghost use Rattle.goals.specs.Over.{IsPlanOver};
 ghost use Rattle.goals.specs.Plans.{IsPassingOutcome, IsPlanOutcome, IsTreeOutcome, cover_tree, first_cause, goals_of, goals_with, no_such_name, passing_of, passing_tree, plan_with};
 ghost use Rattle.goals.specs.Quotes.{quotes_in};
 ghost use Rattle.goals.specs.Words.{quotes_of, texts};
@@ -26,10 +29,10 @@ use crate::goal_letter::GoalLetter;
 use crate::plan::{PassingPattern, Plan};
 use crate::quotes::{QuotedLetter, gathered};
 use crate::words::words;
-use applied_clauses::{AppliedTree, apply_clause, base_graph, missing_column, missing_name};
+use applied_clauses::{AppliedTree, apply_clause, base_graph, missing_in};
 use cfa::Graph;
 use containers::{TryClone, Vector};
-use filters::TargetGraph;
+use filters::{TargetGraph, missing};
 use fq_core::{Fault, Memory, Name, Place, Refusal};
 use fql_read::{Clause, Query};
 use patterns::{Letter, Pattern};
@@ -201,7 +204,8 @@ fn apply_passing(
 ) -> Result<Option<AppliedTree>, Fault>
     requires within { IsWithin graph.now (part_of all.now) }
     requires named { option_and_then (λ c. missing_in graph.now c.body) clause.now ≡ None }
-    ensures { IsPassingOutcome (option_map (λ c. applied graph.now (part_of all.now) c.body) clause.now) result }
+    ensures outcome { IsPassingOutcome (option_map (λ c. applied graph.now (part_of all.now) c.body) clause.now) result }
+    ensures within { (count : ℕ) → IfSome clause.now (λ c. IsTrue (is_within count c.body)) → IfOk result (λ passing. option_map_or (λ t. tree_within graph.now count (tree_of t)) passing true ≡ true) }
 {
     match clause {
         None => Ok(None),
@@ -216,7 +220,8 @@ fn plan_named(alloc: Global, query: &Query, graph: &Graph, all: &TargetGraph) ->
     requires base { option_and_then (missing_name graph.now) query.now.base ≡ None }
     requires cover { missing_in graph.now query.now.cover.body ≡ None }
     requires passing { option_and_then (λ c. missing_in graph.now c.body) query.now.passing ≡ None }
-    ensures { IsTreeOutcome query.now (cover_tree graph.now query.now) (passing_tree graph.now query.now) result }
+    ensures outcome { IsTreeOutcome query.now (cover_tree graph.now query.now) (passing_tree graph.now query.now) result }
+    ensures over { IsUsable query.now → IfOk result (λ plan. IsPlanOver graph.now plan) }
 {
     let base = base_graph(alloc, graph, all, &query.base)?;
     let cover = apply_clause(alloc, graph, &base, &query.cover.body)?;
@@ -224,33 +229,21 @@ fn plan_named(alloc: Global, query: &Query, graph: &Graph, all: &TargetGraph) ->
     plan_of_trees(alloc, query, &cover, &passing)
 }
 
-fn missing_in_base(
-    alloc: Global,
-    graph: &Graph,
-    all: &TargetGraph,
-    query: &Query,
-) -> Result<Option<u32>, Memory>
-    requires { IsWithin graph.now (part_of all.now) }
+fn missing_in_base(alloc: Global, graph: &Graph, query: &Query) -> Result<Option<u32>, Memory>
     ensures { IfOk result (λ column. column ≡ option_and_then (missing_name graph.now) query.now.base) }
 {
     match &query.base {
         None => Ok(None),
-        Some(filter) => missing_column(alloc, graph, all, filter),
+        Some(filter) => missing(alloc, graph, filter),
     }
 }
 
-fn missing_in_passing(
-    alloc: Global,
-    graph: &Graph,
-    all: &TargetGraph,
-    query: &Query,
-) -> Result<Option<u32>, Memory>
-    requires { IsWithin graph.now (part_of all.now) }
+fn missing_in_passing(alloc: Global, graph: &Graph, query: &Query) -> Result<Option<u32>, Memory>
     ensures { IfOk result (λ column. column ≡ option_and_then (λ c. missing_in graph.now c.body) query.now.passing) }
 {
     match &query.passing {
         None => Ok(None),
-        Some(clause) => missing_name(alloc, graph, all, &clause.body),
+        Some(clause) => missing_in(alloc, graph, &clause.body),
     }
 }
 
@@ -264,7 +257,8 @@ fn no_such_name(column: u32) -> Fault
 }
 
 /// The plan of a query over a control flow automaton: its goals in order, the pattern of its passing clause, and the texts
-/// of its quoted letters and of its predicates.
+/// of its quoted letters and of its predicates. What the plan of a query that was read names is in the automaton
+/// (`IsPlanOver`, specs/Over.antt).
 ///
 /// # Errors
 ///
@@ -275,17 +269,18 @@ fn no_such_name(column: u32) -> Fault
 /// counted. Code 73 where the pattern of a goal or of the passing clause has more than 5,000 letters, repetitions unrolled.
 /// Code 72 where there is no goal.
 pub fn plan_of(alloc: Global, query: &Query, graph: &Graph) -> Result<Plan, Fault>
-    ensures { IsPlanOutcome graph.now query.now result }
+    ensures outcome { IsPlanOutcome graph.now query.now result }
+    ensures over { IsUsable query.now → IfOk result (λ plan. IsPlanOver graph.now plan) }
 {
+    if let Some(column) = missing_in_base(alloc, graph, query)? {
+        return Err(no_such_name(column));
+    }
+    if let Some(column) = missing_in(alloc, graph, &query.cover.body)? {
+        return Err(no_such_name(column));
+    }
+    if let Some(column) = missing_in_passing(alloc, graph, query)? {
+        return Err(no_such_name(column));
+    }
     let all = TargetGraph::whole(alloc, graph)?;
-    if let Some(column) = missing_in_base(alloc, graph, &all, query)? {
-        return Err(no_such_name(column));
-    }
-    if let Some(column) = missing_name(alloc, graph, &all, &query.cover.body)? {
-        return Err(no_such_name(column));
-    }
-    if let Some(column) = missing_in_passing(alloc, graph, &all, query)? {
-        return Err(no_such_name(column));
-    }
     plan_named(alloc, query, graph, &all)
 }

@@ -4,7 +4,7 @@ mod drawing;
 use cfa::{Graph, GraphFault};
 use containers::Vector;
 use drawing::Drawing;
-use filters::{TargetGraph, apply};
+use filters::{TargetGraph, apply, missing};
 use fq_core::{Fault, Memory};
 use fql_read::{CoverTree, Filter, read_query};
 use graph_paths::{PathFault, laws, paths};
@@ -109,6 +109,9 @@ fn of_filter(
     filter: &Filter,
     k: u32,
 ) -> Result<Vector<Vector<u32>>, Fault> {
+    if missing(alloc, graph, filter)?.is_some() {
+        return Err(Fault::Memory);
+    }
     let whole = TargetGraph::whole(alloc, graph)?;
     let target = apply(alloc, filter, graph, &whole)?;
     match paths(alloc, graph, &target, k, 100, 1000) {

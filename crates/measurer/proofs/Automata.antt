@@ -10,7 +10,7 @@ use Rattle.patterns.specs.declared.letter.Letter.{Letter}
 use Rattle.patterns.specs.declared.path_view.PathView.{PathView}
 use Rattle.automata.specs.Standing.{IsOf}
 use Rattle.goals.specs.GoalForm.{GoalForm}
-use Rattle.run_match.specs.Segments.{HasSegment}
+use Rattle.patterns.specs.Segments.{HasSegment}
 use Rattle.word_index.specs.Numbers.{Adds}
 use Rattle.word_index.specs.Walks.{is_plain}
 use Rattle.word_index.proofs.Steps.{adds_none, adds_same, adds_both}

@@ -8,7 +8,7 @@ use Rattle.patterns.specs.Match.{Form}
 use Rattle.patterns.specs.declared.letter.Letter.{Letter}
 use Rattle.patterns.specs.declared.path_view.PathView.{PathView}
 use Rattle.run_match.specs.Later.{path_from}
-use Rattle.run_match.specs.Segments.{HasSegment}
+use Rattle.patterns.specs.Segments.{HasSegment}
 use Rattle.run_match.proofs.LaterMatches.{later_segment, segment_of_later}
 use Rattle.measurer.specs.Openings.{BeginsWith, IsOpening, first_place}
 

@@ -8,7 +8,7 @@ use Rattle.patterns.specs.declared.path_view.PathView.{PathView}
 use Rattle.path_runner.specs.declared.path.PathRecord.{PathRecord}
 use Rattle.goals.specs.GoalForm.{GoalForm, HasItsPattern}
 use Rattle.goals.specs.declared.plan.Plan.{Plan}
-use Rattle.run_match.specs.Segments.{HasSegment}
+use Rattle.patterns.specs.Segments.{HasSegment}
 use Rattle.word_index.specs.Numbers.{Adds}
 use Rattle.word_index.specs.Walks.{HasGoalWalk, HasWalk, word_at, word_of, is_plain}
 use Rattle.measurer.specs.Hits.{HasReturned, path_in, MeetsPassing, Hits, HitsNumber}

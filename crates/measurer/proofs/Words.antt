@@ -14,7 +14,7 @@ use Rattle.goals.specs.Forms.{Pattern, dots, letter_pattern, word_pattern}
 use Rattle.goals.specs.Words.{Word}
 use Rattle.goals.specs.declared.goal_letter.GoalLetter.{GoalLetter}
 use Rattle.goals.specs.declared.goal_letter.GoalLetter.TheVariants.{Node, Edge, Predicate, Quoted}
-use Rattle.run_match.specs.Segments.{HasSegment}
+use Rattle.patterns.specs.Segments.{HasSegment}
 use Rattle.run_match.proofs.Matches.{forward}
 use Rattle.word_index.specs.Walks.{Goes, Walks, HasWalk, is_unquoted, is_plain}
 

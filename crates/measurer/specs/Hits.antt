@@ -11,7 +11,7 @@ use Rattle.path_runner.specs.declared.path.RunEnd.TheVariants.{Returned, Trapped
 use Rattle.goals.specs.GoalForm.{GoalForm}
 use Rattle.goals.specs.declared.plan.PassingPattern.{PassingPattern}
 use Rattle.goals.specs.declared.plan.Plan.{Plan}
-use Rattle.run_match.specs.Segments.{HasSegment}
+use Rattle.patterns.specs.Segments.{HasSegment}
 
 abbrev pub HasReturned : RunEnd → Type 0
 HasReturned (Returned value) = Unit {0}

@@ -9,7 +9,7 @@ use Rattle.automata.specs.declared.nfa.Nfa.{Nfa}
 use Rattle.goals.specs.GoalForm.{GoalForm, HasItsPattern}
 use Rattle.goals.specs.declared.plan.PassingPattern.{PassingPattern}
 use Rattle.goals.specs.declared.plan.Plan.{Plan}
-use Rattle.run_match.specs.Segments.{HasSegment}
+use Rattle.patterns.specs.Segments.{HasSegment}
 use Rattle.word_index.specs.Order.{IsOrderOf}
 use Rattle.word_index.specs.Walks.{is_plain}
 use Rattle.measurer.specs.Openings.{IsOpening}

@@ -3,7 +3,7 @@ ghost use Rattle.std.specs.Prelude.{◌≡◌, ◌↔◌, Bool, List, true, IfOk
 ghost use Rattle.patterns.specs.Match.{Form};
 ghost use Rattle.automata.specs.Standing.{IsOf};
 ghost use Rattle.goals.specs.GoalForm.{GoalForm};
-ghost use Rattle.run_match.specs.Segments.{HasSegment};
+ghost use Rattle.patterns.specs.Segments.{HasSegment};
 ghost use Rattle.word_index.specs.Numbers.{Adds};
 ghost use Rattle.measurer.specs.Measured.{AreAutomata, HasOtherMatch};
 ghost use Rattle.measurer.specs.Openings.{AreFirstPlaces, IsOpening};

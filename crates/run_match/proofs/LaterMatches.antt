@@ -7,7 +7,7 @@ use Rattle.patterns.specs.Match.{Step, Form, nothing, letter, dot, either, repea
 use Rattle.patterns.specs.Paths.{step_of, edge_in, state_in}
 use Rattle.patterns.specs.declared.letter.Letter.{Letter}
 use Rattle.patterns.specs.declared.path_view.PathView.{PathView}
-use Rattle.run_match.specs.Segments.{HasSegment}
+use Rattle.patterns.specs.Segments.{HasSegment}
 use Rattle.run_match.specs.Later.{path_from}
 use Rattle.run_match.proofs.Matches.{forward, turns_forward}
 

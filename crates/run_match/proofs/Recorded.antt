@@ -7,7 +7,7 @@ use Rattle.patterns.specs.declared.letter.Letter.{Letter}
 use Rattle.patterns.specs.declared.path_view.PathView.{PathView}
 use Rattle.automata.specs.Reach.{MayBegin, MayEnd}
 use Rattle.automata.specs.Standing.{step_at, HasMatch}
-use Rattle.run_match.specs.Segments.{HasSegment}
+use Rattle.patterns.specs.Segments.{HasSegment}
 use Rattle.run_match.proofs.Matches.{forward, same_so_far}
 
 -- the steps of the first states

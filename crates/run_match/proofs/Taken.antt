@@ -10,7 +10,7 @@ use Rattle.patterns.specs.declared.path_view.PathView.{PathView}
 use Rattle.automata.specs.Standing.{Stands, HasMatch}
 use Rattle.automata.specs.declared.nfa.Nfa.{Nfa}
 use Rattle.automata.specs.declared.reach_bits.ReachBits.{ReachBits}
-use Rattle.run_match.specs.Segments.{HasSegment}
+use Rattle.patterns.specs.Segments.{HasSegment}
 use Rattle.run_match.specs.declared.recorded_step.RecordedStep.{RecordedStep}
 use Rattle.run_match.proofs.Recorded.{steps_to, segments, steps_go_on}
 

@@ -2,7 +2,7 @@
 ghost use Rattle.std.specs.Prelude.{◌≡◌, ◌↔◌, Bool, true, IfOk};
 ghost use Rattle.patterns.specs.Match.{Form};
 ghost use Rattle.automata.specs.Standing.{IsOf};
-ghost use Rattle.run_match.specs.Segments.{HasSegment};
+ghost use Rattle.patterns.specs.Segments.{HasSegment};
 
 use crate::run_path::RunPath;
 use automata::{Nfa, accepted, advance, begin, is_settled};

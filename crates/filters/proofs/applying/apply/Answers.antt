@@ -4,7 +4,7 @@ use Rattle.filters.specs.Kept.{kept_by_form}
 use Rattle.filters.specs.Parts.{part_of}
 use Rattle.filters.proofs.KeptLaws.{kept_form}
 use Rattle.filters.proofs.TargetLaws.{within_by}
-use Rattle.filters.proofs.applying.applied.Goals as goal
+use Rattle.filters.proofs.applying.apply.Goals as goal
 
 pub returns-clause-part : goal.returns-clause-part
 returns-clause-part c = c.in_ok-target.ensures ∙ c.in_ok-kept.ensures.kept
