@@ -111,3 +111,34 @@ fn writes_are_no_more_than_bytes(rt: HostRuntime) -> Result<(), Fail> {
     assert_eq!(rt; write_all(&mut sink, b"d"), Err(SinkFault::Failed));
     Ok(())
 }
+
+// Takes one byte a write, and counts the writes.
+#[derive(Drop)]
+struct CountingSink {
+    writes: u32,
+}
+
+impl Sink for CountingSink {
+    ghost use Rattle.std.specs.Prelude.{None, false};
+
+    ghost taken = { λ _. None };
+
+    ghost faults = { λ _. 0 };
+
+    ghost may_lack_memory = { false };
+
+    fn write(&mut self, bytes: &[u8]) -> Result<usize, SinkFault> {
+        self.writes = self.writes.saturating_add(1);
+        Ok(bytes.len().min(1))
+    }
+}
+
+#[test]
+fn writes_no_more_than_bytes(rt: HostRuntime) -> Result<(), Fail> {
+    let mut sink = CountingSink { writes: 0 };
+    assert_eq!(rt; write_all(&mut sink, b""), Ok(()));
+    assert_eq!(rt; sink.writes, 0);
+    assert_eq!(rt; write_all(&mut sink, b"abcde"), Ok(()));
+    assert_eq!(rt; sink.writes, 5);
+    Ok(())
+}
