@@ -11,14 +11,14 @@ use Rattle.cfa.specs.declared.parts.Node.{Node}
 use Rattle.cfa.specs.declared.parts.Operation.{Operation}
 use Rattle.cfa.specs.declared.parts.Operation.TheVariants.{Skip, Assign, Clear, Guard, Call, Return, Answer, Assert, Assume}
 use Rattle.cfa.specs.declared.state.State.{State}
-use Rattle.cfa.specs.Graph.{IsGraph, IsExit, IsNodeOf, PairFits, TargetFits, callee_of, returned_call, room_of, operands_fit, dest_fits}
+use Rattle.cfa.specs.Graph.{IsGraph, IsExit, IsNodeOf, PairFits, TargetFits, callee_of, function_called, returned_call, room_of, operands_fit, dest_fits}
 use Rattle.cfa.specs.States.{IsState, IsCallBetween, running_frame}
 use Rattle.cfa.proofs.Eaches.{element_at}
 use Rattle.cfa.proofs.Exits.{taken}
 use Rattle.c_meaning.specs.Places.{room_in, storage_of}
 use Rattle.c_meaning.specs.Steps.{function_at, popped}
 use Rattle.c_meaning.proofs.Kept.{popped_state}
-use Rattle.c_meaning.proofs.StateLaws.{Of, running, Belongs, belongs}
+use Rattle.c_meaning.proofs.StateLaws.{Of, Owned, running, Belongs, belongs}
 
 -- ---- exits
 
@@ -44,6 +44,10 @@ pub record Returns (parts : GraphParts) (s : State) (h : IsState parts s) : Type
   pub returns : returned_call edge.operation ≡ Some call
   pub two : 2 ≤ length s.frames
   pub lower : slice_get h.owners (length s.frames - 2) ≡ Some edge.function
+  -- the node's function is the one that was called
+  pub own : Function
+  pub own_is : function_at parts s.node ≡ Some own
+  pub called : function_called parts call ≡ Some own
 
 abbrev Paired : ℕ → ℕ → Edge → Type 0
 Paired function at next = (next.function ≡ function) × (returned_call next.operation ≡ Some at)
@@ -71,6 +75,10 @@ returns_of parts s g h many =
     let from = h.calls (length s.frames - 2) lower.0 upper.0 (running_frame s) lower.1 (subst (λ i. slice_get h.owners i ≡ Some upper.0) (sym step) upper.1) (subst (λ i. slice_get s.frames i ≡ Some (running_frame s)) (sym step) r.frame_is) in
     let call = taken (IsCallBetween parts lower.0 upper.0) (running_frame s).call from in
     let edge = taken (λ (e : Edge). (e.function ≡ lower.0) × (callee_of e.operation ≡ Some upper.0)) (slice_get parts.edges call.0) call.2 in
+    let n = taken (Owned parts s h.owners) (slice_get parts.nodes s.node) h.node in
+    let place : n.0 ≡ r.at.place = same_Some n.0 r.at.place (sym n.1 ∙ r.at.node_is) in
+    let callee : upper.0 ≡ r.at.place.function = same_Some upper.0 r.at.place.function (sym upper.1 ∙ n.2 ∙ ap (λ (q : Node). Some q.function) place) in
+    let own : slice_get parts.functions upper.0 ≡ Some r.at.own = ap (slice_get parts.functions) callee ∙ r.at.own_is in
     let next = taken (Paired edge.0.function call.0) (slice_get parts.edges (call.0 + 1)) (pair_of parts call.0 edge.0.function upper.0 edge.0.operation edge.2.1 (g.edges call.0 edge.0 edge.1).pair) in
     record {
       call = call.0;
@@ -80,6 +88,9 @@ returns_of parts s g h many =
       returns = next.2.1;
       two = two;
       lower = lower.1 ∙ ap Some (sym (next.2.0 ∙ edge.2.0));
+      own = r.at.own;
+      own_is = r.at.found;
+      called = rw (edge.1, edge.2.1) own;
     }
 
 return_target : (parts : GraphParts) (function target call : ℕ) (op : Operation) → returned_call op ≡ Some call → TargetFits parts function target op → IsNodeOf parts function target

@@ -3,10 +3,14 @@ pub mod Calls
 pub mod Elements
 pub mod Kept
 pub mod Leaving
+pub mod Longest
 pub mod Next
 pub mod Operands
 pub mod Outgoing
+pub mod PairLaws
 pub mod Patterns
+pub mod RunLaws
 pub mod Slices
 pub mod StateLaws
+pub mod Told
 pub mod Values

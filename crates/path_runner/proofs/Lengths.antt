@@ -6,11 +6,12 @@ use Rattle.cfa.specs.declared.state.State.{State}
 use Rattle.c_meaning.specs.declared.input.Input.{Input}
 use Rattle.c_meaning.specs.declared.stepped.Stepped.{Stepped}
 use Rattle.c_meaning.specs.declared.stepped.Stepped.TheVariants.{Moved, Returned, Trapped, Blocked, TooDeep}
+use Rattle.c_meaning.specs.Runs.{Move, last_state, states_of}
 use Rattle.c_meaning.specs.Steps.{next}
 use Rattle.path_runner.specs.declared.path.RunEnd.TheVariants as ended
 use Rattle.path_runner.specs.Laws.{PathLengths, CutPaths, GoesOn}
 use Rattle.path_runner.specs.Masks.{mask_of}
-use Rattle.path_runner.specs.Paths.{Move, moves_by, moves_of, states_of, last_state, end_at, path_of}
+use Rattle.path_runner.specs.Paths.{moves_by, moves_of, end_at, path_of}
 
 pub lengths : PathLengths
 unfolding path_of

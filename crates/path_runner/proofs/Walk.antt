@@ -12,6 +12,7 @@ use Rattle.cfa.specs.States.{IsState}
 use Rattle.c_meaning.specs.declared.input.Input.{Input}
 use Rattle.c_meaning.specs.declared.stepped.Stepped.{Stepped}
 use Rattle.c_meaning.specs.declared.stepped.Stepped.TheVariants.{Moved, Returned, Trapped, Blocked, TooDeep}
+use Rattle.c_meaning.specs.Runs.{Move}
 use Rattle.c_meaning.specs.Steps.{next, IfMoved}
 use Rattle.path_runner.specs.declared.path.Path.{Path}
 use Rattle.path_runner.specs.declared.path.PathRecord.{PathRecord}
@@ -19,7 +20,7 @@ use Rattle.path_runner.specs.declared.path.RunEnd.{RunEnd}
 use Rattle.path_runner.specs.declared.path.RunEnd.TheVariants as ended
 use Rattle.path_runner.specs.Fits.{further}
 use Rattle.path_runner.specs.Masks.{mask_of}
-use Rattle.path_runner.specs.Paths.{Move, moves_by, moves_of, answer_along, end_at, path_along, path_of}
+use Rattle.path_runner.specs.Paths.{moves_by, moves_of, answer_along, end_at, path_along, path_of}
 use Rattle.path_runner.proofs.Taken.{next_takes}
 
 -- what is recorded so far, and the rest of the path

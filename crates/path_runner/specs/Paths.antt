@@ -1,8 +1,8 @@
 -- The path of a run.
-use Rattle.std.specs.Prelude.{ℕ, zero, suc, List, [], ◌∷◌, map, filter_map, Option, Some, None}
-use Rattle.std.specs.Prelude.{slice_get}
+use Rattle.std.specs.Prelude.{◌≡◌, ℕ, zero, suc, ◌≤◌, List, [], ◌∷◌, map, filter_map, length, Option, Some, None, slice_get}
 use Rattle.c_values.specs.declared.kinds.Kind.{Kind}
 use Rattle.cfa.specs.declared.parts.Edge.{Edge}
+use Rattle.cfa.specs.declared.parts.Function.{Function}
 use Rattle.cfa.specs.declared.parts.GraphParts.{GraphParts}
 use Rattle.cfa.specs.declared.parts.InputFunction.{InputFunction}
 use Rattle.cfa.specs.declared.parts.Operation.{Operation}
@@ -12,19 +12,14 @@ use Rattle.cfa.specs.declared.state.State.{State}
 use Rattle.c_meaning.specs.declared.input.Input.{Input}
 use Rattle.c_meaning.specs.declared.stepped.Stepped.{Stepped}
 use Rattle.c_meaning.specs.declared.stepped.Stepped.TheVariants.{Moved, Returned, Trapped, Blocked, TooDeep}
+use Rattle.c_meaning.specs.Runs.{Move, Run, IsBeginning, last_state, state_at, states_in, states_of}
 use Rattle.c_meaning.specs.Steps.{answer_of, next}
 use Rattle.path_runner.specs.declared.path.PathRecord.{PathRecord}
 use Rattle.path_runner.specs.declared.path.RunEnd.{RunEnd}
 use Rattle.path_runner.specs.declared.path.RunEnd.TheVariants as ended
 use Rattle.path_runner.specs.Masks.{mask_of}
 
--- ---- the states of a run
-
--- a step that went on: the edge, and the states before and after it
-pub record Move : Type 0 where
-  pub edge : ℕ
-  pub source : State
-  pub target : State
+-- ---- the moves of a run, up to a limit
 
 -- the moves from a state on, where this comes next: as long as the run goes on, and at most so many
 abbrev pub moves_by : GraphParts → Input → ℕ → State → Stepped → List Move
@@ -35,14 +30,6 @@ moves_by parts input (suc more) s _ = []
 
 abbrev pub moves_of : GraphParts → Input → ℕ → State → List Move
 moves_of parts input limit first = moves_by parts input limit first (next parts input first)
-
--- the first state, and the one after each move
-abbrev pub states_of : State → List Move → List State
-states_of first moves = first ∷ map (λ (m : Move). m.target) moves
-
-abbrev pub last_state : State → List Move → State
-last_state first [] = first
-last_state first (move ∷ moves) = last_state move.target moves
 
 -- ---- the answers that are read
 
@@ -85,7 +72,20 @@ path_along parts input p first moves = record {
   end = end_at (next parts input (last_state first moves));
 }
 
+-- what is recorded of a run, or of its beginning
+abbrev pub record_of : GraphParts → Input → Predicates → Run → PathRecord
+record_of parts input p r = path_along parts input p r.first r.moves
+
 -- The path of a run from a state on, up to its end or a limit of edges. Its moves stop before the limit only where the run
 -- doesn't go on, so it is cut exactly where it took that many edges and would go on.
 unfoldable pub path_of : GraphParts → Input → Predicates → ℕ → State → PathRecord
 path_of parts input p limit first = path_along parts input p first (moves_of parts input limit first)
+
+-- A path records the states of an input from an entry up to a limit of edges: all of them, or the first ones where there
+-- are more.
+pub record RecordsStates (parts : GraphParts) (entry : Function) (input : Input) (p : Predicates) (limit : ℕ) (path : PathRecord) : Type 0 where
+  pub run : Run
+  pub begins : IsBeginning parts entry input run
+  pub states : (n : ℕ) → n ≤ limit → slice_get (states_in run) n ≡ state_at parts entry input n
+  pub few : length run.moves ≤ limit
+  pub recorded : path ≡ record_of parts input p run

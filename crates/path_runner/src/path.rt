@@ -2,6 +2,7 @@
 ghost use Rattle.std.specs.Prelude.{◌≡◌, [], ◌∷◌, ◌++◌, OnOk};
 ghost use Rattle.std.specs.Option.{option_to_list};
 
+use c_meaning::Ends;
 use c_values::Kind;
 use cfa::Trap;
 use containers::Vector;
@@ -20,6 +21,22 @@ pub enum RunEnd {
     TooDeep,
     /// It took as many edges as were allowed, and would go on.
     Cut,
+}
+
+impl RunEnd {
+    ghost use Rattle.path_runner.specs.Counted.{counts_end};
+
+    /// Whether a run that ends so is counted. One that was cut never is.
+    pub fn is_counted(&self, ends: Ends) -> bool
+        ensures { result ≡ counts_end ends self.now }
+    {
+        match self {
+            RunEnd::Returned { value: _value } => true,
+            RunEnd::Trapped(_trap) => ends.counts_traps(),
+            RunEnd::Blocked | RunEnd::TooDeep => ends.counts_any(),
+            RunEnd::Cut => false,
+        }
+    }
 }
 
 /// The path that a run took, from its first state to its last one.

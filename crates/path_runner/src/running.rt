@@ -5,7 +5,7 @@ ghost use Rattle.cfa.specs.Predicates.{IsPredicates};
 ghost use Rattle.cfa.specs.States.{IsState};
 ghost use Rattle.c_meaning.specs.Starts.{CanStart, start_of};
 ghost use Rattle.path_runner.specs.Fits.{further};
-ghost use Rattle.path_runner.specs.Paths.{path_of};
+ghost use Rattle.path_runner.specs.Paths.{RecordsStates, path_of};
 
 use crate::answers::answer_along;
 use crate::masks::mask_of;
@@ -80,7 +80,9 @@ pub fn trace_run(
     requires few { limit + 1 < 2 ^ 64 }
     requires predicates { IsPredicates graph.now predicates.now }
     // It is what the definition of paths says, from the state in which a run begins.
-    ensures { IfOk result (λ path. IsSomeAnd (slice_get graph.now.functions entry) (λ f. path ≡ path_of graph.now input.now predicates.now limit (start_of graph.now f input.now.words))) }
+    ensures path { IfOk result (λ path. IsSomeAnd (slice_get graph.now.functions entry) (λ f. path ≡ path_of graph.now input.now predicates.now limit (start_of graph.now f input.now.words))) }
+    // It records the states of the input from the entry, up to the limit.
+    ensures states { IfOk result (λ path. IsSomeAnd (slice_get graph.now.functions entry) (λ f. RecordsStates graph.now f input.now predicates.now limit path)) }
 {
     let first = start(alloc, graph, entry, input)?;
     run_from(alloc, graph, input, predicates, first, limit)
