@@ -1,9 +1,9 @@
 -- What comes next in a state of a graph: where the run goes on, the state's pair follows along the edge, and where it is
--- blocked, an assumption fails.
-use Rattle.std.proofs.Common.{◌≡◌, ℕ, ◌+◌, ◌-◌, Bool, true, false, List, [], ◌∷◌, ◌++◌, Option, Some, None, map, take, length, refl, sym, ap, subst, ◌∙◌}
+-- blocked, too deep or has returned, why it is.
+use Rattle.std.proofs.Common.{◌≡◌, ℕ, ◌+◌, ◌-◌, Bool, true, false, List, [], ◌∷◌, ◌++◌, Option, Some, None, map, take, length, refl, sym, ap, subst, ◌∙◌, arith}
 use Rattle.std.specs.Prelude.{Result, Ok, Err, ◌==◌, if◌then◌else◌, nat_le, reverse, slice_get, slice_set}
 use Rattle.std.specs.Option.{IsSomeAnd, option_map}
-use Rattle.std.proofs.lemmas.Bool.{eqb-false, eqb-true}
+use Rattle.std.proofs.lemmas.Bool.{eqb-false, eqb-true, leb-true}
 use Rattle.std.proofs.lemmas.List.{map-append, reverse-append}
 use Rattle.std.proofs.lemmas.Option.{same_Some}
 use Rattle.cfa.specs.declared.expr.ArrayPlace.{ArrayPlace}
@@ -19,7 +19,7 @@ use Rattle.cfa.specs.declared.state.State.{State}
 use Rattle.cfa.specs.declared.state.Trap.{Trap}
 use Rattle.cfa.specs.declared.state.Trap.TheVariants as trap
 use Rattle.cfa.specs.Contexts.{Context, FrameContext, Pair, Follows, ReturnsHome, along as context_along, along_operation, callers_of, frames_after}
-use Rattle.cfa.specs.Graph.{IsGraph, IsExit, SourceFits, function_called, is_return, returned_call}
+use Rattle.cfa.specs.Graph.{IsGraph, IsExit, SourceFits, function_called, is_guard, is_return, returned_call}
 use Rattle.cfa.specs.States.{IsState, running_frame, value_in}
 use Rattle.cfa.specs.Table.{AreGuards, ContinuesAt, outgoing_of}
 use Rattle.cfa.proofs.Eaches.{element_at}
@@ -28,7 +28,7 @@ use Rattle.cfa.proofs.Places.{continues_tells}
 use Rattle.c_meaning.specs.declared.input.Input.{Input}
 use Rattle.c_meaning.specs.declared.stepped.Stepped.{Stepped}
 use Rattle.c_meaning.specs.declared.stepped.Stepped.TheVariants.{Moved, Returned, Trapped, Blocked, TooDeep}
-use Rattle.c_meaning.specs.Laws.{FailsAssumption}
+use Rattle.c_meaning.specs.Laws.{CallsTooDeep, FailsAssumption, ReturnsValue}
 use Rattle.c_meaning.specs.Pairs.{Fits, calls_of, pair_after, pair_along}
 use Rattle.c_meaning.specs.Places.{Leaves}
 use Rattle.c_meaning.specs.Starts.{fitted, frame_cells}
@@ -44,10 +44,10 @@ Leads parts p at to = ((e : Edge) × Follows parts at e p (pair_along parts p at
 
 abbrev pub Told : GraphParts → State → Stepped → Type 0
 Told parts s (Moved at to) = (p : Pair) → Fits p s → Leads parts p at to
-Told parts s (Returned value) = Unit {0}
+Told parts s (Returned value) = ReturnsValue parts s value
 Told parts s (Trapped t) = Unit {0}
 Told parts s Blocked = FailsAssumption parts s
-Told parts s TooDeep = Unit {0}
+Told parts s TooDeep = CallsTooDeep parts s
 
 abbrev call_in : FrameContext → Option ℕ
 call_in f = f.call
@@ -95,9 +95,9 @@ module _ (parts : GraphParts) (s : State) where
 
 -- ---- along an edge
 
--- an assumption is the one edge that leaves the node
+-- an edge that is no guard is the one that leaves the node
 abbrev Alone : GraphParts → State → ℕ → Operation → Type 0
-Alone parts s at op = (test : Expr) → op ≡ Assume test → outgoing_of parts s.node ≡ at ∷ []
+Alone parts s at op = is_guard op ≡ false → outgoing_of parts s.node ≡ at ∷ []
 
 module _ (parts : GraphParts) (input : Input) (s : State) (at : ℕ) (e : Edge) (g : IsGraph parts) (h : IsState parts s) (l : Leaves parts s at e) where
   -- a state within the function: of the context the counters of the frame that runs change, and the answers
@@ -118,11 +118,13 @@ module _ (parts : GraphParts) (input : Input) (s : State) (at : ℕ) (e : Edge) 
       let to : State = record s { node = e.target; frames = frames; cells = s.cells ++ frame_cells f values } in
       leads parts s p fits at e to now l.0 l.1 (subst (λ o. ReturnsHome o c) (sym is) tt) (ap (λ o. along_operation parts at e o c) is) refl calls fits.taken
 
-  call_told : (callee : ℕ) (words : List Expr) (arrays : List ArrayPlace) → e.operation ≡ Call callee words arrays → Told parts s (call_of s at e words arrays (slice_get parts.functions callee))
-  call_told callee words arrays is =
+  call_told : (callee : ℕ) (words : List Expr) (arrays : List ArrayPlace) → e.operation ≡ Call callee words arrays → outgoing_of parts s.node ≡ at ∷ [] → Told parts s (call_of s at e words arrays (slice_get parts.functions callee))
+  call_told callee words arrays is only =
       let f = element_at parts.functions callee (numbers_of parts s at e (Call callee words arrays) g l is) in
       subst (λ o. Told parts s (call_of s at e words arrays o)) (sym f.1)
-      (if_told parts s (nat_le 64 (length s.frames)) TooDeep (unless_trapped (values_in s words) (called s at e (map (start_in s) arrays) f.0)) (λ many. tt)
+      (if_told parts s (nat_le 64 (length s.frames)) TooDeep (unless_trapped (values_in s words) (called s at e (map (start_in s) arrays) f.0))
+      (λ many. let least = leb-true 64 (length s.frames) many in let most = h.most_frames in
+      record { at = at; edge = e; callee = callee; words = words; arrays = arrays; only = only; there = l.0; calls = is; full = omega arith })
       (λ few. unless_told parts s (values_in s words) (called s at e (map (start_in s) arrays) f.0) (λ values done. pushes callee words arrays is f.0 (map (start_in s) arrays) values)))
 
   answer_told : (number : ℕ) (dest : Option CellPlace) → e.operation ≡ Answer number dest → Told parts s (answered input s at e dest (slice_get parts.inputs number))
@@ -144,7 +146,7 @@ module _ (parts : GraphParts) (input : Input) (s : State) (at : ℕ) (e : Edge) 
       stays (Clear array count) is (record s { node = e.target; cells = cleared s.cells (start_in s array) count }) (λ n. n) (λ c. refl) (λ c. tt) refl refl refl
   operated_told (Guard test truth) is alone =
       stays (Guard test truth) is (record s { node = e.target }) (λ n. n) (λ c. refl) (λ c. tt) refl refl refl
-  operated_told (Call callee words arrays) is alone = call_told callee words arrays is
+  operated_told (Call callee words arrays) is alone = call_told callee words arrays is (alone refl)
   operated_told (Return call dest) is alone = let returns : is_return e.operation ≡ true = ap is_return is in let no = l.2 in absurd cc
   operated_told (Answer number dest) is alone = answer_told number dest is
   operated_told (Assert test) is alone =
@@ -154,7 +156,7 @@ module _ (parts : GraphParts) (input : Input) (s : State) (at : ℕ) (e : Edge) 
   operated_told (Assume test) is alone =
       unless_told parts s (value_in s test) (unless_zero Blocked (moved at e s s.cells)) (λ v c.
       if_told parts s (v == 0) Blocked (moved at e s s.cells)
-      (λ z. record { at = at; edge = e; test = test; only = alone test refl; there = l.0; assumes = is; fails = c ∙ ap Ok (eqb-true v 0 z) })
+      (λ z. record { at = at; edge = e; test = test; only = alone refl; there = l.0; assumes = is; fails = c ∙ ap Ok (eqb-true v 0 z) })
       (λ z. stays (Assume test) is (record s { node = e.target }) (λ n. n) (λ c. refl) (λ c. tt) refl refl refl))
 
 -- ---- from a node
@@ -169,7 +171,7 @@ module _ (parts : GraphParts) (input : Input) (s : State) (g : IsGraph parts) (h
   guard_told at test truth e is leaves there =
       let own = taken (Leaves parts s at) (slice_get parts.edges at) leaves in
       let same : own.0 ≡ e = same_Some own.0 e (sym own.1 ∙ there) in
-      along_told at e (subst (Leaves parts s at) same own.2) (λ t a. let ill : Guard test truth ≡ Assume t = sym is ∙ a in absurd cc)
+      along_told at e (subst (Leaves parts s at) same own.2) (λ no. let yes : is_guard e.operation ≡ true = ap is_guard is in absurd cc)
 
   abbrev GuardAfter : ℕ → Edge → Type 0
   GuardAfter no_at e = IsSomeAnd (slice_get parts.edges no_at) (λ f. AreGuards e.operation f.operation)
@@ -189,7 +191,7 @@ module _ (parts : GraphParts) (input : Input) (s : State) (g : IsGraph parts) (h
 
   one_told : (at : ℕ) → outgoing_of parts s.node ≡ at ∷ [] → IsSomeAnd (slice_get parts.edges at) (Leaves parts s at) → Told parts s (along parts input s at)
   one_told at only leaves =
-      let own = taken (Leaves parts s at) (slice_get parts.edges at) leaves in along_told at own.0 own.2 (λ t a. only)
+      let own = taken (Leaves parts s at) (slice_get parts.edges at) leaves in along_told at own.0 own.2 (λ no. only)
 
   row_told : (row : List ℕ) → outgoing_of parts s.node ≡ row → ContinuesAt parts row → ((j at : ℕ) → slice_get row j ≡ Some at → IsSomeAnd (slice_get parts.edges at) (Leaves parts s at)) → Told parts s (onward parts input s row)
   row_told [] is on each = absurd on
@@ -267,7 +269,8 @@ module _ (parts : GraphParts) (s : State) (g : IsGraph parts) (h : IsState parts
 
 left_told : (parts : GraphParts) (s : State) (f : Function) → IsGraph parts → IsState parts s → function_at parts s.node ≡ Some f → s.node ≡ f.exit → Told parts s (left parts s f)
 left_told parts s f g h own exit =
-    if_told parts s (length s.frames == 1) (Returned (option_map (λ kind. fitted kind (result_word s)) f.result)) (returned_from parts s (running_frame s).call) (λ one. tt) (λ more.
+    if_told parts s (length s.frames == 1) (Returned (option_map (λ kind. fitted kind (result_word s)) f.result)) (returned_from parts s (running_frame s).call)
+    (λ one. record { function = f; own = own; exit = exit; one = eqb-true (length s.frames) 1 one; gives = refl }) (λ more.
     let r = returns_of parts s g h (eqb-false (length s.frames) 1 more) in
     let on : returned_from parts s (running_frame s).call ≡ returned_by s (r.call + 1) r.edge r.edge.operation = ap (returned_from parts s) r.call_is ∙ ap (returned_along s (r.call + 1)) r.edge_is in
     subst (Told parts s) (sym on) (returned_told parts s g h f own exit r r.edge.operation refl))

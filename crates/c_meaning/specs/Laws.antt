@@ -1,23 +1,26 @@
 -- What follows from the definitions, for those who rest on them.
-use Rattle.std.specs.Prelude.{◌≡◌, ◌↔◌, ℕ, [], ◌∷◌, Ok, Some, IsTrue, slice_get}
+use Rattle.std.specs.Prelude.{◌≡◌, ◌↔◌, ℕ, List, [], ◌∷◌, length, Ok, Option, Some, IsTrue, slice_get}
+use Rattle.std.specs.Option.{option_map}
 use Rattle.std.specs.List.{AllZip}
+use Rattle.cfa.specs.declared.expr.ArrayPlace.{ArrayPlace}
 use Rattle.cfa.specs.declared.expr.Expr.{Expr}
 use Rattle.cfa.specs.declared.parts.Edge.{Edge}
 use Rattle.cfa.specs.declared.parts.Function.{Function}
 use Rattle.cfa.specs.declared.parts.GraphParts.{GraphParts}
-use Rattle.cfa.specs.declared.parts.Operation.TheVariants.{Assume}
+use Rattle.cfa.specs.declared.parts.Operation.TheVariants.{Assume, Call}
 use Rattle.cfa.specs.declared.state.State.{State}
 use Rattle.cfa.specs.Contexts.{Pair, Follows, IsWalk, IsWithin, first_pair}
+use Rattle.cfa.specs.Each.{Each}
 use Rattle.cfa.specs.Graph.{IsGraph}
 use Rattle.cfa.specs.States.{IsState, value_in}
 use Rattle.cfa.specs.Table.{outgoing_of}
 use Rattle.c_meaning.specs.declared.ends.Ends.{Ends}
 use Rattle.c_meaning.specs.declared.input.Input.{Input}
-use Rattle.c_meaning.specs.declared.stepped.Stepped.TheVariants.{Moved, Blocked}
+use Rattle.c_meaning.specs.declared.stepped.Stepped.TheVariants.{Moved, Returned, Blocked, TooDeep}
 use Rattle.c_meaning.specs.Pairs.{Fits, IsLongestWithin, IsRunWithin, last_pair_in, pair_along, pairs_along, pairs_in}
 use Rattle.c_meaning.specs.Runs.{Run, IsBeginning, IsRun, counts, edges_in, last_in, state_at, states_in}
-use Rattle.c_meaning.specs.Starts.{CanStart}
-use Rattle.c_meaning.specs.Steps.{next}
+use Rattle.c_meaning.specs.Starts.{CanStart, fitted}
+use Rattle.c_meaning.specs.Steps.{function_at, next, result_word}
 
 -- ---- ends of runs
 
@@ -36,7 +39,42 @@ abbrev pub BlockedStates : Type 0
 BlockedStates =
     (parts : GraphParts) (input : Input) (s : State) → IsGraph parts → IsState parts s → (next parts input s ≡ Blocked) ↔ FailsAssumption parts s
 
+-- one edge leaves the state's node, a call, and 64 frames stand
+pub record CallsTooDeep (parts : GraphParts) (s : State) : Type 0 where
+  pub at : ℕ
+  pub edge : Edge
+  pub callee : ℕ
+  pub words : List Expr
+  pub arrays : List ArrayPlace
+  pub only : outgoing_of parts s.node ≡ at ∷ []
+  pub there : slice_get parts.edges at ≡ Some edge
+  pub calls : edge.operation ≡ Call callee words arrays
+  pub full : length s.frames ≡ 64
+
+-- a run is too deep exactly where a call would make more than 64 frames
+abbrev pub TooDeepStates : Type 0
+TooDeepStates =
+    (parts : GraphParts) (input : Input) (s : State) → IsGraph parts → IsState parts s → (next parts input s ≡ TooDeep) ↔ CallsTooDeep parts s
+
+-- the state is at the exit of its function, with one frame, whose result is the value
+pub record ReturnsValue (parts : GraphParts) (s : State) (value : Option ℕ) : Type 0 where
+  pub function : Function
+  pub own : function_at parts s.node ≡ Some function
+  pub exit : s.node ≡ function.exit
+  pub one : length s.frames ≡ 1
+  pub gives : value ≡ option_map (λ kind. fitted kind (result_word s)) function.result
+
+-- a run has returned exactly where it is at the entry's exit
+abbrev pub ReturnedStates : Type 0
+ReturnedStates =
+    (parts : GraphParts) (input : Input) (s : State) (value : Option ℕ) → IsGraph parts → IsState parts s → (next parts input s ≡ Returned value) ↔ ReturnsValue parts s value
+
 -- ---- runs
+
+-- the states of a beginning are states of the graph
+abbrev pub RunStates : Type 0
+RunStates =
+    (parts : GraphParts) (k : ℕ) (entry : Function) (input : Input) (r : Run) → IsGraph parts → slice_get parts.functions k ≡ Some entry → CanStart entry input.words → IsBeginning parts entry input r → Each (states_in r) (λ n s. IsState parts s)
 
 -- the states of a beginning are the first ones of the input
 abbrev pub BeginningStates : Type 0

@@ -182,7 +182,7 @@ next_within parts input s None = Blocked
 next_within parts input s (Some f) = if s.node == f.exit then left parts s f else onward parts input s (outgoing_of parts s.node)
 
 -- What comes next in a state of the graph. What is said of functions, edges and operations that aren't there, or that
--- leave a node where no graph has them, stands in for cases that no state of a graph has.
+-- leave a node where no graph has them, stands in for cases that no state of a graph has: `BlockedStates` says so.
 unfoldable pub next : GraphParts → Input → State → Stepped
 next parts input s = next_within parts input s (function_at parts s.node)
 

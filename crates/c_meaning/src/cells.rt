@@ -35,34 +35,20 @@ pub(crate) fn first_cells(cells: Vector<u64>, count: usize) -> Vector<u64>
     Vector::from_vec(cells)
 }
 
-fn push_zeros(cells: &mut Vector<u64>, count: usize) -> Result<(), AllocError>
-    ensures { IfOk result (λ _. cells.new ≡ cells.old ++ replicate count 0) }
-{
-    for _pushed in 0..count {
-        cells.push(0)?;
-    }
-    Ok(())
-}
-
-fn push_words(cells: &mut Vector<u64>, words: &[u64]) -> Result<(), AllocError>
-    ensures { IfOk result (λ _. cells.new ≡ cells.old ++ words.now) }
-{
-    for word in words {
-        cells.push(*word)?;
-    }
-    Ok(())
-}
-
 /// The cells with those of a new frame behind them: the result, the words, and zeros, so many in all.
-pub(crate) fn push_frame(
-    cells: &mut Vector<u64>,
+pub(crate) fn with_frame(
+    cells: Vector<u64>,
     words: &[u64],
     count: u32,
-) -> Result<(), AllocError>
+) -> Result<Vector<u64>, AllocError>
     requires { length words.now < 2 ^ 63 }
-    ensures { IfOk result (λ _. cells.new ≡ cells.old ++ 0 ∷ (words.now ++ replicate (count - (length words.now + 1)) 0)) }
+    ensures { IfOk result (λ all. all ≡ cells ++ 0 ∷ (words.now ++ replicate (count - (length words.now + 1)) 0)) }
 {
+    let mut cells = cells.into_vec();
     cells.push(0)?;
-    push_words(cells, words)?;
-    push_zeros(cells, (count as usize).saturating_sub(words.len() + 1))
+    cells.extend_from_slice(words)?;
+    let zeros = (count as usize).saturating_sub(words.len() + 1);
+    let all = cells.len() + zeros;
+    cells.resize(all, 0)?;
+    Ok(Vector::from_vec(cells))
 }

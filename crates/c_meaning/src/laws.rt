@@ -1,9 +1,24 @@
 //! Laws of the definitions in specs/. Each function does nothing: its contract is the law.
-ghost use Rattle.c_meaning.specs.Laws.{BlockedStates, BeginningStates, RunsByTheirEnds, OneRun, StepsFollow, RunsAreWalks, LongestByTheirEnds, OneLongest, RunsWithin};
+ghost use Rattle.c_meaning.specs.Laws.{BlockedStates, TooDeepStates, ReturnedStates, RunStates, BeginningStates, RunsByTheirEnds, OneRun, StepsFollow, RunsAreWalks, LongestByTheirEnds, OneLongest, RunsWithin};
 
 /// A state of a graph is blocked exactly where the one edge that leaves its node is an assumption whose test is 0.
 pub fn blocked_states()
     ensures { BlockedStates }
+{}
+
+/// A run is too deep exactly where the one edge that leaves its state's node is a call, and 64 frames stand.
+pub fn too_deep_states()
+    ensures { TooDeepStates }
+{}
+
+/// A run has returned exactly where its state is at its function's exit with one frame.
+pub fn returned_states()
+    ensures { ReturnedStates }
+{}
+
+/// The states of a run's beginning are states of the graph.
+pub fn run_states()
+    ensures { RunStates }
 {}
 
 /// The states of a run's beginning are the first ones of the input.

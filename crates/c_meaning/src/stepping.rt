@@ -10,7 +10,7 @@ ghost use Rattle.c_meaning.specs.Places.{Leaves, dest_in, put_in, storage_of};
 ghost use Rattle.c_meaning.specs.Starts.{fitted};
 ghost use Rattle.c_meaning.specs.Steps.{unless_trapped, unless_zero, cell_in, start_in, cleared, moved, put, answer_of, answered, called, call_of, operated, along, picked, onward, popped, result_word, returned_from, left, next, IfMoved};
 
-use crate::cells::{first_cells, push_frame, with_value, with_zeros};
+use crate::cells::{first_cells, with_frame, with_value, with_zeros};
 use crate::evaluate::{cell_of, fitted, value_of};
 use crate::input::Input;
 use crate::state::{
@@ -218,11 +218,11 @@ fn pushed(
     let State {
         node: _from,
         mut frames,
-        mut cells,
+        cells,
         taken,
     } = state;
     let base = cells.len() as u32;
-    push_frame(&mut cells, words, function.cells)?;
+    let cells = with_frame(cells, words, function.cells)?;
     frames.push(Frame {
         call: Some(at),
         base,

@@ -6,7 +6,7 @@ use c_values::Kind;
 use cfa::{Graph, GraphParts, Predicates};
 use containers::Vector;
 use fq_core::Memory;
-use path_runner::{Input, PathRecord, RunEnd, Trap, trace_run};
+use path_runner::{Ends, Input, PathRecord, RunEnd, Trap, trace_run};
 use std::alloc::Global;
 use test_graphs::draft::{Change, Draft, Row, Step};
 use test_graphs::worked::{ARRAY, BRANCH, LOOP, RECURSION};
@@ -239,4 +239,26 @@ fn reads_three(alloc: Global) -> bool {
 fn answers_are_read_in_order(rt: HostRuntime) {
     let found = reads_three(rt.alloc());
     assert!(rt; found);
+}
+
+// Ends of recorded runs, and whether they are counted where returns, traps and any end are.
+static COUNTED: [(RunEnd, [bool; 3]); 6] = [
+    (RunEnd::Returned { value: Some(7) }, [true, true, true]),
+    (RunEnd::Returned { value: None }, [true, true, true]),
+    (RunEnd::Trapped(Trap::Index), [false, true, true]),
+    (RunEnd::Blocked, [false, false, true]),
+    (RunEnd::TooDeep, [false, false, true]),
+    (RunEnd::Cut, [false, false, false]),
+];
+
+fn counts_so(end: &RunEnd, want: &[bool; 3]) -> bool {
+    end.is_counted(Ends::Returned) == want[0]
+        && end.is_counted(Ends::Trapped) == want[1]
+        && end.is_counted(Ends::Any) == want[2]
+}
+
+#[test]
+fn ends_count_by_what_is_asked(rt: HostRuntime) {
+    let right = COUNTED.iter().all(|case| counts_so(&case.0, &case.1));
+    assert!(rt; right);
 }
