@@ -50,7 +50,7 @@ module _ (r : Reads) (m : Measuring) (graph : GraphParts) where
   measure_no_entry none = rw none refl
 
   pub measure_at : (entry : EntryFunction) (said : Said) → entry_of graph m.entry ≡ Some entry
-      → OfQuery m.sources graph m.query (λ p plan. OfInputs r m.sources m.inputs (length entry.function.parameters) (IsMeasured graph entry p plan m.steps m.json)) said
+      → OfQuery m.sources graph m.query (λ p plan. OfInputs r m.sources m.inputs (length entry.function.parameters) (IsMeasured graph entry p plan m.ends m.steps m.json)) said
       → IsDueOfMeasure r m graph said
   measure_at entry said some due = rw some due
 
@@ -97,13 +97,13 @@ module _ (holds held : List ℕ → Option (List ℕ)) (last : Option (Option (L
   pub measure_since : (m : Measuring) (graph : GraphParts) (said : Said) → IsDueOfMeasure since m graph said → IsDueOfMeasure all m graph said
   measure_since m graph said due =
       entry_since graph m.entry
-      (λ entry. OfQuery m.sources graph m.query (λ p plan. OfInputs since m.sources m.inputs (length entry.function.parameters) (IsMeasured graph entry p plan m.steps m.json)))
-      (λ entry. OfQuery m.sources graph m.query (λ p plan. OfInputs all m.sources m.inputs (length entry.function.parameters) (IsMeasured graph entry p plan m.steps m.json)))
+      (λ entry. OfQuery m.sources graph m.query (λ p plan. OfInputs since m.sources m.inputs (length entry.function.parameters) (IsMeasured graph entry p plan m.ends m.steps m.json)))
+      (λ entry. OfQuery m.sources graph m.query (λ p plan. OfInputs all m.sources m.inputs (length entry.function.parameters) (IsMeasured graph entry p plan m.ends m.steps m.json)))
       said by_query due
     where
       by_query : (entry : EntryFunction)
-          → OfQuery m.sources graph m.query (λ p plan. OfInputs since m.sources m.inputs (length entry.function.parameters) (IsMeasured graph entry p plan m.steps m.json)) said
-          → OfQuery m.sources graph m.query (λ p plan. OfInputs all m.sources m.inputs (length entry.function.parameters) (IsMeasured graph entry p plan m.steps m.json)) said
+          → OfQuery m.sources graph m.query (λ p plan. OfInputs since m.sources m.inputs (length entry.function.parameters) (IsMeasured graph entry p plan m.ends m.steps m.json)) said
+          → OfQuery m.sources graph m.query (λ p plan. OfInputs all m.sources m.inputs (length entry.function.parameters) (IsMeasured graph entry p plan m.ends m.steps m.json)) said
       by_query entry (inl refusal) = inl refusal
       by_query entry (inr made) = inr (made.0, (made.1.0, made.1.1, inputs_since m.sources m.inputs (length entry.function.parameters) (IsMeasured graph entry made.0 made.1.0 m.steps m.json) said made.1.2))
 

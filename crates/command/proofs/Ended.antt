@@ -1,5 +1,5 @@
 -- How a refusal ends a run.
-use Rattle.std.proofs.Common.{◌≡◌, ℕ, List, [], None, Some, inl, inr, refl, sym, subst, append-nil}
+use Rattle.std.proofs.Common.{◌≡◌, ℕ, Bool, List, [], None, Some, inl, inr, refl, sym, subst, append-nil}
 use Rattle.std.specs.Prelude.{Option, MatchOption}
 use Rattle.std.specs.Io.KnownBytes.{Appends, Keeps}
 use Rattle.fq_core.specs.declared.refusal.Refusal.{Refusal}
@@ -30,16 +30,16 @@ unfolding said_by
 ends due sources refusal status.WriteFault out err is none refuses =
     (said_by sources refusal, is, inr (none, refuses.0, refuses.1))
 ends due sources refusal status.Memory out err is none refuses =
-    elim refuses [ inl kept ↦ inl (none, kept) | inr part ↦ inr (said_by sources refusal, is, inr (none, part, tt)) ]
+    elim refuses [ inl kept ↦ inl (none, kept) | inr part ↦ inr (said_by sources refusal, is, inr (none, part.0, part.1)) ]
 ends due sources refusal s out err is none refuses =
     (said_by sources refusal, is, sym refuses.0, (Appends-nil out.before out.after none, refuses.1))
 
 -- the same, where the other sink is as it was
-pub ends_refused : {S : Type 0} (taken : S → Option (List ℕ)) (faults : S → ℕ) (o : S) (due : Said → Type 0) (sources : List (List ℕ))
+pub ends_refused : {S : Type 0} (taken : S → Option (List ℕ)) (faults : S → ℕ) (may_lack_memory : Bool) (o : S) (due : Said → Type 0) (sources : List (List ℕ))
     (refusal : Refusal) (s : Status) (err : Writes) → due (said_by sources refusal) → Refuses sources refusal s err
-    → Ends due s (writes taken faults o o) err
-ends_refused taken faults o due sources refusal s err is refuses =
-    ends due sources refusal s (writes taken faults o o) err is (Keeps-refl (taken o)) refuses
+    → Ends due s (writes taken faults may_lack_memory o o) err
+ends_refused taken faults may_lack_memory o due sources refusal s err is refuses =
+    ends due sources refusal s (writes taken faults may_lack_memory o o) err is (Keeps-refl (taken o)) refuses
 
 -- ---- by the words
 

@@ -9,6 +9,7 @@ use Rattle.std.proofs.lemmas.Slice.Zip.{AllZip-long}
 use Rattle.cfa.specs.declared.parts.Function.{Function}
 use Rattle.cfa.specs.declared.parts.GraphParts.{GraphParts}
 use Rattle.cfa.specs.declared.state.Predicates.{Predicates}
+use Rattle.c_meaning.specs.declared.ends.Ends.{Ends}
 use Rattle.c_meaning.specs.declared.input.Input.{Input}
 use Rattle.c_meaning.specs.Starts.{start_of}
 use Rattle.patterns.specs.Paths.{IsPath}
@@ -19,7 +20,7 @@ use Rattle.goals.specs.declared.answer.Answer.{Answer}
 use Rattle.goals.specs.declared.answer.Answer.TheVariants as answer
 use Rattle.goals.specs.declared.plan.Plan.{Plan}
 use Rattle.measurer.specs.Firsts.{first_hit}
-use Rattle.measurer.specs.Hits.{AreHits, path_in}
+use Rattle.hits.specs.Hits.{AreHits, path_in}
 use Rattle.command.specs.Measured.{AreAllHits, answer_of, answers_of}
 use Rattle.command.specs.Runs.{ends_of, run_of, runs_of}
 
@@ -49,16 +50,16 @@ module _ (graph : GraphParts) (entry : Function) (p : Predicates) (steps : ℕ) 
       more ∙ ap (λ (l : List RunEnd). l ++ run.end ∷ []) so_far ∙ sym (map-append (λ (r : PathRecord). r.end) before (run ∷ []))
       ∙ ap (λ (r : PathRecord). ends_of (before ++ r ∷ [])) is ∙ ap ends_of (sym runs_more)
 
-  pub hits_more : (plan : Plan) (hits new : List (List ℕ)) (run : PathRecord) (last : List ℕ) → new ≡ hits ++ last ∷ [] → run ≡ run_of graph entry p steps (get_or inputs i d)
-      → AreHits plan run last → AreAllHits plan (runs_of graph entry p steps (take i inputs)) hits → AreAllHits plan (runs_of graph entry p steps (take (i + 1) inputs)) new
-  hits_more plan hits new run last more is one all =
-      rw (more, runs_more) (zip_push (AreHits plan) _ hits _ last all (subst (λ (r : PathRecord). AreHits plan r last) is one))
+  pub hits_more : (plan : Plan) (ends : Ends) (hits new : List (List ℕ)) (run : PathRecord) (last : List ℕ) → new ≡ hits ++ last ∷ [] → run ≡ run_of graph entry p steps (get_or inputs i d)
+      → AreHits plan ends run last → AreAllHits plan ends (runs_of graph entry p steps (take i inputs)) hits → AreAllHits plan ends (runs_of graph entry p steps (take (i + 1) inputs)) new
+  hits_more plan ends hits new run last more is one all =
+      rw (more, runs_more) (zip_push (AreHits plan ends) _ hits _ last all (subst (λ (r : PathRecord). AreHits plan ends r last) is one))
 
 -- there is a list of hits for each input
-pub hits_many : (graph : GraphParts) (entry : Function) (p : Predicates) (steps : ℕ) (inputs : List Input) (plan : Plan) (hits : List (List ℕ))
-    → AreAllHits plan (runs_of graph entry p steps inputs) hits → length hits ≡ length inputs
-hits_many graph entry p steps inputs plan hits all =
-    AllZip-long (AreHits plan) (runs_of graph entry p steps inputs) hits all ∙ length-map inputs (run_of graph entry p steps)
+pub hits_many : (graph : GraphParts) (entry : Function) (p : Predicates) (steps : ℕ) (inputs : List Input) (plan : Plan) (ends : Ends) (hits : List (List ℕ))
+    → AreAllHits plan ends (runs_of graph entry p steps inputs) hits → length hits ≡ length inputs
+hits_many graph entry p steps inputs plan ends hits all =
+    AllZip-long (AreHits plan ends) (runs_of graph entry p steps inputs) hits all ∙ length-map inputs (run_of graph entry p steps)
 
 -- one more answer
 pub answer_more : (hits : List (List ℕ)) (place : ℕ) (answers new : List Answer) (one : Answer) (found : Option ℕ) → new ≡ answers ++ one ∷ []

@@ -77,7 +77,7 @@ module _ (r : Reads) where
   abbrev pub IsDueOfMeasure : Measuring → GraphParts → Said → Type 0
   IsDueOfMeasure m graph said =
       OfEntry graph m.entry (λ entry. OfQuery m.sources graph m.query (λ p plan.
-      OfInputs r m.sources m.inputs (length entry.function.parameters) (IsMeasured graph entry p plan m.steps m.json))) said
+      OfInputs r m.sources m.inputs (length entry.function.parameters) (IsMeasured graph entry p plan m.ends m.steps m.json))) said
 
   abbrev pub IsDueOfRuns : Running → GraphParts → Said → Type 0
   IsDueOfRuns m graph said =

@@ -1,6 +1,5 @@
 -- The status and the line of a refusal.
-use Rattle.std.specs.Prelude.{ℕ, Bool, ◌==◌, List, [], ◌∷◌, ◌++◌, codes, if◌then◌else◌, unwrap_or, slice_get}
-use Rattle.std.specs.List.{list_any}
+use Rattle.std.specs.Prelude.{ℕ, ◌==◌, List, [], ◌∷◌, ◌++◌, codes, find, option_map, unwrap_or, slice_get}
 use Rattle.std.specs.Fmt.{decimal}
 use Rattle.fq_core.specs.Code.{name_of_code}
 use Rattle.fq_core.specs.declared.refusal.Place.{Place}
@@ -10,33 +9,63 @@ use Rattle.command.specs.declared.status.Status.{Status}
 use Rattle.command.specs.declared.status.Status.TheVariants as status
 use Rattle.command.specs.Said.{Said, refused}
 
--- The codes of what is refused in a source or of the entry; in the query or of a goal's number; in the inputs; and those of
--- a counted quantity that passes its limit.
-abbrev pub source_codes : List ℕ
-source_codes = 10 ∷ 11 ∷ 12 ∷ 13 ∷ 14 ∷ 20 ∷ 21 ∷ 29 ∷ 30 ∷ 31 ∷ 32 ∷ 33 ∷ 35 ∷ 36 ∷ 38 ∷ 39 ∷ []
+-- each code of the table of codes with the status that it ends in
+abbrev pub status_rows : List (ℕ × Status)
+status_rows = (1, status.NotBuilt)
+    ∷ (2, status.Usage)
+    ∷ (7, status.ReadFault)
+    ∷ (10, status.SourceRefused)
+    ∷ (11, status.SourceRefused)
+    ∷ (12, status.SourceRefused)
+    ∷ (13, status.SourceRefused)
+    ∷ (14, status.SourceRefused)
+    ∷ (15, status.Limit)
+    ∷ (16, status.Limit)
+    ∷ (20, status.SourceRefused)
+    ∷ (21, status.SourceRefused)
+    ∷ (22, status.Limit)
+    ∷ (29, status.SourceRefused)
+    ∷ (30, status.SourceRefused)
+    ∷ (31, status.SourceRefused)
+    ∷ (32, status.SourceRefused)
+    ∷ (33, status.SourceRefused)
+    ∷ (34, status.Limit)
+    ∷ (35, status.SourceRefused)
+    ∷ (36, status.SourceRefused)
+    ∷ (37, status.Limit)
+    ∷ (38, status.SourceRefused)
+    ∷ (39, status.SourceRefused)
+    ∷ (41, status.Limit)
+    ∷ (50, status.InputRefused)
+    ∷ (51, status.InputRefused)
+    ∷ (52, status.InputRefused)
+    ∷ (53, status.Limit)
+    ∷ (54, status.Limit)
+    ∷ (60, status.QueryRefused)
+    ∷ (61, status.QueryRefused)
+    ∷ (62, status.QueryRefused)
+    ∷ (63, status.Limit)
+    ∷ (64, status.QueryRefused)
+    ∷ (65, status.QueryRefused)
+    ∷ (66, status.QueryRefused)
+    ∷ (67, status.Limit)
+    ∷ (70, status.QueryRefused)
+    ∷ (71, status.Limit)
+    ∷ (72, status.QueryRefused)
+    ∷ (73, status.Limit)
+    ∷ (74, status.QueryRefused)
+    ∷ (80, status.Limit)
+    ∷ (81, status.Limit)
+    ∷ (82, status.Limit)
+    ∷ (90, status.CertificateRejected)
+    ∷ (91, status.CertificateRejected)
+    ∷ (92, status.CertificateRejected)
+    ∷ (93, status.CertificateRejected)
+    ∷ []
 
-abbrev pub query_codes : List ℕ
-query_codes = 60 ∷ 61 ∷ 62 ∷ 64 ∷ 65 ∷ 66 ∷ 70 ∷ 72 ∷ 74 ∷ []
-
-abbrev pub input_codes : List ℕ
-input_codes = 50 ∷ 51 ∷ 52 ∷ []
-
-abbrev pub limit_codes : List ℕ
-limit_codes = 15 ∷ 16 ∷ 22 ∷ 34 ∷ 37 ∷ 41 ∷ 53 ∷ 54 ∷ 63 ∷ 67 ∷ 71 ∷ 73 ∷ []
-
-abbrev pub is_among_codes : List ℕ → ℕ → Bool
-is_among_codes known code = list_any (λ c. c == code) known
-
--- The status that a code ends in. Each other code is that of what isn't built.
+-- The status that a code ends in, by its row. A number that is no code has none, and ends in the status of what isn't built.
 abbrev pub status_of : ℕ → Status
-status_of code =
-    if code == 2 then status.Usage
-    else if code == 7 then status.ReadFault
-    else if is_among_codes source_codes code then status.SourceRefused
-    else if is_among_codes query_codes code then status.QueryRefused
-    else if is_among_codes input_codes code then status.InputRefused
-    else if is_among_codes limit_codes code then status.Limit
-    else status.NotBuilt
+status_of code = unwrap_or (option_map (λ row. row.1) (find (λ row. row.0 == code) status_rows)) status.NotBuilt
 
 -- a place, after a space, where the sources have these names
 abbrev pub place_text : List (List ℕ) → Place → List ℕ

@@ -1,5 +1,5 @@
 -- What a run of the program writes, and how it ends.
-use Rattle.std.specs.Prelude.{◌≡◌, ◌⊎◌, ⊤, ℕ, List, Option}
+use Rattle.std.specs.Prelude.{◌≡◌, ◌⊎◌, ℕ, Bool, List, Option, IsTrue}
 use Rattle.std.specs.Io.KnownBytes.{Appends, Keeps}
 use Rattle.fq_core.specs.declared.refusal.Refusal.{Refusal}
 use Rattle.fq_io.specs.Bytes.{AppendsPart}
@@ -11,19 +11,22 @@ use Rattle.command.specs.Said.{Said}
 
 -- ---- what is written
 
--- the bytes of a sink before a call and after it, where they are told, and its counts of faults
+-- the bytes of a sink before a call and after it, where they are told, its counts of faults, and whether its writes may
+-- find no memory
 pub record Writes : Type 0 where
   pub before : Option (List ℕ)
   pub after : Option (List ℕ)
   pub faults_before : ℕ
   pub faults_after : ℕ
+  pub may_lack_memory : Bool
 
-abbrev pub writes : {S : Type 0} → (S → Option (List ℕ)) → (S → ℕ) → S → S → Writes
-writes taken faults old new = record {
+abbrev pub writes : {S : Type 0} → (S → Option (List ℕ)) → (S → ℕ) → Bool → S → S → Writes
+writes taken faults may_lack_memory old new = record {
   before = taken old;
   after = taken new;
   faults_before = faults old;
   faults_after = faults new;
+  may_lack_memory = may_lack_memory;
 }
 
 abbrev pub Gains : Writes → List ℕ → Type 0
@@ -46,17 +49,21 @@ IsCut P said out err = (GainsPart out said.out × GainsNone err × P out) ⊎ (G
 abbrev pub HasFailed : Writes → Type 0
 HasFailed w = Rose w.faults_before w.faults_after
 
+abbrev pub MayLackMemory : Writes → Type 0
+MayLackMemory w = IsTrue w.may_lack_memory
+
 -- ---- how a run ends, by its status
 
 -- After a write fault, a part of what was due stands in the sink that failed. After want of memory, nothing was written,
--- or a part of what was due. After each other status, all that was due was written, and that status was due.
+-- or a part of what was due to a sink whose writes may find no memory. After each other status, all that was due was
+-- written, and that status was due.
 abbrev pub Ends : (Said → Type 0) → Status → Writes → Writes → Type 0
 Ends due status.WriteFault out err = (said : Said) × due said × IsCut HasFailed said out err
-Ends due status.Memory out err = (GainsNone out × GainsNone err) ⊎ ((said : Said) × due said × IsCut (λ _. ⊤) said out err)
+Ends due status.Memory out err = (GainsNone out × GainsNone err) ⊎ ((said : Said) × due said × IsCut MayLackMemory said out err)
 Ends due s out err = (said : Said) × due said × (said.status ≡ s) × IsWritten said out err
 
 -- the refusal's line was written, or its writing was cut short
 abbrev pub Refuses : List (List ℕ) → Refusal → Status → Writes → Type 0
 Refuses sources refusal status.WriteFault err = GainsPart err (line_of sources refusal) × HasFailed err
-Refuses sources refusal status.Memory err = GainsNone err ⊎ GainsPart err (line_of sources refusal)
+Refuses sources refusal status.Memory err = GainsNone err ⊎ (GainsPart err (line_of sources refusal) × MayLackMemory err)
 Refuses sources refusal s err = (s ≡ status_of refusal.code) × Gains err (line_of sources refusal)

@@ -24,7 +24,7 @@ pub fn run<F: Files, O: Sink, E: Sink>(
     err: &mut E,
 ) -> Status
     ensures { Ends (IsDue (reads F.holds F.last_failed F.faults F.received files.old files.new) (texts words.now))
-        result (writes O.taken O.faults out.old out.new) (writes E.taken E.faults err.old err.new) }
+        result (writes O.taken O.faults O.may_lack_memory out.old out.new) (writes E.taken E.faults E.may_lack_memory err.old err.new) }
 {
     match request(alloc, words) {
         Ok(request) => serve(alloc, &request, files, out, err),
@@ -42,7 +42,7 @@ fn serve<F: Files, O: Sink, E: Sink>(
     err: &mut E,
 ) -> Status
     ensures { Ends (IsDueOf (reads F.holds F.last_failed F.faults F.received files.old files.new) (asked request.now))
-        result (writes O.taken O.faults out.old out.new) (writes E.taken E.faults err.old err.new) }
+        result (writes O.taken O.faults O.may_lack_memory out.old out.new) (writes E.taken E.faults E.may_lack_memory err.old err.new) }
 {
     match answer(alloc, request, files) {
         Ok(text) => match write_all(out, &text) {
@@ -72,7 +72,7 @@ fn sources_of<'a>(request: &'a Request<'a>) -> &'a [&'a str]
 
 // Writes the refusal's line.
 fn refuse<E: Sink>(alloc: Global, sources: &[&str], refusal: &Refusal, err: &mut E) -> Status
-    ensures { Refuses (texts_at sources.now) refusal.now result (writes E.taken E.faults err.old err.new) }
+    ensures { Refuses (texts_at sources.now) refusal.now result (writes E.taken E.faults E.may_lack_memory err.old err.new) }
 {
     let Ok(line) = refusal_line(alloc, sources, refusal) else {
         return Status::Memory;

@@ -3,6 +3,7 @@ ghost use Rattle.std.specs.Prelude.{◌≡◌, ◌+◌, ◌<◌, ◌^◌, IfOk, 
 ghost use Rattle.std.specs.List.{All};
 ghost use Rattle.cfa.specs.Predicates.{IsPredicates};
 ghost use Rattle.c_meaning.specs.Starts.{CanStart};
+ghost use Rattle.goals.specs.Over.{IsPlanOver};
 ghost use Rattle.measurer.specs.Measurers.{hits_of};
 ghost use Rattle.command.specs.Entries.{seen};
 ghost use Rattle.command.specs.Measured.{AreAllHits, IsMeasured, answers_of};
@@ -16,7 +17,7 @@ use cfa::{Graph, Predicates};
 use fq_core::Memory;
 use goals::Answer;
 use measurer::Measurer;
-use path_runner::{PathRecord, RunEnd, trace_run};
+use path_runner::{Ends, PathRecord, RunEnd, trace_run};
 use report::{measured_json, measured_text};
 use std::alloc::Global;
 use suite::reduce;
@@ -51,6 +52,7 @@ fn measure_all(
     graph: &Graph,
     entry: &Entry,
     planned: &Planned,
+    ends: Ends,
     steps: u32,
     inputs: &[Input],
 ) -> Result<Measured, Memory>
@@ -58,16 +60,19 @@ fn measure_all(
     requires start { All (λ input. CanStart entry.now.function.now input.words) inputs.now }
     requires predicates { IsPredicates graph.now planned.now.predicates }
     ensures ends { IfOk result (λ made. made.ends.items ≡ ends_of (runs_of graph.now entry.now.function.now planned.now.predicates steps inputs.now)) }
-    ensures hits { IfOk result (λ made. AreAllHits planned.now.plan (runs_of graph.now entry.now.function.now planned.now.predicates steps inputs.now) (hits_of made.measurer)) }
+    ensures hits { IfOk result (λ made. AreAllHits planned.now.plan ends (runs_of graph.now entry.now.function.now planned.now.predicates steps inputs.now) (hits_of made.measurer)) }
 {
     let mut measurer = Measurer::new(alloc, &planned.plan)?;
-    let mut ends = Vec::new(alloc);
+    let mut run_ends = Vec::new(alloc);
     for input in inputs {
         let run = run_of(alloc, graph, entry, &planned.predicates, steps, input)?;
-        measurer.add(&planned.plan, &run)?;
-        ends.push(run.end)?;
+        measurer.add(&planned.plan, &run, ends)?;
+        run_ends.push(run.end)?;
     }
-    Ok(Measured { ends, measurer })
+    Ok(Measured {
+        ends: run_ends,
+        measurer,
+    })
 }
 
 // The answer of each goal.
@@ -85,12 +90,13 @@ fn answers(alloc: Global, measurer: &Measurer, count: u32) -> Result<Vec<Answer>
     Ok(answers)
 }
 
-/// The report of measuring these inputs, each run being cut after so many edges.
+/// The report of measuring these inputs, each run being cut after so many edges, where these ends count.
 pub fn report(
     alloc: Global,
     graph: &Graph,
     entry: &Entry,
     planned: &Planned,
+    ends: Ends,
     steps: u32,
     json: bool,
     inputs: &[Input],
@@ -99,13 +105,12 @@ pub fn report(
     requires number { slice_get graph.now.functions entry.now.number ≡ Some entry.now.function.now }
     requires start { All (λ input. CanStart entry.now.function.now input.words) inputs.now }
     requires predicates { IsPredicates graph.now planned.now.predicates }
-    ensures { IfOk result (λ text. IsMeasured graph.now (seen entry.now) planned.now.predicates planned.now.plan steps json inputs.now (answered text.items)) }
+    requires plan { IsPlanOver graph.now planned.now.plan }
+    ensures { IfOk result (λ text. IsMeasured graph.now (seen entry.now) planned.now.predicates planned.now.plan ends steps json inputs.now (answered text.items)) }
 {
-    let made = measure_all(alloc, graph, entry, planned, steps, inputs)?;
+    let made = measure_all(alloc, graph, entry, planned, ends, steps, inputs)?;
     let plan = &planned.plan;
-    let Ok(count) = u32::try_from(plan.goals.len()) else {
-        return Err(Memory);
-    };
+    let count = plan.goals.len() as u32;
     let answers = answers(alloc, &made.measurer, count)?;
     let kept = reduce(alloc, made.measurer.hits())?;
     if json {
@@ -117,6 +122,7 @@ pub fn report(
             &made.ends,
             &answers,
             &kept,
+            ends,
         )
     } else {
         measured_text(
@@ -127,6 +133,7 @@ pub fn report(
             &made.ends,
             &answers,
             &kept,
+            ends,
         )
     }
 }

@@ -1,9 +1,11 @@
 // The query that the words give, over an automaton.
 ghost use Rattle.std.specs.Prelude.{List, ℕ, IfOk, IfErr};
 ghost use Rattle.fql_read.specs.Asks.{Asks};
+ghost use Rattle.fql_read.specs.Usable.{IsUsable};
 ghost use Rattle.cfa.specs.Predicates.{IsPredicates};
 ghost use Rattle.command.specs.Queries.{IsPlanned, IsRefused};
 ghost use Rattle.fq_core.specs.Refusals.{IfRefused};
+ghost use Rattle.goals.specs.Over.{IsPlanOver};
 
 use cfa::{Graph, Predicates};
 use fq_core::Fault;
@@ -21,8 +23,10 @@ pub struct Planned {
 
 // The predicates and the goals of a query.
 fn plan_asked(alloc: Global, graph: &Graph, query: &Query) -> Result<Planned, Fault>
+    requires { IsUsable query.now }
     ensures planned { (bytes : List ℕ) → Asks bytes query.now → IfOk result (λ made. IsPlanned graph.now bytes made.predicates made.plan) }
     ensures predicates { IfOk result (λ made. IsPredicates graph.now made.predicates) }
+    ensures plan { IfOk result (λ made. IsPlanOver graph.now made.plan) }
     ensures refused { (bytes : List ℕ) → Asks bytes query.now → IfErr result (λ fault. IfRefused fault (IsRefused graph.now bytes)) }
 {
     let predicates = resolve(alloc, query, graph)?;
@@ -34,6 +38,7 @@ fn plan_asked(alloc: Global, graph: &Graph, query: &Query) -> Result<Planned, Fa
 pub fn plan_query(alloc: Global, graph: &Graph, query: &str) -> Result<Planned, Fault>
     ensures planned { IfOk result (λ made. IsPlanned graph.now query.now made.predicates made.plan) }
     ensures predicates { IfOk result (λ made. IsPredicates graph.now made.predicates) }
+    ensures plan { IfOk result (λ made. IsPlanOver graph.now made.plan) }
     ensures refused { IfErr result (λ fault. IfRefused fault (IsRefused graph.now query.now)) }
 {
     let query = read_query(alloc, query.as_bytes())?;

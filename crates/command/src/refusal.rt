@@ -15,10 +15,12 @@ pub fn refused_status(code: u16) -> Status
     match code {
         2 => Status::Usage,
         7 => Status::ReadFault,
-        10..=14 | 20 | 21 | 29..=33 | 35 | 36 | 38 | 39 => Status::SourceRefused,
-        60..=62 | 64..=66 | 70 | 72 | 74 => Status::QueryRefused,
-        50..=52 => Status::InputRefused,
-        15 | 16 | 22 | 34 | 37 | 41 | 53 | 54 | 63 | 67 | 71 | 73 => Status::Limit,
+        10 | 11 | 12 | 13 | 14 | 20 | 21 | 29 | 30 | 31 | 32 | 33 | 35 | 36 | 38 | 39 =>
+            Status::SourceRefused,
+        60 | 61 | 62 | 64 | 65 | 66 | 70 | 72 | 74 => Status::QueryRefused,
+        50 | 51 | 52 => Status::InputRefused,
+        15 | 16 | 22 | 34 | 37 | 41 | 53 | 54 | 63 | 67 | 71 | 73 | 80 | 81 | 82 => Status::Limit,
+        90 | 91 | 92 | 93 => Status::CertificateRejected,
         _ => Status::NotBuilt,
     }
 }

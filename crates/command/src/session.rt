@@ -65,6 +65,7 @@ fn measure_graph<F: Files>(
         graph,
         &entry,
         &planned,
+        request.ends,
         request.steps,
         request.json,
         &inputs,

@@ -5,8 +5,10 @@ use Rattle.std.specs.Char.{is_ascii_digit}
 use Rattle.std.specs.List.{list_all}
 use Rattle.std.specs.Str.{bytes_eq}
 use Rattle.std.specs.Str.Parse.{digits_value}
+use Rattle.c_meaning.specs.declared.ends.Ends.{Ends}
+use Rattle.c_meaning.specs.declared.ends.Ends.TheVariants as counted
 use Rattle.command_words.specs.declared.command_option.CommandOption.{CommandOption}
-use Rattle.command_words.specs.declared.command_option.CommandOption.TheVariants.{Steps, Turns, Frames, Answers, Budget, Json}
+use Rattle.command_words.specs.declared.command_option.CommandOption.TheVariants.{Steps, Turns, Frames, Answers, Ends as ends_option, Budget, Json}
 use Rattle.command_words.specs.declared.requests.Bounds.{Bounds}
 use Rattle.command_words.specs.declared.requests.Check.{Check}
 use Rattle.command_words.specs.declared.requests.Generate.{Generate}
@@ -27,6 +29,7 @@ pub record Measuring : Type 0 where
   pub inputs : Text
   pub sources : List Text
   pub steps : ℕ
+  pub ends : Ends
   pub json : Bool
 
 pub record Generating : Type 0 where
@@ -34,6 +37,7 @@ pub record Generating : Type 0 where
   pub query : Text
   pub sources : List Text
   pub bounds : Bounds
+  pub ends : Ends
   pub budget : ℕ
   pub json : Bool
 
@@ -53,6 +57,7 @@ pub record Proving : Type 0 where
   pub goal : ℕ
   pub sources : List Text
   pub bounds : Bounds
+  pub ends : Ends
   pub budget : ℕ
 
 pub record Checking : Type 0 where
@@ -62,6 +67,7 @@ pub record Checking : Type 0 where
   pub certificate : Text
   pub sources : List Text
   pub bounds : Bounds
+  pub ends : Ends
 
 pub data Asked : Type 0 where
   measure : Measuring → Asked
@@ -80,10 +86,10 @@ abbrev pub texts_at : List (Bor Text) → List Text
 texts_at = map (λ (text : Bor Text). text.now)
 
 abbrev pub measuring : Measure → Measuring
-measuring m = record { entry = m.entry.now; query = m.query.now; inputs = m.inputs.now; sources = texts_at m.sources.items; steps = m.steps; json = m.json }
+measuring m = record { entry = m.entry.now; query = m.query.now; inputs = m.inputs.now; sources = texts_at m.sources.items; steps = m.steps; ends = m.ends; json = m.json }
 
 abbrev pub generating : Generate → Generating
-generating m = record { entry = m.entry.now; query = m.query.now; sources = texts_at m.sources.items; bounds = m.bounds; budget = m.budget; json = m.json }
+generating m = record { entry = m.entry.now; query = m.query.now; sources = texts_at m.sources.items; bounds = m.bounds; ends = m.ends; budget = m.budget; json = m.json }
 
 abbrev pub listing : Goals → Listing
 listing m = record { query = m.query.now; sources = texts_at m.sources.items }
@@ -92,10 +98,10 @@ abbrev pub running : Runs → Running
 running m = record { entry = m.entry.now; inputs = m.inputs.now; sources = texts_at m.sources.items; steps = m.steps }
 
 abbrev pub proving : Prove → Proving
-proving m = record { entry = m.entry.now; query = m.query.now; goal = m.goal; sources = texts_at m.sources.items; bounds = m.bounds; budget = m.budget }
+proving m = record { entry = m.entry.now; query = m.query.now; goal = m.goal; sources = texts_at m.sources.items; bounds = m.bounds; ends = m.ends; budget = m.budget }
 
 abbrev pub checking : Check → Checking
-checking m = record { entry = m.entry.now; query = m.query.now; goal = m.goal; certificate = m.certificate.now; sources = texts_at m.sources.items; bounds = m.bounds }
+checking m = record { entry = m.entry.now; query = m.query.now; goal = m.goal; certificate = m.certificate.now; sources = texts_at m.sources.items; bounds = m.bounds; ends = m.ends }
 
 abbrev pub asked : Request → Asked
 asked (request.Measure m) = measure (measuring m)
@@ -126,6 +132,19 @@ flag_of [] = Some false
 flag_of (text ∷ []) = Some true
 flag_of _ = None
 
+-- the ends of this name
+abbrev pub ends_named : Text → Option Ends
+ends_named text =
+    if bytes_eq text (codes "returned") then Some counted.Returned else
+    (if bytes_eq text (codes "trapped") then Some counted.Trapped else
+    (if bytes_eq text (codes "any") then Some counted.Any else None))
+
+-- the ends that an option names which is used at most once
+abbrev pub ends_in : List Text → Option Ends
+ends_in [] = Some counted.Returned
+ends_in (text ∷ []) = ends_named text
+ends_in _ = None
+
 abbrev pub values_of : CommandOption → List Use → List Text
 values_of o uses = values (name_of o) uses
 
@@ -144,6 +163,9 @@ budget_of uses = budget_in (values_of Budget uses)
 abbrev pub json_of : List Use → Option Bool
 json_of uses = flag_of (values_of Json uses)
 
+abbrev pub ends_of : List Use → Option Ends
+ends_of uses = ends_in (values_of ends_option uses)
+
 abbrev pub bounds_with : Option ℕ → Option ℕ → Option ℕ → Option Bounds
 bounds_with (Some turns) (Some frames) (Some answers) = Some (record { turns = turns; frames = frames; answers = answers })
 bounds_with _ _ _ = None
@@ -161,13 +183,13 @@ goal_in = number_in 1 10000
 
 -- ---- what the positional words are, with the values of the options
 
-abbrev pub measured : List Text → Option ℕ → Option Bool → Option Asked
-measured (entry ∷ query ∷ inputs ∷ source ∷ sources) (Some steps) (Some json) = Some (measure record { entry = entry; query = query; inputs = inputs; sources = source ∷ sources; steps = steps; json = json })
-measured _ _ _ = None
+abbrev pub measured : List Text → Option ℕ → Option Ends → Option Bool → Option Asked
+measured (entry ∷ query ∷ inputs ∷ source ∷ sources) (Some steps) (Some ends) (Some json) = Some (measure record { entry = entry; query = query; inputs = inputs; sources = source ∷ sources; steps = steps; ends = ends; json = json })
+measured _ _ _ _ = None
 
-abbrev pub generated : List Text → Option Bounds → Option ℕ → Option Bool → Option Asked
-generated (entry ∷ query ∷ source ∷ sources) (Some bounds) (Some budget) (Some json) = Some (generate record { entry = entry; query = query; sources = source ∷ sources; bounds = bounds; budget = budget; json = json })
-generated _ _ _ _ = None
+abbrev pub generated : List Text → Option Bounds → Option Ends → Option ℕ → Option Bool → Option Asked
+generated (entry ∷ query ∷ source ∷ sources) (Some bounds) (Some ends) (Some budget) (Some json) = Some (generate record { entry = entry; query = query; sources = source ∷ sources; bounds = bounds; ends = ends; budget = budget; json = json })
+generated _ _ _ _ _ = None
 
 abbrev pub listed : List Text → Option Asked
 listed (query ∷ source ∷ sources) = Some (goals record { query = query; sources = source ∷ sources })
@@ -177,13 +199,13 @@ abbrev pub run_with : List Text → Option ℕ → Option Asked
 run_with (entry ∷ inputs ∷ source ∷ sources) (Some steps) = Some (runs record { entry = entry; inputs = inputs; sources = source ∷ sources; steps = steps })
 run_with _ _ = None
 
-abbrev pub proved : List Text → Option Bounds → Option ℕ → Option Asked
-proved (entry ∷ query ∷ number ∷ source ∷ sources) (Some bounds) (Some budget) = option_map (λ goal. prove record { entry = entry; query = query; goal = goal; sources = source ∷ sources; bounds = bounds; budget = budget }) (goal_in number)
-proved _ _ _ = None
+abbrev pub proved : List Text → Option Bounds → Option Ends → Option ℕ → Option Asked
+proved (entry ∷ query ∷ number ∷ source ∷ sources) (Some bounds) (Some ends) (Some budget) = option_map (λ goal. prove record { entry = entry; query = query; goal = goal; sources = source ∷ sources; bounds = bounds; ends = ends; budget = budget }) (goal_in number)
+proved _ _ _ _ = None
 
-abbrev pub checked : List Text → Option Bounds → Option Asked
-checked (entry ∷ query ∷ number ∷ certificate ∷ source ∷ sources) (Some bounds) = option_map (λ goal. check record { entry = entry; query = query; goal = goal; certificate = certificate; sources = source ∷ sources; bounds = bounds }) (goal_in number)
-checked _ _ = None
+abbrev pub checked : List Text → Option Bounds → Option Ends → Option Asked
+checked (entry ∷ query ∷ number ∷ certificate ∷ source ∷ sources) (Some bounds) (Some ends) = option_map (λ goal. check record { entry = entry; query = query; goal = goal; certificate = certificate; sources = source ∷ sources; bounds = bounds; ends = ends }) (goal_in number)
+checked _ _ _ = None
 
 abbrev pub sampled : List Text → Option Asked
 sampled (number ∷ []) = option_map sample (number_in 1 200 number)
@@ -195,10 +217,10 @@ abbrev pub positionals_of : List Use → List Text
 positionals_of uses = values positional_id uses
 
 abbrev pub measure_of : List Use → Option Asked
-measure_of uses = measured (positionals_of uses) (steps_of uses) (json_of uses)
+measure_of uses = measured (positionals_of uses) (steps_of uses) (ends_of uses) (json_of uses)
 
 abbrev pub generate_of : List Use → Option Asked
-generate_of uses = generated (positionals_of uses) (bounds_of uses) (budget_of uses) (json_of uses)
+generate_of uses = generated (positionals_of uses) (bounds_of uses) (ends_of uses) (budget_of uses) (json_of uses)
 
 abbrev pub goals_of : List Use → Option Asked
 goals_of uses = listed (positionals_of uses)
@@ -207,10 +229,10 @@ abbrev pub runs_of : List Use → Option Asked
 runs_of uses = run_with (positionals_of uses) (steps_of uses)
 
 abbrev pub prove_of : List Use → Option Asked
-prove_of uses = proved (positionals_of uses) (bounds_of uses) (budget_of uses)
+prove_of uses = proved (positionals_of uses) (bounds_of uses) (ends_of uses) (budget_of uses)
 
 abbrev pub check_of : List Use → Option Asked
-check_of uses = checked (positionals_of uses) (bounds_of uses)
+check_of uses = checked (positionals_of uses) (bounds_of uses) (ends_of uses)
 
 abbrev pub sample_of : List Use → Option Asked
 sample_of uses = sampled (positionals_of uses)
@@ -223,10 +245,10 @@ asked_by f options words = option_and_then f (reading options words None)
 abbrev pub request_of : List Text → Option Asked
 request_of [] = None
 request_of (name ∷ words) =
-    if bytes_eq name (codes "measure") then asked_by measure_of (Steps ∷ Json ∷ []) words else
-    (if bytes_eq name (codes "generate") then asked_by generate_of (Turns ∷ Frames ∷ Answers ∷ Budget ∷ Json ∷ []) words else
+    if bytes_eq name (codes "measure") then asked_by measure_of (Steps ∷ ends_option ∷ Json ∷ []) words else
+    (if bytes_eq name (codes "generate") then asked_by generate_of (Turns ∷ Frames ∷ Answers ∷ ends_option ∷ Budget ∷ Json ∷ []) words else
     (if bytes_eq name (codes "goals") then asked_by goals_of [] words else
     (if bytes_eq name (codes "runs") then asked_by runs_of (Steps ∷ []) words else
-    (if bytes_eq name (codes "prove") then asked_by prove_of (Turns ∷ Frames ∷ Answers ∷ Budget ∷ []) words else
-    (if bytes_eq name (codes "check") then asked_by check_of (Turns ∷ Frames ∷ Answers ∷ []) words else
+    (if bytes_eq name (codes "prove") then asked_by prove_of (Turns ∷ Frames ∷ Answers ∷ ends_option ∷ Budget ∷ []) words else
+    (if bytes_eq name (codes "check") then asked_by check_of (Turns ∷ Frames ∷ Answers ∷ ends_option ∷ []) words else
     (if bytes_eq name (codes "sample") then asked_by sample_of [] words else None))))))

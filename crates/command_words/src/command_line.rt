@@ -8,18 +8,24 @@ ghost use Rattle.command_words.specs.Request.{asked, asked_by, bounds_in, check_
 use crate::CommandOption;
 use crate::matching::{WORDS, matches, values_of};
 use crate::requests::{
-    Bounds, Refused, Request, bounds_given, budget_given, check_with, flag_given, generate_with,
-    goals_with, measure_with, number_given, prove_with, runs_with, sample_with, steps_given,
+    Bounds, Refused, Request, bounds_given, budget_given, check_with, ends_given, flag_given,
+    generate_with, goals_with, measure_with, number_given, prove_with, runs_with, sample_with,
+    steps_given,
 };
 use clap::ArgMatches;
 use std::alloc::{AllocError, Global};
 
-const MEASURE: [CommandOption; 2] = [CommandOption::Steps, CommandOption::Json];
+const MEASURE: [CommandOption; 3] = [
+    CommandOption::Steps,
+    CommandOption::Ends,
+    CommandOption::Json,
+];
 
-const GENERATE: [CommandOption; 5] = [
+const GENERATE: [CommandOption; 6] = [
     CommandOption::Turns,
     CommandOption::Frames,
     CommandOption::Answers,
+    CommandOption::Ends,
     CommandOption::Budget,
     CommandOption::Json,
 ];
@@ -28,17 +34,19 @@ const GOALS: [CommandOption; 0] = [];
 
 const RUNS: [CommandOption; 1] = [CommandOption::Steps];
 
-const PROVE: [CommandOption; 4] = [
+const PROVE: [CommandOption; 5] = [
     CommandOption::Turns,
     CommandOption::Frames,
     CommandOption::Answers,
+    CommandOption::Ends,
     CommandOption::Budget,
 ];
 
-const CHECK: [CommandOption; 3] = [
+const CHECK: [CommandOption; 4] = [
     CommandOption::Turns,
     CommandOption::Frames,
     CommandOption::Answers,
+    CommandOption::Ends,
 ];
 
 const SAMPLE: [CommandOption; 0] = [];
@@ -50,8 +58,15 @@ fn measure<'a>(alloc: Global, words: &'a [String]) -> Result<Request<'a>, Refuse
     let matches = matches(alloc, "measure", &MEASURE, words)?;
     let positionals = values_of(alloc, &matches, WORDS)?;
     let steps = values_of(alloc, &matches, CommandOption::Steps.name())?;
+    let ends = values_of(alloc, &matches, CommandOption::Ends.name())?;
     let json = values_of(alloc, &matches, CommandOption::Json.name())?;
-    measure_with(alloc, &positionals, steps_given(&steps), flag_given(&json))
+    measure_with(
+        alloc,
+        &positionals,
+        steps_given(&steps),
+        ends_given(&ends),
+        flag_given(&json),
+    )
 }
 
 // The bounds that the options give.
@@ -75,12 +90,14 @@ fn generate<'a>(alloc: Global, words: &'a [String]) -> Result<Request<'a>, Refus
     let matches = matches(alloc, "generate", &GENERATE, words)?;
     let positionals = values_of(alloc, &matches, WORDS)?;
     let bounds = bounds(alloc, &matches)?;
+    let ends = values_of(alloc, &matches, CommandOption::Ends.name())?;
     let budget = values_of(alloc, &matches, CommandOption::Budget.name())?;
     let json = values_of(alloc, &matches, CommandOption::Json.name())?;
     generate_with(
         alloc,
         &positionals,
         bounds,
+        ends_given(&ends),
         budget_given(&budget),
         flag_given(&json),
     )
@@ -112,8 +129,15 @@ fn prove<'a>(alloc: Global, words: &'a [String]) -> Result<Request<'a>, Refused>
     let matches = matches(alloc, "prove", &PROVE, words)?;
     let positionals = values_of(alloc, &matches, WORDS)?;
     let bounds = bounds(alloc, &matches)?;
+    let ends = values_of(alloc, &matches, CommandOption::Ends.name())?;
     let budget = values_of(alloc, &matches, CommandOption::Budget.name())?;
-    prove_with(alloc, &positionals, bounds, budget_given(&budget))
+    prove_with(
+        alloc,
+        &positionals,
+        bounds,
+        ends_given(&ends),
+        budget_given(&budget),
+    )
 }
 
 fn check<'a>(alloc: Global, words: &'a [String]) -> Result<Request<'a>, Refused>
@@ -123,7 +147,8 @@ fn check<'a>(alloc: Global, words: &'a [String]) -> Result<Request<'a>, Refused>
     let matches = matches(alloc, "check", &CHECK, words)?;
     let positionals = values_of(alloc, &matches, WORDS)?;
     let bounds = bounds(alloc, &matches)?;
-    check_with(alloc, &positionals, bounds)
+    let ends = values_of(alloc, &matches, CommandOption::Ends.name())?;
+    check_with(alloc, &positionals, bounds, ends_given(&ends))
 }
 
 fn sample<'a>(alloc: Global, words: &'a [String]) -> Result<Request<'a>, Refused>

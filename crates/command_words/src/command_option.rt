@@ -13,6 +13,8 @@ pub enum CommandOption {
     Frames,
     /// The most answers that a run may read.
     Answers,
+    /// The ends of a run that count.
+    Ends,
     /// The moves of a search.
     Budget,
     /// The report is one line of JSON. It takes no value.
@@ -29,6 +31,7 @@ impl CommandOption {
             CommandOption::Turns => "turns",
             CommandOption::Frames => "frames",
             CommandOption::Answers => "answers",
+            CommandOption::Ends => "ends",
             CommandOption::Budget => "budget",
             CommandOption::Json => "json",
         }

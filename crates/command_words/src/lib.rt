@@ -1,6 +1,6 @@
 //! What the words of a command line ask for.
 //!
-//! It stands on `clap` alone. The layer above uses the contract of [`request`]: the command that the words are, with its
+//! It stands on `clap`, and on `c_meaning` for the ends that count. The layer above uses the contract of [`request`]: the command that the words are, with its
 //! numbers and the defaults of options that aren't used (`specs/Request.antt`, `specs/Reading.antt`), and that they are
 //! refused exactly where they are no command; want of memory is the one free answer.
 //!

@@ -2,8 +2,9 @@
 ghost use Rattle.std.specs.Prelude.{◌≡◌, ◌&&◌, nat_le, length, map, IfOk, IsErrOf, None, Some};
 ghost use Rattle.std.specs.Char.{is_ascii_digit};
 ghost use Rattle.std.specs.List.{list_all};
-ghost use Rattle.command_words.specs.Request.{asked, bounds_with, budget_in, checked, flag_of, generated, goal_in, listed, measured, number_in, number_of, proved, run_with, sampled, steps_in};
+ghost use Rattle.command_words.specs.Request.{asked, bounds_with, budget_in, checked, ends_in, ends_named, flag_of, generated, goal_in, listed, measured, number_in, number_of, proved, run_with, sampled, steps_in};
 
+use c_meaning::Ends;
 use std::alloc::{AllocError, Global};
 
 /// Why the words are no request.
@@ -49,6 +50,8 @@ pub struct Measure<'a> {
     pub sources: Vec<&'a str>,
     /// The most edges of a run, 1 to 1,000,000.
     pub steps: u32,
+    /// The ends of a run that count.
+    pub ends: Ends,
     pub json: bool,
 }
 
@@ -61,6 +64,8 @@ pub struct Generate<'a> {
     /// The names of the sources' files, one at least.
     pub sources: Vec<&'a str>,
     pub bounds: Bounds,
+    /// The ends of a run that count.
+    pub ends: Ends,
     /// The moves of each goal's search, 1 to 20,000,000.
     pub budget: u32,
     pub json: bool,
@@ -98,6 +103,8 @@ pub struct Prove<'a> {
     /// The names of the sources' files, one at least.
     pub sources: Vec<&'a str>,
     pub bounds: Bounds,
+    /// The ends of a run that count.
+    pub ends: Ends,
     /// The moves of the search, 1 to 20,000,000.
     pub budget: u32,
 }
@@ -115,6 +122,8 @@ pub struct Check<'a> {
     /// The names of the sources' files, one at least.
     pub sources: Vec<&'a str>,
     pub bounds: Bounds,
+    /// The ends of a run that count.
+    pub ends: Ends,
 }
 
 /// What the words ask for.
@@ -183,6 +192,32 @@ pub fn budget_given(values: &[&str]) -> Option<u32>
     number_given(values, 1, 20_000_000, 5_000_000)
 }
 
+// The ends of this name.
+fn ends_named(text: &str) -> Option<Ends>
+    ensures { result ≡ ends_named text.now }
+{
+    if text == "returned" {
+        Some(Ends::Returned)
+    } else if text == "trapped" {
+        Some(Ends::Trapped)
+    } else if text == "any" {
+        Some(Ends::Any)
+    } else {
+        None
+    }
+}
+
+/// The ends of `--ends`, which may be used once.
+pub fn ends_given(values: &[&str]) -> Option<Ends>
+    ensures { result ≡ ends_in (map (λ v. v.now) values.now) }
+{
+    match values {
+        [] => Some(Ends::Returned),
+        [text] => ends_named(text),
+        _ => None,
+    }
+}
+
 /// Whether a flag is used, which may be used once.
 pub fn flag_given(values: &[&str]) -> Option<bool>
     ensures { result ≡ flag_of (map (λ v. v.now) values.now) }
@@ -213,12 +248,13 @@ pub fn measure_with<'a>(
     alloc: Global,
     positionals: &[&'a str],
     steps: Option<u32>,
+    ends: Option<Ends>,
     json: Option<bool>,
 ) -> Result<Request<'a>, Refused>
-    ensures ok { IfOk result (λ r. measured (map (λ v. v.now) positionals.now) steps json ≡ Some (asked r)) }
-    ensures usage { IsErrOf result Refused.Usage → measured (map (λ v. v.now) positionals.now) steps json ≡ None }
+    ensures ok { IfOk result (λ r. measured (map (λ v. v.now) positionals.now) steps ends json ≡ Some (asked r)) }
+    ensures usage { IsErrOf result Refused.Usage → measured (map (λ v. v.now) positionals.now) steps ends json ≡ None }
 {
-    let (Some(steps), Some(json)) = (steps, json) else {
+    let (Some(steps), Some(ends), Some(json)) = (steps, ends, json) else {
         return Err(Refused::Usage);
     };
     match positionals {
@@ -229,6 +265,7 @@ pub fn measure_with<'a>(
                 inputs: *inputs,
                 sources: sources.to_vec(alloc)?,
                 steps,
+                ends,
                 json,
             },
         )),
@@ -241,13 +278,14 @@ pub fn generate_with<'a>(
     alloc: Global,
     positionals: &[&'a str],
     bounds: Option<Bounds>,
+    ends: Option<Ends>,
     budget: Option<u32>,
     json: Option<bool>,
 ) -> Result<Request<'a>, Refused>
-    ensures ok { IfOk result (λ r. generated (map (λ v. v.now) positionals.now) bounds budget json ≡ Some (asked r)) }
-    ensures usage { IsErrOf result Refused.Usage → generated (map (λ v. v.now) positionals.now) bounds budget json ≡ None }
+    ensures ok { IfOk result (λ r. generated (map (λ v. v.now) positionals.now) bounds ends budget json ≡ Some (asked r)) }
+    ensures usage { IsErrOf result Refused.Usage → generated (map (λ v. v.now) positionals.now) bounds ends budget json ≡ None }
 {
-    let (Some(bounds), Some(budget), Some(json)) = (bounds, budget, json) else {
+    let (Some(bounds), Some(ends), Some(budget), Some(json)) = (bounds, ends, budget, json) else {
         return Err(Refused::Usage);
     };
     match positionals {
@@ -256,6 +294,7 @@ pub fn generate_with<'a>(
             query: *query,
             sources: sources.to_vec(alloc)?,
             bounds,
+            ends,
             budget,
             json,
         })),
@@ -312,12 +351,13 @@ pub fn prove_with<'a>(
     alloc: Global,
     positionals: &[&'a str],
     bounds: Option<Bounds>,
+    ends: Option<Ends>,
     budget: Option<u32>,
 ) -> Result<Request<'a>, Refused>
-    ensures ok { IfOk result (λ r. proved (map (λ v. v.now) positionals.now) bounds budget ≡ Some (asked r)) }
-    ensures usage { IsErrOf result Refused.Usage → proved (map (λ v. v.now) positionals.now) bounds budget ≡ None }
+    ensures ok { IfOk result (λ r. proved (map (λ v. v.now) positionals.now) bounds ends budget ≡ Some (asked r)) }
+    ensures usage { IsErrOf result Refused.Usage → proved (map (λ v. v.now) positionals.now) bounds ends budget ≡ None }
 {
-    let (Some(bounds), Some(budget)) = (bounds, budget) else {
+    let (Some(bounds), Some(ends), Some(budget)) = (bounds, ends, budget) else {
         return Err(Refused::Usage);
     };
     match positionals {
@@ -328,6 +368,7 @@ pub fn prove_with<'a>(
                 goal,
                 sources: sources.to_vec(alloc)?,
                 bounds,
+                ends,
                 budget,
             })),
             None => Err(Refused::Usage),
@@ -341,11 +382,12 @@ pub fn check_with<'a>(
     alloc: Global,
     positionals: &[&'a str],
     bounds: Option<Bounds>,
+    ends: Option<Ends>,
 ) -> Result<Request<'a>, Refused>
-    ensures ok { IfOk result (λ r. checked (map (λ v. v.now) positionals.now) bounds ≡ Some (asked r)) }
-    ensures usage { IsErrOf result Refused.Usage → checked (map (λ v. v.now) positionals.now) bounds ≡ None }
+    ensures ok { IfOk result (λ r. checked (map (λ v. v.now) positionals.now) bounds ends ≡ Some (asked r)) }
+    ensures usage { IsErrOf result Refused.Usage → checked (map (λ v. v.now) positionals.now) bounds ends ≡ None }
 {
-    let Some(bounds) = bounds else {
+    let (Some(bounds), Some(ends)) = (bounds, ends) else {
         return Err(Refused::Usage);
     };
     match positionals {
@@ -358,6 +400,7 @@ pub fn check_with<'a>(
                     certificate: *certificate,
                     sources: sources.to_vec(alloc)?,
                     bounds,
+                    ends,
                 })),
                 None => Err(Refused::Usage),
             }

@@ -1,4 +1,5 @@
 // The words of command lines, and what they ask for.
+use c_meaning::Ends;
 use command_words::{Bounds, Refused, Request, request};
 use std::alloc::Global;
 use std::test::Fail;
@@ -22,20 +23,39 @@ fn show_bounds(alloc: Global, bounds: Bounds) -> Result<String, Fail> {
     Ok(format!(in alloc; "{turns}/{frames}/{answers}")?)
 }
 
+fn show_ends(ends: Ends) -> &'static str {
+    match ends {
+        Ends::Returned => "returned",
+        Ends::Trapped => "trapped",
+        Ends::Any => "any",
+    }
+}
+
 // A request, with the name of its command.
 fn show(alloc: Global, request: &Request) -> Result<String, Fail> {
     let text = match request {
         Request::Measure(m) => {
             format!(in alloc;
-                "measure {} {} {} {:?} {} {}",
-                m.entry, m.query, m.inputs, m.sources, m.steps, m.json
+                "measure {} {} {} {:?} {} {} {}",
+                m.entry,
+                m.query,
+                m.inputs,
+                m.sources,
+                m.steps,
+                show_ends(m.ends),
+                m.json
             )?
         }
         Request::Generate(m) => {
             let bounds = show_bounds(alloc, m.bounds)?;
             format!(in alloc;
-                "generate {} {} {:?} {bounds} {} {}",
-                m.entry, m.query, m.sources, m.budget, m.json
+                "generate {} {} {:?} {bounds} {} {} {}",
+                m.entry,
+                m.query,
+                m.sources,
+                show_ends(m.ends),
+                m.budget,
+                m.json
             )?
         }
         Request::Goals(m) => format!(in alloc; "goals {} {:?}", m.query, m.sources)?,
@@ -45,15 +65,25 @@ fn show(alloc: Global, request: &Request) -> Result<String, Fail> {
         Request::Prove(m) => {
             let bounds = show_bounds(alloc, m.bounds)?;
             format!(in alloc;
-                "prove {} {} {} {:?} {bounds} {}",
-                m.entry, m.query, m.goal, m.sources, m.budget
+                "prove {} {} {} {:?} {bounds} {} {}",
+                m.entry,
+                m.query,
+                m.goal,
+                m.sources,
+                show_ends(m.ends),
+                m.budget
             )?
         }
         Request::Check(m) => {
             let bounds = show_bounds(alloc, m.bounds)?;
             format!(in alloc;
-                "check {} {} {} {} {:?} {bounds}",
-                m.entry, m.query, m.goal, m.certificate, m.sources
+                "check {} {} {} {} {:?} {bounds} {}",
+                m.entry,
+                m.query,
+                m.goal,
+                m.certificate,
+                m.sources,
+                show_ends(m.ends)
             )?
         }
         Request::Sample(size) => format!(in alloc; "sample {size}")?,
@@ -71,43 +101,43 @@ fn answer(alloc: Global, line: &str) -> Result<String, Fail> {
 }
 
 // What lines ask for.
-static ASKED: [(&str, &str); 24] = [
+static ASKED: [(&str, &str); 28] = [
     (
         "measure f q in a.c",
-        "measure f q in [\"a.c\"] 100000 false",
+        "measure f q in [\"a.c\"] 100000 returned false",
     ),
     (
         "measure f q in a.c b.c --steps 7 --json",
-        "measure f q in [\"a.c\", \"b.c\"] 7 true",
+        "measure f q in [\"a.c\", \"b.c\"] 7 returned true",
     ),
     (
         "measure --json f q --steps=1000000 in a.c",
-        "measure f q in [\"a.c\"] 1000000 true",
+        "measure f q in [\"a.c\"] 1000000 returned true",
     ),
     (
         "measure --steps 0000000001 f q in a.c",
-        "measure f q in [\"a.c\"] 1 false",
+        "measure f q in [\"a.c\"] 1 returned false",
     ),
-    ("measure _ _ _ _", "measure    [\"\"] 100000 false"),
+    ("measure _ _ _ _", "measure    [\"\"] 100000 returned false"),
     (
         "measure f q in -- -a.c -- --json",
-        "measure f q in [\"-a.c\", \"--\", \"--json\"] 100000 false",
+        "measure f q in [\"-a.c\", \"--\", \"--json\"] 100000 returned false",
     ),
     (
         "measure f q in a.c --json b.c",
-        "measure f q in [\"a.c\", \"b.c\"] 100000 true",
+        "measure f q in [\"a.c\", \"b.c\"] 100000 returned true",
     ),
     (
         "generate f q a.c",
-        "generate f q [\"a.c\"] 4/8/16 5000000 false",
+        "generate f q [\"a.c\"] 4/8/16 returned 5000000 false",
     ),
     (
         "generate --turns 0 --frames 64 --answers 256 --budget 20000000 --json f q a.c",
-        "generate f q [\"a.c\"] 0/64/256 20000000 true",
+        "generate f q [\"a.c\"] 0/64/256 returned 20000000 true",
     ),
     (
         "generate --turns=1000 --frames=1 --answers=0 --budget=1 f q a.c",
-        "generate f q [\"a.c\"] 1000/1/0 1 false",
+        "generate f q [\"a.c\"] 1000/1/0 returned 1 false",
     ),
     ("goals q a.c b.c", "goals q [\"a.c\", \"b.c\"]"),
     ("goals -- -q --", "goals -q [\"--\"]"),
@@ -115,20 +145,39 @@ static ASKED: [(&str, &str); 24] = [
     ("runs --steps 3 f in a.c", "runs f in [\"a.c\"] 3"),
     (
         "prove f q 10000 a.c",
-        "prove f q 10000 [\"a.c\"] 4/8/16 5000000",
+        "prove f q 10000 [\"a.c\"] 4/8/16 returned 5000000",
     ),
     (
         "prove f q 3 --turns 5 a.c --budget 6",
-        "prove f q 3 [\"a.c\"] 5/8/16 6",
+        "prove f q 3 [\"a.c\"] 5/8/16 returned 6",
     ),
     (
         "prove f q 0000000001 a.c",
-        "prove f q 1 [\"a.c\"] 4/8/16 5000000",
+        "prove f q 1 [\"a.c\"] 4/8/16 returned 5000000",
     ),
-    ("check f q 1 c a.c", "check f q 1 c [\"a.c\"] 4/8/16"),
+    (
+        "check f q 1 c a.c",
+        "check f q 1 c [\"a.c\"] 4/8/16 returned",
+    ),
     (
         "check --answers 2 f q 1 c a.c b.c",
-        "check f q 1 c [\"a.c\", \"b.c\"] 4/8/2",
+        "check f q 1 c [\"a.c\", \"b.c\"] 4/8/2 returned",
+    ),
+    (
+        "measure f q in a.c --ends trapped",
+        "measure f q in [\"a.c\"] 100000 trapped false",
+    ),
+    (
+        "generate --ends=any f q a.c",
+        "generate f q [\"a.c\"] 4/8/16 any 5000000 false",
+    ),
+    (
+        "prove --ends returned f q 1 a.c",
+        "prove f q 1 [\"a.c\"] 4/8/16 returned 5000000",
+    ),
+    (
+        "check f q 1 c a.c --ends any",
+        "check f q 1 c [\"a.c\"] 4/8/16 any",
     ),
     ("sample 1", "sample 1"),
     ("sample 200", "sample 200"),
@@ -138,7 +187,12 @@ static ASKED: [(&str, &str); 24] = [
 ];
 
 // Lines that ask for nothing.
-static REFUSED: [&str; 52] = [
+static REFUSED: [&str; 57] = [
+    "measure f q in a.c --ends",
+    "measure f q in a.c --ends blocked",
+    "measure f q in a.c --ends Returned",
+    "measure f q in a.c --ends any --ends any",
+    "runs f in a.c --ends any",
     "measure f q in",
     "measure f q in --",
     "measure f q in a.c --json --json",

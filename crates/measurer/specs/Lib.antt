@@ -1,4 +1,3 @@
-pub mod Hits
 pub mod Firsts
 pub mod Noted
 pub mod Openings

@@ -5,7 +5,7 @@ ghost use Rattle.patterns.specs.Paths.{IsPath};
 ghost use Rattle.measurer.specs.Firsts.{first_hit, or_none};
 ghost use Rattle.word_index.specs.Numbers.{Adds};
 ghost use Rattle.word_index.specs.Walks.{HasGoalWalk};
-ghost use Rattle.measurer.specs.Hits.{AreHits, HasReturned, HitsNumber, path_in};
+ghost use Rattle.hits.specs.Hits.{AreHits, HitsNumber, path_in};
 ghost use Rattle.measurer.specs.Measured.{HasOtherMatch, IsFor};
 
 use crate::firsts::note;
@@ -15,7 +15,7 @@ use crate::tables::{Tables, tables_of};
 use containers::Vector;
 use fq_core::Memory;
 use goals::Plan;
-use path_runner::{PathRecord, RunEnd};
+use path_runner::{Ends, PathRecord};
 use run_match::RunPath;
 use std::alloc::Global;
 use word_index::Numbers;
@@ -37,7 +37,7 @@ impl Measurer {
     ghost use Rattle.std.specs.Prelude.{◌≡◌, ◌↔◌, ◌⊎◌, [], ◌∷◌, ◌++◌, List, ℕ, true, false, IfOk, OnOk, OnErr, slice_index};
     ghost use Rattle.patterns.specs.Paths.{IsPath};
     ghost use Rattle.measurer.specs.Firsts.{first_hit, or_none};
-    ghost use Rattle.measurer.specs.Hits.{AreHits, path_in};
+    ghost use Rattle.hits.specs.Hits.{AreHits, path_in};
     ghost use Rattle.measurer.specs.Measurers.{IsMadeFor, hits_of};
 
     /// A measurer for the goals of a plan, without runs.
@@ -58,20 +58,20 @@ impl Measurer {
     }
 
     /// Adds a run: appends the list of the goals that it hits, by their numbers from 1, in rising order. The list is empty
-    /// unless the run returned.
+    /// unless the ends count the run's end.
     ///
     /// # Errors
     ///
     /// Want of memory alone. Then the lists of hits are as they were.
-    pub fn add(&mut self, plan: &Plan, run: &PathRecord) -> Result<(), Memory>
+    pub fn add(&mut self, plan: &Plan, run: &PathRecord, ends: Ends) -> Result<(), Memory>
         requires plan { IsMadeFor plan.now self.old }
         requires path { IsPath (path_in run.now) }
         ensures plan { IsMadeFor plan.now self.new }
-        ensures hits { OnOk result ((last : List ℕ) × ((hits_of self.new ≡ hits_of self.old ++ last ∷ []) × AreHits plan.now run.now last)) }
+        ensures hits { OnOk result ((last : List ℕ) × ((hits_of self.new ≡ hits_of self.old ++ last ∷ []) × AreHits plan.now ends run.now last)) }
         ensures refused { OnErr result (hits_of self.new ≡ hits_of self.old) }
     {
         let alloc = self.hits.allocator();
-        gather(alloc, &self.tables, plan, run, &mut self.numbers)?;
+        gather(alloc, &self.tables, plan, run, ends, &mut self.numbers)?;
         let hits = self.numbers.rising(alloc)?;
         note(&mut self.hits, &mut self.firsts, hits)
     }
@@ -91,20 +91,6 @@ impl Measurer {
             Some(0) | None => None,
             Some(number) => Some(number),
         }
-    }
-}
-
-/// Whether a run returned.
-fn has_returned(end: &RunEnd) -> bool
-    ensures yes { result ≡ true → HasReturned end.now }
-    ensures no { result ≡ false → ¬ HasReturned end.now }
-{
-    match end {
-        RunEnd::Returned { .. } => true,
-        RunEnd::Trapped(_) => false,
-        RunEnd::Blocked => false,
-        RunEnd::TooDeep => false,
-        RunEnd::Cut => false,
     }
 }
 
@@ -143,14 +129,15 @@ fn gather(
     tables: &Tables,
     plan: &Plan,
     run: &PathRecord,
+    ends: Ends,
     numbers: &mut Numbers,
 ) -> Result<(), Memory>
     requires plan { IsFor plan.now tables.now }
     requires path { IsPath (path_in run.now) }
-    ensures { OnOk result ((n : ℕ) → Contains numbers.new n ↔ HitsNumber plan.now run.now n) }
+    ensures { OnOk result ((n : ℕ) → Contains numbers.new n ↔ HitsNumber plan.now ends run.now n) }
 {
     numbers.clear();
-    if !has_returned(&run.end) {
+    if !run.end.is_counted(ends) {
         return Ok(());
     }
     let path = path_in(run);

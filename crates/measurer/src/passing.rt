@@ -1,7 +1,7 @@
 // The passing clause.
 ghost use Rattle.std.specs.Prelude.{◌≡◌, ◌↔◌, Option, true, IfOk};
 ghost use Rattle.goals.specs.declared.plan.PassingPattern.{PassingPattern};
-ghost use Rattle.measurer.specs.Hits.{MeetsPassing};
+ghost use Rattle.hits.specs.Hits.{MeetsPassing};
 ghost use Rattle.measurer.specs.Measured.{IsPassingAutomaton};
 
 use automata::Nfa;

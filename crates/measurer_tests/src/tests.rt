@@ -1,7 +1,7 @@
 // Expected hits: by hand, from the edges of the source and the definition of matches.
 ghost use Rattle.std.specs.Prelude.{IsTrue};
 ghost use Rattle.patterns.specs.Paths.{IsPath};
-ghost use Rattle.measurer.specs.Hits.{path_in};
+ghost use Rattle.hits.specs.Hits.{path_in};
 ghost use Rattle.measurer.specs.Measurers.{IsMadeFor};
 
 mod compared;
@@ -12,7 +12,7 @@ mod traced;
 use fq_core::Memory;
 use goals::Plan;
 use measurer::Measurer;
-use path_runner::{PathRecord, RunEnd, Trap};
+use path_runner::{Ends, PathRecord, RunEnd, Trap};
 use plans::{RETURNS, plan, run};
 use std::alloc::Global;
 use std::fmt::Write;
@@ -66,7 +66,7 @@ fn add(measurer: &mut Measurer, plan: &Plan, run: &PathRecord) -> Result<(), Mem
     ensures { IsMadeFor plan.now measurer.new }
 {
     if is_whole(run) {
-        measurer.add(plan, run)?;
+        measurer.add(plan, run, Ends::Returned)?;
     }
     Ok(())
 }
@@ -203,6 +203,37 @@ fn first_runs(rt: HostRuntime) -> Result<(), Fail> {
     assert_eq!(rt; measurer.first(2), Some(2));
     assert_eq!(rt; measurer.first(3), None);
     assert_eq!(rt; measurer.first(5), None);
+    Ok(())
+}
+
+// Whether a run of the first edge and another is counted, where it ends so.
+fn is_counted(alloc: Global, plan: &Plan, end: RunEnd, ends: Ends) -> Result<bool, Fail> {
+    let run = run(alloc, &[0, 3, 1], &[0, 2], &[0, 0, 0], end)?;
+    let mut measurer = Measurer::new(alloc, plan)?;
+    if is_whole(&run) {
+        measurer.add(plan, &run, ends)?;
+    }
+    Ok(measurer.first(1).is_some())
+}
+
+#[test]
+fn ends_that_count(rt: HostRuntime) -> Result<(), Fail> {
+    let alloc = rt.alloc();
+    let plan = plan(alloc, RETURNS, "cover EDGES(ID)")?;
+    for (ends, trapped, blocked) in [
+        (Ends::Returned, false, false),
+        (Ends::Trapped, true, false),
+        (Ends::Any, true, true),
+    ] {
+        assert!(rt; is_counted(alloc, &plan, RunEnd::Returned { value: None }, ends)?);
+        assert_eq!(rt;
+            is_counted(alloc, &plan, RunEnd::Trapped(Trap::Index), ends)?,
+            trapped
+        );
+        assert_eq!(rt; is_counted(alloc, &plan, RunEnd::Blocked, ends)?, blocked);
+        assert_eq!(rt; is_counted(alloc, &plan, RunEnd::TooDeep, ends)?, blocked);
+        assert!(rt; !is_counted(alloc, &plan, RunEnd::Cut, ends)?);
+    }
     Ok(())
 }
 

@@ -3,16 +3,18 @@ use Rattle.std.proofs.Common.{◌≡◌, ℕ, ℤ, pos, negsuc, false, List, [],
 use Rattle.std.specs.Prelude.{Option, None, Some}
 use Rattle.c_values.specs.declared.kinds.Kind.{Kind}
 use Rattle.cfa.specs.declared.parts.GraphParts.{GraphParts}
+use Rattle.c_meaning.specs.declared.ends.Ends.{Ends}
+use Rattle.c_meaning.specs.declared.ends.Ends.TheVariants as counted
 use Rattle.goals.specs.declared.answer.Answer.{Answer}
 use Rattle.goals.specs.declared.answer.Answer.TheVariants as answer
 use Rattle.goals.specs.declared.plan.Plan.{Plan}
 use Rattle.goals.specs.GoalForm.{GoalForm}
 use Rattle.path_runner.specs.declared.path.RunEnd.{RunEnd}
-use Rattle.serde_json.specs.Data.{Data}
+use Rattle.serde_json.specs.Data.{Data, Members}
 use Rattle.serde_json.specs.View.{items_of}
 use Rattle.serde_json.specs.Written.{has_float, items_have_float, members_have_float}
 use Rattle.report.specs.Ends.{end_value, result_kind}
-use Rattle.report.specs.Json.{count_data, end_data, goal_data, goals_data, measured_data, value_member}
+use Rattle.report.specs.Json.{count_data, end_data, goal_data, goals_data, measured_data, value_member, with_ends}
 use Rattle.report.specs.Letters.{word_text}
 
 items_no_float : {X : Type 0} (f : X → Data) → ((x : X) → has_float (f x) ≡ false) → (xs : List X) → items_have_float (items_of (map f xs)) ≡ false
@@ -36,11 +38,15 @@ goals_no_float graph plan (said ∷ answers) [] = refl
 goals_no_float graph plan (said ∷ answers) (goal ∷ goals) =
     rw (goal_no_float said (word_text graph plan goal.word), goals_no_float graph plan answers goals) refl
 
-pub measured_no_float : (graph : GraphParts) (plan : Plan) (entry : ℕ) (ends : List RunEnd) (answers : List Answer) (kept : List ℕ)
-    → has_float (measured_data graph plan entry ends answers kept) ≡ false
-measured_no_float graph plan entry ends answers kept =
-    rw (
-      goals_no_float graph plan answers plan.goals,
-      items_no_float (end_data (result_kind graph entry)) (λ run_end. value_no_float (end_value (result_kind graph entry) run_end)) ends,
-      items_no_float count_data (λ n. refl) kept,
-    ) refl
+ends_no_float : (ends : Ends) (rest : Members) → members_have_float rest ≡ false → members_have_float (with_ends ends rest) ≡ false
+ends_no_float counted.Returned rest none = none
+ends_no_float counted.Trapped rest none = none
+ends_no_float counted.Any rest none = none
+
+pub measured_no_float : (graph : GraphParts) (plan : Plan) (entry : ℕ) (results : List RunEnd) (answers : List Answer) (kept : List ℕ) (ends : Ends)
+    → has_float (measured_data graph plan entry results answers kept ends) ≡ false
+measured_no_float graph plan entry results answers kept ends = ends_no_float ends _ (rw (
+  goals_no_float graph plan answers plan.goals,
+  items_no_float (end_data (result_kind graph entry)) (λ run_end. value_no_float (end_value (result_kind graph entry) run_end)) results,
+  items_no_float count_data (λ n. refl) kept,
+) refl)

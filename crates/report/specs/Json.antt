@@ -3,6 +3,8 @@ use Rattle.std.specs.Prelude.{ℕ, ℤ, List, [], ◌∷◌, ◌++◌, Option, N
 use Rattle.std.specs.Str.{is_utf8}
 use Rattle.c_values.specs.declared.kinds.Kind.{Kind}
 use Rattle.cfa.specs.declared.parts.GraphParts.{GraphParts}
+use Rattle.c_meaning.specs.declared.ends.Ends.{Ends}
+use Rattle.c_meaning.specs.declared.ends.Ends.TheVariants as counted
 use Rattle.goals.specs.declared.answer.Answer.{Answer}
 use Rattle.goals.specs.declared.answer.Answer.TheVariants as answer
 use Rattle.goals.specs.declared.plan.Plan.{Plan}
@@ -56,14 +58,20 @@ goals_data graph plan (said ∷ answers) (goal ∷ goals) =
     goal_data said (word_text graph plan goal.word) ∷ goals_data graph plan answers goals
 goals_data graph plan _ _ = []
 
-abbrev pub measured_data : GraphParts → Plan → ℕ → List RunEnd → List Answer → List ℕ → Data
-measured_data graph plan entry ends answers kept =
+-- before other members, the ends that count, where others than returns do
+abbrev pub with_ends : Ends → Members → Members
+with_ends counted.Returned rest = rest
+with_ends counted.Trapped rest = member (codes "ends") (string (codes "trapped")) rest
+with_ends counted.Any rest = member (codes "ends") (string (codes "any")) rest
+
+abbrev pub measured_data : GraphParts → Plan → ℕ → List RunEnd → List Answer → List ℕ → Ends → Data
+measured_data graph plan entry results answers kept ends =
     object (member (codes "covered") (count_data (covered_count answers))
-    (member (codes "goals") (array (items_of (goals_data graph plan answers plan.goals)))
-    (member (codes "inputs") (array (items_of (map (end_data (result_kind graph entry)) ends)))
-    (member (codes "suite") (array (items_of (map count_data kept))) no_members))))
+    (with_ends ends (member (codes "goals") (array (items_of (goals_data graph plan answers plan.goals)))
+    (member (codes "inputs") (array (items_of (map (end_data (result_kind graph entry)) results)))
+    (member (codes "suite") (array (items_of (map count_data kept))) no_members)))))
 
 -- the line
-abbrev pub measured_json : GraphParts → Plan → ℕ → List RunEnd → List Answer → List ℕ → List ℕ
-measured_json graph plan entry ends answers kept =
-    compact_text (measured_data graph plan entry ends answers kept) ++ codes "\n"
+abbrev pub measured_json : GraphParts → Plan → ℕ → List RunEnd → List Answer → List ℕ → Ends → List ℕ
+measured_json graph plan entry results answers kept ends =
+    compact_text (measured_data graph plan entry results answers kept ends) ++ codes "\n"

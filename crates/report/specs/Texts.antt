@@ -4,6 +4,8 @@ use Rattle.std.specs.Fmt.{decimal}
 use Rattle.std.specs.List.{flat_map}
 use Rattle.c_values.specs.declared.kinds.Kind.{Kind}
 use Rattle.cfa.specs.declared.parts.GraphParts.{GraphParts}
+use Rattle.c_meaning.specs.declared.ends.Ends.{Ends}
+use Rattle.c_meaning.specs.declared.ends.Ends.TheVariants as counted
 use Rattle.goals.specs.declared.answer.Answer.{Answer}
 use Rattle.goals.specs.declared.answer.Answer.TheVariants as answer
 use Rattle.goals.specs.declared.plan.Plan.{Plan}
@@ -78,8 +80,14 @@ runs_text graph entry runs = run_lines (result_kind graph entry) 1 runs
 
 -- ---- what was measured
 
-abbrev pub head_line : ℕ → ℕ → List ℕ
-head_line goals inputs = codes "goals " ++ decimal goals ++ codes " inputs " ++ decimal inputs ++ codes "\n"
+-- the ends that count, where others than returns do
+abbrev pub ends_text : Ends → List ℕ
+ends_text counted.Returned = []
+ends_text counted.Trapped = codes " ends trapped"
+ends_text counted.Any = codes " ends any"
+
+abbrev pub head_line : ℕ → ℕ → Ends → List ℕ
+head_line goals inputs ends = codes "goals " ++ decimal goals ++ codes " inputs " ++ decimal inputs ++ ends_text ends ++ codes "\n"
 
 abbrev pub suite_line : List ℕ → List ℕ
 suite_line kept = codes "suite" ++ spaced kept ++ codes "\n"
@@ -88,11 +96,11 @@ abbrev pub total_line : ℕ → ℕ → List ℕ
 total_line covered goals = codes "covered " ++ decimal covered ++ codes " of " ++ decimal goals ++ codes "\n"
 
 -- What was measured of the goals of a plan, with inputs to this entry: how each input's run ended; the answer of each goal;
--- the inputs that are kept in the reduced suite; how many goals are covered.
-abbrev pub measured_text : GraphParts → Plan → ℕ → List RunEnd → List Answer → List ℕ → List ℕ
-measured_text graph plan entry ends answers kept =
-    head_line (length plan.goals) (length ends)
-    ++ input_lines (result_kind graph entry) 1 ends
+-- the inputs that are kept in the reduced suite; how many goals are covered; the ends that count.
+abbrev pub measured_text : GraphParts → Plan → ℕ → List RunEnd → List Answer → List ℕ → Ends → List ℕ
+measured_text graph plan entry results answers kept ends =
+    head_line (length plan.goals) (length results) ends
+    ++ input_lines (result_kind graph entry) 1 results
     ++ goal_lines graph plan 1 answers plan.goals
     ++ suite_line kept
     ++ total_line (covered_count answers) (length plan.goals)

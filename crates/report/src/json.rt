@@ -16,7 +16,7 @@ use c_values::Kind;
 use cfa::Graph;
 use fq_core::Memory;
 use goals::{Answer, Goal, Plan};
-use path_runner::RunEnd;
+use path_runner::{Ends, RunEnd};
 use serde_json::{Value, json};
 use std::alloc::{AllocError, Global};
 
@@ -116,19 +116,30 @@ fn measured_value(
     results: &[RunEnd],
     answers: &[Answer],
     kept: &[u32],
+    ends: Ends,
 ) -> Result<Value, AllocError>
     requires { length answers.now ≡ length plan.now.goals }
-    ensures { IfOk result (λ value. view value ≡ measured_data graph.now plan.now entry results.now answers.now kept.now) }
+    ensures { IfOk result (λ value. view value ≡ measured_data graph.now plan.now entry results.now answers.now kept.now ends) }
 {
     let covered = Value::from(covered_count(answers));
     let goals = Value::from(goals_value(alloc, graph, plan, answers)?);
     let inputs = Value::from(ends_value(alloc, result_kind(graph, entry), results)?);
     let suite = Value::from(counts_value(alloc, kept)?);
-    json!(in alloc; {"covered": covered, "goals": goals, "inputs": inputs, "suite": suite})
+    match ends {
+        Ends::Returned => {
+            json!(in alloc; {"covered": covered, "goals": goals, "inputs": inputs, "suite": suite})
+        }
+        Ends::Trapped => {
+            json!(in alloc; {"covered": covered, "ends": "trapped", "goals": goals, "inputs": inputs, "suite": suite})
+        }
+        Ends::Any => {
+            json!(in alloc; {"covered": covered, "ends": "any", "goals": goals, "inputs": inputs, "suite": suite})
+        }
+    }
 }
 
 /// What was measured of the goals of a plan over a graph, with inputs to the function of this number, as one line of JSON:
-/// how many goals are `covered`; the `goals`, each with its `answer`, the `input` that covers it and its `text`; the
+/// how many goals are `covered`; the `ends` that count, where others than returns do; the `goals`, each with its `answer`, the `input` that covers it and its `text`; the
 /// `inputs`, each with the `end` of its run and the `value` that it returned; and the inputs that are kept in the reduced
 /// `suite`. There is one answer for each goal.
 pub fn measured_json(
@@ -139,11 +150,12 @@ pub fn measured_json(
     results: &[RunEnd],
     answers: &[Answer],
     kept: &[u32],
+    ends: Ends,
 ) -> Result<Vec<u8>, Memory>
     requires { length answers.now ≡ length plan.now.goals }
-    ensures { IfOk result (λ text. text.items ≡ measured_json graph.now plan.now entry results.now answers.now kept.now) }
+    ensures { IfOk result (λ text. text.items ≡ measured_json graph.now plan.now entry results.now answers.now kept.now ends) }
 {
-    let value = measured_value(alloc, graph, plan, entry, results, answers, kept)?;
+    let value = measured_value(alloc, graph, plan, entry, results, answers, kept, ends)?;
     let mut text = value.to_vec(alloc)?;
     text.extend_from_slice(b"\n")?;
     Ok(text)

@@ -1,6 +1,6 @@
 // The lines of the texts.
 ghost use Rattle.std.specs.Prelude.{◌≡◌, ◌+◌, ◌<◌, ◌^◌, ◌++◌, OnOk, length};
-ghost use Rattle.report.specs.Texts.{answer_text, goal_line, goal_lines, head_line, input_line, input_lines, is_covered, suite_line, total_line};
+ghost use Rattle.report.specs.Texts.{answer_text, ends_text, goal_line, goal_lines, head_line, input_line, input_lines, is_covered, suite_line, total_line};
 
 use crate::ends::push_end;
 use crate::letters::push_word;
@@ -8,17 +8,34 @@ use crate::numbers::{push_number, push_spaced};
 use c_values::Kind;
 use cfa::Graph;
 use goals::{Answer, Goal, Plan};
-use path_runner::RunEnd;
+use path_runner::{Ends, RunEnd};
 use std::alloc::AllocError;
 
-/// Appends the line with the numbers of goals and of inputs.
-pub fn push_head(text: &mut Vec<u8>, goals: usize, inputs: usize) -> Result<(), AllocError>
-    ensures { OnOk result (text.new.items ≡ text.old.items ++ head_line goals inputs) }
+// The ends that count, as the first line tells them.
+fn ends_text(ends: Ends) -> &'static [u8]
+    ensures { result.now ≡ ends_text ends }
+{
+    match ends {
+        Ends::Returned => b"",
+        Ends::Trapped => b" ends trapped",
+        Ends::Any => b" ends any",
+    }
+}
+
+/// Appends the line with the numbers of goals and of inputs, and the ends that count.
+pub fn push_head(
+    text: &mut Vec<u8>,
+    goals: usize,
+    inputs: usize,
+    ends: Ends,
+) -> Result<(), AllocError>
+    ensures { OnOk result (text.new.items ≡ text.old.items ++ head_line goals inputs ends) }
 {
     text.extend_from_slice(b"goals ")?;
     push_number(text, goals)?;
     text.extend_from_slice(b" inputs ")?;
     push_number(text, inputs)?;
+    text.extend_from_slice(ends_text(ends))?;
     text.extend_from_slice(b"\n")?;
     Ok(())
 }

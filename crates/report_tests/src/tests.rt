@@ -4,7 +4,7 @@ use containers::Vector;
 use fq_core::Fault;
 use fql_read::read_query;
 use goals::{Answer, Plan, plan_of};
-use path_runner::RunEnd;
+use path_runner::{Ends, RunEnd};
 use report::{goals_text, measured_json, measured_text, runs_text};
 use std::alloc::{AllocError, Global};
 use std::test::Fail;
@@ -28,13 +28,14 @@ fn measured(
     ends: &[RunEnd],
     answers: &[Answer],
     kept: &[u32],
+    counted: Ends,
 ) -> Result<(Vec<u8>, Vec<u8>), Fault> {
     let plan = plan(alloc, graph, query)?;
     if plan.goals.len() != answers.len() {
         return Err(Fault::Memory);
     }
-    let text = measured_text(alloc, graph, &plan, 0, ends, answers, kept)?;
-    let line = measured_json(alloc, graph, &plan, 0, ends, answers, kept)?;
+    let text = measured_text(alloc, graph, &plan, 0, ends, answers, kept, counted)?;
+    let line = measured_json(alloc, graph, &plan, 0, ends, answers, kept, counted)?;
     Ok((text, line))
 }
 
@@ -51,8 +52,15 @@ fn a_measured_graph(rt: HostRuntime) -> Result<(), Fail> {
         Answer::Covered { input: 2 },
         Answer::Covered { input: 1 },
     ];
-    let Ok((text, line)) = measured(alloc, &graph, "cover EDGES(ID)", &ends, &answers, &[1, 2])
-    else {
+    let Ok((text, line)) = measured(
+        alloc,
+        &graph,
+        "cover EDGES(ID)",
+        &ends,
+        &answers,
+        &[1, 2],
+        Ends::Returned,
+    ) else {
         return Err(Fail::from("no text"));
     };
     assert_eq!(rt;
@@ -74,7 +82,15 @@ covered 4 of 4
         b"{\"covered\":4,\"goals\":[{\"answer\":\"covered\",\"input\":2,\"text\":\"e0@a.c:2\"},{\"answer\":\"covered\",\"input\":1,\"text\":\"e1@a.c:2\"},{\"answer\":\"covered\",\"input\":2,\"text\":\"e2@a.c:3\"},{\"answer\":\"covered\",\"input\":1,\"text\":\"e3@a.c:5\"}],\"inputs\":[{\"end\":\"returned\",\"value\":0},{\"end\":\"returned\",\"value\":1}],\"suite\":[1,2]}\n".as_slice()
     );
     let missed = [Answer::Missed; 4];
-    let Ok((text, _line)) = measured(alloc, &graph, "cover EDGES(ID)", &[], &missed, &[]) else {
+    let Ok((text, _line)) = measured(
+        alloc,
+        &graph,
+        "cover EDGES(ID)",
+        &[],
+        &missed,
+        &[],
+        Ends::Returned,
+    ) else {
         return Err(Fail::from("no text"));
     };
     assert_eq!(rt;
@@ -110,7 +126,15 @@ fn ends_and_answers(rt: HostRuntime) -> Result<(), Fail> {
         RunEnd::Cut,
     ];
     let answers = [Answer::Covered { input: 1 }, Answer::Missed];
-    let Ok((text, line)) = measured(alloc, &graph, "cover NODES(ID)", &ends, &answers, &[1]) else {
+    let Ok((text, line)) = measured(
+        alloc,
+        &graph,
+        "cover NODES(ID)",
+        &ends,
+        &answers,
+        &[1],
+        Ends::Returned,
+    ) else {
         return Err(Fail::from("no text"));
     };
     assert_eq!(rt;
@@ -276,5 +300,42 @@ fn ten_thousand_goals(rt: HostRuntime) -> Result<(), Fail> {
             b"\"text\":\"e9999@l.c:10001\"}],\"inputs\":[{\"end\":\"returned\"}],\"suite\":[1]}\n"
         )
     );
+    Ok(())
+}
+
+#[test]
+fn counted_ends(rt: HostRuntime) -> Result<(), Fail> {
+    let alloc = rt.alloc();
+    let Ok(graph) = graph_of(alloc, b"b.c", "void f(void) {}") else {
+        return Err(Fail::from("no graph"));
+    };
+    let answers = [Answer::Missed, Answer::Missed];
+    let cases: [(Ends, &str, &str); 2] = [
+        (
+            Ends::Trapped,
+            "goals 2 inputs 0 ends trapped\n",
+            "{\"covered\":0,\"ends\":\"trapped\",\"goals\":[",
+        ),
+        (
+            Ends::Any,
+            "goals 2 inputs 0 ends any\n",
+            "{\"covered\":0,\"ends\":\"any\",\"goals\":[",
+        ),
+    ];
+    for (counted, first, front) in cases {
+        let Ok((text, line)) = measured(
+            alloc,
+            &graph,
+            "cover NODES(ID)",
+            &[],
+            &answers,
+            &[],
+            counted,
+        ) else {
+            return Err(Fail::from("no text"));
+        };
+        assert!(rt; text.starts_with(first.as_bytes()), "{first}");
+        assert!(rt; line.starts_with(front.as_bytes()), "{front}");
+    }
     Ok(())
 }

@@ -1,7 +1,7 @@
 use Rattle.std.proofs.Common.{sym, subst, ◌∙◌, ap}
 use Rattle.path_runner.specs.declared.path.PathRecord.{PathRecord}
 use Rattle.patterns.specs.Paths.{IsPath}
-use Rattle.measurer.specs.Hits.{path_in}
+use Rattle.hits.specs.Hits.{path_in}
 use Rattle.command.specs.Runs.{run_of}
 use Rattle.command.proofs.MeasuredLaws.{ends_more, hits_more, run_is_path}
 use Rattle.command.proofs.measurement.measure_all.Goals as goal
@@ -22,5 +22,5 @@ loop-input-preserved c =
       plan = c.in_ok-add.ensures.plan;
       hits =
           hits_more c.args.graph.now c.args.entry.now.function.now c.args.planned.now.predicates c.args.steps c.args.inputs.now c.loop-input.input-index _
-          c.loop-input-test.true c.args.planned.now.plan _ _ c.in_ok-run.run' new.0 new.1.0 is new.1.1 c.loop-input.invariant.hits;
+          c.loop-input-test.true c.args.planned.now.plan c.args.ends _ _ c.in_ok-run.run' new.0 new.1.0 is new.1.1 c.loop-input.invariant.hits;
     }

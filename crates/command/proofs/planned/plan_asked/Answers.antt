@@ -10,4 +10,4 @@ returns-in_err-predicates-clause-refused c = λ bytes asked.
 pub returns-in_err-plan-clause-refused : goal.returns-in_err-plan-clause-refused
 returns-in_err-plan-clause-refused c = λ bytes asked.
     let p = err_from_is_err_and c.from_residual-in_err-plan.result c.from_residual-in_err-plan.ensures.1 in
-    rw (p.1, p.2) (no_plan c.args.graph.now bytes c.args.query.now asked c.in_ok-predicates.predicates c.in_ok-predicates.ensures.outcome c.in_err-plan.field-0.0 c.in_err-plan.ensures)
+    rw (p.1, p.2) (no_plan c.args.graph.now bytes c.args.query.now asked c.in_ok-predicates.predicates c.in_ok-predicates.ensures.outcome c.in_err-plan.field-0.0 c.in_err-plan.ensures.outcome)
