@@ -32,6 +32,7 @@ pub fn enter<T: Truth, S: StepMeaning<T>>(
     requires begin { T.is_bit truth.old begin }
     requires room { HasRoom T.counts_wires (T.wires truth.old + enter_gates (view node.now)) }
     ensures older { Extends T.is_bit T.holds truth.old truth.new }
+    ensures grown { T.grows_to truth.old truth.new }
     ensures used { T.wires truth.new ≤ T.wires truth.old + enter_gates (view node.now) }
     ensures entered { IfOk result (λ end. Entered T.is_bit T.holds truth.old truth.new (λ w. numbered letters.now (told S.edge_tells S.state_tells truth.old step.now w)) (view node.now) guard begin marks.old end marks.new) }
     ensures memory { OnErr result (IsTrue T.may_lack_memory) }

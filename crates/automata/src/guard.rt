@@ -25,6 +25,7 @@ pub fn choose<T: Truth>(
     requires old { T.is_bit truth.old old }
     requires room { HasRoom T.counts_wires (T.wires truth.old + 3) }
     ensures older { Extends T.is_bit T.holds truth.old truth.new }
+    ensures grown { T.grows_to truth.old truth.new }
     ensures used { T.wires truth.new ≤ T.wires truth.old + 3 }
     ensures bit { IfOk result (λ c. T.is_bit truth.new c) }
     ensures value { IfOk result (λ c. (w : World) → T.holds truth.new c w ≡ (if T.holds truth.old guard.taken w then T.holds truth.old new w else T.holds truth.old old w)) }

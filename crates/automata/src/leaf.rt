@@ -30,6 +30,7 @@ pub fn passes<T: Truth, S: StepMeaning<T>>(
     requires fits { S.fits truth.old step.now }
     requires room { HasRoom T.counts_wires (T.wires truth.old + 1) }
     ensures older { Extends T.is_bit T.holds truth.old truth.new }
+    ensures grown { T.grows_to truth.old truth.new }
     ensures used { T.wires truth.new ≤ T.wires truth.old + 1 }
     ensures bit { IfOk result (λ c. T.is_bit truth.new c) }
     ensures value { IfOk result (λ c. (w : World) → T.holds truth.new c w ≡ (T.holds truth.old begin w && S.state_tells truth.old step.now letter.now w)) }
@@ -57,6 +58,7 @@ pub fn pass_leaf<T: Truth, S: StepMeaning<T>>(
     requires fits { S.fits truth.old step.now }
     requires room { HasRoom T.counts_wires (T.wires truth.old + 5) }
     ensures older { Extends T.is_bit T.holds truth.old truth.new }
+    ensures grown { T.grows_to truth.old truth.new }
     ensures used { T.wires truth.new ≤ T.wires truth.old + 5 }
     ensures end_bit { IfOk result (λ p. T.is_bit truth.new p.0) }
     ensures mark_bit { IfOk result (λ p. T.is_bit truth.new p.1) }
@@ -86,6 +88,7 @@ pub fn enter_leaf<T: Truth, S: StepMeaning<T>>(
     requires fits { S.fits truth.old step.now }
     requires room { HasRoom T.counts_wires (T.wires truth.old + 3) }
     ensures older { Extends T.is_bit T.holds truth.old truth.new }
+    ensures grown { T.grows_to truth.old truth.new }
     ensures used { T.wires truth.new ≤ T.wires truth.old + 3 }
     ensures end_bit { IfOk result (λ p. T.is_bit truth.new p.0) }
     ensures mark_bit { IfOk result (λ p. T.is_bit truth.new p.1) }

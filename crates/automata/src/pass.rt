@@ -40,6 +40,7 @@ pub fn pass<T: Truth, S: StepMeaning<T>>(
     requires begin { T.is_bit truth.old begin }
     requires room { HasRoom T.counts_wires (T.wires truth.old + pass_gates (view node.now)) }
     ensures older { Extends T.is_bit T.holds truth.old truth.new }
+    ensures grown { T.grows_to truth.old truth.new }
     ensures used { T.wires truth.new ≤ T.wires truth.old + pass_gates (view node.now) }
     ensures passed { IfOk result (λ end. Passed T.is_bit T.holds truth.old truth.new (λ w. numbered letters.now (told S.edge_tells S.state_tells truth.old step.now w)) (view node.now) guard.taken begin marks.old end marks.new) }
     ensures memory { OnErr result (IsTrue T.may_lack_memory) }

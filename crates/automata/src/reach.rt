@@ -33,6 +33,7 @@ pub fn advance<T: Truth, S: StepMeaning<T>>(
     requires guard { T.is_bit truth.old guard }
     requires room { HasRoom T.counts_wires (T.wires truth.old + gates_of nfa.now) }
     ensures older { Extends T.is_bit T.holds truth.old truth.new }
+    ensures grown { T.grows_to truth.old truth.new }
     ensures used { T.wires truth.new ≤ T.wires truth.old + gates_of nfa.now }
     ensures reach { IsReach T.is_bit T.holds T.may_lack_memory truth.new nfa.now reach.new }
     ensures stands { (path : World → List (Step Letter)) → Stands T.holds truth.old nfa.now reach.old path →
@@ -152,6 +153,7 @@ pub fn begin<T: Truth, S: StepMeaning<T>>(
     requires fits { S.fits truth.old step.now }
     requires room { HasRoom T.counts_wires (T.wires truth.old + gates_of nfa.now) }
     ensures older { Extends T.is_bit T.holds truth.old truth.new }
+    ensures grown { T.grows_to truth.old truth.new }
     ensures used { T.wires truth.new ≤ T.wires truth.old + gates_of nfa.now }
     ensures reach { IfOk result (λ r. IsReach T.is_bit T.holds T.may_lack_memory truth.new nfa.now r) }
     ensures unspent { IfOk result (λ r. ¬ IsSpent r) }

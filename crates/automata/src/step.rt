@@ -28,6 +28,7 @@ pub fn next_hit<T: Truth>(
     requires end { T.is_bit truth.old end }
     requires room { HasRoom T.counts_wires (T.wires truth.old + 4) }
     ensures older { Extends T.is_bit T.holds truth.old truth.new }
+    ensures grown { T.grows_to truth.old truth.new }
     ensures used { T.wires truth.new ≤ T.wires truth.old + 4 }
     ensures bit { IfOk result (λ c. T.is_bit truth.new c) }
     ensures value { IfOk result (λ c. (w : World) → T.holds truth.new c w ≡ (if T.holds truth.old guard.taken w then hit_after last (T.holds truth.old hit w) (T.holds truth.old end w) else T.holds truth.old hit w)) }
@@ -64,6 +65,7 @@ fn pass_unless<T: Truth, S: StepMeaning<T>>(
     requires never { IsTrue rests → (w : World) → T.holds truth.old begin w ≡ false }
     requires room { HasRoom T.counts_wires (T.wires truth.old + pass_gates (view node.now)) }
     ensures older { Extends T.is_bit T.holds truth.old truth.new }
+    ensures grown { T.grows_to truth.old truth.new }
     ensures used { T.wires truth.new ≤ T.wires truth.old + pass_gates (view node.now) }
     ensures passed { IfOk result (λ end. Passed T.is_bit T.holds truth.old truth.new (λ w. numbered letters.now (told S.edge_tells S.state_tells truth.old step.now w)) (view node.now) guard.taken begin marks.old end marks.new) }
     ensures kept { IsTrue rests → marks.new ≡ marks.old }
@@ -105,6 +107,7 @@ pub fn take_step<T: Truth, S: StepMeaning<T>>(
     requires never { IsTrue rests → (w : World) → T.holds truth.old begin w ≡ false }
     requires room { HasRoom T.counts_wires (T.wires truth.old + step_gates (view node.now)) }
     ensures older { Extends T.is_bit T.holds truth.old truth.new }
+    ensures grown { T.grows_to truth.old truth.new }
     ensures used { T.wires truth.new ≤ T.wires truth.old + step_gates (view node.now) }
     ensures bits { OnOk result (All (T.is_bit truth.new) marks.new) }
     ensures idle { IfOk result (λ p. IsNone p.1 → Silent T.holds truth.new marks.new) }

@@ -13,3 +13,7 @@ pub chosen_of_gates : (t y n : Bool) → ((t && y) || (not t && n)) ≡ (if t th
 chosen_of_gates true true n = refl
 chosen_of_gates true false n = refl
 chosen_of_gates false y n = refl
+
+pub chosen_of_one : (t y : Bool) → y ≡ (if t then y else y)
+chosen_of_one true y = refl
+chosen_of_one false y = refl

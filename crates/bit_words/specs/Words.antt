@@ -2,6 +2,7 @@
 use Rattle.std.specs.Prelude.{◌≡◌, ℕ, zero, suc, ◌+◌, ◌^◌, ◌≤◌, Bool, false, if◌then◌else◌, List, length, slice_index_or, All}
 use Rattle.circuit.specs.Truth.{World, Extends}
 use Rattle.circuit.specs.Bits.{at}
+use Rattle.circuit.specs.Growth.{GrowsTo}
 use Rattle.circuit.specs.Wires.{IsWire, lit_holds, input_count}
 use Rattle.circuit.specs.declared.lit.Lit.{Lit}
 use Rattle.circuit.specs.declared.lit.Gate.{Gate}
@@ -34,8 +35,10 @@ pub record IsWord (gates : List Gate) (kind : Kind) (word : List Lit) : Type 0 w
   pub wires : All (IsWire gates) word
   pub values : (w : World) → IsValue kind (word_value gates word w)
 
--- at most so many more wires, no more inputs, and each older literal is a literal still and holds what it held
+-- at most so many more gates, none of them an input, behind the old ones, and each older literal is a literal still and
+-- holds what it held
 pub record Grows (old new : List Gate) (most : ℕ) : Type 0 where
+  pub grown : GrowsTo old new
   pub older : Extends IsWire lit_holds old new
   pub used : length new ≤ length old + most
   pub inputs : input_count new ≡ input_count old

@@ -7,8 +7,8 @@ ghost use Rattle.bit_words.specs.Rows.{xor};
 
 use circuit::{Circuit, Lit, Memory, Truth};
 
-/// A literal that holds where both do. Where one of them is known to hold always it is the other.
-#[tactic(auto, using(crate::proofs::Steps::grows_gate, crate::proofs::Steps::grows_none))]
+/// A literal that holds where both do.
+#[tactic(auto, using(crate::proofs::Steps::grows_gate))]
 pub fn both(circuit: &mut Circuit, a: Lit, b: Lit) -> Result<Lit, Memory>
     requires left { IsWire circuit.old a }
     requires right { IsWire circuit.old b }
@@ -17,12 +17,6 @@ pub fn both(circuit: &mut Circuit, a: Lit, b: Lit) -> Result<Lit, Memory>
     ensures wire { IfOk result (λ c. IsWire circuit.new c) }
     ensures value { IfOk result (λ c. (w : World) → lit_holds circuit.new c w ≡ (lit_holds circuit.old a w && lit_holds circuit.old b w)) }
 {
-    if circuit.is_known_yes(a) {
-        return Ok(b);
-    }
-    if circuit.is_known_yes(b) {
-        return Ok(a);
-    }
     circuit.and(a, b)
 }
 
@@ -90,7 +84,8 @@ pub(crate) fn full_sum(
     Ok((sum, next))
 }
 
-/// The first literal where the test holds, and the second where not.
+/// The first literal where the test holds, and the second where not. It makes no gate where they are one.
+#[tactic(auto, using(crate::proofs::Steps::grows_none, circuit::proofs::GateEquality::same_is, crate::proofs::Truths::chosen_of_one))]
 pub(crate) fn choice(circuit: &mut Circuit, test: Lit, yes: Lit, no: Lit) -> Result<Lit, Memory>
     requires test { IsWire circuit.old test }
     requires left { IsWire circuit.old yes }
@@ -100,6 +95,9 @@ pub(crate) fn choice(circuit: &mut Circuit, test: Lit, yes: Lit, no: Lit) -> Res
     ensures wire { IfOk result (λ c. IsWire circuit.new c) }
     ensures value { IfOk result (λ c. (w : World) → lit_holds circuit.new c w ≡ (if lit_holds circuit.old test w then lit_holds circuit.old yes w else lit_holds circuit.old no w)) }
 {
+    if yes == no {
+        return Ok(yes);
+    }
     let first = both(circuit, test, yes)?;
     let other = inverse(circuit, test)?;
     let second = both(circuit, other, no)?;

@@ -1,17 +1,20 @@
 -- One more gate, and what the wires hold then.
 use Rattle.std.proofs.Common.{subst, ◌≡◌, ℕ, zero, suc, ◌+◌, ◌≤◌, ◌<◌, ◌^◌, Bool, true, false, not, ◌&&◌, ◌||◌, if◌then◌else◌, List, [], ◌∷◌, ◌++◌, length, get_or, take, drop, refl, sym, ◌∙◌, ap, arith, append_assoc, length-append}
 use Rattle.std.proofs.lemmas.List.{append-nil, take_more, take-append-drop, length-take-le}
+use Rattle.std.proofs.lemmas.List.Elements.{All-append, All-take}
+use Rattle.std.specs.List.{All}
 use Rattle.circuit.specs.Truth.{World, Extends, extends_self, extends_again}
 use Rattle.circuit.specs.declared.lit.Lit.{Lit}
 use Rattle.circuit.specs.declared.lit.Gate.{Gate}
 use Rattle.circuit.specs.declared.lit.Gate.TheVariants.{Input, And}
-use Rattle.circuit.specs.Wires.{lit_value, gate_value, held_from, held, lit_holds, IsWire, input_count, PartsUpTo, PartsLieBelow, HasNumber, InputsAreNumbered, IsCircuit}
+use Rattle.circuit.specs.Wires.{lit_value, gate_value, held_from, held, lit_holds, IsWire, input_count, PartsUpTo, PartsLieBelow, HasNumber, InputsAreNumbered, IsReduced, IsCircuit}
+use Rattle.circuit.specs.Growth.{input_count-append}
 
 pub held_more : (below : List Bool) (gates : List Gate) (g : Gate) (w : World) → held_from below (gates ++ g ∷ []) w ≡ held_from below gates w ++ gate_value (held_from below gates w) w g ∷ []
 held_more below [] g w = refl
 held_more below (x ∷ gates) g w = held_more (below ++ gate_value below w x ∷ []) gates g w
 
-length-held_from : (below : List Bool) (gates : List Gate) (w : World) → length (held_from below gates w) ≡ length below + length gates
+pub length-held_from : (below : List Bool) (gates : List Gate) (w : World) → length (held_from below gates w) ≡ length below + length gates
 length-held_from below [] w = omega arith
 length-held_from below (x ∷ gates) w = let e = length-held_from (below ++ gate_value below w x ∷ []) gates w in omega (arith, length-append below (gate_value below w x ∷ []))
 
@@ -20,7 +23,7 @@ index_below [] ys n lt = absurd (omega arith)
 index_below (x ∷ xs) ys zero lt = refl
 index_below (x ∷ xs) ys (suc n) lt = index_below xs ys n (omega arith)
 
-index_last : (xs : List Bool) (y : Bool) (n : ℕ) → n ≡ length xs → get_or (xs ++ y ∷ []) n false ≡ y
+pub index_last : (xs : List Bool) (y : Bool) (n : ℕ) → n ≡ length xs → get_or (xs ++ y ∷ []) n false ≡ y
 index_last [] y zero e = refl
 index_last [] y (suc n) e = absurd (omega arith)
 index_last (x ∷ xs) y zero e = absurd (omega arith)
@@ -106,11 +109,6 @@ pub held_next : (gates : List Gate) (i : ℕ) (d : Gate) (w : World) → i < len
     → held (take (i + 1) gates) w ≡ held (take i gates) w ++ gate_value (held (take i gates) w) w (get_or gates i d) ∷ []
 held_next gates i d w lt = ap (λ gs. held gs w) (take_more gates i d lt) ∙ held_more (true ∷ []) (take i gates) (get_or gates i d) w
 
-input_count-append : (xs ys : List Gate) → input_count (xs ++ ys) ≡ input_count xs + input_count ys
-input_count-append [] ys = omega arith
-input_count-append (Input k ∷ xs) ys = omega (arith, input_count-append xs ys)
-input_count-append (And left right ∷ xs) ys = input_count-append xs ys
-
 numbered_more : (below : ℕ) (gates : List Gate) (g : Gate) → InputsAreNumbered below gates → HasNumber (input_count gates + below) g → InputsAreNumbered below (gates ++ g ∷ [])
 numbered_more below [] g h k = let e : 0 + below ≡ below = omega arith in (subst (λ n. HasNumber n g) e k, tt)
 numbered_more below (Input number ∷ gates) g h k =
@@ -121,15 +119,20 @@ numbered_more below (And left right ∷ gates) g h k =
     (h.0, numbered_more (0 + below) gates g h.1 (subst (λ n. HasNumber n g) e k))
 
 -- one more gate of lower wires, an input with the next number if it is one
-pub circuit_more : (gates : List Gate) (g : Gate) → IsCircuit gates → length gates < 2 ^ 30 → PartsUpTo (length gates) g → HasNumber (input_count gates) g → IsCircuit (gates ++ g ∷ [])
-circuit_more gates g h room parts number =
+pub circuit_more : (gates : List Gate) (g : Gate) → IsCircuit gates → length gates < 2 ^ 30 → PartsUpTo (length gates) g → HasNumber (input_count gates) g → IsReduced g → IsCircuit (gates ++ g ∷ [])
+circuit_more gates g h room parts number reduced =
     let e : 0 + length gates ≡ length gates = omega arith in
     let f : input_count gates + 0 ≡ input_count gates = omega arith in
     record {
       few = omega (arith, length-append gates (g ∷ []));
       below = below_more 0 gates g h.below (subst (λ n. PartsUpTo n g) (sym e) parts);
       numbered = numbered_more 0 gates g h.numbered (subst (λ n. HasNumber n g) (sym f) number);
+      reduced = All-append IsReduced gates (g ∷ []) h.reduced (only g reduced);
     }
+  where
+    only : (x : Gate) → IsReduced x → All IsReduced (x ∷ [])
+    only x here zero d lt = here
+    only x here (suc k) d lt = absurd (omega arith)
 
 below_at : (below : ℕ) (gates : List Gate) (k : ℕ) (d : Gate) → PartsLieBelow below gates → k < length gates → PartsUpTo (k + below) (get_or gates k d)
 below_at below [] k d h lt = absurd (omega arith)
@@ -151,6 +154,7 @@ numbered_at below (g ∷ gates) (suc k) d h lt =
 pub record GateAt (gates : List Gate) (k : ℕ) (g : Gate) : Type 0 where
   pub parts : PartsUpTo k g
   pub number : HasNumber (input_count (take k gates)) g
+  pub reduced : IsReduced g
 
 pub gate_at : (gates : List Gate) (k : ℕ) (d : Gate) → IsCircuit gates → k < length gates → GateAt gates k (get_or gates k d)
 gate_at gates k d h lt =
@@ -159,6 +163,7 @@ gate_at gates k d h lt =
     record {
       parts = subst (λ n. PartsUpTo n (get_or gates k d)) e (below_at 0 gates k d h.below lt);
       number = subst (λ n. HasNumber n (get_or gates k d)) f (numbered_at 0 gates k d h.numbered lt);
+      reduced = h.reduced k d lt;
     }
 
 -- ---- a cut
@@ -171,7 +176,7 @@ numbered_first : (below : ℕ) (xs ys : List Gate) → InputsAreNumbered below (
 numbered_first below [] ys h = tt
 numbered_first below (x ∷ xs) ys h = (h.0, numbered_first (input_count (x ∷ []) + below) xs ys h.1)
 
-extend_by : (gates more : List Gate) → Extends IsWire lit_holds gates (gates ++ more)
+pub extend_by : (gates more : List Gate) → Extends IsWire lit_holds gates (gates ++ more)
 extend_by gates [] = subst (Extends IsWire lit_holds gates) (sym (append-nil gates)) (extends_self gates)
 extend_by gates (g ∷ more) =
     subst (Extends IsWire lit_holds gates) (append_assoc gates (g ∷ []) more)
@@ -195,6 +200,7 @@ after_cut old new wires e h le none =
         few = (let f = h.few in omega arith);
         below = below_first 0 (take wires old) (drop wires old) whole.below;
         numbered = numbered_first 0 (take wires old) (drop wires old) whole.numbered;
+        reduced = All-take IsReduced wires old h.reduced;
       };
       kept = λ l small w. sym (longer.same l (omega arith) w);
       inputs = omega arith;

@@ -1,5 +1,5 @@
 -- What the literals of a circuit hold in a world.
-use Rattle.std.specs.Prelude.{ℕ, suc, ◌≡◌, ◌+◌, ◌≤◌, ◌^◌, Bool, true, false, not, ◌&&◌, if◌then◌else◌, List, [], ◌∷◌, ◌++◌, length, slice_index_or}
+use Rattle.std.specs.Prelude.{ℕ, suc, ◌≡◌, ◌+◌, ◌≤◌, ◌<◌, ◌^◌, Bool, true, false, not, ◌&&◌, if◌then◌else◌, List, [], ◌∷◌, ◌++◌, length, slice_index_or, All}
 use Rattle.circuit.specs.Truth.{World}
 use Rattle.circuit.specs.declared.lit.Lit.{Lit}
 use Rattle.circuit.specs.declared.lit.Gate.{Gate}
@@ -57,8 +57,14 @@ abbrev pub InputsAreNumbered : ℕ → List Gate → Type 0
 InputsAreNumbered below [] = Unit {0}
 InputsAreNumbered below (g ∷ gates) = HasNumber below g × InputsAreNumbered (input_count (g ∷ []) + below) gates
 
--- at most 2^30 gates, each of lower wires, with the inputs numbered in their order
+-- a conjunction is one of two wires that aren't the constant, the lower one first
+abbrev pub IsReduced : Gate → Type 0
+IsReduced (Input number) = Unit {0}
+IsReduced (And left right) = (0 < left.wire) × (left.wire < right.wire)
+
+-- at most 2^30 gates, each of lower wires, with the inputs numbered in their order and the conjunctions reduced
 pub record IsCircuit (gates : List Gate) : Type 0 where
   pub few : length gates ≤ 2 ^ 30
   pub below : PartsLieBelow 0 gates
   pub numbered : InputsAreNumbered 0 gates
+  pub reduced : All IsReduced gates

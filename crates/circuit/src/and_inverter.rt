@@ -1,29 +1,34 @@
-ghost use Rattle.std.specs.Prelude.{◌≡◌, ◌∷◌, [], ◌++◌, ◌+◌, ◌-◌, ◌≤◌, ◌<◌, ◌^◌, ◌&&◌, ◌||◌, List, Bool, true, false, not, length, take, drop, IfOk, OnErr, OnOk, Some, slice_get, slice_index_or};
+ghost use Rattle.std.specs.Prelude.{◌≡◌, ◌∷◌, [], ◌++◌, ◌+◌, ◌-◌, ◌≤◌, ◌<◌, ◌^◌, ◌&&◌, ◌||◌, List, Bool, true, false, not, length, take, drop, IfOk, OnErr, OnOk, None, Ok, Some, slice_get, slice_index_or};
 ghost use Rattle.circuit.specs.Truth.{World, Extends};
-ghost use Rattle.circuit.specs.Wires.{HasNumber, IsWire, PartsUpTo, gate_value, held, input_count, lit_holds, lit_value};
+ghost use Rattle.circuit.specs.Growth.{GrowsTo, grows_to_self, grows_to_again};
+ghost use Rattle.circuit.specs.Sharing.{and_gate, and_lit, folded, gates_with_and, inverse, known_and, lit_of};
+ghost use Rattle.circuit.specs.declared.lit.Gate.TheVariants.{Input};
+ghost use Rattle.circuit.specs.Wires.{HasNumber, IsReduced, IsWire, PartsUpTo, gate_value, held, input_count, lit_holds, lit_value};
 
 use crate::lit::{Gate, Lit};
 use crate::truth::{Memory, Truth};
+use indexmap::IndexSet;
 use std::alloc::Global;
 use std::marker::Model;
 
-/// An and-inverter graph. Contracts see the list of its gates: gate k makes wire k + 1 of wires below.
+/// An and-inverter graph. Contracts see the list of its gates: gate k makes wire k + 1 of wires below. The gates stand in
+/// a hash set in their order, so that a cut forgets those that it drops without memory.
 #[derive(Debug, Drop)]
 pub struct Circuit {
-    gates: Vec<Gate>,
+    gates: IndexSet<Gate>,
     inputs: u32,
 }
 
 impl Model for Circuit {
-    ghost use Rattle.std.specs.Prelude.{◌≡◌, ◌≤◌, ◌^◌, List, length};
+    ghost use Rattle.std.specs.Prelude.{◌≡◌, List};
     ghost use Rattle.circuit.specs.declared.lit.Gate.{Gate};
     ghost use Rattle.circuit.specs.Wires.{IsCircuit, input_count};
 
     ghost Value = { List Gate };
 
-    ghost view = { λ it. it.gates.items };
+    ghost view = { λ it. it.gates.keys };
 
-    ghost invariant = { λ it. (it.inputs ≡ input_count it.gates.items) × IsCircuit it.gates.items };
+    ghost invariant = { λ it. (it.inputs ≡ input_count it.gates.keys) × IsCircuit it.gates.keys };
 }
 
 impl Circuit {
@@ -32,15 +37,16 @@ impl Circuit {
         ensures { result ≡ [] }
     {
         Circuit {
-            gates: Vec::new(alloc),
+            gates: IndexSet::new(alloc),
             inputs: 0,
         }
     }
 
-    /// A new input. In a world it is the value at the place of its number, which counts inputs from 0.
-    #[tactic(auto, using(crate::proofs::Gates::after_gate, crate::proofs::Gates::input_count_more, crate::proofs::Gates::input_count_within, crate::proofs::Gates::circuit_more))]
+    /// A new input, on a wire of its own. In a world it is the value at the place of its number, which counts inputs from 0.
     pub fn input(&mut self) -> Result<Lit, Memory>
         requires room { length self.old < 2 ^ 30 }
+        ensures literal { IfOk result (λ c. c ≡ lit_of (length self.new)) }
+        ensures gates { OnOk result (self.new ≡ self.old ++ Input (input_count self.old) ∷ []) }
         ensures older { Extends IsWire lit_holds self.old self.new }
         ensures used { length self.new ≤ length self.old + 1 }
         ensures bit { IfOk result (λ c. IsWire self.new c) }
@@ -49,12 +55,9 @@ impl Circuit {
         ensures count_kept { OnErr result (self.new ≡ self.old) }
     {
         let number = self.inputs;
-        self.gates.push(Gate::Input { number })?;
+        let _ = self.gates.insert(Gate::Input { number })?;
         self.inputs = number + 1;
-        Ok(Lit {
-            wire: self.gates.len() as u32,
-            negated: false,
-        })
+        Ok(positive(self.gates.len() as u32))
     }
 
     /// What a literal holds in the world of these values. Each wire is computed once.
@@ -65,7 +68,7 @@ impl Circuit {
     {
         let mut wires = Vec::with_capacity(*self.gates.allocator(), self.gates.len() + 1)?;
         wires.push(true)?;
-        for gate in &self.gates {
+        for gate in self.gates.as_slice() {
             wires.push(gate_value(&wires, inputs, *gate))?;
         }
         Ok(lit_value(&wires, lit))
@@ -86,11 +89,12 @@ impl Circuit {
         ensures value { slice_get self.now (wire - 1) ≡ Some result }
         ensures parts { PartsUpTo (wire - 1) result }
         ensures number { HasNumber (input_count (take (wire - 1) self.now)) result }
+        ensures reduced { IsReduced result }
     {
-        self.gates[wire as usize - 1]
+        self.gates.as_slice()[wire as usize - 1]
     }
 
-    /// Drops the wires after this many.
+    /// Drops the wires after this many. It takes no memory.
     #[tactic(auto, using(crate::proofs::Gates::after_cut))]
     pub fn cut(&mut self, wires: u32)
         requires within { wires ≤ length self.old }
@@ -98,24 +102,32 @@ impl Circuit {
         ensures gates { self.new ≡ take wires self.old }
         ensures kept { (l : Lit) → l.wire ≤ wires → (w : World) → lit_holds self.new l w ≡ lit_holds self.old l w }
         ensures inputs { input_count self.new ≡ input_count self.old }
+        ensures back { (old : List Gate) → GrowsTo old self.old → wires ≡ length old → self.new ≡ old }
     {
         self.gates.truncate(wires as usize);
     }
 
-    /// A wire that holds where both literals do.
-    #[tactic(auto, using(crate::proofs::Gates::after_gate, crate::proofs::Gates::input_count_same, crate::proofs::Gates::circuit_more))]
-    fn conjunction(&mut self, left: Lit, right: Lit) -> Result<u32, Memory>
-        requires left { IsWire self.old left }
-        requires right { IsWire self.old right }
+    /// A literal that holds where both do: one that is known already, or that of a new gate (structural hashing).
+    fn conjunction(&mut self, a: Lit, b: Lit) -> Result<Lit, Memory>
+        requires left { IsWire self.old a }
+        requires right { IsWire self.old b }
         requires room { length self.old < 2 ^ 30 }
+        ensures literal { IfOk result (λ c. c ≡ and_lit self.old a b) }
+        ensures gates { OnOk result (self.new ≡ gates_with_and self.old a b) }
+        ensures grown { GrowsTo self.old self.new }
         ensures older { Extends IsWire lit_holds self.old self.new }
         ensures used { length self.new ≤ length self.old + 1 }
-        ensures wire { IfOk result (λ wire. wire ≤ length self.new) }
-        ensures value { IfOk result (λ wire. (w : World) → slice_index_or (held self.new w) wire false ≡ (lit_holds self.old left w && lit_holds self.old right w)) }
+        ensures bit { IfOk result (λ c. IsWire self.new c) }
+        ensures value { IfOk result (λ c. (w : World) → lit_holds self.new c w ≡ (lit_holds self.old a w && lit_holds self.old b w)) }
         ensures inputs { input_count self.new ≡ input_count self.old }
+        ensures kept { OnErr result (self.new ≡ self.old) }
+        ensures refused { OnErr result (known_and self.old a b ≡ None) }
     {
-        self.gates.push(Gate::And { left, right })?;
-        Ok(self.gates.len() as u32)
+        if let Some(known) = folded(a, b) {
+            return Ok(known);
+        }
+        let (place, _) = self.gates.insert_full(and_gate(a, b))?;
+        Ok(positive(place as u32 + 1))
     }
 }
 
@@ -128,9 +140,15 @@ impl Truth for Circuit {
 
     ghost wires = { length };
 
+    ghost grows_to = { GrowsTo };
+
     ghost counts_wires = { true };
 
     ghost may_lack_memory = { true };
+
+    ghost grows_to_self = { grows_to_self };
+
+    ghost grows_to_again = { grows_to_again };
 
     #[tactic(auto, using(crate::proofs::Gates::constant_wire))]
     fn is_known_no(&self, bit: Lit) -> bool {
@@ -156,40 +174,47 @@ impl Truth for Circuit {
         requires left { IsWire self.old a }
         requires right { IsWire self.old b }
         requires room { length self.old < 2 ^ 30 }
+        ensures literal { IfOk result (λ c. c ≡ and_lit self.old a b) }
+        ensures gates { OnOk result (self.new ≡ gates_with_and self.old a b) }
+        ensures kept { OnErr result (self.new ≡ self.old) }
+        ensures refused { OnErr result (known_and self.old a b ≡ None) }
+        ensures grown { GrowsTo self.old self.new }
         ensures older { Extends IsWire lit_holds self.old self.new }
         ensures used { length self.new ≤ length self.old + 1 }
         ensures bit { IfOk result (λ c. IsWire self.new c) }
         ensures value { IfOk result (λ c. (w : World) → lit_holds self.new c w ≡ (lit_holds self.old a w && lit_holds self.old b w)) }
         ensures inputs { input_count self.new ≡ input_count self.old }
     {
-        let wire = self.conjunction(a, b)?;
-        Ok(Lit {
-            wire,
-            negated: false,
-        })
+        self.conjunction(a, b)
     }
 
-    #[tactic(auto, using(crate::proofs::Gates::after_gate, crate::proofs::Gates::neither, crate::proofs::Gates::lit_not))]
+    #[tactic(auto, using(crate::proofs::Gates::neither, crate::proofs::Gates::lit_not))]
     fn or(&mut self, a: Lit, b: Lit) -> Result<Lit, Memory>
         requires left { IsWire self.old a }
         requires right { IsWire self.old b }
         requires room { length self.old < 2 ^ 30 }
+        ensures literal { IfOk result (λ c. c ≡ inverse (and_lit self.old (inverse a) (inverse b))) }
+        ensures gates { OnOk result (self.new ≡ gates_with_and self.old (inverse a) (inverse b)) }
+        ensures kept { OnErr result (self.new ≡ self.old) }
+        ensures refused { OnErr result (known_and self.old (inverse a) (inverse b) ≡ None) }
+        ensures grown { GrowsTo self.old self.new }
         ensures older { Extends IsWire lit_holds self.old self.new }
         ensures used { length self.new ≤ length self.old + 1 }
         ensures bit { IfOk result (λ c. IsWire self.new c) }
         ensures value { IfOk result (λ c. (w : World) → lit_holds self.new c w ≡ (lit_holds self.old a w || lit_holds self.old b w)) }
         ensures inputs { input_count self.new ≡ input_count self.old }
     {
-        let wire = self.conjunction(inverse(a), inverse(b))?;
-        Ok(Lit {
-            wire,
-            negated: true,
-        })
+        let neither = self.conjunction(inverse(a), inverse(b))?;
+        Ok(inverse(neither))
     }
 
+    #[tactic(auto, using(crate::specs::Growth::grows_to_self))]
     fn not(&mut self, a: Lit) -> Result<Lit, Memory>
         requires bit { IsWire self.old a }
         requires room { length self.old < 2 ^ 30 }
+        ensures literal { result ≡ Ok (inverse a) }
+        ensures gates { self.new ≡ self.old }
+        ensures grown { GrowsTo self.old self.new }
         ensures older { Extends IsWire lit_holds self.old self.new }
         ensures used { length self.new ≤ length self.old + 1 }
         ensures bit { IfOk result (λ c. IsWire self.new c) }
@@ -200,14 +225,51 @@ impl Truth for Circuit {
     }
 }
 
+/// The literal of a wire itself.
+fn positive(wire: u32) -> Lit
+    ensures { result ≡ lit_of wire }
+{
+    Lit {
+        wire,
+        negated: false,
+    }
+}
+
 /// The literal of the other sign.
 fn inverse(lit: Lit) -> Lit
-    ensures wire { result.wire ≡ lit.wire }
-    ensures negated { result.negated ≡ not lit.negated }
+    ensures { result ≡ inverse lit }
 {
     Lit {
         wire: lit.wire,
         negated: !lit.negated,
+    }
+}
+
+/// What a conjunction comes to by its parts alone: no where one is no or they are opposite, the other where one is yes, and
+/// either where they are equal.
+fn folded(a: Lit, b: Lit) -> Option<Lit>
+    ensures { result ≡ folded a b }
+{
+    if a == Lit::NO || b == Lit::NO || a == inverse(b) {
+        return Some(Lit::NO);
+    }
+    if a == Lit::YES {
+        return Some(b);
+    }
+    if b == Lit::YES || a == b {
+        return Some(a);
+    }
+    None
+}
+
+/// The gate of two literals, that with the lower wire first.
+fn and_gate(a: Lit, b: Lit) -> Gate
+    ensures { result ≡ and_gate a b }
+{
+    if a.wire < b.wire {
+        Gate::And { left: a, right: b }
+    } else {
+        Gate::And { left: b, right: a }
     }
 }
 

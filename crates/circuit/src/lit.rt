@@ -1,7 +1,7 @@
 ghost use Rattle.std.specs.Prelude.{◌≡◌};
 
 /// A wire of a circuit with a sign. Wire 0 is the constant yes.
-#[derive(Clone, Copy, Debug, PartialEq, Eq, Drop)]
+#[derive(Clone, Copy, Debug, PartialEq, Eq, Hash, Drop)]
 pub struct Lit {
     pub(crate) wire: u32,
     pub(crate) negated: bool,
@@ -36,7 +36,7 @@ impl Lit {
 }
 
 /// What makes a wire.
-#[derive(Clone, Copy, Debug, PartialEq, Eq, Drop)]
+#[derive(Clone, Copy, Debug, PartialEq, Eq, Hash, Drop)]
 pub enum Gate {
     /// The value of the world at this place, from 0, or no past its end.
     Input {

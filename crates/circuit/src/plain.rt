@@ -15,9 +15,15 @@ impl Truth for Plain {
 
     ghost wires = { λ t. 0 };
 
+    ghost grows_to = { λ s t. Unit {0} };
+
     ghost counts_wires = { false };
 
     ghost may_lack_memory = { false };
+
+    ghost grows_to_self = { λ t. tt };
+
+    ghost grows_to_again = { λ s t u h k. tt };
 
     fn is_known_no(&self, bit: bool) -> bool {
         !bit

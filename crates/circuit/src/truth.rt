@@ -23,7 +23,8 @@ impl<T: Drop> From<AllocFailed<T>> for Memory {
 ///
 /// A world is a list of truth values, of any length, and each bit holds in it or not. A gate answers a bit that holds in
 /// every world as its parts do. Every older bit stays one of the truth's bits and keeps what it holds, also where the gate
-/// answers [`Memory`], which it does only where the truth says that it may. A gate uses at most one wire.
+/// answers [`Memory`], which it does only where the truth says that it may. A gate uses at most one wire. Beside what the
+/// older bits hold each truth says how gates make it grow, for whoever knows which truth it is.
 pub trait Truth {
     /// One truth value.
     type Bit: Copy;
@@ -36,6 +37,9 @@ pub trait Truth {
 
     // How many wires are used.
     ghost wires: { Self → ℕ };
+
+    // The old truth, with more gates.
+    ghost grows_to: { Self → Self → Type 0 };
 
     // Whether wires are counted.
     ghost counts_wires: { Bool };
@@ -77,6 +81,7 @@ pub trait Truth {
         requires right { is_bit self.old b }
         requires room { HasRoom counts_wires (wires self.old) }
         ensures older { Extends is_bit holds self.old self.new }
+        ensures grown { grows_to self.old self.new }
         ensures used { wires self.new ≤ wires self.old + 1 }
         ensures bit { IfOk result (λ c. is_bit self.new c) }
         ensures value { IfOk result (λ c. (w : World) → holds self.new c w ≡ (holds self.old a w && holds self.old b w)) }
@@ -88,6 +93,7 @@ pub trait Truth {
         requires right { is_bit self.old b }
         requires room { HasRoom counts_wires (wires self.old) }
         ensures older { Extends is_bit holds self.old self.new }
+        ensures grown { grows_to self.old self.new }
         ensures used { wires self.new ≤ wires self.old + 1 }
         ensures bit { IfOk result (λ c. is_bit self.new c) }
         ensures value { IfOk result (λ c. (w : World) → holds self.new c w ≡ (holds self.old a w || holds self.old b w)) }
@@ -98,8 +104,15 @@ pub trait Truth {
         requires bit { is_bit self.old a }
         requires room { HasRoom counts_wires (wires self.old) }
         ensures older { Extends is_bit holds self.old self.new }
+        ensures grown { grows_to self.old self.new }
         ensures used { wires self.new ≤ wires self.old + 1 }
         ensures bit { IfOk result (λ c. is_bit self.new c) }
         ensures value { IfOk result (λ c. (w : World) → holds self.new c w ≡ not (holds self.old a w)) }
         ensures memory { OnErr result (IsTrue may_lack_memory) };
+
+    // A truth grows to itself.
+    ghost grows_to_self: { (t : Self) → grows_to t t };
+
+    // It grows on from where it grew to.
+    ghost grows_to_again: { (a b c : Self) → grows_to a b → grows_to b c → grows_to a c };
 }
