@@ -30,21 +30,24 @@ pub(crate) enum Round {
     Spent,
 }
 
-// Decides the lowest open variable to be false, where the queue is read.
+// Decides the lowest open variable to be false, where the queue is read. That many variables were known at the last
+// decision.
 fn decide(
     machine: &mut Machine,
     watching: &Watching,
     formula: &Formula,
     budget: u64,
+    known: &mut u32,
 ) -> Result<Round, Memory>
     requires searching { IsSearching formula.now budget machine.old watching.now }
     requires small { formula.now.variables ≤ 2 ^ 30 }
     requires read { length machine.old.trail.items ≤ watching.now.head }
     ensures { IfOk result (IsRound formula.now budget machine.old machine.new watching.now) }
 {
-    match lowest_open(&machine.values, formula.variables) {
+    match lowest_open(&machine.values, *known, formula.variables) {
         None => Ok(Round::Model),
         Some(literal) => {
+            *known = literal.unsigned_abs();
             if machine.moves.len() as u64 >= budget {
                 return Ok(Round::Spent);
             }
@@ -125,21 +128,26 @@ fn learn(
     }
 }
 
-/// One round.
+/// One round. `known` is as many variables as were known, from the first one on, where the last literal was decided; the
+/// next is sought behind them.
 pub(crate) fn next_round(
     alloc: Global,
     machine: &mut Machine,
     watching: &mut Watching,
     formula: &Formula,
     budget: u64,
+    known: &mut u32,
 ) -> Result<Round, Memory>
     requires searching { IsSearching formula.now budget machine.old watching.old }
     requires small { formula.now.variables ≤ 2 ^ 30 }
     ensures { IfOk result (IsRound formula.now budget machine.old machine.new watching.new) }
 {
     match propagate(machine, watching, formula, budget)? {
-        Queue::Read => decide(machine, watching, formula, budget),
-        Queue::Conflict(number) => learn(alloc, machine, watching, formula, number, budget),
+        Queue::Read => decide(machine, watching, formula, budget, known),
+        Queue::Conflict(number) => {
+            *known = 0;
+            learn(alloc, machine, watching, formula, number, budget)
+        }
         Queue::Spent => Ok(Round::Spent),
     }
 }

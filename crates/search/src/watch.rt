@@ -45,8 +45,7 @@ impl Watch for KeepWatch {
         let alloc = self.list.allocator();
         let formula = formula.try_clone(alloc)?;
         let history = history.try_clone(alloc)?;
-        self.list.push((goal, formula, history))?;
-        Ok(())
+        Ok(self.list.push((goal, formula, history))?)
     }
 }
 
