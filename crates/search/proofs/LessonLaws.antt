@@ -105,7 +105,7 @@ nothing_false set xs all = conflict_empties set xs (all_false xs all)
         later false b h = h
 
 -- all literals of a clause but one are false
-lone_remains : (low : ℕ) (set : ℤ → Bool) (xs : List ℤ) (x : ℤ) → RisesFrom low xs → has_literal xs x ≡ true → ((y : ℤ) → has_literal xs y ≡ true → (y ≡ x → ⊥) → set (neg_ℤ y) ≡ true)
+pub lone_remains : (low : ℕ) (set : ℤ → Bool) (xs : List ℤ) (x : ℤ) → RisesFrom low xs → has_literal xs x ≡ true → ((y : ℤ) → has_literal xs y ≡ true → (y ≡ x → ⊥) → set (neg_ℤ y) ≡ true)
     → set (neg_ℤ x) ≡ false → remaining set xs ≡ x ∷ []
 lone_remains low set [] x r here others own = absurd cc
 lone_remains low set (z ∷ zs) x r here others own = by_test (int_eq z x) refl here (lone_remains (literal_key z) set zs x r.2)
@@ -140,6 +140,10 @@ empty_clause : (xs : List ℤ) → ((x : ℤ) → has_literal xs x ≡ true → 
 empty_clause [] none = refl
 empty_clause (x ∷ xs) none = absurd (none x (rw (equal_literal x x refl) refl))
 
+pub lesson_marks : (clauses : List (List ℤ)) (trail : List Entry) (first clause : List ℤ) (set : ℤ → Bool) (steps : List (ℕ × ℤ)) (cut : Option ℕ) → IsBack clauses trail first 0 set steps cut
+    → ((x : ℤ) → has_literal clause x ≡ (set x && is_true trail (neg_ℤ x))) → (x : ℤ) → set x ≡ has_literal clause x
+lesson_marks clauses trail first clause set steps cut b has x = sym (has x ∙ and_both (set x) (is_true trail (neg_ℤ x)) (λ h. true_in_all trail (reach 0 cut) (neg_ℤ x) (b.falses x h)))
+
 pub lesson_is : (clauses : List (List ℤ)) (trail : List Entry) (n conflict : ℕ) (first clause : List ℤ) (set : ℤ → Bool) (steps : List (ℕ × ℤ)) (cut : Option ℕ) → IsTrail n trail
     → numbered clauses conflict ≡ Some first → IsBack clauses trail first 0 set steps cut → IsClause clause → ((x : ℤ) → has_literal clause x ≡ (set x && is_true trail (neg_ℤ x)))
     → IsLesson clauses trail conflict record { line = record { clause = clause; first = conflict; steps = steps }; cut = cut }
@@ -148,6 +152,7 @@ lesson_is clauses trail n conflict first clause set steps cut is named b rises h
   right = rw (named, b.chain) (λ x. sym (same x));
   reasons = b.reasons;
   cut = by_cut cut b.falses b.latest;
+  rises = rises;
 }
   where
     same : (x : ℤ) → has_literal clause x ≡ set x

@@ -30,3 +30,10 @@ pub record IsSameBut (m n : Machine) : Type 0 where
   pub moves : n.moves.items ≡ m.moves.items
   pub places : length n.values.items ≡ length m.values.items
   pub marks : length n.marks.items ≡ length m.marks.items
+
+-- all is the same but the marks of the analysis
+pub record IsSameButMarks (m n : Machine) : Type 0 where
+  pub trail : n.trail ≡ m.trail
+  pub values : n.values ≡ m.values
+  pub learned : n.learned ≡ m.learned
+  pub moves : n.moves ≡ m.moves

@@ -1,4 +1,6 @@
 pub mod At
+pub mod Conflicts
+pub mod Installs
 pub mod Laws
 pub mod Lessons
 pub mod Machine
@@ -6,4 +8,7 @@ pub mod Nexts
 pub mod Sound
 pub mod Statuses
 pub mod Trails
-pub mod Turns
+pub mod Watching
+pub mod Visits
+pub mod Readings
+pub mod Rounds

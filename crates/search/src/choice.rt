@@ -1,5 +1,6 @@
 // Open variables, and models.
-ghost use Rattle.std.specs.Prelude.{◌≡◌, ◌≤◌, ◌<◌, ◌-◌, ◌^◌, ℕ, ℤ, pos, true, false, IfNone, IfOk, IfSome, length, slice_index_or};
+ghost use Rattle.std.specs.Prelude.{◌≡◌, ◌≤◌, ◌<◌, ◌+◌, ◌-◌, ◌*◌, ◌^◌, ℕ, ℤ, pos, true, false, IfNone, IfOk, IfSome, length, slice_index_or};
+ghost use Rattle.cnf.specs.Clauses.{literal_key};
 ghost use Rattle.literal_marks.specs.Marks.{marked};
 ghost use Rattle.literal_marks.specs.declared.places.Places.TheVariants.{ByKey};
 ghost use Rattle.search.specs.Machine.{IsOver, is_open};
@@ -8,13 +9,13 @@ use fq_core::Memory;
 use literal_marks::{Places, is_marked};
 use std::alloc::Global;
 
-/// The negative literal of the lowest open variable of so many.
-pub(crate) fn lowest_open(values: &[bool], variables: u32) -> Option<i32>
+/// The negative literal of the lowest open variable behind the first `known` ones, of so many.
+fn lowest_open_behind(values: &[bool], known: u32, variables: u32) -> Option<i32>
     requires { variables ≤ 2 ^ 30 }
     ensures some { IfSome result (λ x. IsOver variables x × (is_open (marked ByKey values.now) x ≡ true)) }
-    ensures none { IfNone result ((x : ℤ) → IsOver variables x → is_open (marked ByKey values.now) x ≡ false) }
+    ensures none { IfNone result ((x : ℤ) → IsOver variables x → 2 * known + 2 ≤ literal_key x → is_open (marked ByKey values.now) x ≡ false) }
 {
-    for place in 0..variables {
+    for place in known..variables {
         let variable = place as i32 + 1;
         let is_known = is_marked(&Places::ByKey, values, variable)
             || is_marked(&Places::ByKey, values, -variable);
@@ -23,6 +24,18 @@ pub(crate) fn lowest_open(values: &[bool], variables: u32) -> Option<i32>
         }
     }
     None
+}
+
+/// The negative literal of the lowest open variable of so many. The first `known` ones are looked at last.
+pub(crate) fn lowest_open(values: &[bool], known: u32, variables: u32) -> Option<i32>
+    requires { variables ≤ 2 ^ 30 }
+    ensures some { IfSome result (λ x. IsOver variables x × (is_open (marked ByKey values.now) x ≡ true)) }
+    ensures none { IfNone result ((x : ℤ) → IsOver variables x → is_open (marked ByKey values.now) x ≡ false) }
+{
+    match lowest_open_behind(values, known, variables) {
+        Some(literal) => Some(literal),
+        None => lowest_open_behind(values, 0, variables),
+    }
 }
 
 /// The value of each of so many variables.

@@ -39,7 +39,9 @@ pub(crate) fn lesson_of(
     requires small { formula.now.variables ≤ 2 ^ 30 }
     requires size { length marks.old ≡ 2 * formula.now.variables + 2 }
     requires conflict { IsSomeAnd (numbered (all_clauses formula.now learned.now) conflict) (λ clause. is_conflict (is_true trail.now) clause ≡ true) }
-    ensures { IfOk result (IsLesson (all_clauses formula.now learned.now) trail.now conflict) }
+    ensures lesson { IfOk result (IsLesson (all_clauses formula.now learned.now) trail.now conflict) }
+    ensures marks { IfOk result (λ lesson. (x : ℤ) → marked ByKey marks.new x ≡ has_literal lesson.line.clause x) }
+    ensures size { length marks.new ≡ length marks.old }
 {
     clear(marks);
     mark_clause(marks, formula, learned, conflict);

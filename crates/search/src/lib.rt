@@ -3,22 +3,29 @@
 //!
 //! It stands on `cnf` and on `literal_marks`. specs/Machine.antt says what a move is; the laws say that histories end, and
 //! that none stops before.
-//! `search` looks at all clauses before each move. The layers above use what it answers (specs/Nexts.antt), and that `shown`
-//! appends what it is given, and after want of memory nothing.
+//! `search` propagates by two watched literals a clause and a queue (specs/Watching.antt), so that a move costs the watchers
+//! that it visits; all clauses are looked at once before the first move, and once where the budget is spent. The layers above
+//! use what it answers (specs/Nexts.antt), and that `shown` appends what it is given, and after want of memory nothing.
 #![tactic(auto)]
 
 mod choice;
 mod conflict;
 mod found;
+mod installing;
+mod landing;
 pub mod laws;
 mod machine;
 mod moves;
 mod next;
+mod reading;
+mod rounds;
 mod scan;
 mod searching;
 mod status;
 mod trail;
+mod visit;
 mod watch;
+mod watching;
 
 pub use found::Found;
 pub use moves::{History, Move};

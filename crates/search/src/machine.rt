@@ -1,47 +1,44 @@
 // The search machine.
-ghost use Rattle.std.specs.Prelude.{◌≡◌, ◌+◌, ◌<◌, ◌≤◌, ◌^◌, ◌++◌, ◌∷◌, [], ◌||◌, ℤ, true, All, IfOk, IfSome, IsSomeAnd, IsTrue, length, neg_ℤ, slice_get, take};
-ghost use Rattle.std.specs.List.{list_all};
+ghost use Rattle.std.specs.Prelude.{◌≡◌, ◌+◌, ◌<◌, ◌≤◌, ◌^◌, ◌++◌, ◌∷◌, [], ◌||◌, ◌&&◌, ℕ, ℤ, nat_eq, true, not, All, Some, IfOk, OnOk, IfSome, IsSomeAnd, IsTrue, length, take};
+ghost use Rattle.std.specs.List.{IsDistinct};
 ghost use Rattle.std.specs.Ordering.{int_eq};
-ghost use Rattle.cnf.specs.Checks.{numbered};
-ghost use Rattle.cnf.specs.Clauses.{IsLiteral};
+ghost use Rattle.cnf.specs.Checks.{IsRight, numbered};
+ghost use Rattle.cnf.specs.Clauses.{IsLiteral, has_literal};
 ghost use Rattle.literal_marks.specs.Marks.{has_place, marked};
 ghost use Rattle.literal_marks.specs.declared.places.Places.TheVariants.{ByKey};
-ghost use Rattle.search.specs.At.{IsAt, IsSameBut};
+ghost use Rattle.search.specs.At.{IsAt, IsSameBut, IsSameButMarks};
 ghost use Rattle.search.specs.Laws.{IsFormula};
-ghost use Rattle.search.specs.Machine.{IsOver, Moves, is_open, is_true, with_entry};
-ghost use Rattle.search.specs.Nexts.{IsFound, jumped, state_of};
+ghost use Rattle.search.specs.Lessons.{IsLesson};
+ghost use Rattle.search.specs.Machine.{EndsAsModel, IsOver, Moves, clauses_of, is_open, is_true, with_entry};
+ghost use Rattle.search.specs.Nexts.{IsEnd, IsFound, jumped, state_of};
+ghost use Rattle.search.specs.Conflicts.{IsConflicting};
 ghost use Rattle.search.specs.Sound.{Implies, all_clauses};
-ghost use Rattle.search.specs.Turns.{IsTurn};
+ghost use Rattle.search.specs.Trails.{places};
+ghost use Rattle.search.specs.Watching.{IsDecidedAt};
 ghost use Rattle.search.specs.declared.moves.Move.TheVariants as move;
 
 use crate::choice::model;
+use crate::conflict::{Lesson, lesson_of};
 use crate::found::Found;
 use crate::moves::{History, Move};
 use crate::next::{Next, next_of};
 use crate::trail::Entry;
-use cnf::{Derivation, DerivationLine, Formula, negation};
+use cnf::{Derivation, DerivationLine, Formula};
 use containers::{TryClone, Vector};
 use fq_core::Memory;
-use literal_marks::{Places, clear, mark};
+use literal_marks::{Places, mark, unmark};
 use std::alloc::Global;
 
 /// The state of a search, and the moves that led to it.
 #[derive(Debug, Drop)]
 pub(crate) struct Machine {
-    trail: Vec<Entry>,
+    pub trail: Vec<Entry>,
     // The literals on the trail, as marks by key.
-    values: Vec<bool>,
-    learned: Derivation,
-    moves: Vec<Move>,
+    pub values: Vec<bool>,
+    pub learned: Derivation,
+    pub moves: Vec<Move>,
     // A table of marks for the analysis of conflicts.
-    marks: Vec<bool>,
-}
-
-/// What a turn leads to.
-#[derive(Debug, Drop)]
-pub(crate) enum Turn {
-    Went(Machine),
-    Ended(Found),
+    pub marks: Vec<bool>,
 }
 
 impl Machine {
@@ -51,6 +48,8 @@ impl Machine {
         requires small { formula.now.variables ≤ 2 ^ 30 }
         requires few { length formula.now.clauses < 2 ^ 32 }
         ensures at { IfOk result (IsAt formula.now) }
+        ensures trail { IfOk result (λ m. m.trail.items ≡ []) }
+        ensures lines { IfOk result (λ m. length m.learned.lines ≡ 0) }
         ensures moves { IfOk result (λ m. length m.moves.items ≡ 0) }
     {
         let size = 2 * formula.variables as usize + 2;
@@ -67,41 +66,6 @@ impl Machine {
         })
     }
 
-    /// Makes one move, or answers what ends the search.
-    pub fn turn(mut self, alloc: Global, formula: &Formula) -> Result<Turn, Memory>
-        requires at { IsAt formula.now self }
-        requires small { formula.now.variables ≤ 2 ^ 30 }
-        ensures { IfOk result (IsTurn formula.now (length self.moves.items)) }
-    {
-        let next = next_of(
-            alloc,
-            formula,
-            &self.learned,
-            &self.trail,
-            &self.values,
-            &mut self.marks,
-        )?;
-        match next {
-            Next::Model => {
-                let values = model(alloc, &self.values, formula.variables)?;
-                Ok(Turn::Ended(Found::Model(Vector::from_vec(values))))
-            }
-            Next::Refuted(line) => {
-                let derivation = self.refutation(line)?;
-                Ok(Turn::Ended(Found::NoModel(derivation)))
-            }
-            Next::Propagate { clause, literal } => {
-                let made = Move::Propagate { clause };
-                Ok(Turn::Went(self.step(formula, literal, Some(clause), made)?))
-            }
-            Next::Decide { literal } => {
-                let made = Move::Decide { literal };
-                Ok(Turn::Went(self.step(formula, literal, None, made)?))
-            }
-            Next::Jump { line, cut } => Ok(Turn::Went(self.jump(alloc, formula, line, cut)?)),
-        }
-    }
-
     // The learned lines and a last one.
     fn refutation(self, line: DerivationLine) -> Result<Derivation, Memory>
         ensures { IfOk result (λ d. d.lines ≡ self.learned.lines ++ line ∷ []) }
@@ -112,69 +76,75 @@ impl Machine {
     }
 
     // One more literal on the trail.
-    fn with_literal(mut self, literal: i32, reason: Option<u32>) -> Result<Machine, Memory>
-        requires { IsTrue (has_place ByKey (length self.values.items) literal) }
-        ensures trail { IfOk result (λ m. m.trail.items ≡ with_entry self.trail.items literal reason) }
-        ensures values { IfOk result (λ m. (x : ℤ) →
-            marked ByKey m.values.items x ≡ (marked ByKey self.values.items x || int_eq literal x)) }
-        ensures same { IfOk result (IsSameBut self) }
+    fn put(&mut self, literal: i32, reason: Option<u32>) -> Result<(), Memory>
+        requires { IsTrue (has_place ByKey (length self.old.values.items) literal) }
+        ensures trail { OnOk result (self.new.trail.items ≡ with_entry self.old.trail.items literal reason) }
+        ensures values { OnOk result ((x : ℤ) →
+            marked ByKey self.new.values.items x ≡ (marked ByKey self.old.values.items x || int_eq literal x)) }
+        ensures same { OnOk result (IsSameBut self.old self.new) }
     {
         self.trail.push(Entry { literal, reason })?;
         mark(&Places::ByKey, &mut self.values, literal);
-        Ok(self)
+        Ok(())
     }
 
-    // The trail cut before a place.
-    fn cut_before(mut self, cut: usize) -> Machine
-        requires places { list_all (λ e. has_place ByKey (length self.values.items) e.literal) self.trail.items ≡ true }
-        requires literals { All (λ e. IsLiteral e.literal) self.trail.items }
-        ensures trail { result.trail.items ≡ take cut self.trail.items }
-        ensures values { (x : ℤ) → marked ByKey result.values.items x ≡ is_true (take cut self.trail.items) x }
-        ensures same { IsSameBut self result }
+    // Cuts the trail before a place.
+    fn cut_before(&mut self, cut: usize)
+        requires inside { cut ≤ length self.old.trail.items }
+        requires distinct { IsDistinct nat_eq (places self.old.trail.items) }
+        requires literals { All (λ e. IsLiteral e.literal) self.old.trail.items }
+        requires values { (x : ℤ) → marked ByKey self.old.values.items x ≡ is_true self.old.trail.items x }
+        ensures trail { self.new.trail.items ≡ take cut self.old.trail.items }
+        ensures values { (x : ℤ) → marked ByKey self.new.values.items x ≡ is_true (take cut self.old.trail.items) x }
+        ensures same { IsSameBut self.old self.new }
     {
+        unmark_entries(&mut self.values, &self.trail[cut..]);
         self.trail.truncate(cut);
-        mark_trail(&mut self.values, &self.trail);
-        self
     }
 
-    // A move that puts a literal on the trail.
-    fn step(
-        self,
+    /// A move that puts a literal on the trail.
+    pub fn step(
+        &mut self,
         formula: &Formula,
         literal: i32,
         reason: Option<u32>,
         made: Move,
-    ) -> Result<Machine, Memory>
-        requires at { IsAt formula.now self }
+    ) -> Result<(), Memory>
+        requires at { IsAt formula.now self.old }
         requires over { IsOver formula.now.variables literal }
-        requires free { is_open (is_true self.trail.items) literal ≡ true }
-        requires implied { IfSome reason (λ number. IsSomeAnd (numbered (all_clauses formula.now self.learned) number) (Implies self.trail.items literal)) }
-        requires allowed { Moves formula.now (state_of self.trail.items self.learned) made
-            record { trail = with_entry self.trail.items literal reason; learned = self.learned.lines } }
-        ensures at { IfOk result (IsAt formula.now) }
-        ensures moves { IfOk result (λ m. length m.moves.items ≡ length self.moves.items + 1) }
+        requires free { is_open (is_true self.old.trail.items) literal ≡ true }
+        requires implied { IfSome reason (λ number. IsSomeAnd (numbered (all_clauses formula.now self.old.learned) number) (Implies self.old.trail.items literal)) }
+        requires allowed { Moves formula.now (state_of self.old.trail.items self.old.learned) made
+            record { trail = with_entry self.old.trail.items literal reason; learned = self.old.learned.lines } }
+        ensures at { OnOk result (IsAt formula.now self.new) }
+        ensures trail { OnOk result (self.new.trail.items ≡ with_entry self.old.trail.items literal reason) }
+        ensures learned { OnOk result (self.new.learned ≡ self.old.learned) }
+        ensures moves { OnOk result (length self.new.moves.items ≡ length self.old.moves.items + 1) }
     {
-        let mut machine = self.with_literal(literal, reason)?;
-        machine.moves.push(made)?;
-        Ok(machine)
+        self.put(literal, reason)?;
+        self.moves.push(made)?;
+        Ok(())
     }
 
-    // A jump: the trail is cut before a decided literal, a line is learned, and the negation is put on the trail.
-    fn jump(
-        mut self,
+    /// A jump: the trail is cut before a decided literal, a line is learned, and its one open literal is put on the trail.
+    pub fn jump(
+        &mut self,
         alloc: Global,
         formula: &Formula,
         line: DerivationLine,
         cut: usize,
-    ) -> Result<Machine, Memory>
-        requires at { IsAt formula.now self }
+        literal: i32,
+    ) -> Result<(), Memory>
+        requires at { IsAt formula.now self.old }
         requires small { formula.now.variables ≤ 2 ^ 30 }
-        requires allowed { IsSomeAnd (slice_get self.trail.items cut) (λ e. Moves formula.now (state_of self.trail.items self.learned) (move.Jump line cut)
-            (jumped formula.now (state_of self.trail.items self.learned) line cut (neg_ℤ e.literal))) }
-        ensures at { IfOk result (IsAt formula.now) }
-        ensures moves { IfOk result (λ m. length m.moves.items ≡ length self.moves.items + 1) }
+        requires over { IsOver formula.now.variables literal }
+        requires allowed { Moves formula.now (state_of self.old.trail.items self.old.learned) (move.Jump line cut)
+            (jumped formula.now (state_of self.old.trail.items self.old.learned) line cut literal) }
+        ensures at { OnOk result (IsAt formula.now self.new) }
+        ensures trail { OnOk result (self.new.trail.items ≡ with_entry (take cut self.old.trail.items) literal (Some (length formula.now.clauses + length self.old.learned.lines + 1))) }
+        ensures learned { OnOk result (self.new.learned ≡ record { lines = self.old.learned.lines ++ line ∷ [] }) }
+        ensures moves { OnOk result (length self.new.moves.items ≡ length self.old.moves.items + 1) }
     {
-        let literal = negation(self.trail[cut].literal);
         let number = formula.clauses.len() + self.learned.lines.len() + 1;
         if number >= 0x1_0000_0000 {
             return Err(Memory);
@@ -184,14 +154,79 @@ impl Machine {
             cut: cut as u32,
         };
         self.learned.lines.push(line)?;
-        let mut machine = self
-            .cut_before(cut)
-            .with_literal(literal, Some(number as u32))?;
-        machine.moves.push(made)?;
-        Ok(machine)
+        self.cut_before(cut);
+        self.put(literal, Some(number as u32))?;
+        self.moves.push(made)?;
+        Ok(())
     }
 
-    /// What a search answers when no move is left.
+    /// What a clause that is false teaches.
+    pub fn analyze(
+        &mut self,
+        alloc: Global,
+        formula: &Formula,
+        conflict: u32,
+    ) -> Result<Lesson, Memory>
+        requires at { IsAt formula.now self.old }
+        requires small { formula.now.variables ≤ 2 ^ 30 }
+        requires conflict { IsConflicting formula.now self.old conflict }
+        ensures at { IsAt formula.now self.new }
+        ensures same { IsSameButMarks self.old self.new }
+        ensures lesson { IfOk result (IsLesson (all_clauses formula.now self.old.learned) self.old.trail.items conflict) }
+        ensures marks { IfOk result (λ lesson. (x : ℤ) → marked ByKey self.new.marks.items x ≡ has_literal lesson.line.clause x) }
+    {
+        lesson_of(
+            alloc,
+            &mut self.marks,
+            formula,
+            &self.learned,
+            &self.trail,
+            conflict,
+        )
+    }
+
+    /// What a search answers where all variables stand on the trail.
+    pub fn satisfied(self, alloc: Global, formula: &Formula) -> Result<Found, Memory>
+        requires at { IsAt formula.now self }
+        requires small { formula.now.variables ≤ 2 ^ 30 }
+        requires ends { EndsAsModel formula.now (state_of self.trail.items self.learned) }
+        ensures { IfOk result (IsEnd formula.now 0) }
+    {
+        let values = model(alloc, &self.values, formula.variables)?;
+        Ok(Found::Model(Vector::from_vec(values)))
+    }
+
+    /// What a search answers where a line has the empty clause.
+    pub fn refuted(self, formula: &Formula, line: DerivationLine) -> Result<Found, Memory>
+        requires at { IsAt formula.now self }
+        requires right { IsRight (clauses_of formula.now (state_of self.trail.items self.learned)) line }
+        requires empty { line.clause ≡ [] }
+        ensures { IfOk result (IsEnd formula.now (length self.moves.items)) }
+    {
+        Ok(Found::NoModel(self.refutation(line)?))
+    }
+
+    /// What a search answers where a clause is false, and nothing was decided.
+    pub fn contradicted(
+        mut self,
+        alloc: Global,
+        formula: &Formula,
+        conflict: u32,
+    ) -> Result<Found, Memory>
+        requires small { formula.now.variables ≤ 2 ^ 30 }
+        requires at { IsAt formula.now self }
+        requires conflict { IsConflicting formula.now self conflict }
+        requires undecided { (d : ℕ) → IsDecidedAt self.trail.items d → ⊥ }
+        ensures { IfOk result (IsEnd formula.now (length self.moves.items)) }
+    {
+        let lesson = self.analyze(alloc, formula, conflict)?;
+        match lesson.cut {
+            None => self.refuted(formula, lesson.line),
+            Some(_) => unreachable!(),
+        }
+    }
+
+    /// What a search answers when the budget is spent.
     pub fn end(mut self, alloc: Global, formula: &Formula) -> Result<Found, Memory>
         requires at { IsAt formula.now self }
         requires small { formula.now.variables ≤ 2 ^ 30 }
@@ -218,14 +253,12 @@ impl Machine {
     }
 }
 
-// Marks the literals of a trail, and no others.
-fn mark_trail(values: &mut [bool], trail: &[Entry])
-    requires places { list_all (λ e. has_place ByKey (length values.old) e.literal) trail.now ≡ true }
-    requires literals { All (λ e. IsLiteral e.literal) trail.now }
-    ensures { (x : ℤ) → marked ByKey values.new x ≡ is_true trail.now x }
+// Takes the marks of entries' literals away.
+fn unmark_entries(values: &mut [bool], entries: &[Entry])
+    requires { All (λ e. IsLiteral e.literal) entries.now }
+    ensures { (x : ℤ) → marked ByKey values.new x ≡ (marked ByKey values.old x && not (is_true entries.now x)) }
 {
-    clear(values);
-    for entry in trail {
-        mark(&Places::ByKey, values, entry.literal);
+    for entry in entries {
+        unmark(&Places::ByKey, values, entry.literal);
     }
 }

@@ -51,7 +51,7 @@ pub(crate) fn next_of(
             }
         }
         Scan::Unit { clause, literal } => Ok(Next::Propagate { clause, literal }),
-        Scan::Neither => match lowest_open(values, formula.variables) {
+        Scan::Neither => match lowest_open(values, 0, formula.variables) {
             None => Ok(Next::Model),
             Some(literal) => Ok(Next::Decide { literal }),
         },

@@ -4,7 +4,10 @@ ghost use Rattle.search.specs.Laws.{IsFormula};
 ghost use Rattle.search.specs.Nexts.{IsFound};
 
 use crate::found::Found;
-use crate::machine::{Machine, Turn};
+use crate::installing::{install_all, nothing_watched};
+use crate::machine::Machine;
+use crate::reading::Queue;
+use crate::rounds::{Round, next_round};
 use cnf::Formula;
 use fq_core::Memory;
 use std::alloc::Global;
@@ -21,11 +24,27 @@ pub fn search(alloc: Global, formula: &Formula, budget: u64) -> Result<Found, Me
         return Err(Memory);
     }
     let mut machine = Machine::new(alloc, formula)?;
+    let mut watching = nothing_watched(alloc, formula.variables)?;
+    match install_all(&mut machine, &mut watching, formula, budget)? {
+        Queue::Read => {}
+        Queue::Conflict(number) => return machine.contradicted(alloc, formula, number),
+        Queue::Spent => return machine.end(alloc, formula),
+    }
+    let mut known = 0;
     for _ in 0..budget {
-        machine = match machine.turn(alloc, formula)? {
-            Turn::Went(next) => next,
-            Turn::Ended(found) => return Ok(found),
-        };
+        match next_round(
+            alloc,
+            &mut machine,
+            &mut watching,
+            formula,
+            budget,
+            &mut known,
+        )? {
+            Round::Went => {}
+            Round::Model => return machine.satisfied(alloc, formula),
+            Round::Refuted(line) => return machine.refuted(formula, line),
+            Round::Spent => return machine.end(alloc, formula),
+        }
     }
     machine.end(alloc, formula)
 }

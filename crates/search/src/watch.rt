@@ -1,5 +1,5 @@
 // Who is shown the histories of searches that spent their budget.
-ghost use Rattle.std.specs.Prelude.{◌≡◌, ◌++◌, ◌∷◌, [], ℕ, List, Option, None, Some, OnOk, OnErr};
+ghost use Rattle.std.specs.Prelude.{◌≡◌, ◌++◌, ◌∷◌, [], ℕ, List, Option, None, Some, IsOk, OnOk, OnErr};
 ghost use Rattle.std.specs.Option.{option_map};
 ghost use Rattle.cnf.specs.declared.formula.Formula.{Formula as FormulaValue};
 ghost use Rattle.search.specs.declared.moves.History.{History as HistoryValue};
@@ -45,8 +45,7 @@ impl Watch for KeepWatch {
         let alloc = self.list.allocator();
         let formula = formula.try_clone(alloc)?;
         let history = history.try_clone(alloc)?;
-        self.list.push((goal, formula, history))?;
-        Ok(())
+        Ok(self.list.push((goal, formula, history))?)
     }
 }
 
@@ -57,7 +56,10 @@ pub struct NoWatch;
 impl Watch for NoWatch {
     ghost seen = { λ _. None };
 
-    fn shown(&mut self, _goal: u32, _formula: &Formula, _history: &History) -> Result<(), Memory> {
+    // What the trait says of what was seen holds, since nothing is told.
+    fn shown(&mut self, _goal: u32, _formula: &Formula, _history: &History) -> Result<(), Memory>
+        ensures { IsOk result }
+    {
         Ok(())
     }
 }

@@ -58,7 +58,7 @@ fn worked_formulas(rt: HostRuntime) {
     let alloc = rt.alloc();
     let square = [[1, 2].as_slice(), &[-1, 2], &[1, -2], &[-1, -2]];
     for (variables, clauses, budget, want) in [
-        // -1 is decided; 3 gives -2, and 1 is false: 1 is learned, before which the trail is cut; 4 gives -2, and 2 is false.
+        // -1 is decided; 1 gives 2, and 3 is false: 1 is learned, before which the trail is cut; 2 gives 2, and 4 is false.
         (2, square.as_slice(), 3, Answer::Spent { moves: 3 }),
         (2, &square, 4, Answer::NoModel { lines: 2 }),
         (2, &square, 9, Answer::NoModel { lines: 2 }),
@@ -239,6 +239,31 @@ fn large_formulas(rt: HostRuntime) {
         answered(&rt, alloc, &long, 1999),
         Answer::Spent { moves: 1999 }
     );
+}
+
+// A chain of 400,000 implications, each clause before the one that propagates first.
+#[test]
+fn long_chain(rt: HostRuntime) {
+    let alloc = rt.alloc();
+    let count = 400_000i32;
+    let mut chain = without_clauses(alloc, count.unsigned_abs());
+    for place in 1..count {
+        let last = count.saturating_sub(place);
+        add(
+            &rt,
+            alloc,
+            &mut chain,
+            &[last.saturating_neg(), last.saturating_add(1)],
+        );
+    }
+    add(&rt, alloc, &mut chain, &[1]);
+    match found(&rt, alloc, &chain, 400_000) {
+        Found::Model(values) => {
+            assert_eq!(rt; values.len(), 400_000);
+            assert!(rt; values.iter().all(|value| *value));
+        }
+        _ => assert!(rt; false, "another answer"),
+    }
 }
 
 // Shows a watch two goals.

@@ -21,7 +21,7 @@ pub returns-in-Some : goal.returns-in-Some
 returns-in-Some c =
     let same : marked ByKey c.args.values.now ≡ is_true c.args.trail.now = λ i x. c.requires.values x i in
     let conflict = subst (λ set. IsScan set (all_clauses c.args.formula.now c.args.learned.now) (scan.Conflict c.in-Conflict.number)) same c.in-Conflict.ensures in
-    next_jump c.args.formula.now c.args.learned.now c.args.trail.now c.in-Conflict.number c.in-Some.cut c.in_ok-lesson-in-Conflict.lesson conflict c.in_ok-lesson-in-Conflict.ensures c.in-Some.is
+    next_jump c.args.formula.now c.args.learned.now c.args.trail.now c.in-Conflict.number c.in-Some.cut c.in_ok-lesson-in-Conflict.lesson conflict c.in_ok-lesson-in-Conflict.ensures.lesson c.in-Some.is
 
 pub returns-in-Unit : goal.returns-in-Unit
 returns-in-Unit c =

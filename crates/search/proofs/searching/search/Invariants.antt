@@ -1,9 +1,9 @@
-use Rattle.std.proofs.Common.{◌≡◌, length}
-use Rattle.search.specs.At.{IsAt}
+use Rattle.std.proofs.Common.{◌≤◌, length}
+use Rattle.search.specs.Readings.{IsSearching}
 use Rattle.search.proofs.searching.search.Given as goal
 
 abbrev pub invariant-loop : goal.invariant-loop
 invariant-loop l = record {
-  at : IsAt l.formula l.machine;
-  count : length l.machine.moves.items ≡ l.counter;
+  searching : IsSearching l.formula l.budget l.machine l.watching;
+  count : l.counter ≤ length l.machine.moves.items;
 }

@@ -1,14 +1,12 @@
-use Rattle.std.proofs.Common.{length}
-use Rattle.literal_marks.specs.Marks.{has_place}
-use Rattle.literal_marks.specs.declared.places.Places.TheVariants.{ByKey}
-use Rattle.search.proofs.TurnLaws.{literals_taken, places_taken}
+use Rattle.std.proofs.Common.{◌≡◌, ◌∙◌, ◌++◌, length, take, drop, arith}
+use Rattle.search.proofs.CutLaws.{cut_values, take_whole}
 use Rattle.search.proofs.machine.Machine.cut_before.Goals as goal
 
-pub mark_trail-requires-clause-places : goal.mark_trail-requires-clause-places
-mark_trail-requires-clause-places c =
-    rw (c.deref_mut.ensures.value, c.deref.ensures.value, c.truncate.ensures.items)
-    (places_taken (λ e. has_place ByKey (length c.args.self.values.items) e.literal) c.args.self.trail.items c.args.cut c.requires.places)
-
-pub mark_trail-requires-clause-literals : goal.mark_trail-requires-clause-literals
-mark_trail-requires-clause-literals c =
-    rw (c.deref.ensures.value, c.truncate.ensures.items) (literals_taken c.args.self.trail.items c.args.cut c.requires.literals)
+pub returns-clause-values : goal.returns-clause-values
+returns-clause-values c =
+    let before = c.deref_mut.ensures.len in
+    let kept = c.unmark_entries.auto.values in
+    let same : take c.args.self.now.values.len (c.unmark_entries.new.values ++ drop (length c.unmark_entries.new.values) c.args.self.now.values.items) ≡ c.unmark_entries.new.values =
+    take_whole c.unmark_entries.new.values _ c.args.self.now.values.len (omega (arith, before, kept)) in
+    let gives = rw (c.deref.ensures.value, c.deref_mut.ensures.value) at c.unmark_entries.ensures in
+    λ x. rw same (gives x ∙ cut_values c.args.self.now.trail.items c.args.cut x _ c.requires.distinct (c.requires.values x))

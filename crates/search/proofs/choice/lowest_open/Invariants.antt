@@ -1,8 +1,0 @@
-use Rattle.std.proofs.Common.{◌≡◌, ℤ, false}
-use Rattle.literal_marks.specs.Marks.{marked}
-use Rattle.literal_marks.specs.declared.places.Places.TheVariants.{ByKey}
-use Rattle.search.specs.Machine.{IsOver, is_open}
-use Rattle.search.proofs.choice.lowest_open.Given as goal
-
-abbrev pub invariant-loop-place : goal.invariant-loop-place
-invariant-loop-place l = (x : ℤ) → IsOver l.place x → is_open (marked ByKey l.values) x ≡ false

@@ -1,0 +1,54 @@
+// Where a jump lands.
+ghost use Rattle.std.specs.Prelude.{◌≡◌, ◌≤◌, ◌^◌, ℕ, ℤ, Some, IsSomeAnd, neg_ℤ, slice_get, take};
+ghost use Rattle.literal_marks.specs.Marks.{marked};
+ghost use Rattle.literal_marks.specs.declared.places.Places.TheVariants.{ByKey};
+ghost use Rattle.search.specs.Lessons.{AreFalseBut, IsLanding};
+ghost use Rattle.search.specs.Trails.{IsTrail};
+ghost use Rattle.search.specs.Watching.{IsDecidedAt};
+
+use crate::trail::Entry;
+use cnf::negation;
+use literal_marks::{Places, is_marked};
+
+/// The place of the decided literal before which the trail is cut, and the literal of the learned clause that became
+/// false last but one, if it has two.
+#[derive(Clone, Copy, Debug)]
+pub(crate) struct Landing {
+    pub cut: usize,
+    pub other: Option<i32>,
+}
+
+/// The earliest decision before which all marked literals but one are false, by the place of a decision before which they
+/// are, and whose literal's negation is that one.
+pub(crate) fn landing_of(
+    marks: &[bool],
+    trail: &[Entry],
+    variables: u32,
+    place: usize,
+    literal: i32,
+) -> Landing
+    requires kept { IsTrail variables trail.now }
+    requires small { variables ≤ 2 ^ 30 }
+    requires decided { IsDecidedAt trail.now place }
+    requires literal { IsSomeAnd (slice_get trail.now place) (λ e. neg_ℤ e.literal ≡ literal) }
+    requires falses { AreFalseBut (take place trail.now) (marked ByKey marks.now) literal }
+    ensures { IsLanding trail.now (marked ByKey marks.now) literal place result }
+{
+    let mut cut = place;
+    for back in 0..place {
+        let at = place - 1 - back;
+        let entry = trail[at];
+        let negated = negation(entry.literal);
+        if is_marked(&Places::ByKey, marks, negated) {
+            return Landing {
+                cut,
+                other: Some(negated),
+            };
+        }
+        match entry.reason {
+            None => cut = at,
+            Some(_) => {}
+        }
+    }
+    Landing { cut, other: None }
+}
