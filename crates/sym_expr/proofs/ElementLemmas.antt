@@ -40,20 +40,22 @@ pub chosen_outcome : (t p : Bool) (x y : ℕ) → cond (t || p) (Some (cond t x 
 chosen_outcome true p x y = refl
 chosen_outcome false p x y = refl
 
-pub with_one : {g0 g1 g2 g3 : List Gate} {m n k : ℕ} (here named : Lit) (element word : List Lit) (before : List Lit × Lit) (t : Bool) (w : World) → Grows g0 g1 m → Grows g1 g2 n → Grows g2 g3 k
-    → IsWire g1 here → All (IsWire g0) element → All (IsWire g0) before.0 → IsWire g0 before.1 → All (IsWire g2) word
+pub with_word : {g0 g1 g2 g3 : List Gate} {m n k : ℕ} (here : Lit) (element word : List Lit) (before : List Lit × Lit) (t : Bool) (w : World) → Grows g0 g1 m → Grows g1 g2 n → Grows g2 g3 k
+    → All (IsWire g0) element → All (IsWire g0) before.0 → All (IsWire g2) word
     → lit_holds g1 here w ≡ t → word_value g2 word w ≡ cond (lit_holds g1 here w) (word_value g1 element w) (word_value g1 before.0 w)
-    → lit_holds g3 named w ≡ (lit_holds g2 here w || lit_holds g2 before.1 w)
-    → outcome_in g3 (word, named) w ≡ cond t (Some (word_value g0 element w)) (outcome_in g0 before w)
-with_one {g0} {g1} {g2} {g3} here named element word before t w f g h hw ew bw blw ww is value either =
-    let x = word_value g0 element w in
-    let y = word_value g0 before.0 w in
-    let p = lit_holds g0 before.1 w in
-    let held : lit_holds g3 named w ≡ (t || p) =
-    either ∙ ap (λ b. b || lit_holds g2 before.1 w) (same g here hw w ∙ is) ∙ ap (λ b. t || b) (same (grows_then f g) before.1 blw w) in
-    let worth : word_value g3 word w ≡ cond t x y =
+    → word_value g3 word w ≡ cond t (word_value g0 element w) (word_value g0 before.0 w)
+with_word {g0} {g1} {g2} {g3} here element word before t w f g h ew bw ww is value =
     word_value-later h word ww w ∙ value ∙ ap (λ b. cond b (word_value g1 element w) (word_value g1 before.0 w)) is
-    ∙ ap (λ v. cond t v (word_value g1 before.0 w)) (word_value-later f element ew w) ∙ ap (λ v. cond t x v) (word_value-later f before.0 bw w) in
+    ∙ ap (λ v. cond t v (word_value g1 before.0 w)) (word_value-later f element ew w) ∙ ap (λ v. cond t (word_value g0 element w) v) (word_value-later f before.0 bw w)
+
+pub with_named : {g0 g1 g2 : List Gate} {m n : ℕ} (g3 : List Gate) (here named before : Lit) (t : Bool) (w : World) → Grows g0 g1 m → Grows g1 g2 n → IsWire g1 here → IsWire g0 before
+    → lit_holds g1 here w ≡ t → lit_holds g3 named w ≡ (lit_holds g2 here w || lit_holds g2 before w) → lit_holds g3 named w ≡ (t || lit_holds g0 before w)
+with_named {g0} {g1} {g2} g3 here named before t w f g hw bw is either =
+    either ∙ ap (λ b. b || lit_holds g2 before w) (same g here hw w ∙ is) ∙ ap (λ b. t || b) (same (grows_then f g) before bw w)
+
+pub with_one : (g3 : List Gate) (named : Lit) (word : List Lit) (t p : Bool) (x y : ℕ) (w : World) → word_value g3 word w ≡ cond t x y → lit_holds g3 named w ≡ (t || p)
+    → outcome_in g3 (word, named) w ≡ cond t (Some x) (cond p (Some y) None)
+with_one g3 named word t p x y w worth held =
     ap (λ b. cond b (Some (word_value g3 word w)) None) held ∙ ap (λ v. cond (t || p) (Some v) None) worth ∙ chosen_outcome t p x y
 
 -- ---- the elements below a place

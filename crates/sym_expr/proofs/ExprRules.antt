@@ -22,7 +22,7 @@ use Rattle.cfa.specs.declared.state.Trap.{Trap}
 use Rattle.cfa.specs.declared.state.Trap.TheVariants as trap
 use Rattle.cfa.specs.Kinds.{kind_of}
 use Rattle.cfa.specs.Rules.{Room, is_length, array_fits, place_fits}
-use Rattle.cfa.specs.Values.{after_value, is_index, array_start, element_at, value_of, operator_trap}
+use Rattle.cfa.specs.Values.{after_value, is_index, array_start, element_at, cell_of, value_of, operator_trap}
 use Rattle.cfa.proofs.ExprKinds.{agrees}
 use Rattle.cfa.proofs.ExprRules.{binary_comes, binary_left, binary_left_is, binary_right, binary_same, comes_to, constant_kept, constant_value, convert_kind, convert_operand, convert_value, element_array, element_cell, element_index, global_cell, load_kind, load_place, load_value, local_cell, unary_is, unary_operand, unary_step}
 use Rattle.cfa.proofs.Indexes.{indexes_of_elements}
@@ -125,7 +125,25 @@ element_outcome cells frame a n own kind (Ok i) small of_kind = by_test (is_inde
     by_test false true e = absurd (cc)
     by_test false false e = refl
 
+-- the cell of an index that has a value, or its trap
+element_named : (cells : List ℕ) (frame : Frame) (a : ArrayPlace) (n : ℕ) (own : Kind) (v : Result ℕ Trap) → n < 2 ^ 32 → IfOk v (λ i. IsValue own i)
+    → result_ok (after_value v (λ i. element_at cells frame a n own i)) ≡ option_and_then (λ i. if nat_lt i n then Some (array_start cells frame a + i) else None) (result_ok v)
+element_named cells frame a n own (Err t) small of_kind = refl
+element_named cells frame a n own (Ok i) small of_kind = by_test (is_index n own i) (nat_lt i n) (index_test n i own small of_kind)
+  where
+    by_test : (t u : Bool) → t ≡ u → result_ok (if t then Ok (array_start cells frame a + i) else Err trap.Index) ≡ (if u then Some (array_start cells frame a + i) else None)
+    by_test true true e = refl
+    by_test true false e = absurd (cc)
+    by_test false true e = absurd (cc)
+    by_test false false e = refl
+
 module _ (room : Room) (cells : List ℕ) (frame : Frame) where
+  pub place_outcome : (a : ArrayPlace) (i : Expr) (n : ℕ) → n < 2 ^ 32 → IsTrue (place_fits room (place.Element a i n))
+      → result_ok (cell_of cells frame (place.Element a i n)) ≡ option_and_then (λ v. if nat_lt v n then Some (array_start cells frame a + v) else None) (result_ok (value_of cells frame i))
+  place_outcome a i n small h =
+      ap result_ok (element_cell room cells frame a i n h)
+      ∙ element_named cells frame a n (kind_of i) (value_of cells frame i) small (comes_to room cells frame i (value_of cells frame i) (element_index room a i n h) refl)
+
   pub global_outcome : (n : ℕ) (kind : Kind) → result_ok (value_of cells frame (expr.Load (place.Global n) kind)) ≡ Some (wrapped kind (pos (slice_index cells n)))
   global_outcome n kind = ap result_ok (load_value room cells frame (place.Global n) kind ∙ ap (λ r. after_value r (λ c. Ok (wrapped kind (pos (slice_index cells c))))) (global_cell room cells frame n))
 

@@ -5,3 +5,4 @@ pub mod OutcomeLemmas
 pub mod OperatorLemmas
 pub mod ExprRules
 pub mod TranslationLemmas
+pub mod WriteLemmas

@@ -1,5 +1,5 @@
 // What cells hold, and the elements that indexes name.
-ghost use Rattle.std.specs.Prelude.{◌≡◌, ℕ, ◌==◌, ◌+◌, ◌*◌, ◌≤◌, ◌<◌, ◌^◌, if◌then◌else◌, nat_lt, pos, All, IfOk, List, Some, None, length, slice_index};
+ghost use Rattle.std.specs.Prelude.{◌≡◌, ℕ, ◌==◌, ◌||◌, ◌+◌, ◌*◌, ◌≤◌, ◌<◌, ◌^◌, if◌then◌else◌, nat_lt, pos, All, IfOk, List, Some, None, length, slice_index};
 ghost use Rattle.std.specs.Option.{option_and_then};
 ghost use Rattle.circuit.specs.Truth.{World};
 ghost use Rattle.circuit.specs.Wires.{IsWire, lit_holds};
@@ -88,7 +88,7 @@ fn selection(circuit: &mut Circuit, elements: &[Word], index: &Word) -> Result<(
 }
 
 /// The word of an element where the index is its place, and what was selected before where not.
-fn with_element(
+pub(crate) fn with_element(
     circuit: &mut Circuit,
     index: &Word,
     place: u64,
@@ -102,6 +102,8 @@ fn with_element(
     requires room { length circuit.old + 385 ≤ 2 ^ 30 }
     ensures grows { Grows circuit.old circuit.new 385 }
     ensures wires { IfOk result (λ r. All (IsWire circuit.new) r.0 × IsWire circuit.new r.1) }
+    ensures chosen { IfOk result (λ r. (w : World) → word_value circuit.new r.0 w ≡ (if word_value circuit.old index.now w == place then word_value circuit.old element.now w else word_value circuit.old before.now.0 w)) }
+    ensures named { IfOk result (λ r. (w : World) → lit_holds circuit.new r.1 w ≡ ((word_value circuit.old index.now w == place) || lit_holds circuit.old before.now.1 w)) }
     ensures value { IfOk result (λ r. (w : World) → outcome_in circuit.new r w ≡ (if word_value circuit.old index.now w == place then Some (word_value circuit.old element.now w) else outcome_in circuit.old before.now w)) }
 {
     let here = is_pattern(circuit, index, place)?;

@@ -2,8 +2,9 @@
 //!
 //! [`translate`] makes the word that an expression comes to and a literal that says whether its evaluation doesn't trap.
 //! In every world the two tell exactly what `cfa` says of the expression's value over the cells that the store's words
-//! are in that world. The wires used are at most 31 per unit of the expression's weight, which specs/Weights.antt
-//! defines. It stands on `bit_words` for the operations on words, on `cfa` for expressions and their values, and on
+//! are in that world. [`put`] puts a word into the store at a place, and answers a literal that says whether the place
+//! names a cell; in every world the cells are then what an assignment makes of them. The wires used are at most 31 per
+//! unit of the weight of the expression or the place, which specs/Weights.antt defines. It stands on `bit_words` for the operations on words, on `cfa` for expressions and their values, and on
 //! `circuit`.
 #![tactic(auto)]
 
@@ -12,6 +13,8 @@ mod operators;
 mod patterns;
 mod store;
 mod translation;
+mod writes;
 
 pub use store::SymStore;
 pub use translation::translate;
+pub use writes::put;

@@ -1,16 +1,16 @@
 // Expressions over stores of inputs.
-ghost use Rattle.std.specs.Prelude.{◌≡◌, ◌+◌, ◌*◌, ◌<◌, ◌≤◌, ◌^◌, [], ◌∷◌, All, IfOk, IfSome, IsTrue, length};
+ghost use Rattle.std.specs.Prelude.{◌≡◌, ◌+◌, ◌*◌, ◌<◌, ◌≤◌, ◌^◌, [], ◌∷◌, All, IfOk, IfSome, OnSome, IsTrue, length};
 ghost use Rattle.circuit.specs.Wires.{IsWire};
 ghost use Rattle.cfa.specs.Rules.{expr_fits};
 ghost use Rattle.test_expressions.specs.Rooms.{room_of};
 
 use crate::weights::weight;
-use bit_words::Word;
+use bit_words::{Word, extended};
 use cfa::{Expr, Frame, FunctionRoom, checked_kind};
 use circuit::{Circuit, Lit, Memory};
 use containers::Vector;
 use std::alloc::Global;
-use sym_expr::{SymStore, translate};
+use sym_expr::{SymStore, put, translate};
 use test_words::free_word;
 
 /// Where the cells lie that an expression may name.
@@ -96,4 +96,37 @@ pub fn translated(
     let frame = frame_of(alloc, places)?;
     let (word, fine) = translate(circuit, expr, store, &frame)?;
     Ok(Some((word, fine)))
+}
+
+/// What [`put`] answers of the place that an expression loads, where it puts what the load's kind has of a word, and none
+/// where the expression is no load or the conditions on the place and on the room for wires don't hold.
+pub fn put_at(
+    alloc: Global,
+    circuit: &mut Circuit,
+    store: &mut SymStore,
+    load: &Expr,
+    word: &Word,
+    places: &Places,
+) -> Result<Option<Lit>, Memory>
+    requires cells { All (All (IsWire circuit.old)) store.old.cells }
+    requires word { All (IsWire circuit.old) word.now }
+    ensures cells { IfOk result (λ o. OnSome o (All (All (IsWire circuit.new)) store.new.cells)) }
+    ensures wire { IfOk result (λ o. IfSome o (λ c. IsWire circuit.new c)) }
+{
+    let Expr::Load(place, kind) = load else {
+        return Ok(None);
+    };
+    let Some(weight) = weight(load) else {
+        return Ok(None);
+    };
+    if weight > 1 << 25 || circuit.wires() as u64 + 31 * weight > 1 << 30 {
+        return Ok(None);
+    }
+    if !lie_within(places, store.cells.len()) || !fits(places, load) {
+        return Ok(None);
+    }
+    let frame = frame_of(alloc, places)?;
+    let word = extended(word, *kind);
+    let inside = put(circuit, store, place, &frame, &word, *kind)?;
+    Ok(Some(inside))
 }

@@ -1,8 +1,10 @@
-use Rattle.std.proofs.Common.{◌==◌, arith}
+use Rattle.std.proofs.Common.{◌≡◌, ◌==◌, ◌||◌, cond, arith}
+use Rattle.circuit.specs.Truth.{World}
+use Rattle.circuit.specs.Wires.{lit_holds}
 use Rattle.bit_words.specs.Words.{word_value}
 use Rattle.bit_words.proofs.Steps.{grows_then, grows_within, still}
 use Rattle.bit_words.proofs.Digits.{all_still}
-use Rattle.sym_expr.proofs.ElementLemmas.{with_one}
+use Rattle.sym_expr.proofs.ElementLemmas.{with_word, with_named, with_one}
 use Rattle.sym_expr.proofs.elements.with_element.Goals as goal
 
 pub choose-requires-clause-left : goal.choose-requires-clause-left
@@ -29,9 +31,25 @@ returns-clause-grows c = grows_within 385 (grows_then (grows_then c.is_pattern.e
 pub returns-clause-wires : goal.returns-clause-wires
 returns-clause-wires c = (all_still c.either.ensures.grows c.in_ok-word.word c.in_ok-word.ensures.wires, c.in_ok-named.ensures.wire)
 
+worth : (c : goal.In_ok-named) (w : World)
+    → word_value c.either.new.circuit c.in_ok-word.word w ≡ cond (word_value c.args.circuit.now c.args.index.now w == c.args.place) (word_value c.args.circuit.now c.args.element.now w) (word_value c.args.circuit.now c.args.before.now.0 w)
+worth c w =
+    with_word c.in_ok-here.here c.args.element.now c.in_ok-word.word c.args.before.now (word_value c.args.circuit.now c.args.index.now w == c.args.place) w
+    c.is_pattern.ensures.grows c.choose.ensures.grows c.either.ensures.grows
+    c.requires.element c.requires.before c.in_ok-word.ensures.wires (c.in_ok-here.ensures.value w) (c.in_ok-word.ensures.value w)
+
+held : (c : goal.In_ok-named) (w : World) → lit_holds c.either.new.circuit c.in_ok-named.named w ≡ ((word_value c.args.circuit.now c.args.index.now w == c.args.place) || lit_holds c.args.circuit.now c.args.before.now.1 w)
+held c w =
+    with_named c.either.new.circuit c.in_ok-here.here c.in_ok-named.named c.args.before.now.1 (word_value c.args.circuit.now c.args.index.now w == c.args.place) w
+    c.is_pattern.ensures.grows c.choose.ensures.grows c.in_ok-here.ensures.wire c.requires.wire (c.in_ok-here.ensures.value w) (c.in_ok-named.ensures.value w)
+
+pub returns-clause-chosen : goal.returns-clause-chosen
+returns-clause-chosen c = worth c
+
+pub returns-clause-named : goal.returns-clause-named
+returns-clause-named c = held c
+
 pub returns-clause-value : goal.returns-clause-value
 returns-clause-value c = λ w.
-    with_one c.in_ok-here.here c.in_ok-named.named c.args.element.now c.in_ok-word.word c.args.before.now (word_value c.args.circuit.now c.args.index.now w == c.args.place) w
-    c.is_pattern.ensures.grows c.choose.ensures.grows c.either.ensures.grows
-    c.in_ok-here.ensures.wire c.requires.element c.requires.before c.requires.wire c.in_ok-word.ensures.wires
-    (c.in_ok-here.ensures.value w) (c.in_ok-word.ensures.value w) (c.in_ok-named.ensures.value w)
+    with_one c.either.new.circuit c.in_ok-named.named c.in_ok-word.word (word_value c.args.circuit.now c.args.index.now w == c.args.place) (lit_holds c.args.circuit.now c.args.before.now.1 w)
+    (word_value c.args.circuit.now c.args.element.now w) (word_value c.args.circuit.now c.args.before.now.0 w) w (worth c w) (held c w)
