@@ -1,12 +1,12 @@
 -- Lists of watchers.
-use Rattle.std.proofs.Common.{◌≡◌, ℕ, zero, suc, ◌<◌, ◌≤◌, true, false, ◌||◌, List, [], ◌∷◌, ◌++◌, length, get_or, refl, sym, ◌∙◌, ap, arith, Option, None, Some, length-set}
+use Rattle.std.proofs.Common.{◌≡◌, ℕ, zero, suc, ◌<◌, true, false, ◌||◌, List, [], ◌∷◌, ◌++◌, length, get_or, refl, sym, ◌∙◌, ap, arith, Option, None, Some, length-set}
 use Rattle.std.specs.Prelude.{ℤ, slice_get, slice_set, swap_remove, ◌==◌}
 use Rattle.std.specs.Option.{option_map_or}
 use Rattle.std.specs.Ordering.{int_eq}
 use Rattle.std.specs.Global.{Vec}
 use Rattle.std.proofs.lemmas.List.{get_or-set_same}
 use Rattle.std.proofs.lemmas.List.Sorted.{IsPermutation-swap_remove, list_any-IsPermutation}
-use Rattle.std.proofs.lemmas.Option.{get_or_from_slice_get, slice_get-get_or, slice_get_past, slice_get_within}
+use Rattle.std.proofs.lemmas.Option.{get_or_from_slice_get, slice_get-get_or, slice_get_within}
 use Rattle.cnf.specs.Clauses.{literal_key}
 use Rattle.cnf.proofs.ClauseLaws.{equal_literal, same_key}
 use Rattle.search.specs.Watching.{is_among, list_of}
@@ -28,9 +28,6 @@ pub list_of-other : (watchers : List (Vec ℕ)) (x y : ℤ) (list : Vec ℕ) →
 list_of-other watchers x y list h =
     ap (λ found. option_map_or (λ (l : Vec ℕ). l.items) found []) (get-set_other watchers (literal_key x) (literal_key y) list
     (λ e. let yes = equal_literal y x (same_key y x e) in let no : true ≡ false = sym yes ∙ h in absurd cc))
-
-pub list_of-none : (watchers : List (Vec ℕ)) (x : ℤ) → length watchers ≤ literal_key x → list_of watchers x ≡ []
-list_of-none watchers x h = ap (λ found. option_map_or (λ (l : Vec ℕ). l.items) found []) (slice_get_past watchers (literal_key x) h)
 
 -- one more empty list
 pub empty_more : (watchers : List (Vec ℕ)) (list : Vec ℕ) → list.items ≡ [] → ((x : ℤ) → list_of watchers x ≡ []) → (x : ℤ) → list_of (watchers ++ list ∷ []) x ≡ []

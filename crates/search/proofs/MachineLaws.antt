@@ -21,7 +21,7 @@ use Rattle.search.specs.declared.trail.Entry.{Entry}
 use Rattle.search.specs.Laws.{is_over}
 use Rattle.search.specs.Machine.{IsOver, Moves, Runs, State, is_conflict, is_open, is_true, remaining, unit_of, with_entry}
 use Rattle.search.specs.Sound.{Implies, IsSound, all_clauses}
-use Rattle.search.specs.Trails.{IsTrail, are_over}
+use Rattle.search.specs.Trails.{IsTrail}
 use Rattle.search.proofs.HistoryLaws.{no_places}
 use Rattle.search.proofs.KeptLaws.{and_left, and_right, has_filtered, is_over-tells, line_over, lone, trail_more, trail_taken}
 use Rattle.search.proofs.NextLaws.{same_clauses}
@@ -36,12 +36,6 @@ run_more formula s (first ∷ moves) t move u run m = (run.0, run.1, run_more fo
 
 pub has_place-over : (n size : ℕ) (x : ℤ) → size ≡ 2 * n + 2 → IsOver n x → IsTrue (has_place ByKey size x)
 has_place-over n size x e over = (Decides-ltb (literal_key x) size).1 (omega (arith, over.1))
-
-pub trail_places : (n size : ℕ) (trail : List Entry) → size ≡ 2 * n + 2 → are_over n trail ≡ true → list_all (λ e. has_place ByKey size e.literal) trail ≡ true
-trail_places n size [] e over = refl
-trail_places n size (f ∷ trail) e over =
-    let here : has_place ByKey size f.literal ≡ true = has_place-over n size f.literal e (is_over-tells n f.literal (and_left _ _ over)) in
-    rw here (trail_places n size trail e (and_right _ _ over))
 
 -- ---- a unit implies
 

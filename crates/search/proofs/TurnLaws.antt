@@ -1,6 +1,6 @@
 -- What each turn of the machine leads to.
 use Rattle.std.proofs.Common.{◌≡◌, ℕ, zero, suc, ◌+◌, ◌-◌, ◌*◌, ◌<◌, ◌≤◌, ◌^◌, Bool, true, false, ◌||◌, List, [], ◌∷◌, ◌++◌, length, take, map, get_or, replicate, refl, sym, ◌∙◌, ap, arith, Option, None, Some}
-use Rattle.std.specs.Prelude.{ℤ, pos, ◌&&◌, slice_get, All, IfSome, IsSomeAnd}
+use Rattle.std.specs.Prelude.{ℤ, pos, ◌&&◌, slice_get, IfSome, IsSomeAnd}
 use Rattle.std.specs.List.{list_all}
 use Rattle.std.specs.Ordering.{int_eq}
 use Rattle.std.proofs.lemmas.List.{append_cancel_left, append-nil, length-append, length-replicate}
@@ -9,7 +9,7 @@ use Rattle.cnf.specs.declared.derivation.Derivation.{Derivation}
 use Rattle.cnf.specs.declared.derivation.DerivationLine.{DerivationLine}
 use Rattle.cnf.specs.declared.formula.Formula.{Formula}
 use Rattle.cnf.specs.Checks.{Checks, IsRight, numbered}
-use Rattle.cnf.specs.Clauses.{IsLiteral, literal_key}
+use Rattle.cnf.specs.Clauses.{literal_key}
 use Rattle.cnf.specs.Formulas.{Satisfies}
 use Rattle.literal_marks.specs.Marks.{marked}
 use Rattle.literal_marks.specs.declared.places.Places.TheVariants.{ByKey}
@@ -152,22 +152,7 @@ at_more formula m n o x reason made at held trail same moved otrail ovalues olea
       omega (arith, at.lines, own, before, lines);
 }
 
--- ---- trails cut
-
-pub places_taken : (test : Entry → Bool) (trail : List Entry) (cut : ℕ) → list_all test trail ≡ true → list_all test (take cut trail) ≡ true
-places_taken test trail zero h = refl
-places_taken test [] (suc cut) h = refl
-places_taken test (e ∷ trail) (suc cut) h = by_test (test e) h (places_taken test trail cut)
-  where
-    by_test : (b : Bool) → (b && list_all test trail) ≡ true → (list_all test trail ≡ true → list_all test (take cut trail) ≡ true) → (b && list_all test (take cut trail)) ≡ true
-    by_test true g rest = rest g
-    by_test false g rest = absurd cc
-
-pub literals_taken : (trail : List Entry) (cut : ℕ) → All (λ (e : Entry). IsLiteral e.literal) trail → All (λ (e : Entry). IsLiteral e.literal) (take cut trail)
-literals_taken trail zero a k d h = absurd (omega arith)
-literals_taken [] (suc cut) a k d h = absurd (omega arith)
-literals_taken (e ∷ trail) (suc cut) a zero d h = a zero d (omega arith)
-literals_taken (e ∷ trail) (suc cut) a (suc k) d h = literals_taken trail cut (λ j f g. a (suc j) f (omega arith)) k d (omega arith)
+-- ---- entries
 
 pub entry_has : (test : Entry → Bool) (trail : List Entry) (i : ℕ) (e : Entry) → list_all test trail ≡ true → slice_get trail i ≡ Some e → test e ≡ true
 entry_has test [] i e a h = absurd cc
@@ -223,22 +208,6 @@ propagation_over formula m number x held p =
     let unit : unit_of (is_true m.trail.items) p.clause ≡ Some x = p.unit ∙ ap Some (sym same) in
     let clauses = rw (sym (same_clauses formula m.learned m.trail.items)) at held.sound.clauses in
     is_over-tells formula.variables x (has_over formula.variables p.clause x (numbered_over formula.variables _ number p.clause clauses p.named) (unit_is m.trail.items p.clause x unit).0)
-
--- the marks of the analysis don't matter
-pub at_marks : (formula : Formula) (m o : Machine) → IsAt formula m → o.trail ≡ m.trail → o.values ≡ m.values → o.learned ≡ m.learned → o.moves ≡ m.moves
-    → length o.marks.items ≡ length m.marks.items → IsAt formula o
-at_marks formula m o at trail values learned moves marks = record {
-  held = record {
-    sound = rw (trail, learned) at.held.sound;
-    rights = rw learned at.held.rights;
-    values = λ y. rw (values, trail) (at.held.values y);
-    places = rw values at.held.places;
-    marks = marks ∙ at.held.marks;
-    few = rw learned at.held.few;
-  };
-  run = rw (moves, trail, learned) at.run;
-  lines = rw (learned, moves) at.lines;
-}
 
 pub at_jump : (formula : Formula) (m n o : Machine) (line : DerivationLine) (cut : ℕ) (x : ℤ) → IsAt formula m → IsHeld formula n
     → n.trail.items ≡ with_entry (take cut m.trail.items) x (Some (length formula.clauses + length m.learned.lines + 1)) → n.learned ≡ record { lines = m.learned.lines ++ line ∷ [] }
