@@ -1,11 +1,13 @@
-//! Counts the wires of gates, for bench/words: `count_wires calls`, `count_wires expressions` or `count_wires sum COUNT`.
+//! Counts the wires of gates, for bench/words: `count_wires calls`, `count_wires expressions`, `count_wires sum COUNT` or
+//! `count_wires gates COUNT`.
 //!
 //! The first prints a line for each call of `bit_words` and each kind: the call, the kind's width, whether it has a sign,
 //! and the wires. The second prints a line for each of some expressions: its weight, the wires that `translate` uses, and
-//! the expression. The third translates a sum of so many operators from the left and prints the same.
+//! the expression. The third translates a sum of so many operators from the left and prints the same. The fourth makes
+//! twice so many gates over two inputs, each of wires below, and prints the wires.
 #![tactic(auto)]
 
-ghost use Rattle.std.specs.Prelude.{◌≡◌, All, IfOk};
+ghost use Rattle.std.specs.Prelude.{◌≡◌, ◌<◌, ◌^◌, All, IfOk};
 ghost use Rattle.circuit.specs.Wires.{IsWire};
 ghost use Rattle.c_values.specs.Kind.{IsKind};
 
@@ -13,7 +15,7 @@ mod tables;
 
 use bit_words::{choose, equal, extended, less, neg, not};
 use c_values::{Kind, is_kind};
-use circuit::{Circuit, Memory};
+use circuit::{Circuit, Memory, Truth};
 use std::alloc::Global;
 use std::process::ExitCode;
 use std::{env, io};
@@ -111,6 +113,36 @@ fn print_sum(rt: &HostRuntime, word: &str) -> Result<u8, io::Error> {
     }
 }
 
+// The wires of two inputs and of twice so many gates.
+fn row_of_gates(alloc: Global, turns: u32) -> Result<u32, Memory>
+    requires { turns < 2 ^ 28 }
+{
+    let mut circuit = Circuit::new(alloc);
+    let mut last = circuit.input()?;
+    let other = circuit.input()?;
+    for _ in 0..turns {
+        let wider = circuit.or(last, other)?;
+        last = circuit.and(last, wider)?;
+    }
+    Ok(circuit.wires())
+}
+
+fn print_gates(rt: &HostRuntime, word: &str) -> Result<u8, io::Error> {
+    let Ok(turns) = word.parse::<u32>() else {
+        return Ok(2);
+    };
+    if turns >= 1 << 28 {
+        return Ok(2);
+    }
+    match row_of_gates(rt.alloc(), turns) {
+        Ok(wires) => {
+            println!(rt; "{wires} gates")?;
+            Ok(0)
+        }
+        Err(Memory) => Ok(1),
+    }
+}
+
 fn main(rt: HostRuntime) -> Result<ExitCode, io::Error> {
     let mut words = env::args(&rt)?.skip(1);
     let mut status = 2;
@@ -120,6 +152,10 @@ fn main(rt: HostRuntime) -> Result<ExitCode, io::Error> {
             "expressions" => print_expressions(&rt)?,
             "sum" => match words.next() {
                 Some(count) => print_sum(&rt, count.as_str())?,
+                None => 2,
+            },
+            "gates" => match words.next() {
+                Some(count) => print_gates(&rt, count.as_str())?,
                 None => 2,
             },
             _ => 2,

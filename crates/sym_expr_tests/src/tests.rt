@@ -1,14 +1,18 @@
 // Expected values: gcc's (rows.rt), and hand calculations.
+ghost use Rattle.std.specs.Prelude.{All};
+ghost use Rattle.circuit.specs.Wires.{IsWire};
+
 mod rows;
 
+use bit_words::{Word, constant};
 use c_values::{BinaryOp, Kind};
 use cfa::ArrayPlace;
 use circuit::{Circuit, Memory};
 use rows::{PLACES, ROWS, WORLDS};
 use std::alloc::Global;
 use std::test::Fail;
-use test_expressions::{Part, Places, expression, free_store, left_nested, translated};
-use test_words::{compared, gives};
+use test_expressions::{Part, Places, expression, free_store, left_nested, put_at, translated};
+use test_words::{compared, gives, pattern_in, world_of};
 
 // The number of the first of some worlds in which an expression over a store of inputs hasn't the value that is wanted, or
 // has one where none is. The number is theirs where there is no such, and one more where the parts make no expression that
@@ -121,6 +125,62 @@ fn long_array(rt: HostRuntime) -> Result<(), Fail> {
         (&past, None),
     ];
     assert_eq!(rt; first_wrong(alloc, &parts, &places, &worlds)?, 4);
+    Ok(())
+}
+
+// What each of some words is in a world.
+fn patterns_in(
+    alloc: Global,
+    circuit: &Circuit,
+    words: &[Word],
+    world: &[bool],
+) -> Result<Vec<u64>, Memory>
+    requires { All (All (IsWire circuit.now)) words.now }
+{
+    let mut patterns = Vec::new(alloc);
+    for word in words {
+        patterns.push(pattern_in(circuit, word, world)?)?;
+    }
+    Ok(patterns)
+}
+
+// What the cells of a store are after 9 was put into the element that the first of them names among the four behind it, and
+// whether it names one.
+fn written(alloc: Global, patterns: &[u64]) -> Result<Option<(Vec<u64>, bool)>, Memory> {
+    let places = Places {
+        cells: 5,
+        globals: 5,
+        base: 5,
+        locals: 0,
+        lent: (0, 0),
+    };
+    let parts = [
+        Part::Global(0, Kind::INT),
+        Part::Element(ArrayPlace::Global(1), 4, Kind::INT),
+    ];
+    let Some(load) = expression(alloc, &parts)? else {
+        return Ok(None);
+    };
+    let mut circuit = Circuit::new(alloc);
+    let mut store = free_store(alloc, &mut circuit, places.cells)?;
+    let nine = constant(9);
+    let Some(inside) = put_at(alloc, &mut circuit, &mut store, &load, &nine, &places)? else {
+        return Ok(None);
+    };
+    let world = world_of(alloc, patterns)?;
+    let cells = patterns_in(alloc, &circuit, store.cells.as_slice(), &world)?;
+    Ok(Some((cells, circuit.value(inside, &world)?)))
+}
+
+#[test]
+fn writes_to_elements(rt: HostRuntime) -> Result<(), Fail> {
+    let alloc = rt.alloc();
+    let (cells, inside) = written(alloc, &[2, 10, 11, 12, 13])?.ok_or("no place")?;
+    assert_eq!(rt; cells.as_slice(), [2, 10, 11, 9, 13].as_slice());
+    assert!(rt; inside);
+    let (cells, inside) = written(alloc, &[4, 10, 11, 12, 13])?.ok_or("no place")?;
+    assert_eq!(rt; cells.as_slice(), [4, 10, 11, 12, 13].as_slice());
+    assert!(rt; !inside);
     Ok(())
 }
 
