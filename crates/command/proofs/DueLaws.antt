@@ -105,7 +105,7 @@ module _ (holds held : List ℕ → Option (List ℕ)) (last : Option (Option (L
           → OfQuery m.sources graph m.query (λ p plan. OfInputs since m.sources m.inputs (length entry.function.parameters) (IsMeasured graph entry p plan m.ends m.steps m.json)) said
           → OfQuery m.sources graph m.query (λ p plan. OfInputs all m.sources m.inputs (length entry.function.parameters) (IsMeasured graph entry p plan m.ends m.steps m.json)) said
       by_query entry (inl refusal) = inl refusal
-      by_query entry (inr made) = inr (made.0, (made.1.0, made.1.1, inputs_since m.sources m.inputs (length entry.function.parameters) (IsMeasured graph entry made.0 made.1.0 m.steps m.json) said made.1.2))
+      by_query entry (inr made) = inr (made.0, (made.1.0, made.1.1, inputs_since m.sources m.inputs (length entry.function.parameters) (IsMeasured graph entry made.0 made.1.0 m.ends m.steps m.json) said made.1.2))
 
   pub runs_since : (m : Running) (graph : GraphParts) (said : Said) → IsDueOfRuns since m graph said → IsDueOfRuns all m graph said
   runs_since m graph said due =

@@ -81,7 +81,7 @@ enum Applied {
     Missing(u32),
 }
 
-fn applied(alloc: Global, graph: &Graph, filter: &Filter) -> Result<Applied, Memory> {
+fn over_whole(alloc: Global, graph: &Graph, filter: &Filter) -> Result<Applied, Memory> {
     if let Some(column) = missing(alloc, graph, filter)? {
         return Ok(Applied::Missing(column));
     }
@@ -91,7 +91,7 @@ fn applied(alloc: Global, graph: &Graph, filter: &Filter) -> Result<Applied, Mem
 
 fn of_cover(alloc: Global, graph: &Graph, cover: &CoverTree) -> Result<Applied, Fault> {
     match cover {
-        CoverTree::Edges(filter) => Ok(applied(alloc, graph, filter)?),
+        CoverTree::Edges(filter) => Ok(over_whole(alloc, graph, filter)?),
         _ => Err(Fault::Memory),
     }
 }

@@ -9,7 +9,7 @@ reduce-requires c =
     omega (arith, ap length c.hits.ensures, many, c.requires.few)
 
 pub measured_json-requires : goal.measured_json-requires
-measured_json-requires c = ap length (c.deref-then-json.ensures.value ∙ c.in_ok-answers.ensures) ∙ answers_many (hits_of c.in_ok-made.made.measurer) _ ∙ c.len.ensures
+measured_json-requires c = ap length (c.deref-then-json.ensures.value ∙ c.in_ok-answers.ensures) ∙ answers_many (hits_of c.in_ok-made.made.measurer) _ ∙ c.len-count.ensures
 
 pub measured_text-requires : goal.measured_text-requires
-measured_text-requires c = ap length (c.deref-else-json-2.ensures.value ∙ c.in_ok-answers.ensures) ∙ answers_many (hits_of c.in_ok-made.made.measurer) _ ∙ c.len.ensures
+measured_text-requires c = ap length (c.deref-else-json-2.ensures.value ∙ c.in_ok-answers.ensures) ∙ answers_many (hits_of c.in_ok-made.made.measurer) _ ∙ c.len-count.ensures
