@@ -70,7 +70,7 @@ pub record AreTooMany (parts : GraphParts) (bounds : Bounds) (f : Function) : Ty
   pub distinct : AreDistinct pairs
   pub reached : Each pairs (λ i p. IsReachedWithin parts bounds f p)
 
--- code 80 says that there are too many, and want of memory is free
+-- code 80 at the limit of 50,000 says that there are too many, and want of memory is free
 abbrev pub IsReachedFault : GraphParts → Bounds → Function → Fault → Type 0
-IsReachedFault parts bounds f (fault.Refused r) = (fault.Refused r ≡ refusal 80 place.Nowhere) × AreTooMany parts bounds f
+IsReachedFault parts bounds f (fault.Refused r) = (fault.Refused r ≡ refusal 80 (place.Limit 50000)) × AreTooMany parts bounds f
 IsReachedFault parts bounds f fault.Memory = Unit {0}

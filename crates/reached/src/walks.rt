@@ -18,8 +18,8 @@ use std::alloc::Global;
 ///
 /// # Errors
 ///
-/// Code 80 says that more than 50,000 pairs are reached, and comes wherever they are, unless memory runs out first.
-/// `Memory` comes where an allocation is refused, or a number would pass 2^32 - 1.
+/// Code 80 at the limit of 50,000 says that more pairs are reached, and comes wherever they are, unless memory runs out
+/// first. `Memory` comes where an allocation is refused, or a number would pass 2^32 - 1.
 pub fn reached(alloc: Global, graph: &Graph, entry: u32, bounds: Bounds) -> Result<Reached, Fault>
     requires once { IsOnce graph.now }
     requires entry { entry < length graph.now.functions }
