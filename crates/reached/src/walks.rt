@@ -14,7 +14,8 @@ use fq_core::Fault;
 use std::alloc::Global;
 
 /// The pairs of node and context that walks from the entry of a function reach within bounds, guards ignored: the first
-/// one first, and each before those to which its steps lead.
+/// one first, and each before those to which its steps lead. Its steps
+/// come once each, by rising number of the edge.
 ///
 /// # Errors
 ///
