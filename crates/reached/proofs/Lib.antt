@@ -9,5 +9,6 @@ pub mod Lists
 pub mod Trails
 pub mod SearchLaws
 pub mod Visits
+pub mod Rising
 pub mod StepLaws
 pub mod Listed

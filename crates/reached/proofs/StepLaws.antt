@@ -2,7 +2,8 @@
 use Rattle.std.proofs.Common.{◌≡◌, ℕ, zero, suc, ◌+◌, ◌<◌, ◌≤◌, Bool, true, false, List, [], ◌∷◌, ◌++◌, length, map, take, get_or, Option, Some, None, refl, sym, ap, ◌∙◌, subst, inl, inr, ⊎_elim, arith, length-append}
 use Rattle.std.specs.Prelude.{◌⊎◌, slice_get, slice_index_or, Contains}
 use Rattle.std.proofs.lemmas.List.{map-append, take_more, length-map}
-use Rattle.std.proofs.lemmas.List.Elements.{Contains-push_cases}
+use Rattle.std.specs.List.Sorted.{IsStrictlyIncreasing}
+use Rattle.std.proofs.lemmas.List.Elements.{Contains-append_left, Contains-push, Contains-push_cases}
 use Rattle.std.proofs.lemmas.Option.{same_Some, slice_get_within, slice_get-get_or}
 use Rattle.cfa.specs.declared.parts.Edge.{Edge}
 use Rattle.cfa.specs.declared.parts.Function.{Function}
@@ -14,6 +15,7 @@ use Rattle.reached.specs.Reaching.{AreDistinct, AreReached, FollowsWithin, IsNex
 use Rattle.reached.specs.Searching.{AreInOrder, AreRows, AreStepsAlong, AreStepsTo, AreWays, HasKeysOf, HasStep, IsAdded, IsIn, IsOrdered, IsStepAlong, LeadsToKey, key_of, with_step}
 use Rattle.reached.proofs.KeyLaws.{key_tells}
 use Rattle.reached.proofs.Lists.{apart_places, in_at, in_left, in_parts, in_right, place_of}
+use Rattle.reached.proofs.Rising.{none_rise, rising_more}
 use Rattle.reached.proofs.SearchLaws.{one_target, ordered_apart}
 
 -- ---- the keys of a list of pairs
@@ -48,7 +50,7 @@ has_key (r ∷ ps) q i = ⊎_elim (λ e. (0, omega arith, ap key_of e)) (λ h. l
 
 module _ (parts : GraphParts) (bounds : Bounds) (keys : List (List ℕ)) (p : Pair) where
   pub no_steps : (ways : List ℕ) → AreStepsAlong parts bounds keys p (take 0 ways) []
-  no_steps ways = record { each = λ s i. absurd i; all = λ at h e q follows. absurd (omega (arith, h.1)) }
+  no_steps ways = record { each = λ s i. absurd i; along = λ s i. absurd i; all = λ at h e q follows. absurd (omega (arith, h.1)); rising = none_rise }
 
   has_more : (steps : List Step) (step : Option Step) (at : ℕ) (q : Pair) → HasStep keys steps at q → HasStep keys (with_step steps step) at q
   has_more steps None at q h = h
@@ -70,21 +72,34 @@ module _ (parts : GraphParts) (bounds : Bounds) (keys : List (List ℕ)) (p : Pa
       let same = same_target at is.1 e is.2 q is.3 follows in
       (t, in_right steps (t ∷ []) t (inl refl), is.0, is.4 ∙ ap (λ r. Some (key_of r)) same)
 
-  pub steps_more : (ways : List ℕ) (i at : ℕ) (steps more : List Step) (step : Option Step) → i < length ways → at ≡ get_or ways i 0 → AreStepsAlong parts bounds keys p (take i ways) steps → IsStepAlong parts bounds keys p at step → more ≡ with_step steps step
+  step_edge : (step : Option Step) (at : ℕ) → IsStepAlong parts bounds keys p at step → (s : Step) → step ≡ Some s → s.edge ≡ at
+  step_edge None at is s e = absurd (cc)
+  step_edge (Some t) at is s e = let same : t ≡ s = same_Some t s e in ap (λ (x : Step). x.edge) (sym same) ∙ is.0
+
+  along_more : (ways : List ℕ) (steps : List Step) (step : Option Step) (at : ℕ) → ((s : Step) → IsIn steps s → Contains ways s.edge) → IsStepAlong parts bounds keys p at step → (s : Step) → IsIn (with_step steps step) s → Contains (ways ++ at ∷ []) s.edge
+  along_more ways steps None at along is s i = Contains-append_left ways (at ∷ []) s.edge (along s i)
+  along_more ways steps (Some t) at along is s i =
+      ⊎_elim (λ a. Contains-append_left ways (at ∷ []) s.edge (along s a))
+      (λ b. ⊎_elim (λ e. subst (λ n. Contains (ways ++ at ∷ []) n) (sym is.0 ∙ ap (λ (x : Step). x.edge) e) (Contains-push ways at)) (λ none. absurd none) b)
+      (in_parts steps (t ∷ []) s i)
+
+  pub steps_more : (ways : List ℕ) (i at : ℕ) (steps more : List Step) (step : Option Step) → IsStrictlyIncreasing ways → i < length ways → at ≡ get_or ways i 0 → AreStepsAlong parts bounds keys p (take i ways) steps → IsStepAlong parts bounds keys p at step → more ≡ with_step steps step
       → AreStepsAlong parts bounds keys p (take (i + 1) ways) more
-  steps_more ways i at steps more step within read so_far is added =
+  steps_more ways i at steps more step rises within read so_far is added =
       let longer : take (i + 1) ways ≡ take i ways ++ at ∷ [] = take_more ways i 0 within ∙ ap (λ n. take i ways ++ n ∷ []) (sym read) in
       subst (AreStepsAlong parts bounds keys p (take (i + 1) ways)) (sym added)
       (record {
         each = each_more steps step at so_far.each is;
+        along = λ s h. subst (λ l. Contains l s.edge) (sym longer) (along_more (take i ways) steps step at so_far.along is s h);
         all = λ b h e q follows.
             ⊎_elim (λ old. has_more steps step b q (so_far.all b old e q follows))
             (λ same. subst (λ n. HasStep keys (with_step steps step) n q) same (has_new steps step at is e q (subst (λ n. FollowsWithin parts bounds n e p q) (sym same) follows)))
             (Contains-push_cases (take i ways) at b (subst (λ l. Contains l b) longer h));
+        rising = rising_more ways i steps step rises within so_far.along (λ s e. step_edge step at is s e ∙ read) so_far.rising;
       })
 
   pub all_steps : (ways shown : List ℕ) (steps : List Step) → shown ≡ ways → AreWays parts p ways → AreStepsAlong parts bounds keys p shown steps → AreStepsTo parts bounds keys p steps
-  all_steps ways shown steps same are along = record { each = along.each; all = λ at e q follows. along.all at (subst (λ l. Contains l at) (sym same) (are at e q follows.follows)) e q follows }
+  all_steps ways shown steps same are along = record { each = along.each; all = λ at e q follows. along.all at (subst (λ l. Contains l at) (sym same) (are at e q follows.follows)) e q follows; rising = along.rising }
 
 -- ---- all pairs
 
@@ -166,5 +181,6 @@ module _ (parts : GraphParts) (bounds : Bounds) where
                   let h = steps.all at e q follows in
                   let place = place_of row h.0 h.1 in
                   (place.0, h.0, place.2, h.2, key_place pairs h.0.to q (subst (λ (ks : List (List ℕ)). slice_get ks h.0.to ≡ Some (key_of q)) are h.3));
+              rising = steps.rising;
             };
       }

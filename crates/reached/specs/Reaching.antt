@@ -1,5 +1,6 @@
 -- The pairs of node and context that walks from a function's entry reach within bounds, and the steps between them.
-use Rattle.std.specs.Prelude.{◌≡◌, ℕ, ◌<◌, List, [], ◌∷◌, length, Some, slice_get}
+use Rattle.std.specs.Prelude.{◌≡◌, ℕ, ◌<◌, List, [], ◌∷◌, length, map, Some, slice_get}
+use Rattle.std.specs.List.Sorted.{IsStrictlyIncreasing}
 use Rattle.fq_core.specs.declared.refusal.Fault.{Fault}
 use Rattle.fq_core.specs.declared.refusal.Fault.TheVariants as fault
 use Rattle.fq_core.specs.declared.refusal.Place.TheVariants as place
@@ -50,10 +51,16 @@ pub record LeadsOn (parts : GraphParts) (bounds : Bounds) (pairs : List Pair) (i
   pub there : slice_get pairs s.to ≡ Some target
   pub follows : FollowsWithin parts bounds s.edge edge p target
 
--- The steps of the pair at a place: each leads on, and each step within the bounds from it is one of them.
+-- the numbers of the edges along which steps lead
+abbrev pub edges_of : List Step → List ℕ
+edges_of steps = map (λ (s : Step). s.edge) steps
+
+-- The steps of the pair at a place: each leads on, each step within the bounds from it is one of them, and their edges
+-- rise, so that each is there once.
 pub record AreSteps (parts : GraphParts) (bounds : Bounds) (pairs : List Pair) (i : ℕ) (p : Pair) (steps : List Step) : Type 0 where
   pub each : Each steps (λ k s. LeadsOn parts bounds pairs i p s)
   pub all : (at : ℕ) (e : Edge) (q : Pair) → FollowsWithin parts bounds at e p q → (k : ℕ) × (s : Step) × (slice_get steps k ≡ Some s) × (s.edge ≡ at) × (slice_get pairs s.to ≡ Some q)
+  pub rising : IsStrictlyIncreasing (edges_of steps)
 
 -- The pairs that are reached within the bounds, the first one first and none twice, and the steps of each.
 pub record AreReached (parts : GraphParts) (bounds : Bounds) (f : Function) (pairs : List Pair) (steps : List (List Step)) : Type 0 where
@@ -70,7 +77,7 @@ pub record AreTooMany (parts : GraphParts) (bounds : Bounds) (f : Function) : Ty
   pub distinct : AreDistinct pairs
   pub reached : Each pairs (λ i p. IsReachedWithin parts bounds f p)
 
--- code 80 says that there are too many, and want of memory is free
+-- code 80 at the limit of 50,000 says that there are too many, and want of memory is free
 abbrev pub IsReachedFault : GraphParts → Bounds → Function → Fault → Type 0
-IsReachedFault parts bounds f (fault.Refused r) = (fault.Refused r ≡ refusal 80 place.Nowhere) × AreTooMany parts bounds f
+IsReachedFault parts bounds f (fault.Refused r) = (fault.Refused r ≡ refusal 80 (place.Limit 50000)) × AreTooMany parts bounds f
 IsReachedFault parts bounds f fault.Memory = Unit {0}

@@ -7,11 +7,12 @@ use Rattle.cfa.specs.Contexts.{Context, FrameContext, Pair, Follows, IsOnce, IsW
 use Rattle.cfa.specs.declared.parts.Operation.{Operation}
 use Rattle.cfa.specs.declared.parts.Operation.TheVariants.{Call, Return, Answer}
 use Rattle.std.specs.List.{list_all}
+use Rattle.std.specs.List.Sorted.{IsStrictlyIncreasing}
 use Rattle.reached.specs.declared.bounds.Bounds.{Bounds}
 use Rattle.reached.specs.declared.search.Open.{Open}
 use Rattle.reached.specs.declared.step.Step.{Step}
 use Rattle.reached.specs.declared.search.Search.{Search}
-use Rattle.reached.specs.Reaching.{FollowsWithin, IsNextWithin, IsReachedWithin}
+use Rattle.reached.specs.Reaching.{edges_of, FollowsWithin, IsNextWithin, IsReachedWithin}
 
 -- ---- steps
 
@@ -190,15 +191,18 @@ abbrev pub with_step : List Step → Option Step → List Step
 with_step steps None = steps
 with_step steps (Some s) = steps ++ s ∷ []
 
--- the steps from a pair along edges of these numbers
+-- the steps from a pair along edges of these numbers, which rise
 pub record AreStepsAlong (parts : GraphParts) (bounds : Bounds) (keys : List (List ℕ)) (p : Pair) (ways : List ℕ) (steps : List Step) : Type 0 where
   pub each : (s : Step) → IsIn steps s → LeadsToKey parts bounds keys p s
+  pub along : (s : Step) → IsIn steps s → Contains ways s.edge
   pub all : (at : ℕ) → Contains ways at → (e : Edge) (q : Pair) → FollowsWithin parts bounds at e p q → HasStep keys steps at q
+  pub rising : IsStrictlyIncreasing (edges_of steps)
 
--- all steps from a pair
+-- all steps from a pair, by rising number of the edge
 pub record AreStepsTo (parts : GraphParts) (bounds : Bounds) (keys : List (List ℕ)) (p : Pair) (steps : List Step) : Type 0 where
   pub each : (s : Step) → IsIn steps s → LeadsToKey parts bounds keys p s
   pub all : (at : ℕ) (e : Edge) (q : Pair) → FollowsWithin parts bounds at e p q → HasStep keys steps at q
+  pub rising : IsStrictlyIncreasing (edges_of steps)
 
 -- each step from a pair within the bounds leads to a pair with one of these keys
 abbrev pub HasKeysOf : GraphParts → Bounds → List (List ℕ) → Pair → Type 0

@@ -67,7 +67,9 @@ impl Search {
         if self.found.len() > MOST_PAIRS {
             return Err(Fault::Refused(Refusal {
                 code: TOO_MANY_PAIRS,
-                place: Place::Nowhere,
+                place: Place::Limit {
+                    number: MOST_PAIRS as u64,
+                },
             }));
         }
         let ways = Vector::from_vec(ways(alloc, graph, &pair)?);

@@ -11,7 +11,8 @@ pub struct Step {
     pub to: u32,
 }
 
-/// The pairs that walks reach, each numbered by its place from 0, and by number the steps from each.
+/// The pairs that walks reach, each numbered by its place from 0, and by number the steps from each, by rising number of
+/// the edge.
 #[derive(Debug, Drop)]
 pub struct Reached {
     pub pairs: Vector<NodeInContext>,

@@ -1,5 +1,6 @@
 // The steps of the pairs.
 ghost use Rattle.std.specs.Prelude.{◌≡◌, ◌≤◌, length, map, IfOk, OnOk};
+ghost use Rattle.std.specs.List.Sorted.{IsStrictlyIncreasing};
 ghost use Rattle.reached.specs.Reaching.{AreDistinct};
 ghost use Rattle.reached.specs.Searching.{AreRows, AreStepsAlong, AreStepsTo, HasKeysOf, IsIn, IsStepAlong, key_of, with_step};
 ghost use Rattle.cfa.specs.Contexts.{Pair};
@@ -68,7 +69,7 @@ fn add(steps: &mut Vector<Step>, step: Option<Step>) -> Result<(), Memory>
     }
 }
 
-// The steps from a pair along edges.
+// The steps from a pair along edges, which rise.
 fn steps_along(
     alloc: Global,
     graph: &Graph,
@@ -79,6 +80,7 @@ fn steps_along(
 ) -> Result<Vector<Step>, Memory>
     requires few { length keys.now ≤ 50000 }
     requires closed { HasKeysOf graph.now bounds.now keys.now pair.now }
+    requires rising { IsStrictlyIncreasing ways.now }
     ensures { IfOk result (λ steps. AreStepsAlong graph.now bounds.now keys.now pair.now ways.now steps) }
 {
     let mut steps = Vector::new(alloc);

@@ -14,12 +14,13 @@ use fq_core::Fault;
 use std::alloc::Global;
 
 /// The pairs of node and context that walks from the entry of a function reach within bounds, guards ignored: the first
-/// one first, and each before those to which its steps lead.
+/// one first, and each before those to which its steps lead. Its steps
+/// come once each, by rising number of the edge.
 ///
 /// # Errors
 ///
-/// Code 80 says that more than 50,000 pairs are reached, and comes wherever they are, unless memory runs out first.
-/// `Memory` comes where an allocation is refused, or a number would pass 2^32 - 1.
+/// Code 80 at the limit of 50,000 says that more pairs are reached, and comes wherever they are, unless memory runs out
+/// first. `Memory` comes where an allocation is refused, or a number would pass 2^32 - 1.
 pub fn reached(alloc: Global, graph: &Graph, entry: u32, bounds: Bounds) -> Result<Reached, Fault>
     requires once { IsOnce graph.now }
     requires entry { entry < length graph.now.functions }

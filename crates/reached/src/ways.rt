@@ -1,5 +1,6 @@
 // The ways on from a pair.
 ghost use Rattle.std.specs.Prelude.{◌≡◌, ◌<◌, ◌↔◌, length, IsTrue, IfOk};
+ghost use Rattle.std.specs.List.Sorted.{IsStrictlyIncreasing};
 ghost use Rattle.cfa.specs.Graph.{IsExit};
 ghost use Rattle.cfa.specs.Table.{outgoing_of};
 ghost use Rattle.reached.specs.Searching.{return_after, running_call, AreWays, IsNextAlong};
@@ -43,21 +44,24 @@ fn return_way(alloc: Global, pair: &NodeInContext) -> Result<Vec<u32>, Memory>
     Ok(ways)
 }
 
-// The edges that leave a node.
+// The edges that leave a node, rising.
 fn outgoing_ways(alloc: Global, graph: &Graph, node: u32) -> Result<Vec<u32>, Memory>
-    ensures { IfOk result (λ ways. node < length graph.now.nodes → ways.items ≡ outgoing_of graph.now node) }
+    ensures all { IfOk result (λ ways. node < length graph.now.nodes → ways.items ≡ outgoing_of graph.now node) }
+    ensures rising { IfOk result (λ ways. IsStrictlyIncreasing ways.items) }
 {
     let mut ways = Vec::new(alloc);
-    if (node as usize) < graph.nodes().len() {
-        ways.extend_from_slice(graph.outgoing(node))?;
+    if (node as usize) >= graph.nodes().len() {
+        return Ok(ways);
     }
+    ways.extend_from_slice(graph.outgoing(node))?;
     Ok(ways)
 }
 
-/// The edges by which a pair may go on: from the exit of a function the return to its caller alone, however many calls
+/// The edges by which a pair may go on, rising: from the exit of a function the return to its caller alone, however many calls
 /// there are, and else those that leave its node.
 pub(crate) fn ways(alloc: Global, graph: &Graph, pair: &NodeInContext) -> Result<Vec<u32>, Memory>
-    ensures { IfOk result (λ ways. AreWays graph.now pair.now ways.items) }
+    ensures all { IfOk result (λ ways. AreWays graph.now pair.now ways.items) }
+    ensures rising { IfOk result (λ ways. IsStrictlyIncreasing ways.items) }
 {
     graph.well_formed();
     outgoing_edges();

@@ -1,5 +1,5 @@
 use c_front::automaton_of_texts;
-use fq_core::Fault;
+use fq_core::{Fault, Place, Refusal};
 use reached::*;
 use std::alloc::Global;
 use std::test::Fail;
@@ -11,13 +11,13 @@ static LOOP: &str = "int f(int n) { int i = 0; while (i < n) { i = i + 1; } retu
 
 static RECURSION: &str = "int f(int n) { if (n) { return f(n - 1); } return 0; }\n";
 
-// The pairs from the entry of f, or the code of the refusal.
+// The pairs from the entry of f, or the refusal.
 fn reached_in(
     alloc: Global,
     source: &str,
     turns: u32,
     frames: u32,
-) -> Result<Result<Reached, u16>, Fail> {
+) -> Result<Result<Reached, Refusal>, Fail> {
     let Ok(texts) = texts_of(alloc, &[("a.c", source)]) else {
         return Err(Fail::from("no memory"));
     };
@@ -40,7 +40,7 @@ fn reached_in(
     };
     match reached(alloc, &graph, entry, bounds) {
         Ok(reached) => Ok(Ok(reached)),
-        Err(Fault::Refused(refusal)) => Ok(Err(refusal.code)),
+        Err(Fault::Refused(refusal)) => Ok(Err(refusal)),
         Err(Fault::Memory) => Err(Fail::from("no memory")),
     }
 }
@@ -98,9 +98,15 @@ fn most_pairs(rt: HostRuntime) -> Result<(), Fail> {
 fn too_many_pairs(rt: HostRuntime) -> Result<(), Fail> {
     match reached_in(rt.alloc(), LOOP, 16_665, 1)? {
         Ok(_) => Err(Fail::from("not too many")),
-        Err(code) => {
-            assert_eq!(rt; code, 80);
+        Err(
+            Refusal {
+                code,
+                place: Place::Limit { number },
+            },
+        ) => {
+            assert_eq!(rt; (code, number), (80, 50_000));
             Ok(())
         }
+        Err(_) => Err(Fail::from("no limit")),
     }
 }

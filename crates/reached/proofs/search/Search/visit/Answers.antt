@@ -17,4 +17,4 @@ pub returns-clause-ok : goal.returns-clause-ok
 returns-clause-ok c bounds k f next =
     let is = rw c.if-not-branch.false at c.in_ok-add.ensures in
     grows c.args.graph.now bounds k f c.args.pair c.args.self.now next c.in_ok-key.key.items c.in_ok-key.ensures c.add.new.self is c.from_vec-ways.result c.push.new.self (omega arith) c.in_ok-push.ensures.ok
-    (subst (AreWays c.args.graph.now c.args.pair) (sym c.from_vec-ways.ensures) c.in_ok-ways.ensures) (omega arith)
+    (subst (AreWays c.args.graph.now c.args.pair) (sym c.from_vec-ways.ensures) c.in_ok-ways.ensures.all) (omega arith)
