@@ -282,6 +282,7 @@ fn ten_thousand_goals(rt: HostRuntime) -> Result<(), Fail> {
         &[returned(0)],
         &answers,
         &[1],
+        Ends::Returned,
     ) else {
         return Err(Fail::from("no text"));
     };
