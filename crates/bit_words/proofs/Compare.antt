@@ -3,6 +3,7 @@ use Rattle.std.proofs.Common.{◌≡◌, ℕ, ◌+◌, ◌-◌, ◌%◌, ◌^◌
 use Rattle.std.specs.Prelude.{◌==◌, ◌⊎◌, ◌≢◌}
 use Rattle.std.specs.Int.{bit_at}
 use Rattle.std.proofs.lemmas.Int.{ints}
+use Rattle.std.proofs.lemmas.Bool.{eq-eqb, ne_eqb}
 use Rattle.std.proofs.lemmas.Bool.Decides.{eqb_tells}
 use borrow.Author.Differences.{true_is_lt, false_is_lt}
 use Rattle.circuit.specs.Truth.{World}
@@ -105,3 +106,8 @@ is_unsigned false e = refl
 pub is_signed : (b : Bool) → not b ≡ false → b ≡ true
 is_signed true e = refl
 is_signed false e = cc
+
+-- a number is not 0 where the test tells so
+pub nonzero_is : (t : Bool) (v : ℕ) → (t ≡ false → v ≡ 0) → (t ≡ true → 0 < v) → t ≡ not (v == 0)
+nonzero_is false v none some = sym (ap not (eq-eqb v 0 (none refl)))
+nonzero_is true v none some = let more = some refl in sym (ap not (ne_eqb v 0 (λ e. omega arith)))

@@ -1,4 +1,4 @@
-ghost use Rattle.std.specs.Prelude.{◌≡◌, ◌+◌, ◌*◌, ◌≤◌, ◌^◌, ◌+ℤ◌, pos, All, IfOk, length};
+ghost use Rattle.std.specs.Prelude.{◌≡◌, ◌==◌, ◌+◌, ◌*◌, ◌≤◌, ◌^◌, ◌+ℤ◌, pos, not, All, IfOk, length};
 ghost use Rattle.circuit.specs.Truth.{World};
 ghost use Rattle.circuit.specs.Wires.{IsWire, lit_holds};
 ghost use Rattle.c_values.specs.Kind.{number_of};
@@ -44,6 +44,18 @@ pub fn equal(circuit: &mut Circuit, a: &Word, b: &Word, kind: Kind) -> Result<Li
     let some = some_bit(circuit, &differing, 0, width)?;
     let none = inverse(circuit, some)?;
     Ok(none)
+}
+
+/// Whether a word compares unequal to 0 (6.8.4.1p2): whether one of its bits is set.
+pub fn nonzero(circuit: &mut Circuit, a: &Word) -> Result<Lit, Memory>
+    requires word { All (IsWire circuit.old) a.now }
+    requires room { length circuit.old + 64 ≤ 2 ^ 30 }
+    ensures grows { Grows circuit.old circuit.new 64 }
+    ensures wire { IfOk result (λ c. IsWire circuit.new c) }
+    ensures value { IfOk result (λ c. (w : World) → lit_holds circuit.new c w ≡ not (word_value circuit.old a.now w == 0)) }
+{
+    let some = some_bit(circuit, a, 0, 64)?;
+    Ok(some)
 }
 
 /// A value with its kind's bias, which makes it natural: with its highest bit turned, if the kind has a sign.

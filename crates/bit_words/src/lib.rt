@@ -29,7 +29,7 @@ mod sums;
 mod words;
 
 pub use bitwise::{and, choose, not, or, xor};
-pub use comparisons::{equal, less};
+pub use comparisons::{equal, less, nonzero};
 pub use division::{div, rem};
 pub use products::mul;
 pub use shifts::{shl, shr};

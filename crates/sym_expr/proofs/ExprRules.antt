@@ -1,14 +1,18 @@
 -- Expressions that meet the rules within a store, by their forms: what each form weighs, and what it comes to from what
 -- its parts come to.
-use Rattle.std.proofs.Common.{◌≡◌, ℕ, ◌+◌, ◌^◌, ◌<◌, ◌≤◌, Bool, true, false, cond, List, [], Option, Some, None, length, get_or, refl, sym, ap, ◌∙◌, rules, pos, ⊎_elim, arith}
+use Rattle.std.proofs.Common.{◌≡◌, ℕ, ◌+◌, ◌*◌, ◌^◌, ◌<◌, ◌≤◌, Bool, true, false, cond, List, [], Option, Some, None, length, get_or, refl, sym, ap, ◌∙◌, rules, pos, ⊎_elim, arith}
 use Rattle.std.specs.Prelude.{Result, Ok, Err, IsTrue, IfOk, nat_lt, slice_index, slice_get, option_and_then, if◌then◌else◌}
 use Rattle.std.specs.Result.{result_ok}
 use Rattle.std.proofs.lemmas.Bool.{eqb-true, leb-true, ltb-true, lt-ltb, le-ltb, cases_lt}
 use Rattle.std.proofs.lemmas.List.Elements.{AllZip-get_or, length_all_zip}
+use Rattle.std.proofs.Math.Nat.{mul-le-mul}
 use Rattle.std.proofs.lemmas.Option.{get_or_from_slice_get, slice_get_within}
 use Rattle.c_values.specs.declared.kinds.Kind.{Kind}
 use Rattle.c_values.specs.declared.operators.BinaryOp.{BinaryOp}
 use Rattle.c_values.specs.declared.operators.UnaryOp.{UnaryOp}
+use Rattle.c_values.specs.declared.operators.UnaryOp.TheVariants.{Neg, Complement, Not}
+use Rattle.c_values.specs.declared.operators.BinaryOp.TheVariants.{Add, Sub, Mul, Div, Rem, Shl, Shr, And, Or, Xor, Less, LessEqual, Greater, GreaterEqual, Equal, NotEqual}
+use Rattle.c_values.proofs.Fitting.{by_width}
 use Rattle.c_values.specs.Kind.{IsKind, IsValue, converted, wrapped}
 use Rattle.c_values.specs.Operations.{unary_kind, unary_value, binary_kind, binary_value, is_shift}
 use Rattle.cfa.specs.declared.expr.ArrayPlace.{ArrayPlace}
@@ -63,6 +67,40 @@ weight_local n width = search (rules, the_lemmas)
 pub weight_element : (a : ArrayPlace) (i : Expr) (n width : ℕ) → place_weight (place.Element a i n) width ≡ weight_of i + element_weight n width
 unfolding weight_of place_weight
 weight_element a i n width = search (rules, the_lemmas)
+
+-- operators weigh something
+pub unary_weighs : (op : UnaryOp) (width : ℕ) → 8 ≤ width → 0 < unary_weight op width
+unary_weighs Neg width h = omega arith
+unary_weighs Complement width h = omega arith
+unary_weighs Not width h = omega arith
+
+pub binary_weighs : (op : BinaryOp) (width : ℕ) → 8 ≤ width → 0 < binary_weight op width
+binary_weighs op width h = let square : 64 ≤ width * width = mul-le-mul h h in at op square
+  where
+    at : (op : BinaryOp) → 64 ≤ width * width → 0 < binary_weight op width
+    at Add s = omega arith
+    at Sub s = omega arith
+    at Mul s = omega arith
+    at Div s = omega arith
+    at Rem s = omega arith
+    at Shl s = omega arith
+    at Shr s = omega arith
+    at And s = omega arith
+    at Or s = omega arith
+    at Xor s = omega arith
+    at Less s = omega arith
+    at LessEqual s = omega arith
+    at Greater s = omega arith
+    at GreaterEqual s = omega arith
+    at Equal s = omega arith
+    at NotEqual s = omega arith
+
+pub kind_width : (kind : Kind) → IsKind kind → 8 ≤ kind.width
+kind_width kind k = by_width (λ w. 8 ≤ w) (omega arith) (omega arith) (omega arith) (omega arith) kind.width k
+
+-- an element of an array that weighs nothing is one of no elements
+pub no_elements : (n width : ℕ) → 8 ≤ width → element_weight n width ≡ 0 → n ≡ 0
+no_elements n width h e = let more : 8 * n ≤ width * n = mul-le-mul h (omega arith) in omega arith
 
 -- ---- their kinds
 

@@ -1,5 +1,5 @@
 -- Stores of words: what the cells hold in a world, and which expressions may be evaluated over them.
-use Rattle.std.specs.Prelude.{ℕ, ◌+◌, ◌≤◌, if◌then◌else◌, IsTrue, List, map, Option, Some, None}
+use Rattle.std.specs.Prelude.{ℕ, ◌+◌, ◌≤◌, Bool, if◌then◌else◌, IsTrue, List, map, Option, Some, None}
 use Rattle.std.specs.List.{AllZip}
 use Rattle.circuit.specs.Truth.{World}
 use Rattle.circuit.specs.Wires.{lit_holds}
@@ -18,6 +18,10 @@ cells_in gates cells w = map (λ word. word_value gates word w) cells
 -- a word's value in a world, if the literal beside it holds there
 abbrev pub outcome_in : List Gate → List Lit × Lit → World → Option ℕ
 outcome_in gates word w = if lit_holds gates word.1 w then Some (word_value gates word.0 w) else None
+
+-- a test in a world, the first literal, if the second holds there
+abbrev pub told_in : List Gate → Lit × Lit → World → Option Bool
+told_in gates test w = if lit_holds gates test.1 w then Some (lit_holds gates test.0 w) else None
 
 -- the globals, the frame's cells and the arrays that it is lent, with their lengths, lie within so many cells
 pub record HasRoom (count : ℕ) (frame : Frame) (room : Room) : Type 0 where

@@ -64,3 +64,7 @@ place_weight = fold-CellPlace (ℕ → ℕ) ℕ place_weight_step weight_step
 -- the most wires that an expression or a part of this weight uses
 abbrev pub most_expression_wires : ℕ → ℕ
 most_expression_wires weight = 31 * weight
+
+-- the same of a condition, whose value is compared with 0
+abbrev pub most_condition_wires : ℕ → ℕ
+most_condition_wires weight = 31 * weight + 64

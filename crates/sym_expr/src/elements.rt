@@ -23,6 +23,7 @@ pub(crate) fn held(cells: &[Word], cell: usize, kind: Kind) -> (Word, Lit)
     requires kind { IsKind kind }
     ensures word { (gates : List Gate) → All (All (IsWire gates)) cells.now → IsWord gates kind result.0 }
     ensures wire { (gates : List Gate) → IsWire gates result.1 }
+    ensures sure { result.1.wire ≡ 0 }
     ensures value { (gates : List Gate) → All (All (IsWire gates)) cells.now → (w : World) → outcome_in gates result w ≡ Some (wrapped kind (pos (slice_index (cells_in gates cells.now w) cell))) }
 {
     (extended(&cells[cell], kind), Lit::YES)
@@ -59,6 +60,7 @@ pub(crate) fn element(
     ensures grows { Grows circuit.old circuit.new (most_expression_wires (element_weight (length elements.now) kind.width)) }
     ensures word { IfOk result (λ r. IsWord circuit.new kind r.0) }
     ensures wire { IfOk result (λ r. IsWire circuit.new r.1) }
+    ensures sure { length elements.now ≡ 0 → IfOk result (λ r. r.1.wire ≡ 0) }
     ensures value { IfOk result (λ r. (w : World) → outcome_in circuit.new r w ≡ option_and_then (λ i. if nat_lt i (length elements.now) then Some (wrapped kind (pos (slice_index (cells_in circuit.old elements.now w) i))) else None) (outcome_in circuit.old index.now w)) }
 {
     let count = elements.len();

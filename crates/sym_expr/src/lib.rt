@@ -8,6 +8,7 @@
 //! `circuit`.
 #![tactic(auto)]
 
+mod conditions;
 mod elements;
 mod operators;
 mod patterns;
@@ -15,6 +16,7 @@ mod store;
 mod translation;
 mod writes;
 
+pub use conditions::condition;
 pub use store::SymStore;
 pub use translation::translate;
 pub use writes::put;

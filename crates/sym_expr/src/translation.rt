@@ -22,7 +22,8 @@ use circuit::{Circuit, Lit, Memory};
 /// its evaluation doesn't trap.
 ///
 /// In every world, let the cells be what their words are there. Where the literal holds, the word is the expression's
-/// value, and where not, its evaluation traps. The word is one of the expression's kind also there.
+/// value, and where not, its evaluation traps. The word is one of the expression's kind also there. The literal of an
+/// expression that weighs nothing is a constant.
 #[cycle(translation)]
 pub fn translate(
     circuit: &mut Circuit,
@@ -36,6 +37,7 @@ pub fn translate(
     ensures grows { Grows circuit.old circuit.new (most_expression_wires (weight_of expr.now)) }
     ensures word { IfOk result (λ r. IsWord circuit.new (kind_of expr.now) r.0) }
     ensures wire { IfOk result (λ r. IsWire circuit.new r.1) }
+    ensures sure { weight_of expr.now ≡ 0 → IfOk result (λ r. r.1.wire ≡ 0) }
     ensures value { IfOk result (λ r. (w : World) → outcome_in circuit.new r w ≡ result_ok (value_of (cells_in circuit.old store.now.cells w) frame.now expr.now)) }
 {
     match expr {
@@ -74,6 +76,7 @@ fn loaded(
     ensures grows { Grows circuit.old circuit.new (most_expression_wires (place_weight place.now kind.width)) }
     ensures word { IfOk result (λ r. IsWord circuit.new kind r.0) }
     ensures wire { IfOk result (λ r. IsWire circuit.new r.1) }
+    ensures sure { place_weight place.now kind.width ≡ 0 → IfOk result (λ r. r.1.wire ≡ 0) }
     ensures value { IfOk result (λ r. (w : World) → outcome_in circuit.new r w ≡ result_ok (value_of (cells_in circuit.old store.now.cells w) frame.now (Expr.Load place.now kind))) }
 {
     let cells = store.cells.as_slice();

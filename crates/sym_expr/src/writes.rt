@@ -4,7 +4,8 @@ ghost use Rattle.std.specs.Result.{is_ok};
 ghost use Rattle.circuit.specs.Truth.{World};
 ghost use Rattle.circuit.specs.Wires.{IsWire, lit_holds};
 ghost use Rattle.cfa.specs.Values.{cell_of};
-ghost use Rattle.bit_words.specs.Words.{Grows, IsWord, word_value};
+ghost use Rattle.bit_words.specs.Words.{Grows, word_value};
+ghost use Rattle.c_values.specs.Kind.{IsKind};
 ghost use Rattle.sym_expr.specs.Stores.{PlaceFitsWithin, cells_in};
 ghost use Rattle.sym_expr.specs.Weights.{most_expression_wires, place_weight};
 
@@ -19,8 +20,8 @@ use circuit::{Circuit, Lit, Memory};
 use containers::Vector;
 use std::mem;
 
-/// Puts the word of a value of a kind into the cell that a place names, where this frame runs, and answers a literal that
-/// holds where the place's index doesn't trap and names an element.
+/// Puts a word into the cell that a place names, where this frame runs, and answers a literal that holds where the place's
+/// index doesn't trap and names an element. The kind is the one at which the cell is written.
 ///
 /// In every world, let the cells be what their words are there, before and after. Where the place names a cell, the cells
 /// after are those before with the word's value in that one (ISO/IEC 9899:2011, 6.5.16p3). Each element of an array
@@ -35,7 +36,8 @@ pub fn put(
 ) -> Result<Lit, Memory>
     requires cells { All (All (IsWire circuit.old)) store.old.cells }
     requires fits { PlaceFitsWithin (length store.old.cells) frame.now place.now }
-    requires word { IsWord circuit.old kind word.now }
+    requires word { All (IsWire circuit.old) word.now }
+    requires kind { IsKind kind }
     requires room { length circuit.old + most_expression_wires (place_weight place.now kind.width) ≤ 2 ^ 30 }
     ensures grows { Grows circuit.old circuit.new (most_expression_wires (place_weight place.now kind.width)) }
     ensures cells { OnOk result (All (All (IsWire circuit.new)) store.new.cells) }

@@ -7,11 +7,11 @@ use Rattle.cfa.specs.Values.{value_of}
 use Rattle.cfa.specs.declared.expr.CellPlace.{the_lemmas}
 use Rattle.bit_words.specs.Words.{IsWord, word_value}
 use Rattle.bit_words.proofs.Steps.{grows_none, grows_then, grows_within, same, still}
-use Rattle.bit_words.proofs.Values.{word_later}
+use Rattle.bit_words.proofs.Values.{least_width, word_later}
 use Rattle.sym_expr.specs.Stores.{cells_in}
 use Rattle.sym_expr.proofs.WordLemmas.{sure_outcome}
 use Rattle.sym_expr.proofs.ElementLemmas.{cells_still, elements_among, count_among}
-use Rattle.sym_expr.proofs.ExprRules.{weight_load, weight_convert, weight_unary, weight_binary, weight_element, kind_constant, kind_load, kind_convert, kind_unary, kind_binary, fits_constant, fits_place, fits_load, fits_converted, fits_convert, fits_operand, operand_kind, fits_left, fits_right, left_kind, right_kind, fits_index, fits_array, fits_global, fits_local, constant_outcome, convert_outcome, unary_outcome, global_outcome, local_outcome}
+use Rattle.sym_expr.proofs.ExprRules.{unary_weighs, binary_weighs, no_elements, kind_width, weight_load, weight_convert, weight_unary, weight_binary, weight_element, kind_constant, kind_load, kind_convert, kind_unary, kind_binary, fits_constant, fits_place, fits_load, fits_converted, fits_convert, fits_operand, operand_kind, fits_left, fits_right, left_kind, right_kind, fits_index, fits_array, fits_global, fits_local, constant_outcome, convert_outcome, unary_outcome, global_outcome, local_outcome}
 use Rattle.sym_expr.proofs.TranslationLemmas.{value_is_word, element_loaded, operator_translated}
 use Rattle.sym_expr.proofs.translation.+translation.Goals as goal
 
@@ -325,3 +325,38 @@ loaded-returns-in_ok-named-in-Element-clause-value t c =
     rw e.is (IfOk-weaker c.element.result _ _ (λ r is w.
     element_loaded c.element.new.circuit c.args.frame.now cells e.array e.index e.length c.array_start-start.result c.args.kind w c.in_ok-named-in-Element.named r c.translate.ensures.grows
     c.requires.cells (omega arith) (rw e.is at c.requires.fits) (c.array_start-start.ensures.place (cells_in g cells w)) (index w) (is w)) made)
+
+-- ---- literals of what weighs nothing
+
+pub translate-returns-in-Load-clause-sure : goal.translate-returns-in-Load-clause-sure
+translate-returns-in-Load-clause-sure t c = let e = c.in-Load in rw (e.is, weight_load e.place e.kind) c.loaded.ensures.sure
+
+pub translate-returns-in_ok-number-in-Convert-clause-sure : goal.translate-returns-in_ok-number-in-Convert-clause-sure
+translate-returns-in_ok-number-in-Convert-clause-sure t c = let e = c.in-Convert in rw (e.is, weight_convert e.operand e.kind) (rw c.deref.ensures at c.in_ok-number-in-Convert.ensures.sure)
+
+pub translate-returns-in_ok-value-in-Unary-clause-sure : goal.translate-returns-in_ok-value-in-Unary-clause-sure
+translate-returns-in_ok-value-in-Unary-clause-sure t c = λ none.
+    let e = c.in-Unary in
+    let same_kind = operand_kind (length c.args.store.now.cells) c.args.frame.now e.op e.operand e.kind (rw e.is at c.requires.fits) in
+    let word = subst (λ k. IsWord c.translate-in-Unary.new.circuit k c.in_ok-argument-in-Unary.argument) same_kind (rw c.deref-in-Unary.ensures at c.in_ok-argument-in-Unary.ensures.word) in
+    let more = unary_weighs e.op e.kind.width (least_width word) in
+    absurd (omega (arith, rw (e.is, weight_unary e.op e.operand e.kind) at none))
+
+pub translate-returns-in_ok-second-in-Binary-clause-sure : goal.translate-returns-in_ok-second-in-Binary-clause-sure
+translate-returns-in_ok-second-in-Binary-clause-sure t c = λ none.
+    let e = c.in-Binary in
+    let own = left_kind (length c.args.store.now.cells) c.args.frame.now e.op e.left e.right e.kind (rw e.is at c.requires.fits) in
+    let word = subst (λ k. IsWord c.translate-in-Binary.new.circuit k c.in_ok-first-in-Binary.first.0) own (rw c.deref-in-Binary.ensures at c.in_ok-first-in-Binary.ensures.word) in
+    let more = binary_weighs e.op e.kind.width (least_width word) in
+    absurd (omega (arith, rw (e.is, weight_binary e.op e.left e.right e.kind) at none))
+
+pub loaded-returns-in_ok-named-in-Element-clause-sure : goal.loaded-returns-in_ok-named-in-Element-clause-sure
+loaded-returns-in_ok-named-in-Element-clause-sure t c = λ none.
+    let e = c.in-Element in
+    let cells = c.args.store.now.cells in
+    let within = fits_array (length cells) c.args.frame.now [] e.array e.index e.length (rw e.is at c.requires.fits) in
+    let from = c.array_start-start.ensures.place [] in
+    let whole = count_among cells c.array_start-start.result e.length (omega arith) in
+    let weight = rw (e.is, weight_element e.array e.index e.length c.args.kind.width) at none in
+    let no_length = no_elements e.length c.args.kind.width (kind_width c.args.kind c.requires.kind) (omega arith) in
+    c.element.ensures.sure (rw (c.as_slice-cells.ensures, whole) no_length)

@@ -4,7 +4,6 @@ use Rattle.cfa.specs.Values.{cell_of}
 use Rattle.cfa.proofs.ExprRules.{global_cell, local_cell}
 use Rattle.bit_words.proofs.Steps.{grows_then, grows_within}
 use Rattle.bit_words.proofs.Digits.{all_still}
-use Rattle.bit_words.proofs.Values.{kind_of_word}
 use Rattle.sym_expr.specs.Stores.{cells_in}
 use Rattle.sym_expr.proofs.ElementLemmas.{cells_still}
 use Rattle.sym_expr.proofs.ExprRules.{weight_element, fits_index, fits_array, fits_global, fits_local}
@@ -37,7 +36,7 @@ pub put_element-requires-clause-cells : goal.put_element-requires-clause-cells
 put_element-requires-clause-cells c = cells_still c.translate.ensures.grows c.args.store.now.cells c.requires.cells
 
 pub put_element-requires-clause-word : goal.put_element-requires-clause-word
-put_element-requires-clause-word c = all_still c.translate.ensures.grows c.args.word.now c.requires.word.wires
+put_element-requires-clause-word c = all_still c.translate.ensures.grows c.args.word.now c.requires.word
 
 pub put_element-requires-clause-within : goal.put_element-requires-clause-within
 put_element-requires-clause-within c =
@@ -51,14 +50,14 @@ put_element-requires-clause-room c =
     let e = c.in-Element in
     let room = rw (e.is, weight_element e.array e.index e.length c.args.kind.width) at c.requires.room in
     let grown = rw c.deref.ensures at c.translate.ensures.grows in
-    let most = write_room c.args.kind e.length (kind_of_word c.requires.word) in
+    let most = write_room c.args.kind e.length c.requires.kind in
     omega (arith, grown.used)
 
 pub returns-in_ok-named-in-Element-clause-grows : goal.returns-in_ok-named-in-Element-clause-grows
 returns-in_ok-named-in-Element-clause-grows c =
     let e = c.in-Element in
     let index = rw c.deref.ensures at c.translate.ensures.grows in
-    let most = write_room c.args.kind e.length (kind_of_word c.requires.word) in
+    let most = write_room c.args.kind e.length c.requires.kind in
     rw (e.is, weight_element e.array e.index e.length c.args.kind.width) (grows_within _ (grows_then index c.put_element.ensures.grows) (omega arith))
 
 pub returns-in-Global-clause-inside : goal.returns-in-Global-clause-inside
@@ -104,4 +103,4 @@ returns-in_ok-named-in-Element-clause-value c =
     rw e.is (IfOk-weaker c.put_element.result _ _ (λ inside is w cell at.
     place_put c.put_element.new.circuit c.args.frame.now cells e.array e.index e.length c.array_start-start.result w c.in_ok-named-in-Element.named c.translate.ensures.grows c.requires.cells
     (omega arith) (rw e.is at c.requires.fits) (c.array_start-start.ensures.place (cells_in c.args.circuit.now cells w)) (index w)
-    c.put_element.new.store.cells c.args.word.now cell c.requires.word.wires (is w) at) c.put_element.ensures.value)
+    c.put_element.new.store.cells c.args.word.now cell c.requires.word (is w) at) c.put_element.ensures.value)
