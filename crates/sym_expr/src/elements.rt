@@ -30,7 +30,7 @@ pub(crate) fn held(cells: &[Word], cell: usize, kind: Kind) -> (Word, Lit)
 }
 
 /// The place of an array's first cell among all cells.
-pub(crate) fn array_start(array: ArrayPlace, frame: &Frame) -> usize
+pub fn array_start(array: ArrayPlace, frame: &Frame) -> usize
     ensures place { (cells : List ℕ) → result ≡ array_start cells frame.now array }
 {
     match array {

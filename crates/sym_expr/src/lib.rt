@@ -17,6 +17,7 @@ mod translation;
 mod writes;
 
 pub use conditions::condition;
+pub use elements::array_start;
 pub use store::SymStore;
 pub use translation::translate;
 pub use writes::put;

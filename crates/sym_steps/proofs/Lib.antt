@@ -1,0 +1,5 @@
+pub mod CellLemmas
+pub mod EffectLemmas
+pub mod NodeLemmas
+pub mod ReturnLemmas
+pub mod StepLemmas
