@@ -16,8 +16,10 @@ mod cells;
 mod effects;
 mod operations;
 mod returning;
+mod starting;
 mod state;
 mod stepping;
 
+pub use starting::start;
 pub use state::{SymState, SymStep, Way};
 pub use stepping::step;

@@ -21,7 +21,7 @@ use circuit::{Circuit, Memory};
 use std::alloc::{AllocError, Global};
 
 /// The defined function of a number.
-fn function_of(graph: &Graph, at: u32) -> &Function
+pub(crate) fn function_of(graph: &Graph, at: u32) -> &Function
     requires { at < length graph.now.functions }
     ensures { slice_get graph.now.functions at ≡ Some result.now }
 {
