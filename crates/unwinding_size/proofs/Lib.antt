@@ -1,0 +1,4 @@
+pub mod CappedLaws
+pub mod SumLaws
+pub mod MergeLaws
+pub mod PairLaws
