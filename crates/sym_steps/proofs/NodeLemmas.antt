@@ -23,7 +23,7 @@ use Rattle.cfa.specs.Table.{AreGuards, ContinuesAt, outgoing_of}
 use Rattle.cfa.proofs.Eaches.{element_at}
 use Rattle.cfa.proofs.Exits.{taken}
 use Rattle.cfa.proofs.Places.{continues_tells}
-use Rattle.sym_steps.specs.Weights.{operation_weight, operations_weight}
+use Rattle.sym_expr.specs.Weights.{operation_weight, operations_weight}
 
 -- ---- weights
 

@@ -37,7 +37,7 @@ use Rattle.sym_steps.specs.Effects.{put_cells, words_in}
 use Rattle.sym_steps.specs.declared.state.SymState.{SymState}
 use Rattle.sym_steps.specs.declared.state.SymStep.{SymStep}
 use Rattle.sym_steps.specs.Steps.{AreStates, IsStep, running_of, state_in, frames_next}
-use Rattle.sym_steps.specs.Weights.{dest_weight, operation_weight, operations_weight, result_kind}
+use Rattle.sym_expr.specs.Weights.{dest_weight, operation_weight, operations_weight, result_kind}
 use Rattle.sym_steps.proofs.NodeLemmas.{edge_weighs}
 use Rattle.sym_steps.proofs.StepLemmas.{IsWent, Stops, ended_step, one_way_step, place_here, some_in, step_of, went_leads, went_put, went_tells}
 

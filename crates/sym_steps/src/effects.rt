@@ -12,7 +12,7 @@ ghost use Rattle.c_meaning.specs.Steps.{values_of};
 ghost use Rattle.sym_expr.specs.Stores.{FitsWithin, PlaceFitsWithin, cells_in};
 ghost use Rattle.sym_expr.specs.Weights.{place_weight, weight_of};
 ghost use Rattle.sym_steps.specs.Effects.{assigned_cells, put_cells, words_in};
-ghost use Rattle.sym_steps.specs.Weights.{dest_weight};
+ghost use Rattle.sym_expr.specs.Weights.{dest_weight};
 
 use bit_words::Word;
 use bit_words::gates::both;

@@ -19,7 +19,7 @@ ghost use Rattle.sym_steps.specs.Operated.{IsOperated};
 ghost use Rattle.std.specs.Option.{IsSomeAnd};
 ghost use Rattle.c_meaning.specs.Steps.{picked};
 ghost use Rattle.sym_steps.specs.Steps.{AreStates, IsStep, state_in};
-ghost use Rattle.sym_steps.specs.Weights.{dest_weight};
+ghost use Rattle.sym_expr.specs.Weights.{dest_weight};
 
 use crate::cells::{with_frame, with_zeros};
 use crate::effects::{assign, both_hold, put_to, translate_all};

@@ -7,7 +7,7 @@ ghost use Rattle.cfa.specs.Graph.{result_kind_fits};
 ghost use Rattle.bit_words.specs.Words.{Grows};
 ghost use Rattle.c_meaning.specs.Steps.{function_at, next};
 ghost use Rattle.sym_steps.specs.Steps.{AreStates, IsStep, running_of};
-ghost use Rattle.sym_steps.specs.Weights.{dest_weight};
+ghost use Rattle.sym_expr.specs.Weights.{dest_weight};
 
 use crate::cells::{first_cells, word_at};
 use crate::effects::put_to;

@@ -10,7 +10,8 @@ ghost use Rattle.c_meaning.specs.Places.{Leaves};
 ghost use Rattle.c_meaning.specs.Steps.{function_at, next, onward, picked};
 ghost use Rattle.sym_steps.specs.Operated.{IsOperated};
 ghost use Rattle.sym_steps.specs.Steps.{AreStates, IsStep, running_of, state_in};
-ghost use Rattle.sym_steps.specs.Weights.{most_step_wires, operation_weight, operations_weight};
+ghost use Rattle.sym_steps.specs.Weights.{most_step_wires};
+ghost use Rattle.sym_expr.specs.Weights.{operation_weight, operations_weight};
 
 use crate::operations::{answered, assigned, called, clear, no_way, picked, skip, tested};
 use crate::returning::returned;

@@ -5,7 +5,8 @@ use Rattle.cfa.specs.declared.state.Predicates.{Predicates}
 use Rattle.reached.specs.declared.step.Step.{Step}
 use Rattle.unwinding_size.specs.declared.pairs.Tables.{Tables}
 use Rattle.unwinding_size.specs.Capped.{capped}
-use Rattle.unwinding_size.specs.Sizes.{operations_weight, scope_weight, steps_into}
+use Rattle.unwinding_size.specs.Sizes.{scope_weight, steps_into}
+use Rattle.sym_expr.specs.Weights.{operations_weight}
 
 -- weights by node and by scope, and how many steps lead to each of so many pairs, all as they are counted
 pub record AreTables (parts : GraphParts) (predicates : Predicates) (pairs : ℕ) (steps : List (List Step)) (t : Tables) : Type 0 where

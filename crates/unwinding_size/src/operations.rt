@@ -3,7 +3,7 @@ ghost use Rattle.std.specs.Prelude.{◌≡◌, ◌<◌, ℕ, length, slice_index
 ghost use Rattle.std.specs.Option.{option_copied};
 ghost use Rattle.cfa.specs.Graph.{callee_of, function_called};
 ghost use Rattle.unwinding_size.specs.Capped.{capped};
-ghost use Rattle.unwinding_size.specs.Sizes.{answer_kind, dest_weight, operation_weight, operations_weight, result_kind};
+ghost use Rattle.sym_expr.specs.Weights.{answer_kind, dest_weight, operation_weight, operations_weight, result_kind};
 
 use crate::capped::sum;
 use crate::expressions::{place_weight, weight, weights};

@@ -1,7 +1,7 @@
 use Rattle.std.proofs.Common.{◌∙◌, arith}
 use Rattle.cfa.specs.declared.parts.Edge.{Edge}
 use Rattle.cfa.proofs.Eaches.{read_at}
-use Rattle.unwinding_size.specs.Sizes.{operation_weight}
+use Rattle.sym_expr.specs.Weights.{operation_weight}
 use Rattle.unwinding_size.proofs.SumLaws.{tally_more}
 use Rattle.unwinding_size.proofs.operations.node_weights.Goals as goal
 

@@ -2,7 +2,7 @@ use Rattle.std.proofs.Common.{◌≡◌, ℕ, nat_eq, take, length, get_or}
 use Rattle.std.specs.Prelude.{sum_by, filter, vec_len}
 use Rattle.cfa.specs.declared.parts.Edge.{Edge}
 use Rattle.unwinding_size.specs.Capped.{capped}
-use Rattle.unwinding_size.specs.Sizes.{operation_weight}
+use Rattle.sym_expr.specs.Weights.{operation_weight}
 use Rattle.unwinding_size.proofs.operations.node_weights.Given as goal
 
 abbrev pub invariant-loop-edge : goal.invariant-loop-edge

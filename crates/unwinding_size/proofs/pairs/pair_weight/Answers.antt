@@ -1,6 +1,7 @@
 use Rattle.std.proofs.Common.{get_or, ap, ◌∙◌}
 use Rattle.unwinding_size.specs.Capped.{capped}
-use Rattle.unwinding_size.specs.Sizes.{merges_weight, operations_weight, predicates_weight, steps_into}
+use Rattle.unwinding_size.specs.Sizes.{merges_weight, predicates_weight, steps_into}
+use Rattle.sym_expr.specs.Weights.{operations_weight}
 use Rattle.unwinding_size.proofs.CappedLaws.{capped-sums}
 use Rattle.unwinding_size.proofs.pairs.pair_weight.Goals as goal
 
