@@ -17,7 +17,7 @@ use Rattle.literal_marks.specs.Marks.{has_places}
 use Rattle.literal_marks.specs.declared.places.Places.TheVariants.{ByKey}
 use Rattle.search.specs.declared.trail.Entry.{Entry}
 use Rattle.search.specs.Laws.{is_over}
-use Rattle.search.specs.Lessons.{IsBack, IsCut, reach}
+use Rattle.search.specs.Chains.{IsBack}
 use Rattle.search.specs.Machine.{IsOver, is_implied_by, is_reason, is_true}
 use Rattle.search.specs.Sound.{Implies}
 use Rattle.search.specs.Trails.{IsTrail, are_over, place, places}
@@ -54,6 +54,13 @@ or_behind true b e = refl
 or_behind false b e = e
 
 -- ---- trails and their beginnings
+
+pub some_entry : (trail : List Entry) (cut : ℕ) (P : Entry → Type 0) → IsSomeAnd (slice_get trail cut) P → (e : Entry) × (slice_get trail cut ≡ Some e) × P e
+some_entry trail cut P h = by_found (slice_get trail cut) refl h
+  where
+    by_found : (found : Option Entry) → slice_get trail cut ≡ found → IsSomeAnd found P → (e : Entry) × (slice_get trail cut ≡ Some e) × P e
+    by_found None f g = absurd g
+    by_found (Some e) f g = (e, f, g)
 
 pub at_entry : (trail : List Entry) (i : ℕ) (e : Entry) → slice_get trail i ≡ Some e → (i < length trail) × (get_or trail i e ≡ e)
 at_entry [] i e h = absurd cc
@@ -137,7 +144,7 @@ free_before n (f ∷ trail) (suc i) e x a d h same =
         let no : true ≡ false = sym yes ∙ other in
         absurd cc
 
-true_at : (trail : List Entry) (p c : ℕ) (e : Entry) → p < c → slice_get trail p ≡ Some e → is_true (take c trail) e.literal ≡ true
+pub true_at : (trail : List Entry) (p c : ℕ) (e : Entry) → p < c → slice_get trail p ≡ Some e → is_true (take c trail) e.literal ≡ true
 true_at [] p c e h at = absurd cc
 true_at (f ∷ trail) zero zero e h at = absurd (omega arith)
 true_at (f ∷ trail) zero (suc c) e h at = let same : f ≡ e = cc in or_front _ _ (equal_literal f.literal e.literal (ap (λ g. g.literal) same))
@@ -207,13 +214,12 @@ implied_at (f ∷ trail) (suc i) e number at r = or_behind _ _ (implied_at trail
 
 module _ (clauses : List (List ℤ)) (trail : List Entry) (first : List ℤ) where
   -- an entry whose negation isn't in the clause so far
-  pub back_over : (p : ℕ) (e : Entry) (set : ℤ → Bool) (steps : List (ℕ × ℤ)) (cut : Option ℕ) → slice_get trail p ≡ Some e → set (neg_ℤ e.literal) ≡ false
-      → IsBack clauses trail first (p + 1) set steps cut → IsBack clauses trail first p set steps cut
-  back_over p e set steps cut at none b = record {
+  pub back_over : (p : ℕ) (e : Entry) (set : ℤ → Bool) (steps : List (ℕ × ℤ)) → slice_get trail p ≡ Some e → set (neg_ℤ e.literal) ≡ false
+      → IsBack clauses trail first (p + 1) set steps → IsBack clauses trail first p set steps
+  back_over p e set steps at none b = record {
     chain = b.chain;
     reasons = b.reasons;
-    falses = λ y h. by_cut cut y h (b.falses y h);
-    latest = lower cut b.latest;
+    falses = λ y h. before y h (b.falses y h);
   }
     where
       before : (y : ℤ) → set y ≡ true → is_true (take (p + 1) trail) (neg_ℤ y) ≡ true → is_true (take p trail) (neg_ℤ y) ≡ true
@@ -223,43 +229,17 @@ module _ (clauses : List (List ℤ)) (trail : List Entry) (first : List ℤ) whe
           by_side (inl g) = g
           by_side (inr g) = let no : false ≡ true = sym none ∙ ap set (sym (same_by_negation e.literal y g)) ∙ h in absurd cc
 
-      by_cut : (c : Option ℕ) (y : ℤ) → set y ≡ true → is_true (take (reach (p + 1) c) trail) (neg_ℤ y) ≡ true → is_true (take (reach p c) trail) (neg_ℤ y) ≡ true
-      by_cut None y h f = before y h f
-      by_cut (Some c) y h f = f
-
-      lower : (c : Option ℕ) → IsCut trail (p + 1) set c → IsCut trail p set c
-      lower None l = tt
-      lower (Some c) l = (omega (arith, l.0), l.1)
-
-  -- one that was decided
-  pub back_decided : (p : ℕ) (e : Entry) (set : ℤ → Bool) (steps : List (ℕ × ℤ)) (cut : Option ℕ) → slice_get trail p ≡ Some e → set (neg_ℤ e.literal) ≡ true → e.reason ≡ None
-      → IsBack clauses trail first (p + 1) set steps cut → IsBack clauses trail first p set steps (option_or cut (Some p))
-  back_decided p e set steps None at own d b = record {
-    chain = b.chain;
-    reasons = b.reasons;
-    falses = b.falses;
-    latest = (omega arith, rw at (d, own));
-  }
-  back_decided p e set steps (Some c) at own d b = record {
-    chain = b.chain;
-    reasons = b.reasons;
-    falses = b.falses;
-    latest = (omega (arith, b.latest.0), b.latest.1);
-  }
-
   -- one that a clause implied
-  pub back_implied : (p : ℕ) (e : Entry) (number : ℕ) (clause : List ℤ) (set next : ℤ → Bool) (steps : List (ℕ × ℤ)) (cut : Option ℕ) → slice_get trail p ≡ Some e
+  pub back_implied : (p : ℕ) (e : Entry) (number : ℕ) (clause : List ℤ) (set next : ℤ → Bool) (steps : List (ℕ × ℤ)) → slice_get trail p ≡ Some e
       → set (neg_ℤ e.literal) ≡ true → e.reason ≡ Some number → numbered clauses number ≡ Some clause → Implies (take p trail) e.literal clause
-      → ((c : ℕ) (d : Entry) → p < c → slice_get trail c ≡ Some d → int_eq (neg_ℤ d.literal) (neg_ℤ e.literal) ≡ false)
       → ((x : ℤ) → next x ≡ resolvent set (neg_ℤ e.literal) (has_literal clause) x)
-      → IsBack clauses trail first (p + 1) set steps cut → IsBack clauses trail first p next (steps ++ (number, neg_ℤ e.literal) ∷ []) cut
-  back_implied p e number clause set next steps cut at own r named implies distinct is b = record {
+      → IsBack clauses trail first (p + 1) set steps → IsBack clauses trail first p next (steps ++ (number, neg_ℤ e.literal) ∷ [])
+  back_implied p e number clause set next steps at own r named implies is b = record {
     chain =
         resolved_more clauses (has_literal first) steps (number, neg_ℤ e.literal) clause set named able b.chain
         ∙ ap Some (sym (λ i x. is x i));
     reasons = list_all-append (λ (step : ℕ × ℤ). is_implied_by trail step.0 step.1) steps _ ∙ rw (b.reasons, told) refl;
     falses = λ y h. by_side y (sides (set y) (not (int_eq y (neg_ℤ e.literal))) (has_literal clause y) (not (int_eq y (neg_ℤ (neg_ℤ e.literal)))) (sym (is y) ∙ h));
-    latest = kept cut b.latest;
   }
     where
       able : can_resolve set (neg_ℤ e.literal) (has_literal clause) ≡ true
@@ -287,41 +267,19 @@ module _ (clauses : List (List ℤ)) (trail : List Entry) (first : List ℤ) whe
           by_test (inl g) = g
           by_test (inr g) = absurd (other (same_by_negation e.literal y g))
 
-      old_side : (c : Option ℕ) (y : ℤ) → (y ≡ neg_ℤ e.literal → ⊥) → is_true (take (reach (p + 1) c) trail) (neg_ℤ y) ≡ true → is_true (take (reach p c) trail) (neg_ℤ y) ≡ true
-      old_side None y other f = before y other f
-      old_side (Some c) y other f = f
-
-      new_side : (c : Option ℕ) (y : ℤ) → IsCut trail (p + 1) set c → is_true (take p trail) (neg_ℤ y) ≡ true → is_true (take (reach p c) trail) (neg_ℤ y) ≡ true
-      new_side None y l f = f
-      new_side (Some c) y l f = true_later trail p (c + 1) (neg_ℤ y) (omega (arith, l.0)) f
-
       by_side : (y : ℤ) → ((set y ≡ true) × (not (int_eq y (neg_ℤ e.literal)) ≡ true)) ⊎ ((has_literal clause y ≡ true) × (not (int_eq y (neg_ℤ (neg_ℤ e.literal))) ≡ true))
-          → is_true (take (reach p cut) trail) (neg_ℤ y) ≡ true
-      by_side y (inl g) = old_side cut y (no_equal y (neg_ℤ e.literal) g.1) (b.falses y g.0)
-      by_side y (inr g) =
-          new_side cut y b.latest (implies.others y g.0 (λ same. no_equal y (neg_ℤ (neg_ℤ e.literal)) g.1 (same ∙ sym (negated_twice e.literal))))
-
-      kept : (c : Option ℕ) → IsCut trail (p + 1) set c → IsCut trail p next c
-      kept None l = tt
-      kept (Some c) l = (omega (arith, l.0), by_entry (slice_get trail c) refl l.1)
-        where
-          by_entry : (found : Option Entry) → slice_get trail c ≡ found → IsSomeAnd found (λ d. (d.reason ≡ None) × (set (neg_ℤ d.literal) ≡ true))
-              → IsSomeAnd found (λ d. (d.reason ≡ None) × (next (neg_ℤ d.literal) ≡ true))
-          by_entry None f g = g
-          by_entry (Some d) f g =
-              (g.0, is (neg_ℤ d.literal) ∙ rw (g.1, distinct c d (omega (arith, l.0)) f) refl)
+          → is_true (take p trail) (neg_ℤ y) ≡ true
+      by_side y (inl g) = before y (no_equal y (neg_ℤ e.literal) g.1) (b.falses y g.0)
+      by_side y (inr g) = implies.others y g.0 (λ same. no_equal y (neg_ℤ (neg_ℤ e.literal)) g.1 (same ∙ sym (negated_twice e.literal)))
 
   -- the same by the reason that the trail tells
-  pub back_by_reason : (n p : ℕ) (e : Entry) (number : ℕ) (set next : ℤ → Bool) (steps : List (ℕ × ℤ)) (cut : Option ℕ) → IsTrail n trail → slice_get trail p ≡ Some e
+  pub back_by_reason : (p : ℕ) (e : Entry) (number : ℕ) (set next : ℤ → Bool) (steps : List (ℕ × ℤ)) → slice_get trail p ≡ Some e
       → set (neg_ℤ e.literal) ≡ true → e.reason ≡ Some number → IsSomeAnd (numbered clauses number) (Implies (take p trail) e.literal)
-      → ((clause : List ℤ) → numbered clauses number ≡ Some clause → can_resolve set (neg_ℤ e.literal) (has_literal clause) ≡ true
-      → (x : ℤ) → next x ≡ resolvent set (neg_ℤ e.literal) (has_literal clause) x)
-      → IsBack clauses trail first (p + 1) set steps cut → IsBack clauses trail first p next (steps ++ (number, neg_ℤ e.literal) ∷ []) cut
-  back_by_reason n p e number set next steps cut is at own r told gives b = by_clause (numbered clauses number) refl told
+      → ((clause : List ℤ) → numbered clauses number ≡ Some clause → (x : ℤ) → next x ≡ resolvent set (neg_ℤ e.literal) (has_literal clause) x)
+      → IsBack clauses trail first (p + 1) set steps → IsBack clauses trail first p next (steps ++ (number, neg_ℤ e.literal) ∷ [])
+  back_by_reason p e number set next steps at own r told gives b = by_clause (numbered clauses number) refl told
     where
       by_clause : (found : Option (List ℤ)) → numbered clauses number ≡ found → IsSomeAnd found (Implies (take p trail) e.literal)
-          → IsBack clauses trail first p next (steps ++ (number, neg_ℤ e.literal) ∷ []) cut
+          → IsBack clauses trail first p next (steps ++ (number, neg_ℤ e.literal) ∷ [])
       by_clause None f g = absurd g
-      by_clause (Some clause) f g =
-          let able : can_resolve set (neg_ℤ e.literal) (has_literal clause) ≡ true = rw (own, negated_twice e.literal, g.here) refl in
-          back_implied p e number clause set next steps cut at own r f g (apart_later n trail p e is at) (gives clause f able) b
+      by_clause (Some clause) f g = back_implied p e number clause set next steps at own r f g (gives clause f) b

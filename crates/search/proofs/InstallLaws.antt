@@ -22,11 +22,10 @@ use Rattle.search.specs.Machine.{is_true, with_entry}
 use Rattle.search.specs.Readings.{IsImplied, IsSearching}
 use Rattle.search.specs.Sound.{all_clauses}
 use Rattle.search.specs.Watching.{IsDecidedAt, IsPaired, is_among, list_of}
-use Rattle.search.proofs.BackLaws.{or_behind}
+use Rattle.search.proofs.BackLaws.{or_behind, some_entry}
 use Rattle.search.proofs.LookLaws.{other_test, satisfied_by}
 use Rattle.search.proofs.MachineLaws.{get_before}
 use Rattle.search.proofs.ScanLaws.{clauses_count}
-use Rattle.search.proofs.TurnLaws.{jump_entry}
 use Rattle.search.proofs.VisitLaws.{visiting_conflict}
 use Rattle.search.proofs.WatchLaws.{watching_on, watching_paired}
 
@@ -94,7 +93,7 @@ installing_implied formula budget m n w x place is (Ok visit.Stays) h = (
 
     never : (d : ℕ) → IsDecidedAt (with_entry m.trail.items x (Some (place + 1))) d → ⊥
     never d decided =
-        let found = jump_entry (with_entry m.trail.items x (Some (place + 1))) d (λ f. f.reason ≡ None) decided in
+        let found = some_entry (with_entry m.trail.items x (Some (place + 1))) d (λ f. f.reason ≡ None) decided in
         by_side found.0 found.2 (get_before m.trail.items record { literal = x; reason = Some (place + 1) } d found.0 found.1)
       where
         by_side : (f : Entry) → f.reason ≡ None

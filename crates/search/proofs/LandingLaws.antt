@@ -5,14 +5,12 @@ use Rattle.std.specs.Prelude.{ℤ, neg_ℤ, nat_lt, slice_get}
 use Rattle.std.specs.Ordering.{int_eq}
 use Rattle.std.proofs.lemmas.Bool.Decides.{Decides-eqb, Decides-ltb}
 use Rattle.cnf.proofs.ClauseLaws.{same_literal}
-use Rattle.literal_marks.proofs.MarksLaws.{int_eq-sym}
 use Rattle.search.specs.declared.trail.Entry.{Entry}
 use Rattle.search.specs.Lessons.{AreFalseBut, IsLanding}
 use Rattle.search.specs.Machine.{is_true}
 use Rattle.search.specs.Trails.{IsTrail}
 use Rattle.search.specs.Watching.{IsDecidedAt}
-use Rattle.search.proofs.BackLaws.{apart_later, free_before, negated_twice, or_cases, true_later, true_next}
-use Rattle.search.proofs.TurnLaws.{jump_entry}
+use Rattle.search.proofs.BackLaws.{free_before, negated_twice, or_cases, some_entry, true_at, true_later, true_next}
 
 -- as far down the trail as a place
 pub record IsLandingSo (trail : List Entry) (set : ℤ → Bool) (x : ℤ) (place front cut : ℕ) : Type 0 where
@@ -54,7 +52,7 @@ module _ (n : ℕ) (trail : List Entry) (set : ℤ → Bool) (x : ℤ) (place at
     where
       by_place : (d : ℕ) → IsDecidedAt trail d → at ≤ d → d < cut → (b : Bool) → eqb d at ≡ b → ⊥
       by_place d h low high true f =
-          let found = jump_entry trail d (λ (g : Entry). g.reason ≡ None) h in
+          let found = some_entry trail d (λ (g : Entry). g.reason ≡ None) h in
           let one : Some found.0 ≡ Some e = sym found.1 ∙ ap (slice_get trail) ((Decides-eqb d at).0 f) ∙ here in
           let same : found.0 ≡ e = cc in
           implied (ap (λ (g : Entry). g.reason) (sym same) ∙ found.2)
@@ -73,8 +71,9 @@ module _ (n : ℕ) (trail : List Entry) (set : ℤ → Bool) (x : ℤ) (place at
   }
 
   -- one whose negation is in the set
-  pub landing_other : (top : Entry) → slice_get trail place ≡ Some top → neg_ℤ top.literal ≡ x → set (neg_ℤ e.literal) ≡ true → IsLanding trail set x place record { cut = cut; other = Some (neg_ℤ e.literal) }
-  landing_other top above is own = record {
+  pub landing_other : is_true (take place trail) (neg_ℤ x) ≡ false → set (neg_ℤ e.literal) ≡ true → IsLanding trail set x place record { literal = x; cut = cut; other = Some (neg_ℤ e.literal) }
+  landing_other free own = record {
+    literal = refl;
     decided = so.decided;
     inside = so.inside;
     falses = λ y has other. true_later trail (at + 1) cut (neg_ℤ y) so.low (so.falses y has other);
@@ -82,10 +81,17 @@ module _ (n : ℕ) (trail : List Entry) (set : ℤ → Bool) (x : ℤ) (place at
   }
     where
       apart : int_eq (neg_ℤ e.literal) x ≡ false
-      apart =
-          let low = so.low in
-          let inside = so.inside in
-          int_eq-sym (neg_ℤ e.literal) x ∙ ap (λ y. int_eq y (neg_ℤ e.literal)) (sym is) ∙ apart_later n trail at e kept here place top (omega (arith, low, inside)) above
+      apart = by_test (int_eq (neg_ℤ e.literal) x) refl
+        where
+          by_test : (b : Bool) → int_eq (neg_ℤ e.literal) x ≡ b → int_eq (neg_ℤ e.literal) x ≡ false
+          by_test false f = f
+          by_test true f =
+              let low = so.low in
+              let inside = so.inside in
+              let same : e.literal ≡ neg_ℤ x = sym (negated_twice e.literal) ∙ ap neg_ℤ (same_literal (neg_ℤ e.literal) x f) in
+              let yes : is_true (take place trail) (neg_ℤ x) ≡ true = ap (is_true (take place trail)) (sym same) ∙ true_at trail at place e (omega (arith, low, inside)) here in
+              let no : true ≡ false = sym yes ∙ free in
+              absurd cc
 
       by_place : (d : ℕ) → IsDecidedAt trail d → d < cut → is_true (take d trail) (neg_ℤ (neg_ℤ e.literal)) ≡ false
       by_place d h high = by_value (is_true (take d trail) (neg_ℤ (neg_ℤ e.literal))) refl
@@ -107,8 +113,9 @@ module _ (n : ℕ) (trail : List Entry) (set : ℤ → Bool) (x : ℤ) (place at
           by_value true f = let yes = true_later trail d at (neg_ℤ (neg_ℤ e.literal)) below f in let no : true ≡ false = sym yes ∙ none in absurd cc
 
 -- none but the one literal is in the set
-pub landing_alone : (trail : List Entry) (set : ℤ → Bool) (x : ℤ) (place cut : ℕ) → IsLandingSo trail set x place 0 cut → IsLanding trail set x place record { cut = cut; other = None }
+pub landing_alone : (trail : List Entry) (set : ℤ → Bool) (x : ℤ) (place cut : ℕ) → IsLandingSo trail set x place 0 cut → IsLanding trail set x place record { literal = x; cut = cut; other = None }
 landing_alone trail set x place cut so = record {
+  literal = refl;
   decided = so.decided;
   inside = so.inside;
   falses = λ y has other. true_later trail 0 cut (neg_ℤ y) so.low (so.falses y has other);

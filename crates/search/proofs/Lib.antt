@@ -1,4 +1,6 @@
 pub mod BackLaws
+pub mod ChainLaws
+pub mod ConflictLaws
 pub mod CutLaws
 pub mod HistoryLaws
 pub mod InstallLaws

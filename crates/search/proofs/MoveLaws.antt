@@ -6,7 +6,7 @@ use Rattle.std.specs.List.{list_all, list_any}
 use Rattle.std.specs.Option.{is_some}
 use Rattle.std.specs.Ordering.{int_eq}
 use Rattle.std.proofs.lemmas.Bool.Decides.{Decides-eqb}
-use Rattle.std.proofs.lemmas.List.{append-nil}
+use Rattle.std.proofs.lemmas.List.{append-nil, take_all}
 use Rattle.std.proofs.lemmas.List.Folds.{list_any-append}
 use Rattle.std.proofs.lemmas.Option.{slice_get-get_or}
 use Rattle.cnf.specs.declared.derivation.Derivation.{Derivation}
@@ -20,15 +20,16 @@ use Rattle.search.specs.declared.moves.Move.{Move}
 use Rattle.search.specs.declared.moves.Move.TheVariants.{Propagate, Decide, Jump}
 use Rattle.search.specs.declared.trail.Entry.{Entry}
 use Rattle.search.specs.Laws.{IsFormula, MovesOn, is_over}
-use Rattle.search.specs.Lessons.{IsBack}
+use Rattle.search.specs.Chains.{IsBack}
 use Rattle.search.specs.Machine.{IsFinished, IsOver, Moves, Runs, State, clauses_of, first_state, is_conflict, is_implied_by, is_open, is_true, remaining, unit_of, with_entry}
 use Rattle.search.specs.Nexts.{jumped}
 use Rattle.search.specs.Sound.{Implies, IsSound, all_clauses}
 use Rattle.search.specs.Trails.{IsTrail}
 use Rattle.search.proofs.BackLaws.{at_entry, back_by_reason, back_over, free_before, negated_twice, or_behind, or_cases, true_in_all, true_later}
+use Rattle.search.proofs.ChainLaws.{back_begins, conflict_falses}
 use Rattle.search.proofs.HistoryLaws.{no_places}
 use Rattle.search.proofs.KeptLaws.{has_over, is_over-tells, line_over, numbered_over, unit_is}
-use Rattle.search.proofs.LessonLaws.{back_begins, negation_test, next_against, nothing_false}
+use Rattle.search.proofs.LessonLaws.{negation_test, next_against, nothing_false}
 use Rattle.search.proofs.MachineLaws.{get_before, get_taken, numbered_last, sound_cut, sound_learn, sound_more, unit_implies, with_line}
 use Rattle.search.proofs.NextLaws.{any_at, same_clauses}
 use Rattle.search.proofs.TurnLaws.{entry_has}
@@ -263,7 +264,7 @@ module _ (clauses : List (List ℤ)) (trail : List Entry) (n number cut : ℕ) (
   abbrev before : ℤ → Bool
   before = is_true (take cut trail)
 
-  learn : (front : ℕ) (set : ℤ → Bool) (steps : List (ℕ × ℤ)) (x : ℤ) → IsBack clauses trail first front set steps None → set x ≡ true → is_open before x ≡ true
+  learn : (front : ℕ) (set : ℤ → Bool) (steps : List (ℕ × ℤ)) (x : ℤ) → IsBack clauses trail first front set steps → set x ≡ true → is_open before x ≡ true
       → ((z : ℤ) → set z ≡ true → int_eq x z ≡ false → before (neg_ℤ z) ≡ true) → Learns clauses trail number cut
   learn front set steps x b own free others = record {
     line = record { clause = x ∷ held set (take cut trail); first = number; steps = steps };
@@ -295,7 +296,7 @@ module _ (clauses : List (List ℤ)) (trail : List Entry) (n number cut : ℕ) (
       same z = same_test (int_eq x z || has_literal (held set (take cut trail)) z) (set z) (is_in z) (from_set z)
 
   -- at the decided literal
-  at_cut : (d : Entry) (set : ℤ → Bool) (steps : List (ℕ × ℤ)) (y : ℤ) → slice_get trail cut ≡ Some d → IsBack clauses trail first (cut + 1) set steps None → set y ≡ true → before (neg_ℤ y) ≡ false
+  at_cut : (d : Entry) (set : ℤ → Bool) (steps : List (ℕ × ℤ)) (y : ℤ) → slice_get trail cut ≡ Some d → IsBack clauses trail first (cut + 1) set steps → set y ≡ true → before (neg_ℤ y) ≡ false
       → Learns clauses trail number cut
   at_cut d set steps y at b own live = learn (cut + 1) set steps (neg_ℤ d.literal) b in_set free others
     where
@@ -327,8 +328,8 @@ module _ (clauses : List (List ℤ)) (trail : List Entry) (n number cut : ℕ) (
       (reasons : (j : ℕ) (e : Entry) (k : ℕ) → slice_get trail j ≡ Some e → e.reason ≡ Some k → IsSomeAnd (numbered clauses k) (Implies (take j trail) e.literal)) where
     -- an implied literal whose negation is in the clause so far
     over_implied : (q : ℕ) (e : Entry) (k : ℕ) (set : ℤ → Bool) (steps : List (ℕ × ℤ)) → cut < q → slice_get trail q ≡ Some e → e.reason ≡ Some k → set (neg_ℤ e.literal) ≡ true
-        → IsBack clauses trail first (q + 1) set steps None
-        → ((next : ℤ → Bool) (more : List (ℕ × ℤ)) (y : ℤ) → IsBack clauses trail first q next more None → next y ≡ true → before (neg_ℤ y) ≡ false → Learns clauses trail number cut)
+        → IsBack clauses trail first (q + 1) set steps
+        → ((next : ℤ → Bool) (more : List (ℕ × ℤ)) (y : ℤ) → IsBack clauses trail first q next more → next y ≡ true → before (neg_ℤ y) ≡ false → Learns clauses trail number cut)
         → Learns clauses trail number cut
     over_implied q e k set steps low at r own b rest = by_others (list_all is_well trail) refl
       where
@@ -381,8 +382,8 @@ module _ (clauses : List (List ℤ)) (trail : List Entry) (n number cut : ℕ) (
             by_clause (Some c) g told =
                 let next : ℤ → Bool = resolvent set (neg_ℤ e.literal) (has_literal c) in
                 let back =
-                back_by_reason clauses trail first n q e k set next steps None is at own r (reasons q e k at r)
-                (λ clause h able x. let same : c ≡ clause = cc in ap (λ w. resolvent set (neg_ℤ e.literal) (has_literal w) x) same) b in
+                back_by_reason clauses trail first q e k set next steps at own r (reasons q e k at r)
+                (λ clause h x. let same : c ≡ clause = cc in ap (λ w. resolvent set (neg_ℤ e.literal) (has_literal w) x) same) b in
                 let apart : int_eq (neg_ℤ f.literal) (neg_ℤ e.literal) ≡ false = negation_test (neg_ℤ f.literal) e.literal ∙ ap (λ x. int_eq x e.literal) (negated_twice f.literal) ∙ ill.1 in
                 rest next (steps ++ (k, neg_ℤ e.literal) ∷ []) (neg_ℤ f.literal) back (rw (ill.0, apart) refl) (ap before (negated_twice f.literal) ∙ ill.2)
 
@@ -391,7 +392,7 @@ module _ (clauses : List (List ℤ)) (trail : List Entry) (n number cut : ℕ) (
         by_others false h = let f = some_fails is_well trail h in onward f.0 (ill_told f.0 _ _ _ refl refl refl f.1)
 
     -- back along the trail, with a literal of the clause so far that isn't false before the cut
-    go_on : (p : ℕ) (set : ℤ → Bool) (steps : List (ℕ × ℤ)) (y : ℤ) → cut < p → p ≤ length trail → IsBack clauses trail first p set steps None → set y ≡ true → before (neg_ℤ y) ≡ false
+    go_on : (p : ℕ) (set : ℤ → Bool) (steps : List (ℕ × ℤ)) (y : ℤ) → cut < p → p ≤ length trail → IsBack clauses trail first p set steps → set y ≡ true → before (neg_ℤ y) ≡ false
         → Learns clauses trail number cut
     go_on zero set steps y low high b own live = absurd (omega (arith, low))
     go_on (suc q) set steps y low high b own live = by_place (nat_eq q cut) refl (λ next more z. go_on q next more z)
@@ -402,25 +403,25 @@ module _ (clauses : List (List ℤ)) (trail : List Entry) (n number cut : ℕ) (
         at : slice_get trail q ≡ Some e
         at = slice_get-get_or trail q _ (omega (arith, high))
 
-        there : IsBack clauses trail first (q + 1) set steps None
+        there : IsBack clauses trail first (q + 1) set steps
         there = rw (add-one q) b
 
         by_reason : cut < q → (r : Option ℕ) → e.reason ≡ r → is_some r ≡ true → set (neg_ℤ e.literal) ≡ true
-            → ((next : ℤ → Bool) (more : List (ℕ × ℤ)) (z : ℤ) → cut < q → q ≤ length trail → IsBack clauses trail first q next more None → next z ≡ true → before (neg_ℤ z) ≡ false
+            → ((next : ℤ → Bool) (more : List (ℕ × ℤ)) (z : ℤ) → cut < q → q ≤ length trail → IsBack clauses trail first q next more → next z ≡ true → before (neg_ℤ z) ≡ false
             → Learns clauses trail number cut)
             → Learns clauses trail number cut
         by_reason above None r some marked rest = absurd cc
         by_reason above (Some k) r some marked rest = over_implied q e k set steps above at r marked there (λ next more z back. rest next more z above (omega (arith, high)) back)
 
         by_marked : cut < q → (t : Bool) → set (neg_ℤ e.literal) ≡ t
-            → ((next : ℤ → Bool) (more : List (ℕ × ℤ)) (z : ℤ) → cut < q → q ≤ length trail → IsBack clauses trail first q next more None → next z ≡ true → before (neg_ℤ z) ≡ false
+            → ((next : ℤ → Bool) (more : List (ℕ × ℤ)) (z : ℤ) → cut < q → q ≤ length trail → IsBack clauses trail first q next more → next z ≡ true → before (neg_ℤ z) ≡ false
             → Learns clauses trail number cut)
             → Learns clauses trail number cut
         by_marked above true h rest = by_reason above e.reason refl (l.later q e (rw at_last above) at) h rest
-        by_marked above false h rest = rest set steps y above (omega (arith, high)) (back_over clauses trail first q e set steps None at h there) own live
+        by_marked above false h rest = rest set steps y above (omega (arith, high)) (back_over clauses trail first q e set steps at h there) own live
 
         by_place : (t : Bool) → nat_eq q cut ≡ t
-            → ((next : ℤ → Bool) (more : List (ℕ × ℤ)) (z : ℤ) → cut < q → q ≤ length trail → IsBack clauses trail first q next more None → next z ≡ true → before (neg_ℤ z) ≡ false
+            → ((next : ℤ → Bool) (more : List (ℕ × ℤ)) (z : ℤ) → cut < q → q ≤ length trail → IsBack clauses trail first q next more → next z ≡ true → before (neg_ℤ z) ≡ false
             → Learns clauses trail number cut)
             → Learns clauses trail number cut
         by_place true h rest =
@@ -453,7 +454,7 @@ conflict_moves formula s g some unfinished = by_decided (last_decided s.trail)
     by_decided (inl none) = absurd (unfinished (inr record { conflict = some; none_decided = none }))
     by_decided (inr l) =
         let y = some_open (is_true (take l.cut s.trail)) found.1 (live l.cut l.entry l.at l.decided _ refl) in
-        let begun = back_begins (clauses_of formula s) s.trail found.1 (has_literal found.1) [] found.3 (λ x. refl) refl in
+        let begun = back_begins (clauses_of formula s) s.trail found.1 (length s.trail) (has_literal found.1) [] (λ y h. ap (λ t. is_true t (neg_ℤ y)) (take_all (length s.trail) s.trail (omega arith)) ∙ conflict_falses s.trail found.1 y found.3 h) (λ x. refl) refl in
         let learns =
         go_on (clauses_of formula s) s.trail formula.variables (suc found.0) l.cut found.1 g.sound.kept found.2 l refl reasons (length s.trail) (has_literal found.1) [] y.0 (at_entry s.trail l.cut l.entry l.at).0
         (omega arith) begun y.1 y.2 in (

@@ -10,15 +10,17 @@ use Rattle.cnf.specs.declared.derivation.DerivationLine.{DerivationLine}
 use Rattle.cnf.specs.declared.formula.Formula.{Formula}
 use Rattle.cnf.specs.Checks.{numbered}
 use Rattle.search.specs.declared.conflict.Lesson.{Lesson}
+use Rattle.search.specs.declared.landing.Landing.{Landing}
 use Rattle.search.specs.declared.next.Next.TheVariants as next
 use Rattle.search.specs.declared.scan.Scan.TheVariants as scan
 use Rattle.search.specs.declared.trail.Entry.{Entry}
-use Rattle.search.specs.Lessons.{IsLesson}
+use Rattle.search.specs.Lessons.{IsAsserting, IsLesson}
 use Rattle.search.specs.Machine.{EndsAsModel, IsFinished, IsOver, Jumps, State, clauses_of, is_conflict, is_open, is_true, unit_of}
 use Rattle.search.specs.Nexts.{IsNext, jumped, state_of}
 use Rattle.search.specs.Sound.{IsSound, all_clauses}
 use Rattle.search.specs.Statuses.{IsScan}
-use Rattle.search.proofs.KeptLaws.{and_left, and_right, has_over, is_over-tells, numbered_over, unit_is}
+use Rattle.search.proofs.BackLaws.{some_entry}
+use Rattle.search.proofs.KeptLaws.{and_left, and_right, has_over, is_over-tells, line_over, numbered_over, unit_is}
 
 -- the clauses of a state are all clauses
 pub same_clauses : (formula : Formula) (learned : Derivation) (trail : List Entry) → clauses_of formula (state_of trail learned) ≡ all_clauses formula learned
@@ -96,10 +98,38 @@ module _ (formula : Formula) (learned : Derivation) (trail : List Entry) where
       → EndsAsModel formula (state_of trail learned)
   next_model is all = record { no_conflict = ap (list_any (is_conflict (is_true trail))) whole ∙ is.0; all = all }
 
-  pub next_jump : (number cut : ℕ) (lesson : Lesson) → IsSomeAnd (numbered (all_clauses formula learned) number) (λ clause. is_conflict (is_true trail) clause ≡ true)
-      → IsLesson (all_clauses formula learned) trail number lesson → lesson.cut ≡ Some cut → IsNext formula (state_of trail learned) (next.Jump lesson.line cut)
-  next_jump number cut lesson conflict is at = by_entry (slice_get trail cut) refl (rw at at is.cut)
+  -- the literal that a jump puts on the trail
+  pub landing_over : (number : ℕ) (lesson : Lesson) (landing : Landing) → IsSound formula learned trail → IsLesson (all_clauses formula learned) trail number lesson → lesson.landing ≡ Some landing
+      → IsOver formula.variables landing.literal
+  landing_over number lesson landing sound is at =
+      is_over-tells formula.variables landing.literal
+      (has_over formula.variables lesson.line.clause landing.literal (line_over formula.variables (all_clauses formula learned) lesson.line sound.clauses is.right)
+      (unit_is (take landing.cut trail) lesson.line.clause landing.literal asserts.unit).0)
     where
+      asserts : IsAsserting trail lesson.line.clause landing
+      asserts = rw at at is.landing
+
+  pub next_jump : (number : ℕ) (lesson : Lesson) (landing : Landing) → IsSomeAnd (numbered (all_clauses formula learned) number) (λ clause. is_conflict (is_true trail) clause ≡ true)
+      → IsLesson (all_clauses formula learned) trail number lesson → lesson.landing ≡ Some landing → IsNext formula (state_of trail learned) (next.Jump lesson.line landing.cut landing.literal)
+  next_jump number lesson landing conflict is at = (
+    record {
+      literal = landing.literal;
+      conflict = rw (whole, is.first) conflict;
+      right = rw whole is.right;
+      reasons = is.reasons;
+      decided = asserts.decided;
+      unit = asserts.unit;
+      gives = refl;
+    },
+    unfinished_decided formula (state_of trail learned) landing.cut decided.0 some decided.1 decided.2,
+  )
+    where
+      asserts : IsAsserting trail lesson.line.clause landing
+      asserts = rw at at is.landing
+
+      decided : (e : Entry) × (slice_get trail landing.cut ≡ Some e) × (e.reason ≡ None)
+      decided = some_entry trail landing.cut (λ e. e.reason ≡ None) asserts.decided
+
       some : list_any (is_conflict (is_true trail)) (clauses_of formula (state_of trail learned)) ≡ true
       some = by_clause (numbered (all_clauses formula learned) number) refl conflict
         where
@@ -107,21 +137,3 @@ module _ (formula : Formula) (learned : Derivation) (trail : List Entry) where
               → list_any (is_conflict (is_true trail)) (clauses_of formula (state_of trail learned)) ≡ true
           by_clause None f g = absurd g
           by_clause (Some clause) f g = any_numbered (clauses_of formula (state_of trail learned)) number clause (is_conflict (is_true trail)) (ap (λ clauses. numbered clauses number) whole ∙ f) g
-
-      by_entry : (found : Option Entry) → slice_get trail cut ≡ found
-          → IsSomeAnd found (λ e. (e.reason ≡ None) × (unit_of (is_true (take cut trail)) lesson.line.clause ≡ Some (neg_ℤ e.literal)))
-          → IsSomeAnd (slice_get trail cut) (λ e. Jumps formula (state_of trail learned) lesson.line cut (jumped formula (state_of trail learned) lesson.line cut (neg_ℤ e.literal)))
-          × (IsFinished formula (state_of trail learned) → ⊥)
-      by_entry None f g = absurd g
-      by_entry (Some e) f g = (
-        rw f record {
-          literal = neg_ℤ e.literal;
-          conflict = rw (whole, is.first) conflict;
-          right = rw whole is.right;
-          reasons = is.reasons;
-          decided = rw f g.0;
-          unit = g.1;
-          gives = refl;
-        },
-        unfinished_decided formula (state_of trail learned) cut e some f g.0,
-      )

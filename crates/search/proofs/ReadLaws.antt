@@ -27,12 +27,11 @@ use Rattle.search.specs.Statuses.{IsScan}
 use Rattle.search.specs.Trails.{IsTrail, place, places}
 use Rattle.search.specs.Visits.{partner_of}
 use Rattle.search.specs.Watching.{IsOf, IsPair, IsPaired, IsTracked, IsWatched, IsWatching, is_among, is_satisfied, list_of}
-use Rattle.search.proofs.BackLaws.{negated_twice, or_cases, true_in_all, true_next}
+use Rattle.search.proofs.BackLaws.{negated_twice, or_cases, some_entry, true_in_all, true_next}
 use Rattle.search.proofs.CutLaws.{absent}
 use Rattle.search.proofs.KeptLaws.{and_left, and_right, is_over-tells, unit_is}
 use Rattle.search.proofs.MachineLaws.{unit_implies}
 use Rattle.search.proofs.ListsLaws.{get-set_other, get-set_same}
-use Rattle.search.proofs.TurnLaws.{jump_entry}
 use Rattle.search.proofs.WatchLaws.{satisfied_more, watching_on}
 
 differ : (b : Bool) → b ≡ true → b ≡ false → ⊥
@@ -72,7 +71,7 @@ pub reading_on : (formula : Formula) (learned : Derivation) (trail : List Entry)
     → IsReading formula learned (with_entry trail y (Some number)) w x at
 reading_on formula learned trail w x at y number is = record {
   watching = watching_on formula learned trail w y (Some number) (λ none. absurd cc) is.watching;
-  literal = let found = jump_entry trail w.head (λ e. neg_ℤ e.literal ≡ x) is.literal in rw (get_on trail record { literal = y; reason = Some number } w.head found.0 found.1) found.2;
+  literal = let found = some_entry trail w.head (λ e. neg_ℤ e.literal ≡ x) is.literal in rw (get_on trail record { literal = y; reason = Some number } w.head found.0 found.1) found.2;
   done = λ j k clause pair h listed named has of. satisfied_more trail record { literal = y; reason = Some number } clause (is.done j k clause pair h listed named has of);
 }
 
@@ -226,7 +225,7 @@ reading_ends formula learned trail w n x at all is lists pairs head = record {
 }
   where
     found : (e : Entry) × (slice_get trail w.head ≡ Some e) × (neg_ℤ e.literal ≡ x)
-    found = jump_entry trail w.head (λ e. neg_ℤ e.literal ≡ x) is.literal
+    found = some_entry trail w.head (λ e. neg_ℤ e.literal ≡ x) is.literal
 
     watched : (k : ℕ) (clause : List ℤ) (pair : Pair) (z : ℤ) → slice_get (all_clauses formula learned) k ≡ Some clause → slice_get w.pairs.items k ≡ Some pair → is_among k (list_of w.watchers.items z) ≡ true
         → (int_eq z x ≡ true → is_of_pair pair x ≡ true) → IsWatched trail w.head clause z → IsWatched trail (w.head + 1) clause z

@@ -1,6 +1,7 @@
 -- What each turn of the machine leads to.
-use Rattle.std.proofs.Common.{◌≡◌, ℕ, zero, suc, ◌+◌, ◌-◌, ◌*◌, ◌<◌, ◌≤◌, ◌^◌, Bool, true, false, ◌||◌, List, [], ◌∷◌, ◌++◌, length, take, map, get_or, replicate, refl, sym, ◌∙◌, ap, arith, Option, None, Some}
-use Rattle.std.specs.Prelude.{ℤ, pos, ◌&&◌, slice_get, IfSome, IsSomeAnd}
+use Rattle.std.proofs.Common.{◌≡◌, ◌⊎◌, ℕ, zero, suc, ◌+◌, ◌-◌, ◌*◌, ◌<◌, ◌≤◌, ◌^◌, Bool, true, false, ◌||◌, List, [], ◌∷◌, ◌++◌, length, take, map, get_or, replicate, refl, sym, ◌∙◌, ap, arith, Option, None, Some}
+use mathlib.Core.Logic.{inl, inr}
+use Rattle.std.specs.Prelude.{ℤ, pos, not, ◌&&◌, slice_get, slice_set, IfSome, IsSomeAnd}
 use Rattle.std.specs.List.{list_all}
 use Rattle.std.specs.Ordering.{int_eq}
 use Rattle.std.proofs.lemmas.List.{append_cancel_left, append-nil, length-append, length-replicate}
@@ -11,6 +12,7 @@ use Rattle.cnf.specs.declared.formula.Formula.{Formula}
 use Rattle.cnf.specs.Checks.{Checks, IsRight, numbered}
 use Rattle.cnf.specs.Clauses.{literal_key}
 use Rattle.cnf.specs.Formulas.{Satisfies}
+use Rattle.cnf.proofs.ClauseLaws.{same_key}
 use Rattle.literal_marks.specs.Marks.{marked}
 use Rattle.literal_marks.specs.declared.places.Places.TheVariants.{ByKey}
 use Rattle.search.specs.declared.machine.Machine.{Machine}
@@ -22,9 +24,12 @@ use Rattle.search.specs.Laws.{IsFormula, is_over}
 use Rattle.search.specs.Machine.{EndsAsModel, IsOver, Jumps, Moves, State, clauses_of, first_state, is_conflict, is_open, is_true, unit_of, with_entry}
 use Rattle.search.specs.Nexts.{jumped, state_of}
 use Rattle.search.specs.Sound.{Implies, all_clauses}
+use Rattle.search.specs.Trails.{AreLocated}
+use Rattle.search.proofs.BackLaws.{true_at, true_in_all}
 use Rattle.search.proofs.HistoryLaws.{no_places}
 use Rattle.search.proofs.KeptLaws.{has_over, is_over-tells, numbered_over, unit_is}
-use Rattle.search.proofs.MachineLaws.{all_true, checks_by, numbered_last, rights_more, run_more, sound_cut, sound_learn, sound_more, unit_implies, with_line}
+use Rattle.search.proofs.ListsLaws.{get-set_other, get-set_same}
+use Rattle.search.proofs.MachineLaws.{all_true, checks_by, get_taken, numbered_last, rights_more, run_more, sound_cut, sound_learn, sound_more, unit_implies, with_line}
 use Rattle.search.proofs.NextLaws.{same_clauses}
 use Rattle.search.proofs.ScanLaws.{clauses_count}
 
@@ -36,8 +41,9 @@ none_marked (suc size) zero = refl
 none_marked (suc size) (suc k) = none_marked size k
 
 pub at_first : (formula : Formula) (m : Machine) → IsFormula formula → length formula.clauses < 2 ^ 32 → m.trail.items ≡ [] → m.learned ≡ record { lines = [] } → m.moves.items ≡ []
-    → m.values.items ≡ replicate (2 * formula.variables + 2) false → length m.marks.items ≡ 2 * formula.variables + 2 → IsAt formula m
-at_first formula m is few trail learned moves values marks = record {
+    → m.values.items ≡ replicate (2 * formula.variables + 2) false → m.marks.items ≡ replicate (2 * formula.variables + 2) false
+    → length m.places.items ≡ 2 * formula.variables + 2 → IsAt formula m
+at_first formula m is few trail learned moves values marks places = record {
   held = record {
     sound = rw (trail, learned) record {
       kept = record { over = refl; distinct = no_places };
@@ -47,13 +53,19 @@ at_first formula m is few trail learned moves values marks = record {
     rights = λ k h. absurd (none k h);
     values = λ x. rw (trail, values) (none_marked (2 * formula.variables + 2) (literal_key x));
     places = rw values (length-replicate (2 * formula.variables + 2) false);
-    marks = marks;
+    marks = rw marks (length-replicate (2 * formula.variables + 2) false);
+    clear = λ x. rw marks (none_marked (2 * formula.variables + 2) (literal_key x));
+    located = λ i e at. absurd (nowhere m.trail.items trail i e at);
+    room = places;
     few = let no_lines : length m.learned.lines ≡ 0 = rw learned refl in omega arith;
   };
   run = rw (trail, learned, moves) refl;
   lines = let no_lines : length m.learned.lines ≡ 0 = rw learned refl in omega arith;
 }
   where
+    nowhere : (entries : List Entry) → entries ≡ [] → (i : ℕ) (e : Entry) → slice_get entries i ≡ Some e → ⊥
+    nowhere entries same i e at = let none : slice_get [] i ≡ Some e = ap (λ t. slice_get t i) (sym same) ∙ at in absurd cc
+
     none : (k : ℕ) → k < length m.learned.lines → ⊥
     none k h = let no_lines : length m.learned.lines ≡ 0 = rw learned refl in omega arith
 
@@ -93,54 +105,98 @@ more_true trail x reason y = list_any-append (λ e. int_eq e.literal y) trail (r
     last false true = refl
     last false false = refl
 
+-- where the literals of a trail with one more entry stand
+entry_before : (trail : List Entry) (e : Entry) (i : ℕ) (f : Entry) → slice_get (trail ++ e ∷ []) i ≡ Some f → (slice_get trail i ≡ Some f) ⊎ ((f ≡ e) × (i ≡ length trail))
+entry_before [] e zero f at = inr (cc, refl)
+entry_before [] e (suc i) f at = absurd cc
+entry_before (g ∷ trail) e zero f at = inl at
+entry_before (g ∷ trail) e (suc i) f at = by_side (entry_before trail e i f at)
+  where
+    by_side : (slice_get trail i ≡ Some f) ⊎ ((f ≡ e) × (i ≡ length trail)) → (slice_get trail i ≡ Some f) ⊎ ((f ≡ e) × (suc i ≡ suc (length trail)))
+    by_side (inl h) = inl h
+    by_side (inr h) = inr (h.0, ap suc h.1)
+
+located_more : (trail : List Entry) (places : List ℕ) (x : ℤ) (reason : Option ℕ) → is_true trail x ≡ false → literal_key x < length places → AreLocated trail places
+    → AreLocated (with_entry trail x reason) (slice_set places (literal_key x) (length trail))
+located_more trail places x reason free room located i f at = by_side (entry_before trail record { literal = x; reason = reason } i f at)
+  where
+    by_side : (slice_get trail i ≡ Some f) ⊎ ((f ≡ record { literal = x; reason = reason }) × (i ≡ length trail)) → slice_get (slice_set places (literal_key x) (length trail)) (literal_key f.literal) ≡ Some i
+    by_side (inr h) =
+        let own : f.literal ≡ x = ap (λ (g : Entry). g.literal) h.0 in
+        ap (λ y. slice_get (slice_set places (literal_key x) (length trail)) (literal_key y)) own ∙ get-set_same places (literal_key x) (length trail) room ∙ ap Some (sym h.1)
+    by_side (inl h) = get-set_other places (literal_key x) (literal_key f.literal) (length trail) apart ∙ located i f h
+      where
+        apart : literal_key f.literal ≡ literal_key x → ⊥
+        apart same =
+            let yes : is_true trail f.literal ≡ true = true_in_all trail (suc i) f.literal (true_at trail i (suc i) f (omega arith) h) in
+            let no : true ≡ false = sym yes ∙ ap (is_true trail) (same_key f.literal x same) ∙ free in
+            absurd cc
+
 -- one more literal
 pub held_more : (formula : Formula) (m n : Machine) (x : ℤ) (reason : Option ℕ) → IsHeld formula m → IsOver formula.variables x → is_open (is_true m.trail.items) x ≡ true
     → IfSome reason (λ number. IsSomeAnd (numbered (all_clauses formula m.learned) number) (Implies m.trail.items x)) → n.trail.items ≡ with_entry m.trail.items x reason
-    → ((y : ℤ) → marked ByKey n.values.items y ≡ (marked ByKey m.values.items y || int_eq x y)) → IsSameBut m n → IsHeld formula n
-held_more formula m n x reason held over free implied trail values same = record {
+    → ((y : ℤ) → marked ByKey n.values.items y ≡ (marked ByKey m.values.items y || int_eq x y)) → n.places.items ≡ slice_set m.places.items (literal_key x) (length m.trail.items) → IsSameBut m n
+    → IsHeld formula n
+held_more formula m n x reason held over free implied trail values places same = record {
   sound = rw (trail, same.learned) (sound_more formula m.learned m.trail.items x reason held.sound over free implied);
   rights = rw same.learned held.rights;
   values = λ y. values y ∙ rw (held.values y, trail) (sym (more_true m.trail.items x reason y));
   places = same.places ∙ held.places;
-  marks = same.marks ∙ held.marks;
+  marks = ap length same.marks ∙ held.marks;
+  clear = rw same.marks held.clear;
+  located = rw (trail, places) (located_more m.trail.items m.places.items x reason (closed _ _ free) (let room = held.room in omega (arith, room, over.1)) held.located);
+  room = same.room ∙ held.room;
   few = rw same.learned held.few;
 }
+  where
+    closed : (a b : Bool) → not (a || b) ≡ true → a ≡ false
+    closed true b h = absurd cc
+    closed false b h = refl
 
 -- the trail cut
 pub held_cut : (formula : Formula) (m n : Machine) (cut : ℕ) → IsHeld formula m → n.trail.items ≡ take cut m.trail.items → ((y : ℤ) → marked ByKey n.values.items y ≡ is_true (take cut m.trail.items) y)
-    → IsSameBut m n → IsHeld formula n
-held_cut formula m n cut held trail values same = record {
+    → n.places ≡ m.places → IsSameBut m n → IsHeld formula n
+held_cut formula m n cut held trail values places same = record {
   sound = rw (trail, same.learned) (sound_cut formula m.learned m.trail.items cut held.sound);
   rights = rw same.learned held.rights;
   values = λ y. values y ∙ rw trail refl;
   places = same.places ∙ held.places;
-  marks = same.marks ∙ held.marks;
+  marks = ap length same.marks ∙ held.marks;
+  clear = rw same.marks held.clear;
+  located = rw (trail, places) (λ i f at. held.located i f (get_taken m.trail.items cut i f at).0);
+  room = same.room ∙ held.room;
   few = rw same.learned held.few;
 }
 
 -- a learned line
 pub held_learn : (formula : Formula) (m n : Machine) (line : DerivationLine) → IsHeld formula m → IsRight (all_clauses formula m.learned) line → n.trail.items ≡ m.trail.items
-    → n.values.items ≡ m.values.items → n.marks.items ≡ m.marks.items → n.learned ≡ record { lines = m.learned.lines ++ line ∷ [] } → length formula.clauses + length m.learned.lines + 1 < 2 ^ 32 → IsHeld formula n
-held_learn formula m n line held right trail values marks learned few = record {
+    → n.values.items ≡ m.values.items → n.marks.items ≡ m.marks.items → n.places.items ≡ m.places.items → n.learned ≡ record { lines = m.learned.lines ++ line ∷ [] } → length formula.clauses + length m.learned.lines + 1 < 2 ^ 32 → IsHeld formula n
+held_learn formula m n line held right trail values marks places learned few = record {
   sound = rw (trail, learned) (sound_learn formula m.learned m.trail.items line held.sound right);
   rights = rw learned (rights_more formula m.learned line held.rights right);
   values = λ y. rw (values, trail) (held.values y);
   places = rw values held.places;
   marks = rw marks held.marks;
+  clear = rw marks held.clear;
+  located = rw (trail, places) held.located;
+  room = rw places held.room;
   few = let count = length-append m.learned.lines (line ∷ []) in let own : length n.learned.lines ≡ length m.learned.lines + 1 = rw learned count in omega (arith, own);
 }
 
 -- a propagation or a decision
 pub at_more : (formula : Formula) (m n o : Machine) (x : ℤ) (reason : Option ℕ) (made : Move) → IsAt formula m → IsHeld formula n → n.trail.items ≡ with_entry m.trail.items x reason → IsSameBut m n
     → Moves formula (state_of m.trail.items m.learned) made record { trail = with_entry m.trail.items x reason; learned = m.learned.lines }
-    → o.trail ≡ n.trail → o.values ≡ n.values → o.learned ≡ n.learned → o.marks ≡ n.marks → o.moves.items ≡ n.moves.items ++ made ∷ [] → IsAt formula o
-at_more formula m n o x reason made at held trail same moved otrail ovalues olearned omarks omoves = record {
+    → o.trail ≡ n.trail → o.values ≡ n.values → o.learned ≡ n.learned → o.marks ≡ n.marks → o.places ≡ n.places → o.moves.items ≡ n.moves.items ++ made ∷ [] → IsAt formula o
+at_more formula m n o x reason made at held trail same moved otrail ovalues olearned omarks oplaces omoves = record {
   held = record {
     sound = rw (otrail, olearned) held.sound;
     rights = rw olearned held.rights;
     values = λ y. rw (ovalues, otrail) (held.values y);
     places = rw ovalues held.places;
     marks = rw omarks held.marks;
+    clear = rw omarks held.clear;
+    located = rw (otrail, oplaces) held.located;
+    room = rw oplaces held.room;
     few = rw olearned held.few;
   };
   run = rw (omoves, same.moves, otrail, trail, olearned, same.learned) (run_more formula first_state m.moves.items (state_of m.trail.items m.learned) made _ at.run moved);
@@ -168,13 +224,6 @@ entry_has test (f ∷ trail) (suc i) e a h = entry_has test trail i e (right (te
     right false g = absurd cc
 
 -- ---- jumps
-
-pub jump_entry : (trail : List Entry) (cut : ℕ) (P : Entry → Type 0) → IsSomeAnd (slice_get trail cut) P → (e : Entry) × (slice_get trail cut ≡ Some e) × P e
-jump_entry trail cut P h = by_found (slice_get trail cut) refl h
-  where
-    by_found : (found : Option Entry) → slice_get trail cut ≡ found → IsSomeAnd found P → (e : Entry) × (slice_get trail cut ≡ Some e) × P e
-    by_found None f g = absurd g
-    by_found (Some e) f g = (e, f, g)
 
 same_last : (trail : List Entry) (x y : ℤ) (r q : Option ℕ) → with_entry trail x r ≡ with_entry trail y q → x ≡ y
 same_last trail x y r q e =
@@ -213,14 +262,17 @@ pub at_jump : (formula : Formula) (m n o : Machine) (line : DerivationLine) (cut
     → n.trail.items ≡ with_entry (take cut m.trail.items) x (Some (length formula.clauses + length m.learned.lines + 1)) → n.learned ≡ record { lines = m.learned.lines ++ line ∷ [] }
     → n.moves.items ≡ m.moves.items
     → Moves formula (state_of m.trail.items m.learned) (move.Jump line cut) (jumped formula (state_of m.trail.items m.learned) line cut x)
-    → o.trail ≡ n.trail → o.values ≡ n.values → o.learned ≡ n.learned → o.marks ≡ n.marks → o.moves.items ≡ n.moves.items ++ move.Jump line cut ∷ [] → IsAt formula o
-at_jump formula m n o line cut x at held trail learned moves moved otrail ovalues olearned omarks omoves = record {
+    → o.trail ≡ n.trail → o.values ≡ n.values → o.learned ≡ n.learned → o.marks ≡ n.marks → o.places ≡ n.places → o.moves.items ≡ n.moves.items ++ move.Jump line cut ∷ [] → IsAt formula o
+at_jump formula m n o line cut x at held trail learned moves moved otrail ovalues olearned omarks oplaces omoves = record {
   held = record {
     sound = rw (otrail, olearned) held.sound;
     rights = rw olearned held.rights;
     values = λ y. rw (ovalues, otrail) (held.values y);
     places = rw ovalues held.places;
     marks = rw omarks held.marks;
+    clear = rw omarks held.clear;
+    located = rw (otrail, oplaces) held.located;
+    room = rw oplaces held.room;
     few = rw olearned held.few;
   };
   run = rw (omoves, moves, otrail, trail, olearned, learned) (rw count at (run_more formula first_state m.moves.items (state_of m.trail.items m.learned) (move.Jump line cut) _ at.run moved));
@@ -238,20 +290,21 @@ at_jump formula m n o line cut x at held trail learned moves moved otrail ovalue
 
 -- the machine after a jump, by its steps: the line learned, the trail cut, and one more literal
 abbrev pub with_lines : Machine → List DerivationLine → Machine
-with_lines m lines = record { trail = m.trail; values = m.values; learned = record { lines = lines }; moves = m.moves; marks = m.marks }
+with_lines m lines = record { trail = m.trail; values = m.values; learned = record { lines = lines }; moves = m.moves; places = m.places; marks = m.marks }
 
 pub jump_steps : (formula : Formula) (m cut_m n o : Machine) (lines : List DerivationLine) (line : DerivationLine) (cut number : ℕ) (x : ℤ) → IsAt formula m → IsOver formula.variables x
     → Moves formula (state_of m.trail.items m.learned) (move.Jump line cut) (jumped formula (state_of m.trail.items m.learned) line cut x)
     → number ≡ length formula.clauses + length m.learned.lines + 1 → number < 2 ^ 32 → lines ≡ m.learned.lines ++ line ∷ []
-    → cut_m.trail.items ≡ take cut m.trail.items → ((y : ℤ) → marked ByKey cut_m.values.items y ≡ is_true (take cut m.trail.items) y) → IsSameBut (with_lines m lines) cut_m
-    → n.trail.items ≡ with_entry cut_m.trail.items x (Some number) → ((y : ℤ) → marked ByKey n.values.items y ≡ (marked ByKey cut_m.values.items y || int_eq x y)) → IsSameBut cut_m n
-    → o.trail ≡ n.trail → o.values ≡ n.values → o.learned ≡ n.learned → o.marks ≡ n.marks → o.moves.items ≡ n.moves.items ++ move.Jump line cut ∷ [] → IsAt formula o
-jump_steps formula m cut_m n o lines line cut number x at over moved count few pushed cut_trail cut_values cut_same trail values same otrail ovalues olearned omarks omoves =
+    → cut_m.trail.items ≡ take cut m.trail.items → ((y : ℤ) → marked ByKey cut_m.values.items y ≡ is_true (take cut m.trail.items) y) → cut_m.places ≡ m.places → IsSameBut (with_lines m lines) cut_m
+    → n.trail.items ≡ with_entry cut_m.trail.items x (Some number) → ((y : ℤ) → marked ByKey n.values.items y ≡ (marked ByKey cut_m.values.items y || int_eq x y))
+    → n.places.items ≡ slice_set cut_m.places.items (literal_key x) (length cut_m.trail.items) → IsSameBut cut_m n
+    → o.trail ≡ n.trail → o.values ≡ n.values → o.learned ≡ n.learned → o.marks ≡ n.marks → o.places ≡ n.places → o.moves.items ≡ n.moves.items ++ move.Jump line cut ∷ [] → IsAt formula o
+jump_steps formula m cut_m n o lines line cut number x at over moved count few pushed cut_trail cut_values cut_places cut_same trail values places same otrail ovalues olearned omarks oplaces omoves =
     at_jump formula m n o line cut x at held
     (trail ∙ rw (cut_trail, count) refl)
     (same.learned ∙ learned)
     (same.moves ∙ cut_same.moves)
-    moved otrail ovalues olearned omarks omoves
+    moved otrail ovalues olearned omarks oplaces omoves
   where
     learned : cut_m.learned ≡ record { lines = m.learned.lines ++ line ∷ [] }
     learned = cut_same.learned ∙ ap (λ ls. record { lines = ls }) pushed
@@ -260,10 +313,10 @@ jump_steps formula m cut_m n o lines line cut number x at over moved count few p
     right = rw (same_clauses formula m.learned m.trail.items) at moved.right
 
     first_held : IsHeld formula (with_lines m lines)
-    first_held = held_learn formula m (with_lines m lines) line at.held right refl refl refl (ap (λ ls. record { lines = ls }) pushed) (omega (arith, count, few))
+    first_held = held_learn formula m (with_lines m lines) line at.held right refl refl refl refl (ap (λ ls. record { lines = ls }) pushed) (omega (arith, count, few))
 
     cut_held : IsHeld formula cut_m
-    cut_held = held_cut formula (with_lines m lines) cut_m cut first_held cut_trail cut_values cut_same
+    cut_held = held_cut formula (with_lines m lines) cut_m cut first_held cut_trail cut_values cut_places cut_same
 
     opens : (is_open (is_true (take cut m.trail.items)) x ≡ true) × Implies (take cut m.trail.items) x line.clause
     opens = jump_opens formula m line cut x moved
@@ -280,4 +333,4 @@ jump_steps formula m cut_m n o lines line cut number x at over moved count few p
     held : IsHeld formula n
     held =
         held_more formula cut_m n x (Some number) cut_held over (rw cut_trail opens.0)
-        (rw (named, cut_trail) opens.1) trail values same
+        (rw (named, cut_trail) opens.1) trail values places same

@@ -30,13 +30,12 @@ use Rattle.search.specs.Readings.{IsImplied, IsReading, IsRewatched, IsSearching
 use Rattle.search.specs.Sound.{all_clauses}
 use Rattle.search.specs.Visits.{partner_of}
 use Rattle.search.specs.Watching.{IsOf, IsWatching, is_among, is_satisfied, list_of}
-use Rattle.search.proofs.BackLaws.{negated-over, negated_twice, or_behind, over_at}
+use Rattle.search.proofs.BackLaws.{negated-over, negated_twice, or_behind, over_at, some_entry}
 use Rattle.search.proofs.KeptLaws.{has_over, is_over-tells, numbered_over, unit_is}
 use Rattle.search.proofs.LookLaws.{satisfied_by}
 use Rattle.search.proofs.NextLaws.{same_clauses}
 use Rattle.search.proofs.ReadLaws.{reading_ends, reading_moved, reading_next, reading_on}
 use Rattle.search.proofs.ScanLaws.{numbered_next}
-use Rattle.search.proofs.TurnLaws.{jump_entry}
 
 -- ---- the clause of a watcher
 
@@ -90,7 +89,7 @@ apart_from_read trail head x y read free = by_test (int_eq y x) refl
     by_test : (b : Bool) → int_eq y x ≡ b → int_eq y x ≡ false
     by_test false e = e
     by_test true e =
-        let found = jump_entry trail head (λ (f : Entry). neg_ℤ f.literal ≡ x) read in
+        let found = some_entry trail head (λ (f : Entry). neg_ℤ f.literal ≡ x) read in
         let same : neg_ℤ y ≡ found.0.literal = ap neg_ℤ (same_literal y x e ∙ sym found.2) ∙ negated_twice found.0.literal in
         let no : true ≡ false = sym (true_here trail head found.0 found.1) ∙ ap (is_true trail) (sym same) ∙ free in
         absurd cc

@@ -17,8 +17,8 @@ use Rattle.search.specs.declared.watching.Watching.{Watching}
 use Rattle.search.specs.Machine.{is_true, with_entry}
 use Rattle.search.specs.Sound.{all_clauses}
 use Rattle.search.specs.Watching.{IsDecidedAt, IsOf, IsSatisfied, IsTracked, IsWatched, IsWatching, is_among, is_satisfied, list_of}
+use Rattle.search.proofs.BackLaws.{some_entry}
 use Rattle.search.proofs.MachineLaws.{get_before, get_taken, with_line}
-use Rattle.search.proofs.TurnLaws.{jump_entry}
 
 -- ---- satisfied clauses
 
@@ -54,7 +54,7 @@ module _ (trail : List Entry) (x : ℤ) (reason : Option ℕ) (head : ℕ) (insi
   pub satisfied_on : (clause : List ℤ) → IsSatisfied trail clause → IsSatisfied (with_entry trail x reason) clause
   satisfied_on clause is = record {
     now = satisfied_more trail e clause is.now;
-    before = λ d decided. let at = jump_entry (trail ++ e ∷ []) d (λ f. f.reason ≡ None) decided in by_side d at.0 at.2 (get_before trail e d at.0 at.1);
+    before = λ d decided. let at = some_entry (trail ++ e ∷ []) d (λ f. f.reason ≡ None) decided in by_side d at.0 at.2 (get_before trail e d at.0 at.1);
   }
     where
       by_side : (d : ℕ) (f : Entry) → f.reason ≡ None → ((slice_get trail d ≡ Some f) × (take d (trail ++ e ∷ []) ≡ take d trail)) ⊎ ((f ≡ e) × (take d (trail ++ e ∷ []) ≡ trail))
@@ -65,7 +65,7 @@ module _ (trail : List Entry) (x : ℤ) (reason : Option ℕ) (head : ℕ) (insi
   pub watched_on : (clause : List ℤ) (w : ℤ) → IsWatched trail head clause w → IsWatched (with_entry trail x reason) head clause w
   watched_on clause w is = record {
     now = λ h. satisfied_more trail e clause (is.now (ap (λ t. is_true t (neg_ℤ w)) (sym (take_front trail e head inside)) ∙ h));
-    before = λ d decided h. let at = jump_entry (trail ++ e ∷ []) d (λ f. f.reason ≡ None) decided in by_side d at.0 at.2 h (get_before trail e d at.0 at.1);
+    before = λ d decided h. let at = some_entry (trail ++ e ∷ []) d (λ f. f.reason ≡ None) decided in by_side d at.0 at.2 h (get_before trail e d at.0 at.1);
   }
     where
       by_side : (d : ℕ) (f : Entry) → f.reason ≡ None → is_true (take d (trail ++ e ∷ [])) (neg_ℤ w) ≡ true
@@ -89,7 +89,7 @@ module _ (trail : List Entry) (x : ℤ) (reason : Option ℕ) (head : ℕ) (insi
 
   pub decided_on : (d : ℕ) → ((c : ℕ) → IsDecidedAt trail c → c ≤ head) → IsDecidedAt (with_entry trail x reason) d → d ≤ head
   decided_on d before decided =
-      let at = jump_entry (trail ++ e ∷ []) d (λ f. f.reason ≡ None) decided in
+      let at = some_entry (trail ++ e ∷ []) d (λ f. f.reason ≡ None) decided in
       by_side at.0 at.1 at.2 (get_before trail e d at.0 at.1)
     where
       by_side : (f : Entry) → slice_get (trail ++ e ∷ []) d ≡ Some f → f.reason ≡ None
@@ -127,7 +127,7 @@ module _ (trail : List Entry) (cut : ℕ) (decided : IsDecidedAt trail cut) wher
 
   earlier : (d : ℕ) → IsDecidedAt (take cut trail) d → IsDecidedAt trail d × (take d (take cut trail) ≡ take d trail)
   earlier d h =
-      let at = jump_entry (take cut trail) d (λ f. f.reason ≡ None) h in
+      let at = some_entry (take cut trail) d (λ f. f.reason ≡ None) h in
       let taken = get_taken trail cut d at.0 at.1 in
       (rw taken.0 at.2, taken.1)
 
@@ -166,10 +166,10 @@ module _ (trail : List Entry) (cut : ℕ) (decided : IsDecidedAt trail cut) wher
   }
     where
       full : length (take cut trail) ≡ cut
-      full = let at = jump_entry trail cut (λ f. f.reason ≡ None) decided in let within = slice_get_within trail cut at.0 at.1 in length-take-le cut trail (omega (arith, within))
+      full = let at = some_entry trail cut (λ f. f.reason ≡ None) decided in let within = slice_get_within trail cut at.0 at.1 in length-take-le cut trail (omega (arith, within))
 
       before : (d : ℕ) → IsDecidedAt (take cut trail) d → d < cut
-      before d h = let at = jump_entry (take cut trail) d (λ f. f.reason ≡ None) h in let within = slice_get_within (take cut trail) d at.0 at.1 in omega (arith, within, full)
+      before d h = let at = some_entry (take cut trail) d (λ f. f.reason ≡ None) h in let within = slice_get_within (take cut trail) d at.0 at.1 in omega (arith, within, full)
 
 -- ---- one more clause
 

@@ -1,4 +1,5 @@
 pub mod At
+pub mod Chains
 pub mod Conflicts
 pub mod Installs
 pub mod Laws

@@ -1,5 +1,5 @@
 -- What comes next in a state of the search.
-use Rattle.std.specs.Prelude.{◌≡◌, ℕ, ◌+◌, ◌-◌, ◌≤◌, ℤ, neg_ℤ, Bool, false, List, [], ◌∷◌, ◌++◌, length, take, slice_get, slice_index_or, None, Some, IsSomeAnd}
+use Rattle.std.specs.Prelude.{◌≡◌, ℕ, ◌+◌, ◌-◌, ◌≤◌, ℤ, Bool, false, List, [], ◌∷◌, ◌++◌, length, take, slice_index_or, None, Some}
 use Rattle.cnf.specs.declared.derivation.Derivation.{Derivation}
 use Rattle.cnf.specs.declared.derivation.DerivationLine.{DerivationLine}
 use Rattle.cnf.specs.declared.formula.Formula.{Formula}
@@ -30,8 +30,7 @@ IsNext formula s (next.Refuted line) = IsRight (clauses_of formula s) line × (l
 IsNext formula s (next.Propagate clause x) =
     Moves formula s (move.Propagate clause) record { trail = with_entry s.trail x (Some clause); learned = s.learned } × (IsFinished formula s → ⊥)
 IsNext formula s (next.Decide x) = Moves formula s (move.Decide x) record { trail = with_entry s.trail x None; learned = s.learned } × (IsFinished formula s → ⊥)
-IsNext formula s (next.Jump line cut) =
-    IsSomeAnd (slice_get s.trail cut) (λ e. Moves formula s (move.Jump line cut) (jumped formula s line cut (neg_ℤ e.literal))) × (IsFinished formula s → ⊥)
+IsNext formula s (next.Jump line cut x) = Moves formula s (move.Jump line cut) (jumped formula s line cut x) × (IsFinished formula s → ⊥)
 
 -- a value for each variable, from 1, so that the formula is satisfied
 abbrev pub IsModel : Formula → List Bool → Type 0

@@ -1,35 +1,225 @@
 // What a conflict teaches.
-ghost use Rattle.std.specs.Prelude.{◌≡◌, ◌+◌, ◌*◌, ◌<◌, ◌≤◌, ◌^◌, ◌&&◌, ℤ, List, None, Some, neg_ℤ, true, All, IfOk, IsSomeAnd, length};
-ghost use Rattle.std.specs.List.{list_all};
+ghost use Rattle.std.specs.Prelude.{◌≡◌, ◌+◌, ◌*◌, ◌<◌, ◌≤◌, ◌^◌, ℕ, ℤ, List, None, Some, neg_ℤ, true, IfOk, IsSomeAnd, OnOk, length};
 ghost use Rattle.cnf.specs.Checks.{numbered};
-ghost use Rattle.cnf.specs.Clauses.{IsLiteral, has_literal};
-ghost use Rattle.cnf.specs.Resolution.{can_resolve, resolvent};
+ghost use Rattle.cnf.specs.Clauses.{IsLiteral, has_literal, literal_key as key_of};
 ghost use Rattle.literal_marks.specs.Marks.{IsClear, marked};
 ghost use Rattle.literal_marks.specs.declared.places.Places.TheVariants.{ByKey};
-ghost use Rattle.search.specs.Laws.{is_over};
-ghost use Rattle.search.specs.Lessons.{IsBack, IsLesson};
+ghost use Rattle.search.specs.Chains.{IsBack, IsGoing, IsLastDecision, IsReach};
+ghost use Rattle.search.specs.Lessons.{IsLesson};
 ghost use Rattle.search.specs.Machine.{is_conflict, is_true};
 ghost use Rattle.search.specs.Sound.{IsSound, all_clauses};
+ghost use Rattle.search.specs.Trails.{AreLocated};
+ghost use Rattle.search.specs.Watching.{IsDecidedAt};
+ghost use Rattle.search.specs.declared.trail.Entry.{Entry as EntryValue};
 
+use crate::chain::{Chain, add_others, take_back};
+use crate::landing::{Landing, landing_of};
 use crate::trail::Entry;
-use cnf::{Clause, Derivation, DerivationLine, Formula, clause_before, negation};
+use cnf::{Clause, Derivation, DerivationLine, Formula, clause_before, literal_key, negation};
 use containers::Vector;
 use fq_core::Memory;
-use literal_marks::{Places, clear, is_marked, mark_all, resolve_marked};
+use literal_marks::{Places, unmark_all};
 use std::alloc::{AllocError, Global};
 
-/// A line that follows from a conflict, and the place of the decided literal before which the trail is cut. There is none
-/// where the line's clause is empty.
+/// A line that follows from a conflict, and where the jump lands that learns it. There is none where the line's clause is
+/// empty.
 #[derive(Debug, Drop)]
 pub(crate) struct Lesson {
     pub line: DerivationLine,
-    pub cut: Option<usize>,
+    pub landing: Option<Landing>,
 }
 
-/// Resolves the clause with this number, which is false, until no implied literal is left in it.
+// The length of the shortest beginning of the trail by which these literals are false.
+fn reach_of(places: &[u32], literals: &[i32]) -> usize
+    requires over { (x : ℤ) → has_literal literals.now x ≡ true → IsLiteral x × (key_of (neg_ℤ x) < length places.now) }
+    ensures { (trail : List EntryValue) → AreLocated trail places.now → is_conflict (is_true trail) literals.now ≡ true → IsReach trail literals.now result }
+{
+    let mut reach = 0;
+    for literal in literals {
+        let place = places[literal_key(negation(*literal))] as usize;
+        if reach <= place {
+            reach = place + 1;
+        }
+    }
+    reach
+}
+
+// Where the last decision before a place stands.
+fn last_decision(trail: &[Entry], reach: usize) -> Option<usize>
+    requires { reach ≤ length trail.now }
+    ensures { IsLastDecision trail.now reach result }
+{
+    for back in 0..reach {
+        let place = reach - 1 - back;
+        if trail[place].reason.is_none() {
+            return Some(place);
+        }
+    }
+    None
+}
+
+// Goes back along the trail from a place, until one marked literal is left that wasn't false before the last decision.
+fn go_back(
+    marks: &mut [bool],
+    chain: &mut Chain,
+    places: &[u32],
+    formula: &Formula,
+    learned: &Derivation,
+    trail: &[Entry],
+    reach: usize,
+) -> Result<(), AllocError>
+    requires sound { IsSound formula.now learned.now trail.now }
+    requires small { formula.now.variables ≤ 2 ^ 30 }
+    requires size { length marks.old ≡ 2 * formula.now.variables + 2 }
+    requires room { length places.now ≡ 2 * formula.now.variables + 2 }
+    requires located { AreLocated trail.now places.now }
+    requires reach { reach ≤ length trail.now }
+    requires implied { (d : ℕ) → IsDecidedAt trail.now d → chain.old.start < d → d < reach → ⊥ }
+    requires going { IsGoing trail.now (marked ByKey marks.old) reach chain.old }
+    ensures size { length marks.new ≡ length marks.old }
+    ensures start { OnOk result (chain.new.start ≡ chain.old.start) }
+    ensures back { (first : List ℤ) → IsBack (all_clauses formula.now learned.now) trail.now first reach (marked ByKey marks.old) chain.old.steps.items →
+        OnOk result (IsBack (all_clauses formula.now learned.now) trail.now first (chain.new.low + 1) (marked ByKey marks.new) chain.new.steps.items) }
+    ensures going { OnOk result (IsGoing trail.now (marked ByKey marks.new) (chain.new.low + 1) chain.new) }
+{
+    let mut front = reach;
+    while chain.low + 1 < front {
+        front -= 1;
+        take_back(marks, chain, places, formula, learned, trail, front)?;
+    }
+    Ok(())
+}
+
+// Goes back along the trail from a place, before which nothing was decided, to its beginning.
+fn go_back_whole(
+    marks: &mut [bool],
+    chain: &mut Chain,
+    places: &[u32],
+    formula: &Formula,
+    learned: &Derivation,
+    trail: &[Entry],
+    reach: usize,
+) -> Result<(), AllocError>
+    requires sound { IsSound formula.now learned.now trail.now }
+    requires small { formula.now.variables ≤ 2 ^ 30 }
+    requires size { length marks.old ≡ 2 * formula.now.variables + 2 }
+    requires room { length places.now ≡ 2 * formula.now.variables + 2 }
+    requires located { AreLocated trail.now places.now }
+    requires reach { reach ≤ length trail.now }
+    requires implied { (d : ℕ) → IsDecidedAt trail.now d → d < reach → ⊥ }
+    ensures size { length marks.new ≡ length marks.old }
+    ensures back { (first : List ℤ) → IsBack (all_clauses formula.now learned.now) trail.now first reach (marked ByKey marks.old) chain.old.steps.items →
+        OnOk result (IsBack (all_clauses formula.now learned.now) trail.now first 0 (marked ByKey marks.new) chain.new.steps.items) }
+{
+    for back in 0..reach {
+        let place = reach - 1 - back;
+        take_back(marks, chain, places, formula, learned, trail, place)?;
+    }
+    Ok(())
+}
+
+// Resolves a clause that is false by a beginning of the trail in which nothing was decided, until it is empty.
+fn refuting_lesson(
+    alloc: Global,
+    marks: &mut [bool],
+    places: &[u32],
+    formula: &Formula,
+    learned: &Derivation,
+    trail: &[Entry],
+    conflict: u32,
+    clause: &Clause,
+    reach: usize,
+) -> Result<Lesson, Memory>
+    requires sound { IsSound formula.now learned.now trail.now }
+    requires small { formula.now.variables ≤ 2 ^ 30 }
+    requires size { length marks.old ≡ 2 * formula.now.variables + 2 }
+    requires room { length places.now ≡ 2 * formula.now.variables + 2 }
+    requires located { AreLocated trail.now places.now }
+    requires clear { IsClear ByKey marks.old }
+    requires named { numbered (all_clauses formula.now learned.now) conflict ≡ Some clause.now }
+    requires reach { IsReach trail.now clause.now reach }
+    requires inside { reach ≤ length trail.now }
+    requires implied { (d : ℕ) → IsDecidedAt trail.now d → d < reach → ⊥ }
+    ensures lesson { IfOk result (IsLesson (all_clauses formula.now learned.now) trail.now conflict) }
+    ensures clear { OnOk result (IsClear ByKey marks.new) }
+    ensures size { length marks.new ≡ length marks.old }
+{
+    let mut chain = Chain {
+        start: 0,
+        found: Vec::new(alloc),
+        low: 0,
+        steps: Vec::new(alloc),
+    };
+    add_others(marks, &mut chain, places, clause.literals(), None)?;
+    go_back_whole(marks, &mut chain, places, formula, learned, trail, reach)?;
+    let clause = Clause::new(alloc, &[])?;
+    Ok(Lesson {
+        line: DerivationLine {
+            clause,
+            first: conflict,
+            steps: Vector::from_vec(chain.steps),
+        },
+        landing: None,
+    })
+}
+
+// Resolves a clause that is false by a beginning of the trail, in which the last decision has this place, until one literal
+// is left that wasn't false before it, the first unique implication point's negation.
+fn asserting_lesson(
+    alloc: Global,
+    marks: &mut [bool],
+    places: &[u32],
+    formula: &Formula,
+    learned: &Derivation,
+    trail: &[Entry],
+    conflict: u32,
+    clause: &Clause,
+    reach: usize,
+    start: usize,
+) -> Result<Lesson, Memory>
+    requires sound { IsSound formula.now learned.now trail.now }
+    requires small { formula.now.variables ≤ 2 ^ 30 }
+    requires size { length marks.old ≡ 2 * formula.now.variables + 2 }
+    requires room { length places.now ≡ 2 * formula.now.variables + 2 }
+    requires located { AreLocated trail.now places.now }
+    requires clear { IsClear ByKey marks.old }
+    requires named { numbered (all_clauses formula.now learned.now) conflict ≡ Some clause.now }
+    requires reach { IsReach trail.now clause.now reach }
+    requires inside { reach ≤ length trail.now }
+    requires start { IsLastDecision trail.now reach (Some start) }
+    ensures lesson { IfOk result (IsLesson (all_clauses formula.now learned.now) trail.now conflict) }
+    ensures clear { OnOk result (IsClear ByKey marks.new) }
+    ensures size { length marks.new ≡ length marks.old }
+{
+    let mut chain = Chain {
+        start,
+        found: Vec::new(alloc),
+        low: reach - 1,
+        steps: Vec::new(alloc),
+    };
+    add_others(marks, &mut chain, places, clause.literals(), None)?;
+    go_back(marks, &mut chain, places, formula, learned, trail, reach)?;
+    let literal = negation(trail[chain.low].literal);
+    let landing = landing_of(marks, trail, formula.variables, start, literal);
+    chain.found.push(literal)?;
+    let clause = Clause::new(alloc, &chain.found)?;
+    unmark_all(&Places::ByKey, marks, clause.literals());
+    Ok(Lesson {
+        line: DerivationLine {
+            clause,
+            first: conflict,
+            steps: Vector::from_vec(chain.steps),
+        },
+        landing: Some(landing),
+    })
+}
+
+/// Resolves the clause with this number, which is false, back along the trail to the first unique implication point, or
+/// until it is empty, where nothing was decided before its literals became false.
 pub(crate) fn lesson_of(
     alloc: Global,
     marks: &mut [bool],
+    places: &[u32],
     formula: &Formula,
     learned: &Derivation,
     trail: &[Entry],
@@ -38,129 +228,26 @@ pub(crate) fn lesson_of(
     requires sound { IsSound formula.now learned.now trail.now }
     requires small { formula.now.variables ≤ 2 ^ 30 }
     requires size { length marks.old ≡ 2 * formula.now.variables + 2 }
+    requires room { length places.now ≡ 2 * formula.now.variables + 2 }
+    requires located { AreLocated trail.now places.now }
+    requires clear { IsClear ByKey marks.old }
     requires conflict { IsSomeAnd (numbered (all_clauses formula.now learned.now) conflict) (λ clause. is_conflict (is_true trail.now) clause ≡ true) }
     ensures lesson { IfOk result (IsLesson (all_clauses formula.now learned.now) trail.now conflict) }
-    ensures marks { IfOk result (λ lesson. (x : ℤ) → marked ByKey marks.new x ≡ has_literal lesson.line.clause x) }
+    ensures clear { OnOk result (IsClear ByKey marks.new) }
     ensures size { length marks.new ≡ length marks.old }
 {
-    clear(marks);
-    mark_clause(marks, formula, learned, conflict);
-    let mut steps = Vec::new(alloc);
-    let cut = go_back(marks, formula, learned, trail, &mut steps)?;
-    let literals = marked_against(alloc, marks, trail)?;
-    let clause = Clause::new(alloc, &literals)?;
-    Ok(Lesson {
-        line: DerivationLine {
-            clause,
-            first: conflict,
-            steps: Vector::from_vec(steps),
-        },
-        cut,
-    })
-}
-
-// Marks the clause with a number.
-fn mark_clause(marks: &mut [bool], formula: &Formula, learned: &Derivation, number: u32)
-    requires clear { IsClear ByKey marks.old }
-    requires over { list_all (list_all (is_over formula.now.variables)) (all_clauses formula.now learned.now) ≡ true }
-    requires size { length marks.old ≡ 2 * formula.now.variables + 2 }
-    ensures { (clause : List ℤ) → numbered (all_clauses formula.now learned.now) number ≡ Some clause →
-        (x : ℤ) → marked ByKey marks.new x ≡ has_literal clause x }
-{
-    if let Some(clause) = clause_before(formula, learned, learned.lines.len(), number) {
-        mark_all(&Places::ByKey, marks, clause.literals());
-    }
-}
-
-// Goes back along the trail, and resolves with the reason of each literal whose negation is marked. Answers the place of
-// the latest decided one.
-fn go_back(
-    marks: &mut [bool],
-    formula: &Formula,
-    learned: &Derivation,
-    trail: &[Entry],
-    steps: &mut Vec<(u32, i32)>,
-) -> Result<Option<usize>, AllocError>
-    requires sound { IsSound formula.now learned.now trail.now }
-    requires small { formula.now.variables ≤ 2 ^ 30 }
-    requires size { length marks.old ≡ 2 * formula.now.variables + 2 }
-    ensures { (first : List ℤ) →
-        IsBack (all_clauses formula.now learned.now) trail.now first (length trail.now) (marked ByKey marks.old) steps.old.items None →
-        IfOk result (λ cut. IsBack (all_clauses formula.now learned.now) trail.now first 0 (marked ByKey marks.new) steps.new.items cut) }
-{
-    let mut cut = None;
-    for back in 0..trail.len() {
-        let place = trail.len() - 1 - back;
-        cut = take_back(marks, formula, learned, trail, place, cut, steps)?;
-    }
-    Ok(cut)
-}
-
-// One entry back.
-fn take_back(
-    marks: &mut [bool],
-    formula: &Formula,
-    learned: &Derivation,
-    trail: &[Entry],
-    place: usize,
-    cut: Option<usize>,
-    steps: &mut Vec<(u32, i32)>,
-) -> Result<Option<usize>, AllocError>
-    requires sound { IsSound formula.now learned.now trail.now }
-    requires small { formula.now.variables ≤ 2 ^ 30 }
-    requires size { length marks.old ≡ 2 * formula.now.variables + 2 }
-    requires place { place < length trail.now }
-    ensures { (first : List ℤ) →
-        IsBack (all_clauses formula.now learned.now) trail.now first (place + 1) (marked ByKey marks.old) steps.old.items cut →
-        IfOk result (λ new. IsBack (all_clauses formula.now learned.now) trail.now first place (marked ByKey marks.new) steps.new.items new) }
-{
-    let entry = trail[place];
-    let negated = negation(entry.literal);
-    if !is_marked(&Places::ByKey, marks, negated) {
-        return Ok(cut);
-    }
-    match entry.reason {
-        None => Ok(cut.or(Some(place))),
-        Some(number) => {
-            resolve_with(marks, formula, learned, number, negated);
-            steps.push((number, negated))?;
-            Ok(cut)
+    match clause_before(formula, learned, learned.lines.len(), conflict) {
+        None => unreachable!(),
+        Some(clause) => {
+            let reach = reach_of(places, clause.literals());
+            match last_decision(trail, reach) {
+                None => refuting_lesson(
+                    alloc, marks, places, formula, learned, trail, conflict, clause, reach,
+                ),
+                Some(start) => asserting_lesson(
+                    alloc, marks, places, formula, learned, trail, conflict, clause, reach, start,
+                ),
+            }
         }
     }
-}
-
-// Resolves the marked clause with the one that has a number.
-fn resolve_with(
-    marks: &mut [bool],
-    formula: &Formula,
-    learned: &Derivation,
-    number: u32,
-    pivot: i32,
-)
-    requires over { list_all (list_all (is_over formula.now.variables)) (all_clauses formula.now learned.now) ≡ true }
-    requires size { length marks.old ≡ 2 * formula.now.variables + 2 }
-    ensures { (clause : List ℤ) → numbered (all_clauses formula.now learned.now) number ≡ Some clause →
-        can_resolve (marked ByKey marks.old) pivot (has_literal clause) ≡ true →
-        (x : ℤ) → marked ByKey marks.new x ≡ resolvent (marked ByKey marks.old) pivot (has_literal clause) x }
-{
-    if let Some(clause) = clause_before(formula, learned, learned.lines.len(), number) {
-        resolve_marked(&Places::ByKey, marks, pivot, clause);
-    }
-}
-
-// The marked literals whose negation is on the trail.
-fn marked_against(alloc: Global, marks: &[bool], trail: &[Entry]) -> Result<Vec<i32>, AllocError>
-    requires { All (λ e. IsLiteral e.literal) trail.now }
-    ensures literals { IfOk result (λ found. All IsLiteral found.items) }
-    ensures has { IfOk result (λ found.
-        (x : ℤ) → has_literal found.items x ≡ (marked ByKey marks.now x && is_true trail.now (neg_ℤ x))) }
-{
-    let mut found = Vec::new(alloc);
-    for entry in trail {
-        let negated = negation(entry.literal);
-        if is_marked(&Places::ByKey, marks, negated) {
-            found.push(negated)?;
-        }
-    }
-    Ok(found)
 }

@@ -1,8 +1,9 @@
 // Where a jump lands.
-ghost use Rattle.std.specs.Prelude.{◌≡◌, ◌≤◌, ◌^◌, ℕ, ℤ, Some, IsSomeAnd, neg_ℤ, slice_get, take};
+ghost use Rattle.std.specs.Prelude.{◌≡◌, ◌≤◌, ◌^◌, false, neg_ℤ, take};
 ghost use Rattle.literal_marks.specs.Marks.{marked};
 ghost use Rattle.literal_marks.specs.declared.places.Places.TheVariants.{ByKey};
 ghost use Rattle.search.specs.Lessons.{AreFalseBut, IsLanding};
+ghost use Rattle.search.specs.Machine.{is_true};
 ghost use Rattle.search.specs.Trails.{IsTrail};
 ghost use Rattle.search.specs.Watching.{IsDecidedAt};
 
@@ -10,16 +11,17 @@ use crate::trail::Entry;
 use cnf::negation;
 use literal_marks::{Places, is_marked};
 
-/// The place of the decided literal before which the trail is cut, and the literal of the learned clause that became
-/// false last but one, if it has two.
+/// The one literal of a learned clause that is open where the trail is cut, the place of the decided literal before which
+/// it is, and the literal of the clause that became false last but one, if it has two.
 #[derive(Clone, Copy, Debug)]
 pub(crate) struct Landing {
+    pub literal: i32,
     pub cut: usize,
     pub other: Option<i32>,
 }
 
-/// The earliest decision before which all marked literals but one are false, by the place of a decision before which they
-/// are, and whose literal's negation is that one.
+/// The earliest decision before which all marked literals but this one are false, by the place of a decision before which
+/// they are, and this one isn't.
 pub(crate) fn landing_of(
     marks: &[bool],
     trail: &[Entry],
@@ -30,7 +32,7 @@ pub(crate) fn landing_of(
     requires kept { IsTrail variables trail.now }
     requires small { variables ≤ 2 ^ 30 }
     requires decided { IsDecidedAt trail.now place }
-    requires literal { IsSomeAnd (slice_get trail.now place) (λ e. neg_ℤ e.literal ≡ literal) }
+    requires free { is_true (take place trail.now) (neg_ℤ literal) ≡ false }
     requires falses { AreFalseBut (take place trail.now) (marked ByKey marks.now) literal }
     ensures { IsLanding trail.now (marked ByKey marks.now) literal place result }
 {
@@ -41,6 +43,7 @@ pub(crate) fn landing_of(
         let negated = negation(entry.literal);
         if is_marked(&Places::ByKey, marks, negated) {
             return Landing {
+                literal,
                 cut,
                 other: Some(negated),
             };
@@ -50,5 +53,9 @@ pub(crate) fn landing_of(
             Some(_) => {}
         }
     }
-    Landing { cut, other: None }
+    Landing {
+        literal,
+        cut,
+        other: None,
+    }
 }

@@ -4,10 +4,12 @@
 //! It stands on `cnf` and on `literal_marks`. specs/Machine.antt says what a move is; the laws say that histories end, and
 //! that none stops before.
 //! `search` propagates by two watched literals a clause and a queue (specs/Watching.antt), so that a move costs the watchers
-//! that it visits; all clauses are looked at once before the first move, and once where the budget is spent. The layers above
+//! that it visits; all clauses are looked at once before the first move, and once where the budget is spent. A conflict is
+//! resolved to the first unique implication point (specs/Chains.antt), without a pass over the variables. The layers above
 //! use what it answers (specs/Nexts.antt), and that `shown` appends what it is given, and after want of memory nothing.
 #![tactic(auto)]
 
+mod chain;
 mod choice;
 mod conflict;
 mod found;

@@ -1,9 +1,9 @@
 // The search machine.
-ghost use Rattle.std.specs.Prelude.{◌≡◌, ◌+◌, ◌<◌, ◌≤◌, ◌^◌, ◌++◌, ◌∷◌, [], ◌||◌, ◌&&◌, ℕ, ℤ, nat_eq, true, not, All, Some, IfOk, OnOk, IfSome, IsSomeAnd, IsTrue, length, take};
+ghost use Rattle.std.specs.Prelude.{◌≡◌, ◌+◌, ◌<◌, ◌≤◌, ◌^◌, ◌++◌, ◌∷◌, [], ◌||◌, ◌&&◌, ℕ, ℤ, nat_eq, true, not, All, Some, IfOk, OnOk, IfSome, IsSomeAnd, IsTrue, length, slice_set, take};
 ghost use Rattle.std.specs.List.{IsDistinct};
 ghost use Rattle.std.specs.Ordering.{int_eq};
 ghost use Rattle.cnf.specs.Checks.{IsRight, numbered};
-ghost use Rattle.cnf.specs.Clauses.{IsLiteral, has_literal};
+ghost use Rattle.cnf.specs.Clauses.{IsLiteral, literal_key as key_of};
 ghost use Rattle.literal_marks.specs.Marks.{has_place, marked};
 ghost use Rattle.literal_marks.specs.declared.places.Places.TheVariants.{ByKey};
 ghost use Rattle.search.specs.At.{IsAt, IsSameBut, IsSameButMarks};
@@ -23,7 +23,7 @@ use crate::found::Found;
 use crate::moves::{History, Move};
 use crate::next::{Next, next_of};
 use crate::trail::Entry;
-use cnf::{Derivation, DerivationLine, Formula};
+use cnf::{Derivation, DerivationLine, Formula, literal_key};
 use containers::{TryClone, Vector};
 use fq_core::Memory;
 use literal_marks::{Places, mark, unmark};
@@ -37,7 +37,9 @@ pub(crate) struct Machine {
     pub values: Vec<bool>,
     pub learned: Derivation,
     pub moves: Vec<Move>,
-    // A table of marks for the analysis of conflicts.
+    // By their keys, where the literals on the trail stand.
+    pub places: Vec<u32>,
+    // A table of marks for the analysis of conflicts, in which nothing is marked before and after it.
     pub marks: Vec<bool>,
 }
 
@@ -54,6 +56,7 @@ impl Machine {
     {
         let size = 2 * formula.variables as usize + 2;
         let values = vec![in alloc; false; size]?;
+        let places = vec![in alloc; 0; size]?;
         let marks = vec![in alloc; false; size]?;
         Ok(Machine {
             trail: Vec::new(alloc),
@@ -62,6 +65,7 @@ impl Machine {
                 lines: Vector::new(alloc),
             },
             moves: Vec::new(alloc),
+            places,
             marks,
         })
     }
@@ -77,12 +81,16 @@ impl Machine {
 
     // One more literal on the trail.
     fn put(&mut self, literal: i32, reason: Option<u32>) -> Result<(), Memory>
-        requires { IsTrue (has_place ByKey (length self.old.values.items) literal) }
+        requires value { IsTrue (has_place ByKey (length self.old.values.items) literal) }
+        requires place { key_of literal < length self.old.places.items }
+        requires short { length self.old.trail.items < 2 ^ 32 }
         ensures trail { OnOk result (self.new.trail.items ≡ with_entry self.old.trail.items literal reason) }
         ensures values { OnOk result ((x : ℤ) →
             marked ByKey self.new.values.items x ≡ (marked ByKey self.old.values.items x || int_eq literal x)) }
+        ensures places { OnOk result (self.new.places.items ≡ slice_set self.old.places.items (key_of literal) (length self.old.trail.items)) }
         ensures same { OnOk result (IsSameBut self.old self.new) }
     {
+        self.places[literal_key(literal)] = self.trail.len() as u32;
         self.trail.push(Entry { literal, reason })?;
         mark(&Places::ByKey, &mut self.values, literal);
         Ok(())
@@ -96,6 +104,7 @@ impl Machine {
         requires values { (x : ℤ) → marked ByKey self.old.values.items x ≡ is_true self.old.trail.items x }
         ensures trail { self.new.trail.items ≡ take cut self.old.trail.items }
         ensures values { (x : ℤ) → marked ByKey self.new.values.items x ≡ is_true (take cut self.old.trail.items) x }
+        ensures places { self.new.places ≡ self.old.places }
         ensures same { IsSameBut self.old self.new }
     {
         unmark_entries(&mut self.values, &self.trail[cut..]);
@@ -111,6 +120,7 @@ impl Machine {
         made: Move,
     ) -> Result<(), Memory>
         requires at { IsAt formula.now self.old }
+        requires small { formula.now.variables ≤ 2 ^ 30 }
         requires over { IsOver formula.now.variables literal }
         requires free { is_open (is_true self.old.trail.items) literal ≡ true }
         requires implied { IfSome reason (λ number. IsSomeAnd (numbered (all_clauses formula.now self.old.learned) number) (Implies self.old.trail.items literal)) }
@@ -170,14 +180,14 @@ impl Machine {
         requires at { IsAt formula.now self.old }
         requires small { formula.now.variables ≤ 2 ^ 30 }
         requires conflict { IsConflicting formula.now self.old conflict }
-        ensures at { IsAt formula.now self.new }
+        ensures at { OnOk result (IsAt formula.now self.new) }
         ensures same { IsSameButMarks self.old self.new }
         ensures lesson { IfOk result (IsLesson (all_clauses formula.now self.old.learned) self.old.trail.items conflict) }
-        ensures marks { IfOk result (λ lesson. (x : ℤ) → marked ByKey self.new.marks.items x ≡ has_literal lesson.line.clause x) }
     {
         lesson_of(
             alloc,
             &mut self.marks,
+            &self.places,
             formula,
             &self.learned,
             &self.trail,
@@ -220,7 +230,7 @@ impl Machine {
         ensures { IfOk result (IsEnd formula.now (length self.moves.items)) }
     {
         let lesson = self.analyze(alloc, formula, conflict)?;
-        match lesson.cut {
+        match lesson.landing {
             None => self.refuted(formula, lesson.line),
             Some(_) => unreachable!(),
         }
@@ -238,6 +248,7 @@ impl Machine {
             &self.learned,
             &self.trail,
             &self.values,
+            &self.places,
             &mut self.marks,
         )?;
         match next {

@@ -1,10 +1,11 @@
 // The next move.
 ghost use Rattle.std.specs.Prelude.{◌≡◌, ◌+◌, ◌*◌, ◌<◌, ◌≤◌, ◌^◌, ℤ, IfOk, length};
-ghost use Rattle.literal_marks.specs.Marks.{marked};
+ghost use Rattle.literal_marks.specs.Marks.{IsClear, marked};
 ghost use Rattle.literal_marks.specs.declared.places.Places.TheVariants.{ByKey};
 ghost use Rattle.search.specs.Machine.{is_true};
 ghost use Rattle.search.specs.Nexts.{IsNext, state_of};
 ghost use Rattle.search.specs.Sound.{IsSound};
+ghost use Rattle.search.specs.Trails.{AreLocated};
 
 use crate::choice::lowest_open;
 use crate::conflict::lesson_of;
@@ -19,9 +20,18 @@ use std::alloc::Global;
 pub(crate) enum Next {
     Model,
     Refuted(DerivationLine),
-    Propagate { clause: u32, literal: i32 },
-    Decide { literal: i32 },
-    Jump { line: DerivationLine, cut: usize },
+    Propagate {
+        clause: u32,
+        literal: i32,
+    },
+    Decide {
+        literal: i32,
+    },
+    Jump {
+        line: DerivationLine,
+        cut: usize,
+        literal: i32,
+    },
 }
 
 /// What comes next: a clause that is false is learned from, else one with a single literal left is propagated, else the
@@ -32,6 +42,7 @@ pub(crate) fn next_of(
     learned: &Derivation,
     trail: &[Entry],
     values: &[bool],
+    places: &[u32],
     marks: &mut [bool],
 ) -> Result<Next, Memory>
     requires sound { IsSound formula.now learned.now trail.now }
@@ -39,15 +50,22 @@ pub(crate) fn next_of(
     requires small { formula.now.variables ≤ 2 ^ 30 }
     requires few { length formula.now.clauses + length learned.now.lines < 2 ^ 32 }
     requires size { length marks.old ≡ 2 * formula.now.variables + 2 }
+    requires room { length places.now ≡ 2 * formula.now.variables + 2 }
+    requires located { AreLocated trail.now places.now }
+    requires clear { IsClear ByKey marks.old }
     ensures { IfOk result (IsNext formula.now (state_of trail.now learned.now)) }
 {
     match look_through(values, formula, learned) {
         Scan::Conflict(number) => {
-            let lesson = lesson_of(alloc, marks, formula, learned, trail, number)?;
+            let lesson = lesson_of(alloc, marks, places, formula, learned, trail, number)?;
             let line = lesson.line;
-            match lesson.cut {
+            match lesson.landing {
                 None => Ok(Next::Refuted(line)),
-                Some(cut) => Ok(Next::Jump { line, cut }),
+                Some(landing) => Ok(Next::Jump {
+                    line,
+                    cut: landing.cut,
+                    literal: landing.literal,
+                }),
             }
         }
         Scan::Unit { clause, literal } => Ok(Next::Propagate { clause, literal }),

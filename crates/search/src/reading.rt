@@ -85,6 +85,7 @@ pub(crate) fn imply(
     budget: u64,
 ) -> Result<Visit, Memory>
     requires at { IsAt formula.now machine.old }
+    requires small { formula.now.variables ≤ 2 ^ 30 }
     requires paid { length machine.old.moves.items ≤ budget }
     requires unit { IsSomeAnd (slice_get (all_clauses formula.now machine.old.learned) place) (λ clause. unit_of (is_true machine.old.trail.items) clause ≡ Some literal) }
     ensures { IfOk result (IsImplied formula.now budget machine.old machine.new literal place) }

@@ -1,8 +1,5 @@
 // Rounds of the search: the queue is read, and then a clause is learned or a literal decided.
-ghost use Rattle.std.specs.Prelude.{◌≡◌, ◌+◌, ◌<◌, ◌≤◌, ◌^◌, ℤ, Some, IfOk, OnOk, length};
-ghost use Rattle.cnf.specs.Clauses.{has_literal};
-ghost use Rattle.literal_marks.specs.Marks.{marked};
-ghost use Rattle.literal_marks.specs.declared.places.Places.TheVariants.{ByKey};
+ghost use Rattle.std.specs.Prelude.{◌≡◌, ◌+◌, ◌<◌, ◌≤◌, ◌^◌, Some, IfOk, OnOk, length};
 ghost use Rattle.search.specs.Conflicts.{IsConflicting};
 ghost use Rattle.search.specs.Lessons.{IsLesson};
 ghost use Rattle.search.specs.Readings.{IsSearching};
@@ -10,12 +7,12 @@ ghost use Rattle.search.specs.Rounds.{IsRound};
 ghost use Rattle.search.specs.Sound.{all_clauses};
 
 use crate::choice::lowest_open;
-use crate::landing::landing_of;
+use crate::landing::Landing;
 use crate::machine::Machine;
 use crate::moves::Move;
 use crate::reading::{Queue, propagate};
 use crate::watching::{Pair, Watching, watch_pair};
-use cnf::{DerivationLine, Formula, negation};
+use cnf::{DerivationLine, Formula};
 use fq_core::Memory;
 use std::alloc::Global;
 
@@ -57,33 +54,25 @@ fn decide(
     }
 }
 
-// Cuts the trail as far back as a learned line has one open literal, and puts it on the trail.
+// Cuts the trail where a learned line has one open literal, and puts it on the trail.
 fn jump_back(
     alloc: Global,
     machine: &mut Machine,
     watching: &mut Watching,
     formula: &Formula,
     line: DerivationLine,
-    place: usize,
+    landing: Landing,
     budget: u64,
 ) -> Result<(), Memory>
     requires searching { IsSearching formula.now budget machine.old watching.old }
     requires small { formula.now.variables ≤ 2 ^ 30 }
     requires conflict { IsConflicting formula.now machine.old line.first }
-    requires lesson { IsLesson (all_clauses formula.now machine.old.learned) machine.old.trail.items line.first record { line = line; cut = Some place } }
-    requires marks { (x : ℤ) → marked ByKey machine.old.marks.items x ≡ has_literal line.clause x }
+    requires lesson { IsLesson (all_clauses formula.now machine.old.learned) machine.old.trail.items line.first record { line = line; landing = Some landing } }
     requires paid { length machine.old.moves.items < budget }
     ensures searching { OnOk result (IsSearching formula.now budget machine.new watching.new) }
     ensures moves { OnOk result (length machine.new.moves.items ≡ length machine.old.moves.items + 1) }
 {
-    let literal = negation(machine.trail[place].literal);
-    let landing = landing_of(
-        &machine.marks,
-        &machine.trail,
-        formula.variables,
-        place,
-        literal,
-    );
+    let literal = landing.literal;
     let count = (formula.clauses.len() + machine.learned.lines.len()) as u32;
     machine.jump(alloc, formula, line, landing.cut, literal)?;
     watching.head = landing.cut;
@@ -116,13 +105,13 @@ fn learn(
 {
     let lesson = machine.analyze(alloc, formula, conflict)?;
     let line = lesson.line;
-    match lesson.cut {
+    match lesson.landing {
         None => Ok(Round::Refuted(line)),
-        Some(place) => {
+        Some(landing) => {
             if machine.moves.len() as u64 >= budget {
                 return Ok(Round::Spent);
             }
-            jump_back(alloc, machine, watching, formula, line, place, budget)?;
+            jump_back(alloc, machine, watching, formula, line, landing, budget)?;
             Ok(Round::Went)
         }
     }

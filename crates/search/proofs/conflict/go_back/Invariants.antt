@@ -1,11 +1,19 @@
-use Rattle.std.proofs.Common.{◌-◌, ℤ, List, length, None}
+use Rattle.std.proofs.Common.{◌≡◌, ◌≤◌, ℤ, List, length}
 use Rattle.literal_marks.specs.Marks.{marked}
 use Rattle.literal_marks.specs.declared.places.Places.TheVariants.{ByKey}
-use Rattle.search.specs.Lessons.{IsBack}
+use Rattle.search.specs.Chains.{IsBack, IsGoing}
 use Rattle.search.specs.Sound.{all_clauses}
 use Rattle.search.proofs.conflict.go_back.Given as goal
 
-abbrev pub invariant-loop-back : goal.invariant-loop-back
-invariant-loop-back l =
-    (first : List ℤ) → IsBack (all_clauses l.formula l.learned) l.trail first (length l.trail) (marked ByKey l.initial.marks) l.initial.steps.items None
-    → IsBack (all_clauses l.formula l.learned) l.trail first (length l.trail - l.back) (marked ByKey l.marks) l.steps.items l.cut
+abbrev pub invariant-loop-chain : goal.invariant-loop-chain
+invariant-loop-chain l = record {
+  inside : l.front ≤ l.reach;
+  size : length l.marks ≡ length l.initial.marks;
+  start : l.chain.start ≡ l.initial.chain.start;
+  back : (first : List ℤ) → IsBack (all_clauses l.formula l.learned) l.trail first l.reach (marked ByKey l.initial.marks) l.initial.chain.steps.items
+      → IsBack (all_clauses l.formula l.learned) l.trail first l.front (marked ByKey l.marks) l.chain.steps.items;
+  going : IsGoing l.trail (marked ByKey l.marks) l.front l.chain;
+}
+
+abbrev pub decreases-loop-chain : goal.decreases-loop-chain
+decreases-loop-chain l = l.front

@@ -1,48 +1,28 @@
-use Rattle.std.proofs.Common.{◌≡◌, ◌&&◌, ℤ, List, neg_ℤ, ◌∙◌, refl, true, Option, None, Some}
-use Rattle.std.specs.Prelude.{IsSomeAnd}
-use Rattle.cnf.specs.Checks.{numbered}
-use Rattle.cnf.specs.Clauses.{has_literal}
-use Rattle.literal_marks.specs.Marks.{marked}
-use Rattle.literal_marks.specs.declared.places.Places.TheVariants.{ByKey}
-use Rattle.search.specs.Lessons.{IsLesson}
-use Rattle.search.specs.Machine.{is_conflict, is_true}
+use Rattle.std.proofs.Common.{◌≡◌, sym}
 use Rattle.search.specs.Sound.{all_clauses}
-use Rattle.search.proofs.BackLaws.{literal-over}
-use Rattle.search.proofs.LessonLaws.{back_begins, lesson_is, lesson_marks, literals_of_trail}
+use Rattle.search.proofs.ChainLaws.{clause_keys, reach_inside}
 use Rattle.search.proofs.conflict.lesson_of.Goals as goal
 
-pub marked_against-requires : goal.marked_against-requires
-marked_against-requires c =
-    literals_of_trail c.args.formula.now.variables c.args.trail.now (λ x over. literal-over c.args.formula.now.variables x c.requires.small over) c.requires.sound.kept.over
+pub reach_of-reach-requires : goal.reach_of-reach-requires
+reach_of-reach-requires c =
+    let named = sym (rw c.len.ensures at c.in-Some.ensures) in
+    let keys = clause_keys c.args.formula.now.variables _ (all_clauses c.args.formula.now c.args.learned.now) c.args.conflict c.in-Some.clause.now c.requires.small c.requires.room c.requires.sound.clauses named in
+    record { over = rw c.literals.ensures.value (λ x has. let own = keys x has in (own.0, own.2)) }
 
-pub returns-clause-lesson : goal.returns-clause-lesson
-returns-clause-lesson c = rw c.from_vec.ensures (by_clause (numbered clauses c.args.conflict) refl c.requires.conflict)
-  where
-    clauses : List (List ℤ)
-    clauses = all_clauses c.args.formula.now c.args.learned.now
+pub last_decision-requires : goal.last_decision-requires
+last_decision-requires c =
+    let named = sym (rw c.len.ensures at c.in-Some.ensures) in
+    let conflict = rw named at c.requires.conflict in
+    reach_inside c.args.trail.now c.in-Some.clause.now _ ((rw c.literals.ensures.value at c.reach_of-reach.ensures) c.args.trail.now c.requires.located conflict)
 
-    has : (x : ℤ) → has_literal c.in_ok-clause.clause x ≡ (marked ByKey c.go_back.new.marks x && is_true c.args.trail.now (neg_ℤ x))
-    has x = c.in_ok-clause.ensures.literals x ∙ rw c.deref.ensures.value (c.in_ok-literals.ensures.has x)
+pub refuting_lesson-requires-clause-inside : goal.refuting_lesson-requires-clause-inside
+refuting_lesson-requires-clause-inside c =
+    let named = sym (rw c.len.ensures at c.in-Some.ensures) in
+    let conflict = rw named at c.requires.conflict in
+    reach_inside c.args.trail.now c.in-Some.clause.now _ ((rw c.literals.ensures.value at c.reach_of-reach.ensures) c.args.trail.now c.requires.located conflict)
 
-    by_clause : (found : Option (List ℤ)) → numbered clauses c.args.conflict ≡ found → IsSomeAnd found (λ clause. is_conflict (is_true c.args.trail.now) clause ≡ true)
-        → IsLesson clauses c.args.trail.now c.args.conflict record { line = record { clause = c.in_ok-clause.clause; first = c.args.conflict; steps = c.go_back.new.steps.items }; cut = c.in_ok-cut.cut }
-    by_clause None f g = absurd g
-    by_clause (Some first) f g =
-        let begun = back_begins clauses c.args.trail.now first (marked ByKey c.mark_clause.new.marks) c.new-steps.result.items g (c.mark_clause.ensures first f) c.new-steps.ensures.items in
-        lesson_is clauses c.args.trail.now c.args.formula.now.variables c.args.conflict first c.in_ok-clause.clause (marked ByKey c.go_back.new.marks) _ _ c.requires.sound.kept f (c.in_ok-cut.ensures first begun) c.in_ok-clause.ensures.clause has
-
-pub returns-clause-marks : goal.returns-clause-marks
-returns-clause-marks c = by_clause (numbered clauses c.args.conflict) refl c.requires.conflict
-  where
-    clauses : List (List ℤ)
-    clauses = all_clauses c.args.formula.now c.args.learned.now
-
-    has : (x : ℤ) → has_literal c.in_ok-clause.clause x ≡ (marked ByKey c.go_back.new.marks x && is_true c.args.trail.now (neg_ℤ x))
-    has x = c.in_ok-clause.ensures.literals x ∙ rw c.deref.ensures.value (c.in_ok-literals.ensures.has x)
-
-    by_clause : (found : Option (List ℤ)) → numbered clauses c.args.conflict ≡ found → IsSomeAnd found (λ clause. is_conflict (is_true c.args.trail.now) clause ≡ true)
-        → (x : ℤ) → marked ByKey c.go_back.new.marks x ≡ has_literal c.in_ok-clause.clause x
-    by_clause None f g = absurd g
-    by_clause (Some first) f g =
-        let begun = back_begins clauses c.args.trail.now first (marked ByKey c.mark_clause.new.marks) c.new-steps.result.items g (c.mark_clause.ensures first f) c.new-steps.ensures.items in
-        lesson_marks clauses c.args.trail.now first c.in_ok-clause.clause (marked ByKey c.go_back.new.marks) _ _ (c.in_ok-cut.ensures first begun) has
+pub asserting_lesson-requires-clause-inside : goal.asserting_lesson-requires-clause-inside
+asserting_lesson-requires-clause-inside c =
+    let named = sym (rw c.len.ensures at c.in-Some.ensures) in
+    let conflict = rw named at c.requires.conflict in
+    reach_inside c.args.trail.now c.in-Some.clause.now _ ((rw c.literals.ensures.value at c.reach_of-reach.ensures) c.args.trail.now c.requires.located conflict)

@@ -6,9 +6,8 @@ use Rattle.literal_marks.proofs.PlacesLaws.{literal_fits}
 use Rattle.literal_marks.specs.Marks.{marked}
 use Rattle.literal_marks.specs.declared.places.Places.TheVariants.{ByKey}
 use Rattle.search.specs.declared.trail.Entry.{Entry}
-use Rattle.search.proofs.BackLaws.{literal-over, negated-over, over_at}
+use Rattle.search.proofs.BackLaws.{literal-over, negated-over, over_at, some_entry}
 use Rattle.search.proofs.LandingLaws.{IsLandingSo, landing_decided, landing_implied, landing_other}
-use Rattle.search.proofs.TurnLaws.{jump_entry}
 use Rattle.search.proofs.landing.landing_of.Goals as goal
 use Rattle.search.proofs.landing.landing_of.Goals.{in-None, in-Some}
 
@@ -19,7 +18,7 @@ pub negation-negated-requires : goal.negation-negated-requires
 negation-negated-requires c =
     let n = c.args.variables in
     let at = c.args.place - 1 - c.loop-back.back in
-    let inside : at < length c.args.trail.now = let found = jump_entry c.args.trail.now c.args.place (λ e. e.reason ≡ None) c.requires.decided in let below = slice_get_within c.args.trail.now c.args.place found.0 found.1 in omega (arith, below, c.loop-back-test.true) in
+    let inside : at < length c.args.trail.now = let found = some_entry c.args.trail.now c.args.place (λ e. e.reason ≡ None) c.requires.decided in let below = slice_get_within c.args.trail.now c.args.place found.0 found.1 in omega (arith, below, c.loop-back-test.true) in
     let e : Entry = get_or c.args.trail.now at record { literal = pos 0; reason = None } in
     let here : slice_get c.args.trail.now at ≡ Some e = slice_get-get_or c.args.trail.now at _ inside in
     let over = over_at n c.args.trail.now at e c.requires.kept.over here in
@@ -30,7 +29,7 @@ pub returns-then-is_marked : goal.returns-then-is_marked
 returns-then-is_marked c =
     let n = c.args.variables in
     let at = c.args.place - 1 - c.loop-back.back in
-    let inside : at < length c.args.trail.now = let found = jump_entry c.args.trail.now c.args.place (λ e. e.reason ≡ None) c.requires.decided in let below = slice_get_within c.args.trail.now c.args.place found.0 found.1 in omega (arith, below, c.loop-back-test.true) in
+    let inside : at < length c.args.trail.now = let found = some_entry c.args.trail.now c.args.place (λ e. e.reason ≡ None) c.requires.decided in let below = slice_get_within c.args.trail.now c.args.place found.0 found.1 in omega (arith, below, c.loop-back-test.true) in
     let e : Entry = get_or c.args.trail.now at record { literal = pos 0; reason = None } in
     let here : slice_get c.args.trail.now at ≡ Some e = slice_get-get_or c.args.trail.now at _ inside in
     let over = over_at n c.args.trail.now at e c.requires.kept.over here in
@@ -41,14 +40,13 @@ returns-then-is_marked c =
     let front : c.args.place - c.loop-back.back ≡ at + 1 = omega (arith, c.loop-back-test.true) in
     let so : IsLandingSo c.args.trail.now set c.args.literal c.args.place (at + 1) c.loop-back.cut = rw (front, to_z-of_z _ _ c.ranges.literal) at c.loop-back.invariant.so in
     let own : set (neg_ℤ e.literal) ≡ true = sym (rw (value, to_z-of_z _ _ negated) at c.if-is_marked.ensures) in
-    let top = jump_entry c.args.trail.now c.args.place (λ f. neg_ℤ f.literal ≡ c.args.literal) c.requires.literal in
-    rw (value, to_z-of_z _ _ negated) (landing_other n c.args.trail.now set c.args.literal c.args.place at c.loop-back.cut e c.requires.kept here so top.0 top.1 top.2 own)
+    rw (value, to_z-of_z _ _ negated, to_z-of_z _ _ c.ranges.literal) (landing_other n c.args.trail.now set c.args.literal c.args.place at c.loop-back.cut e c.requires.kept here so c.requires.free own)
 
 pub loop-back-preserved : goal.loop-back-preserved
 loop-back-preserved c =
     let n = c.args.variables in
     let at = c.args.place - 1 - c.loop-back.back in
-    let inside : at < length c.args.trail.now = let found = jump_entry c.args.trail.now c.args.place (λ e. e.reason ≡ None) c.requires.decided in let below = slice_get_within c.args.trail.now c.args.place found.0 found.1 in omega (arith, below, c.loop-back-test.true) in
+    let inside : at < length c.args.trail.now = let found = some_entry c.args.trail.now c.args.place (λ e. e.reason ≡ None) c.requires.decided in let below = slice_get_within c.args.trail.now c.args.place found.0 found.1 in omega (arith, below, c.loop-back-test.true) in
     let e : Entry = get_or c.args.trail.now at record { literal = pos 0; reason = None } in
     let here : slice_get c.args.trail.now at ≡ Some e = slice_get-get_or c.args.trail.now at _ inside in
     let over = over_at n c.args.trail.now at e c.requires.kept.over here in

@@ -9,7 +9,7 @@ use Rattle.search.specs.Machine.{IsOver, is_open, is_true}
 use Rattle.search.specs.Sound.{all_clauses}
 use Rattle.search.specs.Statuses.{IsScan}
 use Rattle.search.proofs.BackLaws.{literal-over}
-use Rattle.search.proofs.NextLaws.{next_decide, next_jump, next_model, next_unit}
+use Rattle.search.proofs.NextLaws.{landing_over, next_decide, next_jump, next_model, next_unit}
 use Rattle.search.proofs.next.next_of.Goals as goal
 
 pub lesson_of-requires-clause-conflict : goal.lesson_of-requires-clause-conflict
@@ -21,7 +21,10 @@ pub returns-in-Some : goal.returns-in-Some
 returns-in-Some c =
     let same : marked ByKey c.args.values.now ≡ is_true c.args.trail.now = λ i x. c.requires.values x i in
     let conflict = subst (λ set. IsScan set (all_clauses c.args.formula.now c.args.learned.now) (scan.Conflict c.in-Conflict.number)) same c.in-Conflict.ensures in
-    next_jump c.args.formula.now c.args.learned.now c.args.trail.now c.in-Conflict.number c.in-Some.cut c.in_ok-lesson-in-Conflict.lesson conflict c.in_ok-lesson-in-Conflict.ensures.lesson c.in-Some.is
+    let over = landing_over c.args.formula.now c.args.learned.now c.args.trail.now c.in-Conflict.number c.in_ok-lesson-in-Conflict.lesson c.in-Some.landing c.requires.sound c.in_ok-lesson-in-Conflict.ensures.lesson c.in-Some.is in
+    let fits = literal_fits c.in-Some.landing.literal (literal-over c.args.formula.now.variables c.in-Some.landing.literal c.requires.small over).1 in
+    rw (to_z-of_z _ _ fits)
+    (next_jump c.args.formula.now c.args.learned.now c.args.trail.now c.in-Conflict.number c.in_ok-lesson-in-Conflict.lesson c.in-Some.landing conflict c.in_ok-lesson-in-Conflict.ensures.lesson c.in-Some.is)
 
 pub returns-in-Unit : goal.returns-in-Unit
 returns-in-Unit c =

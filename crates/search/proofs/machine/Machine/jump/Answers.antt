@@ -1,17 +1,18 @@
-use Rattle.std.proofs.Common.{◌≡◌, ◌∙◌, ◌+◌, length, refl, arith}
+use Rattle.std.proofs.Common.{◌≡◌, ◌∙◌, ◌+◌, length, refl, ap, arith}
 use Rattle.std.proofs.lemmas.Int.{to_z-of_z}
-use Rattle.search.proofs.BackLaws.{at_entry, literal-over}
+use Rattle.std.proofs.lemmas.List.{length-take-le}
+use Rattle.search.proofs.BackLaws.{at_entry, literal-over, some_entry}
 use Rattle.search.proofs.KeptLaws.{trail_short}
 use Rattle.search.proofs.LessonLaws.{literals_of_trail}
 use Rattle.search.proofs.MachineLaws.{has_place-over}
-use Rattle.search.proofs.TurnLaws.{jump_entry, jump_steps}
+use Rattle.search.proofs.TurnLaws.{jump_steps}
 use Rattle.search.proofs.machine.Machine.jump.Goals as goal
 
 pub overflow_cast-made : goal.overflow_cast-made
 overflow_cast-made c =
     let n = c.args.formula.now.variables in
     let m = c.args.self.now in
-    let found = jump_entry m.trail.items c.args.cut _ c.requires.allowed.decided in
+    let found = some_entry m.trail.items c.args.cut _ c.requires.allowed.decided in
     let below = (at_entry m.trail.items c.args.cut found.0 found.1).0 in
     let short = trail_short n m.trail.items c.requires.at.held.sound.kept in
     let small = c.requires.small in
@@ -20,7 +21,7 @@ overflow_cast-made c =
 pub cut_before-requires-clause-inside : goal.cut_before-requires-clause-inside
 cut_before-requires-clause-inside c =
     let m = c.args.self.now in
-    let found = jump_entry m.trail.items c.args.cut _ c.requires.allowed.decided in
+    let found = some_entry m.trail.items c.args.cut _ c.requires.allowed.decided in
     let below = (at_entry m.trail.items c.args.cut found.0 found.1).0 in
     omega (arith, below)
 
@@ -28,10 +29,28 @@ pub cut_before-requires-clause-literals : goal.cut_before-requires-clause-litera
 cut_before-requires-clause-literals c =
     literals_of_trail c.args.formula.now.variables c.args.self.now.trail.items (λ x over. literal-over c.args.formula.now.variables x c.requires.small over) c.requires.at.held.sound.kept.over
 
-pub put-requires : goal.put-requires
-put-requires c =
+pub put-requires-clause-value : goal.put-requires-clause-value
+put-requires-clause-value c =
     let n = c.args.formula.now.variables in
     rw (to_z-of_z _ _ c.ranges.literal) (has_place-over n _ c.args.literal (c.cut_before.ensures.same.places ∙ c.requires.at.held.places) c.requires.over)
+
+pub put-requires-clause-place : goal.put-requires-clause-place
+put-requires-clause-place c =
+    let room = c.cut_before.ensures.same.room ∙ c.requires.at.held.room in
+    let over = c.requires.over.1 in
+    rw (to_z-of_z _ _ c.ranges.literal) (omega (arith, room, over))
+
+pub put-requires-clause-short : goal.put-requires-clause-short
+put-requires-clause-short c =
+    let n = c.args.formula.now.variables in
+    let m = c.args.self.now in
+    let found = some_entry m.trail.items c.args.cut _ c.requires.allowed.decided in
+    let below = (at_entry m.trail.items c.args.cut found.0 found.1).0 in
+    let short = trail_short n m.trail.items c.requires.at.held.sound.kept in
+    let small = c.requires.small in
+    let taken = length-take-le c.args.cut m.trail.items (omega (arith, below)) in
+    let count = ap length c.cut_before.ensures.trail ∙ taken in
+    omega (arith, count, below, short, small)
 
 pub returns-clause-at : goal.returns-clause-at
 returns-clause-at c =
@@ -43,4 +62,4 @@ returns-clause-at c =
     let counted : c.len.result + c.len-2.result + 1 ≡ length c.args.formula.now.clauses + length m.learned.lines + 1 = omega (arith, clauses, lines) in
     let clone : c.in_ok-try_clone.field-0 ≡ c.args.line = c.in_ok-try_clone.ensures in
     jump_steps c.args.formula.now m c.cut_before.new.self c.put.new.self _ c.push.new.self c.args.line c.args.cut _ c.args.literal c.requires.at c.requires.over c.requires.allowed counted (omega (arith, c.if-number-ge4294967296.false))
-    c.in_ok-push.ensures.ok c.cut_before.ensures.trail c.cut_before.ensures.values c.cut_before.ensures.same is.trail is.values is.same refl refl refl refl (rw clone at c.in_ok-push-2.ensures.items)
+    c.in_ok-push.ensures.ok c.cut_before.ensures.trail c.cut_before.ensures.values c.cut_before.ensures.places c.cut_before.ensures.same is.trail is.values is.places is.same refl refl refl refl refl (rw clone at c.in_ok-push-2.ensures.items)
