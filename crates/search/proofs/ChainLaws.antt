@@ -1,7 +1,7 @@
 -- Literals that are added to a clause which is resolved back along the trail.
-use Rattle.std.proofs.Common.{◌≡◌, ◌⊎◌, ℕ, zero, suc, ◌+◌, ◌*◌, ◌<◌, ◌≤◌, ◌^◌, Bool, true, false, ◌||◌, List, [], ◌∷◌, ◌++◌, length, take, refl, sym, ◌∙◌, ap, arith, Option, None, Some}
+use Rattle.std.proofs.Common.{◌≡◌, ◌⊎◌, ℕ, zero, suc, ◌+◌, ◌*◌, ◌<◌, ◌≤◌, ◌^◌, Bool, true, false, ◌||◌, List, [], ◌∷◌, ◌++◌, length, take, refl, sym, ◌∙◌, ap, arith, Option, Some}
 use mathlib.Core.Logic.{inl, inr}
-use Rattle.std.specs.Prelude.{ℤ, neg_ℤ, not, ◌&&◌, slice_get, IsSomeAnd}
+use Rattle.std.specs.Prelude.{ℤ, neg_ℤ, not, ◌&&◌, slice_get}
 use Rattle.std.specs.List.{list_all}
 use Rattle.std.specs.Ordering.{int_eq}
 use Rattle.std.proofs.lemmas.List.Folds.{list_any-append}

@@ -1,5 +1,5 @@
 -- What a conflict teaches.
-use Rattle.std.proofs.Common.{◌≡◌, ◌⊎◌, ℕ, zero, suc, ◌+◌, ◌<◌, ◌≤◌, ◌^◌, Bool, true, false, ◌||◌, List, [], ◌∷◌, ◌++◌, take, refl, sym, ◌∙◌, ap, arith, Option, None, Some}
+use Rattle.std.proofs.Common.{◌≡◌, ◌⊎◌, ℕ, zero, suc, ◌+◌, ◌<◌, ◌≤◌, ◌^◌, Bool, true, false, ◌||◌, List, [], ◌∷◌, ◌++◌, take, refl, sym, ◌∙◌, ap, arith, None, Some}
 use mathlib.Core.Logic.{inl, inr}
 use mathlib.Core.Path.{subst}
 use Rattle.std.specs.Prelude.{ℤ, neg_ℤ, not, ◌&&◌, slice_get, All}
@@ -60,7 +60,7 @@ refuting_clear clauses trail first set steps b x = by_value (set x) refl
 
 pub lesson_refutes : (clauses : List (List ℤ)) (trail : List Entry) (conflict : ℕ) (first clause : List ℤ) (set : ℤ → Bool) (steps : List (ℕ × ℤ)) → numbered clauses conflict ≡ Some first
     → IsBack clauses trail first 0 set steps → IsClause clause → ((x : ℤ) → has_literal clause x ≡ false)
-    → IsLesson clauses trail conflict record { line = record { clause = clause; first = conflict; steps = steps }; landing = None }
+    → IsLesson clauses trail conflict record { clause = clause; first = conflict; steps = steps } None
 lesson_refutes clauses trail conflict first clause set steps named b rises none = record {
   first = refl;
   right = rw (named, b.chain) (λ x. refuting_clear clauses trail first set steps b x ∙ sym (none x));
@@ -132,7 +132,7 @@ module _ (n : ℕ) (trail : List Entry) (kept : IsTrail n trail) (set : ℤ → 
 
   pub lesson_asserts : (conflict : ℕ) (clause : List ℤ) (landing : Landing) → numbered clauses conflict ≡ Some first → IsClause clause
       → ((y : ℤ) → has_literal clause y ≡ has_literal (chain.found.items ++ neg_ℤ e.literal ∷ []) y) → IsLanding trail set (neg_ℤ e.literal) start landing
-      → IsLesson clauses trail conflict record { line = record { clause = clause; first = conflict; steps = steps }; landing = Some landing }
+      → IsLesson clauses trail conflict record { clause = clause; first = conflict; steps = steps } (Some landing)
   lesson_asserts conflict clause landing named rises has lands = record {
     first = refl;
     right = rw (named, back.chain) (λ y. sym (same y));

@@ -1,18 +1,13 @@
 -- Clauses all of whose literals, or all but one, are false.
-use Rattle.std.proofs.Common.{◌≡◌, ℕ, zero, suc, ◌+◌, Bool, true, false, ◌||◌, List, [], ◌∷◌, ◌++◌, length, take, refl, sym, ◌∙◌, ap, arith, Option, None, Some}
-use mathlib.Core.Logic.{inl, inr}
-use Rattle.std.specs.Prelude.{ℤ, neg_ℤ, not, ◌&&◌, slice_get, All, IsSomeAnd, if◌then◌else◌}
+use Rattle.std.proofs.Common.{◌≡◌, ℕ, zero, suc, ◌+◌, Bool, true, false, ◌||◌, List, [], ◌∷◌, take, refl, sym, ◌∙◌, ap, arith, Some}
+use Rattle.std.specs.Prelude.{ℤ, neg_ℤ, not, slice_get, All, if◌then◌else◌}
 use Rattle.std.specs.Ordering.{int_eq}
-use Rattle.std.proofs.lemmas.List.{take_all}
-use Rattle.std.proofs.lemmas.List.Elements.{All-append}
-use Rattle.std.proofs.lemmas.List.Folds.{list_any-append}
-use Rattle.cnf.specs.Checks.{numbered}
-use Rattle.cnf.specs.Clauses.{IsClause, IsLiteral, RisesFrom, has_literal, literal_key}
+use Rattle.cnf.specs.Clauses.{IsLiteral, RisesFrom, has_literal, literal_key}
 use Rattle.cnf.proofs.ClauseLaws.{same_literal, equal_literal, same_test, literal_in_clause}
 use Rattle.search.specs.declared.trail.Entry.{Entry}
-use Rattle.search.specs.Machine.{IsOver, is_conflict, is_open, is_true, remaining, unit_of}
-use Rattle.search.specs.Trails.{IsTrail, are_over}
-use Rattle.search.proofs.BackLaws.{free_before, negated_twice, true_in_all, true_next}
+use Rattle.search.specs.Machine.{IsOver, is_conflict, is_true, remaining}
+use Rattle.search.specs.Trails.{are_over}
+use Rattle.search.proofs.BackLaws.{negated_twice, true_next}
 use Rattle.search.proofs.KeptLaws.{and_left, and_right, is_over-tells}
 use Rattle.search.proofs.StatusLaws.{conflict_empties}
 

@@ -12,6 +12,7 @@ pub mod LookLaws
 pub mod MachineLaws
 pub mod MoveLaws
 pub mod NextLaws
+pub mod OrderLaws
 pub mod ReadLaws
 pub mod RoundLaws
 pub mod ScanLaws

@@ -1,7 +1,7 @@
 -- What comes next.
 use Rattle.std.proofs.Common.{◌≡◌, ℕ, zero, suc, Bool, true, false, ◌||◌, List, [], ◌∷◌, ◌++◌, length, take, map, refl, sym, ◌∙◌, ap, arith, Option, None, Some}
 use mathlib.Core.Logic.{inl, inr}
-use Rattle.std.specs.Prelude.{ℤ, neg_ℤ, slice_get, IsSomeAnd}
+use Rattle.std.specs.Prelude.{ℤ, slice_get, IsSomeAnd}
 use Rattle.std.specs.List.{list_all, list_any}
 use Rattle.std.specs.Option.{is_some}
 use Rattle.std.proofs.lemmas.List.{take_all}
@@ -9,14 +9,13 @@ use Rattle.cnf.specs.declared.derivation.Derivation.{Derivation}
 use Rattle.cnf.specs.declared.derivation.DerivationLine.{DerivationLine}
 use Rattle.cnf.specs.declared.formula.Formula.{Formula}
 use Rattle.cnf.specs.Checks.{numbered}
-use Rattle.search.specs.declared.conflict.Lesson.{Lesson}
 use Rattle.search.specs.declared.landing.Landing.{Landing}
 use Rattle.search.specs.declared.next.Next.TheVariants as next
 use Rattle.search.specs.declared.scan.Scan.TheVariants as scan
 use Rattle.search.specs.declared.trail.Entry.{Entry}
 use Rattle.search.specs.Lessons.{IsAsserting, IsLesson}
-use Rattle.search.specs.Machine.{EndsAsModel, IsFinished, IsOver, Jumps, State, clauses_of, is_conflict, is_open, is_true, unit_of}
-use Rattle.search.specs.Nexts.{IsNext, jumped, state_of}
+use Rattle.search.specs.Machine.{EndsAsModel, IsFinished, IsOver, State, clauses_of, is_conflict, is_open, is_true, unit_of}
+use Rattle.search.specs.Nexts.{IsNext, state_of}
 use Rattle.search.specs.Sound.{IsSound, all_clauses}
 use Rattle.search.specs.Statuses.{IsScan}
 use Rattle.search.proofs.BackLaws.{some_entry}
@@ -99,19 +98,19 @@ module _ (formula : Formula) (learned : Derivation) (trail : List Entry) where
   next_model is all = record { no_conflict = ap (list_any (is_conflict (is_true trail))) whole ∙ is.0; all = all }
 
   -- the literal that a jump puts on the trail
-  pub landing_over : (number : ℕ) (lesson : Lesson) (landing : Landing) → IsSound formula learned trail → IsLesson (all_clauses formula learned) trail number lesson → lesson.landing ≡ Some landing
+  pub landing_over : (number : ℕ) (line : DerivationLine) (lands : Option Landing) (landing : Landing) → IsSound formula learned trail → IsLesson (all_clauses formula learned) trail number line lands → lands ≡ Some landing
       → IsOver formula.variables landing.literal
-  landing_over number lesson landing sound is at =
+  landing_over number line lands landing sound is at =
       is_over-tells formula.variables landing.literal
-      (has_over formula.variables lesson.line.clause landing.literal (line_over formula.variables (all_clauses formula learned) lesson.line sound.clauses is.right)
-      (unit_is (take landing.cut trail) lesson.line.clause landing.literal asserts.unit).0)
+      (has_over formula.variables line.clause landing.literal (line_over formula.variables (all_clauses formula learned) line sound.clauses is.right)
+      (unit_is (take landing.cut trail) line.clause landing.literal asserts.unit).0)
     where
-      asserts : IsAsserting trail lesson.line.clause landing
+      asserts : IsAsserting trail line.clause landing
       asserts = rw at at is.landing
 
-  pub next_jump : (number : ℕ) (lesson : Lesson) (landing : Landing) → IsSomeAnd (numbered (all_clauses formula learned) number) (λ clause. is_conflict (is_true trail) clause ≡ true)
-      → IsLesson (all_clauses formula learned) trail number lesson → lesson.landing ≡ Some landing → IsNext formula (state_of trail learned) (next.Jump lesson.line landing.cut landing.literal)
-  next_jump number lesson landing conflict is at = (
+  pub next_jump : (number : ℕ) (line : DerivationLine) (lands : Option Landing) (landing : Landing) → IsSomeAnd (numbered (all_clauses formula learned) number) (λ clause. is_conflict (is_true trail) clause ≡ true)
+      → IsLesson (all_clauses formula learned) trail number line lands → lands ≡ Some landing → IsNext formula (state_of trail learned) (next.Jump line landing.cut landing.literal)
+  next_jump number line lands landing conflict is at = (
     record {
       literal = landing.literal;
       conflict = rw (whole, is.first) conflict;
@@ -124,7 +123,7 @@ module _ (formula : Formula) (learned : Derivation) (trail : List Entry) where
     unfinished_decided formula (state_of trail learned) landing.cut decided.0 some decided.1 decided.2,
   )
     where
-      asserts : IsAsserting trail lesson.line.clause landing
+      asserts : IsAsserting trail line.clause landing
       asserts = rw at at is.landing
 
       decided : (e : Entry) × (slice_get trail landing.cut ≡ Some e) × (e.reason ≡ None)

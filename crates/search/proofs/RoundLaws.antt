@@ -1,7 +1,7 @@
 -- What a round of the search keeps.
 use Rattle.std.proofs.Common.{◌≡◌, ◌⊎◌, ℕ, ◌+◌, ◌<◌, ◌≤◌, Bool, true, false, ◌||◌, List, [], ◌∷◌, ◌++◌, length, take, refl, sym, ◌∙◌, ap, arith, None, Some, length-append}
 use mathlib.Core.Logic.{inl, inr}
-use Rattle.std.specs.Prelude.{ℤ, neg_ℤ, not, slice_get, IfOk, IsSomeAnd, Result, Ok, Err}
+use Rattle.std.specs.Prelude.{ℤ, neg_ℤ, not, slice_get, IfOk, Result, Ok, Err}
 use Rattle.std.specs.Ordering.{int_eq}
 use Rattle.std.proofs.lemmas.List.{length-take-le}
 use Rattle.std.proofs.lemmas.Option.{slice_get_within}
@@ -21,15 +21,15 @@ use Rattle.search.specs.declared.watching.Watching.{Watching}
 use Rattle.search.specs.At.{IsAt}
 use Rattle.search.specs.Conflicts.{IsConflicting}
 use Rattle.search.specs.Lessons.{IsLesson}
-use Rattle.search.specs.Machine.{IsOver, Moves, is_true, unit_of, with_entry}
+use Rattle.search.specs.Machine.{IsOver, Moves, is_true, with_entry}
 use Rattle.search.specs.Nexts.{IsEnd, IsFound, jumped, state_of}
 use Rattle.search.specs.Readings.{IsSearching}
 use Rattle.search.specs.Sound.{all_clauses}
 use Rattle.search.specs.Watching.{IsDecidedAt, IsPaired, IsWatching, is_among, is_satisfied, list_of}
-use Rattle.search.proofs.BackLaws.{negated-over, or_behind, over_at, some_entry, true_later}
+use Rattle.search.proofs.BackLaws.{or_behind, some_entry, true_later}
 use Rattle.search.proofs.KeptLaws.{has_over, is_over-tells, line_over, unit_is}
-use Rattle.search.proofs.LookLaws.{all_but_one, satisfied_by}
-use Rattle.search.proofs.MachineLaws.{get_before, get_taken, numbered_last, unit_implies, with_line}
+use Rattle.search.proofs.LookLaws.{satisfied_by}
+use Rattle.search.proofs.MachineLaws.{get_before, get_taken, numbered_last, with_line}
 use Rattle.search.proofs.NextLaws.{landing_over, same_clauses}
 use Rattle.search.proofs.ScanLaws.{numbered_next}
 use Rattle.search.proofs.WatchLaws.{watching_back, watching_learned, watching_on, watching_paired}
@@ -56,7 +56,7 @@ searching_decided formula budget m n w x is read at trail learned moves paid = r
 -- ---- jumps
 
 module _ (formula : Formula) (budget : ℕ) (m : Machine) (w : Watching) (line : DerivationLine) (landing : Landing) (is : IsSearching formula budget m w)
-    (lesson : IsLesson (all_clauses formula m.learned) m.trail.items line.first record { line = line; landing = Some landing }) where
+    (lesson : IsLesson (all_clauses formula m.learned) m.trail.items line.first line (Some landing)) where
   pub clause_over : (y : ℤ) → has_literal line.clause y ≡ true → IsOver formula.variables y
   clause_over y has =
       is_over-tells formula.variables y (has_over formula.variables line.clause y (line_over formula.variables (all_clauses formula m.learned) line is.at.held.sound.clauses lesson.right) has)
@@ -68,7 +68,7 @@ module _ (formula : Formula) (budget : ℕ) (m : Machine) (w : Watching) (line :
   free_there = open_false _ _ (unit_is (take landing.cut m.trail.items) line.clause landing.literal lesson.landing.unit).1
 
   pub literal_over : IsOver formula.variables landing.literal
-  literal_over = landing_over formula m.learned m.trail.items line.first record { line = line; landing = Some landing } landing is.at.held.sound lesson refl
+  literal_over = landing_over formula m.learned m.trail.items line.first line (Some landing) landing is.at.held.sound lesson refl
 
   below : (d : ℕ) (y : ℤ) → d ≤ landing.cut → is_true (take landing.cut m.trail.items) y ≡ false → is_true (take d m.trail.items) y ≡ false
   below d y low free = by_value (is_true (take d m.trail.items) y) refl

@@ -1,7 +1,8 @@
 -- What each turn of the machine leads to.
-use Rattle.std.proofs.Common.{◌≡◌, ◌⊎◌, ℕ, zero, suc, ◌+◌, ◌-◌, ◌*◌, ◌<◌, ◌≤◌, ◌^◌, Bool, true, false, ◌||◌, List, [], ◌∷◌, ◌++◌, length, take, map, get_or, replicate, refl, sym, ◌∙◌, ap, arith, Option, None, Some}
+use Rattle.std.proofs.Common.{◌≡◌, ◌⊎◌, ℕ, zero, suc, ◌+◌, ◌-◌, ◌*◌, ◌<◌, ◌≤◌, ◌^◌, Bool, true, false, ◌||◌, List, [], ◌∷◌, ◌++◌, length, take, map, get_or, replicate, refl, sym, ◌∙◌, ap, arith, Option, Some}
 use mathlib.Core.Logic.{inl, inr}
-use Rattle.std.specs.Prelude.{ℤ, pos, not, ◌&&◌, slice_get, slice_set, IfSome, IsSomeAnd}
+use Rattle.std.specs.Prelude.{ℤ, pos, negsuc, not, ◌&&◌, slice_get, slice_set, IfSome, IsSomeAnd}
+use Rattle.std.specs.Int.RustNames.{unsigned_abs}
 use Rattle.std.specs.List.{list_all}
 use Rattle.std.specs.Ordering.{int_eq}
 use Rattle.std.proofs.lemmas.List.{append_cancel_left, append-nil, length-append, length-replicate}
@@ -13,27 +14,35 @@ use Rattle.cnf.specs.Checks.{Checks, IsRight, numbered}
 use Rattle.cnf.specs.Clauses.{literal_key}
 use Rattle.cnf.specs.Formulas.{Satisfies}
 use Rattle.cnf.proofs.ClauseLaws.{same_key}
-use Rattle.literal_marks.specs.Marks.{marked}
+use Rattle.literal_marks.specs.Marks.{IsClear, marked}
 use Rattle.literal_marks.specs.declared.places.Places.TheVariants.{ByKey}
 use Rattle.search.specs.declared.machine.Machine.{Machine}
 use Rattle.search.specs.declared.moves.Move.{Move}
+use Rattle.search.specs.declared.order.Order.{Order}
 use Rattle.search.specs.declared.moves.Move.TheVariants as move
 use Rattle.search.specs.declared.trail.Entry.{Entry}
 use Rattle.search.specs.At.{IsAt, IsHeld, IsSameBut}
 use Rattle.search.specs.Laws.{IsFormula, is_over}
 use Rattle.search.specs.Machine.{EndsAsModel, IsOver, Jumps, Moves, State, clauses_of, first_state, is_conflict, is_open, is_true, unit_of, with_entry}
 use Rattle.search.specs.Nexts.{jumped, state_of}
+use Rattle.search.specs.Orders.{AreListed}
 use Rattle.search.specs.Sound.{Implies, all_clauses}
 use Rattle.search.specs.Trails.{AreLocated}
+use Rattle.search.specs.Watching.{is_among}
 use Rattle.search.proofs.BackLaws.{true_at, true_in_all}
 use Rattle.search.proofs.HistoryLaws.{no_places}
 use Rattle.search.proofs.KeptLaws.{has_over, is_over-tells, numbered_over, unit_is}
 use Rattle.search.proofs.ListsLaws.{get-set_other, get-set_same}
 use Rattle.search.proofs.MachineLaws.{all_true, checks_by, get_taken, numbered_last, rights_more, run_more, sound_cut, sound_learn, sound_more, unit_implies, with_line}
 use Rattle.search.proofs.NextLaws.{same_clauses}
+use Rattle.search.proofs.OrderLaws.{listed_more}
 use Rattle.search.proofs.ScanLaws.{clauses_count}
 
 -- ---- the first state
+
+variable_over : (n : ℕ) (x : ℤ) → IsOver n x → (1 ≤ unsigned_abs x) × (unsigned_abs x ≤ n)
+variable_over n (pos k) h = (omega (arith, h.0), omega (arith, h.1))
+variable_over n (negsuc k) h = (omega (arith, h.0), omega (arith, h.1))
 
 none_marked : (size k : ℕ) → get_or (replicate size false) k false ≡ false
 none_marked zero k = refl
@@ -42,8 +51,9 @@ none_marked (suc size) (suc k) = none_marked size k
 
 pub at_first : (formula : Formula) (m : Machine) → IsFormula formula → length formula.clauses < 2 ^ 32 → m.trail.items ≡ [] → m.learned ≡ record { lines = [] } → m.moves.items ≡ []
     → m.values.items ≡ replicate (2 * formula.variables + 2) false → m.marks.items ≡ replicate (2 * formula.variables + 2) false
-    → length m.places.items ≡ 2 * formula.variables + 2 → IsAt formula m
-at_first formula m is few trail learned moves values marks places = record {
+    → length m.places.items ≡ 2 * formula.variables + 2
+    → ((v : ℕ) → 1 ≤ v → v ≤ formula.variables → is_among v m.order.heap.items ≡ true) → IsAt formula m
+at_first formula m is few trail learned moves values marks places all = record {
   held = record {
     sound = rw (trail, learned) record {
       kept = record { over = refl; distinct = no_places };
@@ -57,6 +67,7 @@ at_first formula m is few trail learned moves values marks places = record {
     clear = λ x. rw marks (none_marked (2 * formula.variables + 2) (literal_key x));
     located = λ i e at. absurd (nowhere m.trail.items trail i e at);
     room = places;
+    listed = λ x over free. let range = variable_over formula.variables x over in all (unsigned_abs x) range.0 range.1;
     few = let no_lines : length m.learned.lines ≡ 0 = rw learned refl in omega arith;
   };
   run = rw (trail, learned, moves) refl;
@@ -135,9 +146,9 @@ located_more trail places x reason free room located i f at = by_side (entry_bef
 -- one more literal
 pub held_more : (formula : Formula) (m n : Machine) (x : ℤ) (reason : Option ℕ) → IsHeld formula m → IsOver formula.variables x → is_open (is_true m.trail.items) x ≡ true
     → IfSome reason (λ number. IsSomeAnd (numbered (all_clauses formula m.learned) number) (Implies m.trail.items x)) → n.trail.items ≡ with_entry m.trail.items x reason
-    → ((y : ℤ) → marked ByKey n.values.items y ≡ (marked ByKey m.values.items y || int_eq x y)) → n.places.items ≡ slice_set m.places.items (literal_key x) (length m.trail.items) → IsSameBut m n
+    → ((y : ℤ) → marked ByKey n.values.items y ≡ (marked ByKey m.values.items y || int_eq x y)) → n.places.items ≡ slice_set m.places.items (literal_key x) (length m.trail.items) → n.order ≡ m.order → IsSameBut m n
     → IsHeld formula n
-held_more formula m n x reason held over free implied trail values places same = record {
+held_more formula m n x reason held over free implied trail values places order same = record {
   sound = rw (trail, same.learned) (sound_more formula m.learned m.trail.items x reason held.sound over free implied);
   rights = rw same.learned held.rights;
   values = λ y. values y ∙ rw (held.values y, trail) (sym (more_true m.trail.items x reason y));
@@ -146,17 +157,42 @@ held_more formula m n x reason held over free implied trail values places same =
   clear = rw same.marks held.clear;
   located = rw (trail, places) (located_more m.trail.items m.places.items x reason (closed _ _ free) (let room = held.room in omega (arith, room, over.1)) held.located);
   room = same.room ∙ held.room;
+  listed = rw (trail, order) (listed_more formula.variables m.trail.items (with_entry m.trail.items x reason) m.order.heap.items (λ y h. not_before (is_true m.trail.items y) (int_eq x y) (sym (more_true m.trail.items x reason y) ∙ h)) held.listed);
   few = rw same.learned held.few;
 }
   where
+    not_before : (a b : Bool) → (a || b) ≡ false → a ≡ false
+    not_before true b h = h
+    not_before false b h = refl
+
     closed : (a b : Bool) → not (a || b) ≡ true → a ≡ false
     closed true b h = absurd cc
     closed false b h = refl
 
+-- another order of decisions
+pub at_ordered : (formula : Formula) (m n : Machine) → IsAt formula m → n.trail ≡ m.trail → n.values ≡ m.values → n.places ≡ m.places → n.learned ≡ m.learned → n.moves ≡ m.moves
+    → length n.marks.items ≡ length m.marks.items → IsClear ByKey n.marks.items → AreListed formula.variables m.trail.items n.order.heap.items → IsAt formula n
+at_ordered formula m n at trail values places learned moves size clear listed = record {
+  held = record {
+    sound = rw (trail, learned) at.held.sound;
+    rights = rw learned at.held.rights;
+    values = λ y. rw (values, trail) (at.held.values y);
+    places = rw values at.held.places;
+    marks = size ∙ at.held.marks;
+    clear = clear;
+    located = rw (trail, places) at.held.located;
+    room = rw places at.held.room;
+    listed = rw trail listed;
+    few = rw learned at.held.few;
+  };
+  run = rw (moves, trail, learned) at.run;
+  lines = rw (moves, learned) at.lines;
+}
+
 -- the trail cut
 pub held_cut : (formula : Formula) (m n : Machine) (cut : ℕ) → IsHeld formula m → n.trail.items ≡ take cut m.trail.items → ((y : ℤ) → marked ByKey n.values.items y ≡ is_true (take cut m.trail.items) y)
-    → n.places ≡ m.places → IsSameBut m n → IsHeld formula n
-held_cut formula m n cut held trail values places same = record {
+    → n.places ≡ m.places → n.order ≡ m.order → AreListed formula.variables (take cut m.trail.items) m.order.heap.items → IsSameBut m n → IsHeld formula n
+held_cut formula m n cut held trail values places order listed same = record {
   sound = rw (trail, same.learned) (sound_cut formula m.learned m.trail.items cut held.sound);
   rights = rw same.learned held.rights;
   values = λ y. values y ∙ rw trail refl;
@@ -165,13 +201,14 @@ held_cut formula m n cut held trail values places same = record {
   clear = rw same.marks held.clear;
   located = rw (trail, places) (λ i f at. held.located i f (get_taken m.trail.items cut i f at).0);
   room = same.room ∙ held.room;
+  listed = rw (trail, order) listed;
   few = rw same.learned held.few;
 }
 
 -- a learned line
 pub held_learn : (formula : Formula) (m n : Machine) (line : DerivationLine) → IsHeld formula m → IsRight (all_clauses formula m.learned) line → n.trail.items ≡ m.trail.items
-    → n.values.items ≡ m.values.items → n.marks.items ≡ m.marks.items → n.places.items ≡ m.places.items → n.learned ≡ record { lines = m.learned.lines ++ line ∷ [] } → length formula.clauses + length m.learned.lines + 1 < 2 ^ 32 → IsHeld formula n
-held_learn formula m n line held right trail values marks places learned few = record {
+    → n.values.items ≡ m.values.items → n.marks.items ≡ m.marks.items → n.places.items ≡ m.places.items → AreListed formula.variables n.trail.items n.order.heap.items → n.learned ≡ record { lines = m.learned.lines ++ line ∷ [] } → length formula.clauses + length m.learned.lines + 1 < 2 ^ 32 → IsHeld formula n
+held_learn formula m n line held right trail values marks places listed learned few = record {
   sound = rw (trail, learned) (sound_learn formula m.learned m.trail.items line held.sound right);
   rights = rw learned (rights_more formula m.learned line held.rights right);
   values = λ y. rw (values, trail) (held.values y);
@@ -180,14 +217,15 @@ held_learn formula m n line held right trail values marks places learned few = r
   clear = rw marks held.clear;
   located = rw (trail, places) held.located;
   room = rw places held.room;
+  listed = listed;
   few = let count = length-append m.learned.lines (line ∷ []) in let own : length n.learned.lines ≡ length m.learned.lines + 1 = rw learned count in omega (arith, own);
 }
 
 -- a propagation or a decision
 pub at_more : (formula : Formula) (m n o : Machine) (x : ℤ) (reason : Option ℕ) (made : Move) → IsAt formula m → IsHeld formula n → n.trail.items ≡ with_entry m.trail.items x reason → IsSameBut m n
     → Moves formula (state_of m.trail.items m.learned) made record { trail = with_entry m.trail.items x reason; learned = m.learned.lines }
-    → o.trail ≡ n.trail → o.values ≡ n.values → o.learned ≡ n.learned → o.marks ≡ n.marks → o.places ≡ n.places → o.moves.items ≡ n.moves.items ++ made ∷ [] → IsAt formula o
-at_more formula m n o x reason made at held trail same moved otrail ovalues olearned omarks oplaces omoves = record {
+    → o.trail ≡ n.trail → o.values ≡ n.values → o.learned ≡ n.learned → o.marks ≡ n.marks → o.places ≡ n.places → o.order ≡ n.order → o.moves.items ≡ n.moves.items ++ made ∷ [] → IsAt formula o
+at_more formula m n o x reason made at held trail same moved otrail ovalues olearned omarks oplaces oorder omoves = record {
   held = record {
     sound = rw (otrail, olearned) held.sound;
     rights = rw olearned held.rights;
@@ -197,6 +235,7 @@ at_more formula m n o x reason made at held trail same moved otrail ovalues olea
     clear = rw omarks held.clear;
     located = rw (otrail, oplaces) held.located;
     room = rw oplaces held.room;
+    listed = rw (otrail, oorder) held.listed;
     few = rw olearned held.few;
   };
   run = rw (omoves, same.moves, otrail, trail, olearned, same.learned) (run_more formula first_state m.moves.items (state_of m.trail.items m.learned) made _ at.run moved);
@@ -262,8 +301,8 @@ pub at_jump : (formula : Formula) (m n o : Machine) (line : DerivationLine) (cut
     → n.trail.items ≡ with_entry (take cut m.trail.items) x (Some (length formula.clauses + length m.learned.lines + 1)) → n.learned ≡ record { lines = m.learned.lines ++ line ∷ [] }
     → n.moves.items ≡ m.moves.items
     → Moves formula (state_of m.trail.items m.learned) (move.Jump line cut) (jumped formula (state_of m.trail.items m.learned) line cut x)
-    → o.trail ≡ n.trail → o.values ≡ n.values → o.learned ≡ n.learned → o.marks ≡ n.marks → o.places ≡ n.places → o.moves.items ≡ n.moves.items ++ move.Jump line cut ∷ [] → IsAt formula o
-at_jump formula m n o line cut x at held trail learned moves moved otrail ovalues olearned omarks oplaces omoves = record {
+    → o.trail ≡ n.trail → o.values ≡ n.values → o.learned ≡ n.learned → o.marks ≡ n.marks → o.places ≡ n.places → o.order ≡ n.order → o.moves.items ≡ n.moves.items ++ move.Jump line cut ∷ [] → IsAt formula o
+at_jump formula m n o line cut x at held trail learned moves moved otrail ovalues olearned omarks oplaces oorder omoves = record {
   held = record {
     sound = rw (otrail, olearned) held.sound;
     rights = rw olearned held.rights;
@@ -273,6 +312,7 @@ at_jump formula m n o line cut x at held trail learned moves moved otrail ovalue
     clear = rw omarks held.clear;
     located = rw (otrail, oplaces) held.located;
     room = rw oplaces held.room;
+    listed = rw (otrail, oorder) held.listed;
     few = rw olearned held.few;
   };
   run = rw (omoves, moves, otrail, trail, olearned, learned) (rw count at (run_more formula first_state m.moves.items (state_of m.trail.items m.learned) (move.Jump line cut) _ at.run moved));
@@ -289,22 +329,23 @@ at_jump formula m n o line cut x at held trail learned moves moved otrail ovalue
     count = ap length (same_clauses formula m.learned m.trail.items) ∙ clauses_count formula m.learned
 
 -- the machine after a jump, by its steps: the line learned, the trail cut, and one more literal
-abbrev pub with_lines : Machine → List DerivationLine → Machine
-with_lines m lines = record { trail = m.trail; values = m.values; learned = record { lines = lines }; moves = m.moves; places = m.places; marks = m.marks }
+abbrev pub with_lines : Machine → List DerivationLine → Order → Machine
+with_lines m lines order = record { trail = m.trail; values = m.values; learned = record { lines = lines }; moves = m.moves; places = m.places; order = order; marks = m.marks }
 
-pub jump_steps : (formula : Formula) (m cut_m n o : Machine) (lines : List DerivationLine) (line : DerivationLine) (cut number : ℕ) (x : ℤ) → IsAt formula m → IsOver formula.variables x
+pub jump_steps : (formula : Formula) (m cut_m n o : Machine) (order : Order) (lines : List DerivationLine) (line : DerivationLine) (cut number : ℕ) (x : ℤ) → IsAt formula m → IsOver formula.variables x
     → Moves formula (state_of m.trail.items m.learned) (move.Jump line cut) (jumped formula (state_of m.trail.items m.learned) line cut x)
     → number ≡ length formula.clauses + length m.learned.lines + 1 → number < 2 ^ 32 → lines ≡ m.learned.lines ++ line ∷ []
-    → cut_m.trail.items ≡ take cut m.trail.items → ((y : ℤ) → marked ByKey cut_m.values.items y ≡ is_true (take cut m.trail.items) y) → cut_m.places ≡ m.places → IsSameBut (with_lines m lines) cut_m
+    → cut_m.trail.items ≡ take cut m.trail.items → ((y : ℤ) → marked ByKey cut_m.values.items y ≡ is_true (take cut m.trail.items) y) → cut_m.places ≡ m.places → cut_m.order ≡ order
+    → AreListed formula.variables m.trail.items order.heap.items → AreListed formula.variables (take cut m.trail.items) order.heap.items → IsSameBut (with_lines m lines order) cut_m
     → n.trail.items ≡ with_entry cut_m.trail.items x (Some number) → ((y : ℤ) → marked ByKey n.values.items y ≡ (marked ByKey cut_m.values.items y || int_eq x y))
-    → n.places.items ≡ slice_set cut_m.places.items (literal_key x) (length cut_m.trail.items) → IsSameBut cut_m n
-    → o.trail ≡ n.trail → o.values ≡ n.values → o.learned ≡ n.learned → o.marks ≡ n.marks → o.places ≡ n.places → o.moves.items ≡ n.moves.items ++ move.Jump line cut ∷ [] → IsAt formula o
-jump_steps formula m cut_m n o lines line cut number x at over moved count few pushed cut_trail cut_values cut_places cut_same trail values places same otrail ovalues olearned omarks oplaces omoves =
+    → n.places.items ≡ slice_set cut_m.places.items (literal_key x) (length cut_m.trail.items) → n.order ≡ cut_m.order → IsSameBut cut_m n
+    → o.trail ≡ n.trail → o.values ≡ n.values → o.learned ≡ n.learned → o.marks ≡ n.marks → o.places ≡ n.places → o.order ≡ n.order → o.moves.items ≡ n.moves.items ++ move.Jump line cut ∷ [] → IsAt formula o
+jump_steps formula m cut_m n o order lines line cut number x at over moved count few pushed cut_trail cut_values cut_places cut_order keeps listed cut_same trail values places norder same otrail ovalues olearned omarks oplaces oorder omoves =
     at_jump formula m n o line cut x at held
     (trail ∙ rw (cut_trail, count) refl)
     (same.learned ∙ learned)
     (same.moves ∙ cut_same.moves)
-    moved otrail ovalues olearned omarks oplaces omoves
+    moved otrail ovalues olearned omarks oplaces oorder omoves
   where
     learned : cut_m.learned ≡ record { lines = m.learned.lines ++ line ∷ [] }
     learned = cut_same.learned ∙ ap (λ ls. record { lines = ls }) pushed
@@ -312,11 +353,11 @@ jump_steps formula m cut_m n o lines line cut number x at over moved count few p
     right : IsRight (all_clauses formula m.learned) line
     right = rw (same_clauses formula m.learned m.trail.items) at moved.right
 
-    first_held : IsHeld formula (with_lines m lines)
-    first_held = held_learn formula m (with_lines m lines) line at.held right refl refl refl refl (ap (λ ls. record { lines = ls }) pushed) (omega (arith, count, few))
+    first_held : IsHeld formula (with_lines m lines order)
+    first_held = held_learn formula m (with_lines m lines order) line at.held right refl refl refl refl keeps (ap (λ ls. record { lines = ls }) pushed) (omega (arith, count, few))
 
     cut_held : IsHeld formula cut_m
-    cut_held = held_cut formula (with_lines m lines) cut_m cut first_held cut_trail cut_values cut_places cut_same
+    cut_held = held_cut formula (with_lines m lines order) cut_m cut first_held cut_trail cut_values cut_places cut_order listed cut_same
 
     opens : (is_open (is_true (take cut m.trail.items)) x ≡ true) × Implies (take cut m.trail.items) x line.clause
     opens = jump_opens formula m line cut x moved
@@ -333,4 +374,4 @@ jump_steps formula m cut_m n o lines line cut number x at over moved count few p
     held : IsHeld formula n
     held =
         held_more formula cut_m n x (Some number) cut_held over (rw cut_trail opens.0)
-        (rw (named, cut_trail) opens.1) trail values places same
+        (rw (named, cut_trail) opens.1) trail values places norder same

@@ -2,9 +2,9 @@
 use Rattle.std.specs.Prelude.{◌≡◌, ℕ, ◌<◌, ◌≤◌, ℤ, neg_ℤ, Bool, true, false, List, [], take, Option, None, Some}
 use Rattle.std.specs.List.{list_all}
 use Rattle.std.specs.Ordering.{int_eq}
+use Rattle.cnf.specs.declared.derivation.DerivationLine.{DerivationLine}
 use Rattle.cnf.specs.Checks.{IsRight}
 use Rattle.cnf.specs.Clauses.{IsClause, has_literal}
-use Rattle.search.specs.declared.conflict.Lesson.{Lesson}
 use Rattle.search.specs.declared.landing.Landing.{Landing}
 use Rattle.search.specs.declared.trail.Entry.{Entry}
 use Rattle.search.specs.Machine.{is_implied_by, is_true, unit_of}
@@ -39,9 +39,9 @@ IsLandingFor trail clause None = clause ≡ []
 IsLandingFor trail clause (Some landing) = IsAsserting trail clause landing
 
 -- a line that begins with the conflict, and is right
-pub record IsLesson (clauses : List (List ℤ)) (trail : List Entry) (conflict : ℕ) (lesson : Lesson) : Type 0 where
-  pub first : lesson.line.first ≡ conflict
-  pub right : IsRight clauses lesson.line
-  pub reasons : list_all (λ step. is_implied_by trail step.0 step.1) lesson.line.steps ≡ true
-  pub landing : IsLandingFor trail lesson.line.clause lesson.landing
-  pub rises : IsClause lesson.line.clause
+pub record IsLesson (clauses : List (List ℤ)) (trail : List Entry) (conflict : ℕ) (line : DerivationLine) (lands : Option Landing) : Type 0 where
+  pub first : line.first ≡ conflict
+  pub right : IsRight clauses line
+  pub reasons : list_all (λ step. is_implied_by trail step.0 step.1) line.steps ≡ true
+  pub landing : IsLandingFor trail line.clause lands
+  pub rises : IsClause line.clause

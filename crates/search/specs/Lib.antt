@@ -6,6 +6,7 @@ pub mod Laws
 pub mod Lessons
 pub mod Machine
 pub mod Nexts
+pub mod Orders
 pub mod Sound
 pub mod Statuses
 pub mod Trails

@@ -31,6 +31,8 @@ pub(crate) struct Chain {
     pub low: usize,
     /// Numbers of antecedents and pivots.
     pub steps: Vec<(u32, i32)>,
+    /// All literals that were in the clause.
+    pub seen: Vec<i32>,
 }
 
 // Adds a literal, which is false.
@@ -52,6 +54,7 @@ fn add_literal(
         return Ok(());
     }
     mark(&Places::ByKey, marks, literal);
+    chain.seen.push(literal)?;
     let place = places[literal_key(negation(literal))] as usize;
     if place < chain.start {
         chain.found.push(literal)?;

@@ -1,5 +1,6 @@
 // Open variables, and models.
 ghost use Rattle.std.specs.Prelude.{◌≡◌, ◌≤◌, ◌<◌, ◌+◌, ◌-◌, ◌*◌, ◌^◌, ℕ, ℤ, pos, true, false, IfNone, IfOk, IfSome, length, slice_index_or};
+ghost use Rattle.std.specs.Int.RustNames.{unsigned_abs};
 ghost use Rattle.cnf.specs.Clauses.{literal_key};
 ghost use Rattle.literal_marks.specs.Marks.{marked};
 ghost use Rattle.literal_marks.specs.declared.places.Places.TheVariants.{ByKey};
@@ -36,6 +37,22 @@ pub(crate) fn lowest_open(values: &[bool], known: u32, variables: u32) -> Option
         Some(literal) => Some(literal),
         None => lowest_open_behind(values, 0, variables),
     }
+}
+
+/// The negative literal of a variable, if it is an open one of so many.
+pub(crate) fn candidate(values: &[bool], variable: u32, variables: u32) -> Option<i32>
+    requires { variables ≤ 2 ^ 30 }
+    ensures some { IfSome result (λ x. IsOver variables x × (is_open (marked ByKey values.now) x ≡ true)) }
+    ensures none { IfNone result ((x : ℤ) → IsOver variables x → unsigned_abs x ≡ variable → is_open (marked ByKey values.now) x ≡ false) }
+{
+    if variable == 0 || variable > variables {
+        return None;
+    }
+    let positive = variable as i32;
+    if is_marked(&Places::ByKey, values, positive) || is_marked(&Places::ByKey, values, -positive) {
+        return None;
+    }
+    Some(-positive)
 }
 
 /// The value of each of so many variables.

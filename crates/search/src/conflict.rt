@@ -27,6 +27,8 @@ use std::alloc::{AllocError, Global};
 pub(crate) struct Lesson {
     pub line: DerivationLine,
     pub landing: Option<Landing>,
+    /// All literals that were in the resolved clauses.
+    pub seen: Vec<i32>,
 }
 
 // The length of the shortest beginning of the trail by which these literals are false.
@@ -140,7 +142,7 @@ fn refuting_lesson(
     requires reach { IsReach trail.now clause.now reach }
     requires inside { reach ≤ length trail.now }
     requires implied { (d : ℕ) → IsDecidedAt trail.now d → d < reach → ⊥ }
-    ensures lesson { IfOk result (IsLesson (all_clauses formula.now learned.now) trail.now conflict) }
+    ensures lesson { IfOk result (λ lesson. IsLesson (all_clauses formula.now learned.now) trail.now conflict lesson.line lesson.landing) }
     ensures clear { OnOk result (IsClear ByKey marks.new) }
     ensures size { length marks.new ≡ length marks.old }
 {
@@ -149,6 +151,7 @@ fn refuting_lesson(
         found: Vec::new(alloc),
         low: 0,
         steps: Vec::new(alloc),
+        seen: Vec::new(alloc),
     };
     add_others(marks, &mut chain, places, clause.literals(), None)?;
     go_back_whole(marks, &mut chain, places, formula, learned, trail, reach)?;
@@ -160,6 +163,7 @@ fn refuting_lesson(
             steps: Vector::from_vec(chain.steps),
         },
         landing: None,
+        seen: chain.seen,
     })
 }
 
@@ -187,7 +191,7 @@ fn asserting_lesson(
     requires reach { IsReach trail.now clause.now reach }
     requires inside { reach ≤ length trail.now }
     requires start { IsLastDecision trail.now reach (Some start) }
-    ensures lesson { IfOk result (IsLesson (all_clauses formula.now learned.now) trail.now conflict) }
+    ensures lesson { IfOk result (λ lesson. IsLesson (all_clauses formula.now learned.now) trail.now conflict lesson.line lesson.landing) }
     ensures clear { OnOk result (IsClear ByKey marks.new) }
     ensures size { length marks.new ≡ length marks.old }
 {
@@ -196,6 +200,7 @@ fn asserting_lesson(
         found: Vec::new(alloc),
         low: reach - 1,
         steps: Vec::new(alloc),
+        seen: Vec::new(alloc),
     };
     add_others(marks, &mut chain, places, clause.literals(), None)?;
     go_back(marks, &mut chain, places, formula, learned, trail, reach)?;
@@ -211,6 +216,7 @@ fn asserting_lesson(
             steps: Vector::from_vec(chain.steps),
         },
         landing: Some(landing),
+        seen: chain.seen,
     })
 }
 
@@ -232,7 +238,7 @@ pub(crate) fn lesson_of(
     requires located { AreLocated trail.now places.now }
     requires clear { IsClear ByKey marks.old }
     requires conflict { IsSomeAnd (numbered (all_clauses formula.now learned.now) conflict) (λ clause. is_conflict (is_true trail.now) clause ≡ true) }
-    ensures lesson { IfOk result (IsLesson (all_clauses formula.now learned.now) trail.now conflict) }
+    ensures lesson { IfOk result (λ lesson. IsLesson (all_clauses formula.now learned.now) trail.now conflict lesson.line lesson.landing) }
     ensures clear { OnOk result (IsClear ByKey marks.new) }
     ensures size { length marks.new ≡ length marks.old }
 {

@@ -5,8 +5,10 @@
 //! that none stops before.
 //! `search` propagates by two watched literals a clause and a queue (specs/Watching.antt), so that a move costs the watchers
 //! that it visits; all clauses are looked at once before the first move, and once where the budget is spent. A conflict is
-//! resolved to the first unique implication point (specs/Chains.antt), without a pass over the variables. The layers above
-//! use what it answers (specs/Nexts.antt), and that `shown` appends what it is given, and after want of memory nothing.
+//! resolved to the first unique implication point (specs/Chains.antt), without a pass over the variables. The variable that
+//! was most active in conflicts is decided next; that each open one is listed is kept (specs/Orders.antt), their order is
+//! free. The layers above use what it answers (specs/Nexts.antt), and that `shown` appends what it is given, and after want
+//! of memory nothing.
 #![tactic(auto)]
 
 mod chain;
@@ -19,6 +21,7 @@ pub mod laws;
 mod machine;
 mod moves;
 mod next;
+mod order;
 mod reading;
 mod rounds;
 mod scan;

@@ -1,12 +1,13 @@
 // The search machine.
-ghost use Rattle.std.specs.Prelude.{◌≡◌, ◌+◌, ◌<◌, ◌≤◌, ◌^◌, ◌++◌, ◌∷◌, [], ◌||◌, ◌&&◌, ℕ, ℤ, nat_eq, true, not, All, Some, IfOk, OnOk, IfSome, IsSomeAnd, IsTrue, length, slice_set, take};
+ghost use Rattle.std.specs.Prelude.{◌≡◌, ◌+◌, ◌<◌, ◌≤◌, ◌^◌, ◌++◌, ◌∷◌, [], ◌||◌, ◌&&◌, ℕ, ℤ, nat_eq, true, false, not, All, Some, IfNone, IfOk, OnOk, IfSome, IsSomeAnd, IsTrue, length, slice_set, take};
+ghost use Rattle.std.specs.Int.RustNames.{unsigned_abs};
 ghost use Rattle.std.specs.List.{IsDistinct};
 ghost use Rattle.std.specs.Ordering.{int_eq};
 ghost use Rattle.cnf.specs.Checks.{IsRight, numbered};
 ghost use Rattle.cnf.specs.Clauses.{IsLiteral, literal_key as key_of};
 ghost use Rattle.literal_marks.specs.Marks.{has_place, marked};
 ghost use Rattle.literal_marks.specs.declared.places.Places.TheVariants.{ByKey};
-ghost use Rattle.search.specs.At.{IsAt, IsSameBut, IsSameButMarks};
+ghost use Rattle.search.specs.At.{IsAt, IsSameBut, IsSameButMarks, IsSameButOrder};
 ghost use Rattle.search.specs.Laws.{IsFormula};
 ghost use Rattle.search.specs.Lessons.{IsLesson};
 ghost use Rattle.search.specs.Machine.{EndsAsModel, IsOver, Moves, clauses_of, is_open, is_true, with_entry};
@@ -14,20 +15,21 @@ ghost use Rattle.search.specs.Nexts.{IsEnd, IsFound, jumped, state_of};
 ghost use Rattle.search.specs.Conflicts.{IsConflicting};
 ghost use Rattle.search.specs.Sound.{Implies, all_clauses};
 ghost use Rattle.search.specs.Trails.{places};
-ghost use Rattle.search.specs.Watching.{IsDecidedAt};
+ghost use Rattle.search.specs.Watching.{IsDecidedAt, is_among};
 ghost use Rattle.search.specs.declared.moves.Move.TheVariants as move;
 
-use crate::choice::model;
+use crate::choice::{candidate, model};
 use crate::conflict::{Lesson, lesson_of};
 use crate::found::Found;
 use crate::moves::{History, Move};
 use crate::next::{Next, next_of};
+use crate::order::Order;
 use crate::trail::Entry;
 use cnf::{Derivation, DerivationLine, Formula, literal_key};
 use containers::{TryClone, Vector};
 use fq_core::Memory;
 use literal_marks::{Places, mark, unmark};
-use std::alloc::Global;
+use std::alloc::{AllocError, Global};
 
 /// The state of a search, and the moves that led to it.
 #[derive(Debug, Drop)]
@@ -39,6 +41,7 @@ pub(crate) struct Machine {
     pub moves: Vec<Move>,
     // By their keys, where the literals on the trail stand.
     pub places: Vec<u32>,
+    pub order: Order,
     // A table of marks for the analysis of conflicts, in which nothing is marked before and after it.
     pub marks: Vec<bool>,
 }
@@ -58,6 +61,7 @@ impl Machine {
         let values = vec![in alloc; false; size]?;
         let places = vec![in alloc; 0; size]?;
         let marks = vec![in alloc; false; size]?;
+        let order = Order::new(alloc, formula.variables)?;
         Ok(Machine {
             trail: Vec::new(alloc),
             values,
@@ -66,6 +70,7 @@ impl Machine {
             },
             moves: Vec::new(alloc),
             places,
+            order,
             marks,
         })
     }
@@ -88,6 +93,7 @@ impl Machine {
         ensures values { OnOk result ((x : ℤ) →
             marked ByKey self.new.values.items x ≡ (marked ByKey self.old.values.items x || int_eq literal x)) }
         ensures places { OnOk result (self.new.places.items ≡ slice_set self.old.places.items (key_of literal) (length self.old.trail.items)) }
+        ensures order { OnOk result (self.new.order ≡ self.old.order) }
         ensures same { OnOk result (IsSameBut self.old self.new) }
     {
         self.places[literal_key(literal)] = self.trail.len() as u32;
@@ -105,6 +111,7 @@ impl Machine {
         ensures trail { self.new.trail.items ≡ take cut self.old.trail.items }
         ensures values { (x : ℤ) → marked ByKey self.new.values.items x ≡ is_true (take cut self.old.trail.items) x }
         ensures places { self.new.places ≡ self.old.places }
+        ensures order { self.new.order ≡ self.old.order }
         ensures same { IsSameBut self.old self.new }
     {
         unmark_entries(&mut self.values, &self.trail[cut..]);
@@ -164,6 +171,7 @@ impl Machine {
             cut: cut as u32,
         };
         self.learned.lines.push(line)?;
+        list_entries(&mut self.order, &self.trail[cut..])?;
         self.cut_before(cut);
         self.put(literal, Some(number as u32))?;
         self.moves.push(made)?;
@@ -182,9 +190,9 @@ impl Machine {
         requires conflict { IsConflicting formula.now self.old conflict }
         ensures at { OnOk result (IsAt formula.now self.new) }
         ensures same { IsSameButMarks self.old self.new }
-        ensures lesson { IfOk result (IsLesson (all_clauses formula.now self.old.learned) self.old.trail.items conflict) }
+        ensures lesson { IfOk result (λ lesson. IsLesson (all_clauses formula.now self.old.learned) self.old.trail.items conflict lesson.line lesson.landing) }
     {
-        lesson_of(
+        let lesson = lesson_of(
             alloc,
             &mut self.marks,
             &self.places,
@@ -192,7 +200,27 @@ impl Machine {
             &self.learned,
             &self.trail,
             conflict,
-        )
+        )?;
+        self.order.bump_all(&lesson.seen);
+        Ok(lesson)
+    }
+
+    /// The negative literal of the first open variable in the order of decisions.
+    pub fn next_open(&mut self, formula: &Formula) -> Option<i32>
+        requires at { IsAt formula.now self.old }
+        requires small { formula.now.variables ≤ 2 ^ 30 }
+        ensures at { IsAt formula.now self.new }
+        ensures same { IsSameButOrder self.old self.new }
+        ensures some { IfSome result (λ x. IsOver formula.now.variables x × (is_open (is_true self.old.trail.items) x ≡ true)) }
+        ensures none { IfNone result ((x : ℤ) → IsOver formula.now.variables x → is_open (is_true self.old.trail.items) x ≡ false) }
+    {
+        while let Some(variable) = self.order.first() {
+            if let Some(literal) = candidate(&self.values, variable, formula.variables) {
+                return Some(literal);
+            }
+            self.order.drop_first();
+        }
+        None
     }
 
     /// What a search answers where all variables stand on the trail.
@@ -262,6 +290,17 @@ impl Machine {
             })),
         }
     }
+}
+
+// Lists the variables of entries' literals.
+fn list_entries(order: &mut Order, entries: &[Entry]) -> Result<(), AllocError>
+    ensures keeps { OnOk result ((v : ℕ) → is_among v order.old.heap.items ≡ true → is_among v order.new.heap.items ≡ true) }
+    ensures listed { OnOk result ((x : ℤ) → is_true entries.now x ≡ true → is_among (unsigned_abs x) order.new.heap.items ≡ true) }
+{
+    for entry in entries {
+        order.insert(entry.literal.unsigned_abs())?;
+    }
+    Ok(())
 }
 
 // Takes the marks of entries' literals away.

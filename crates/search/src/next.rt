@@ -59,6 +59,7 @@ pub(crate) fn next_of(
         Scan::Conflict(number) => {
             let lesson = lesson_of(alloc, marks, places, formula, learned, trail, number)?;
             let line = lesson.line;
+            drop(lesson.seen);
             match lesson.landing {
                 None => Ok(Next::Refuted(line)),
                 Some(landing) => Ok(Next::Jump {

@@ -6,7 +6,6 @@ ghost use Rattle.search.specs.Readings.{IsSearching};
 ghost use Rattle.search.specs.Rounds.{IsRound};
 ghost use Rattle.search.specs.Sound.{all_clauses};
 
-use crate::choice::lowest_open;
 use crate::landing::Landing;
 use crate::machine::Machine;
 use crate::moves::Move;
@@ -27,24 +26,21 @@ pub(crate) enum Round {
     Spent,
 }
 
-// Decides the lowest open variable to be false, where the queue is read. That many variables were known at the last
-// decision.
+// Decides the first open variable in the order of decisions to be false, where the queue is read.
 fn decide(
     machine: &mut Machine,
     watching: &Watching,
     formula: &Formula,
     budget: u64,
-    known: &mut u32,
 ) -> Result<Round, Memory>
     requires searching { IsSearching formula.now budget machine.old watching.now }
     requires small { formula.now.variables ≤ 2 ^ 30 }
     requires read { length machine.old.trail.items ≤ watching.now.head }
     ensures { IfOk result (IsRound formula.now budget machine.old machine.new watching.now) }
 {
-    match lowest_open(&machine.values, *known, formula.variables) {
+    match machine.next_open(formula) {
         None => Ok(Round::Model),
         Some(literal) => {
-            *known = literal.unsigned_abs();
             if machine.moves.len() as u64 >= budget {
                 return Ok(Round::Spent);
             }
@@ -67,7 +63,7 @@ fn jump_back(
     requires searching { IsSearching formula.now budget machine.old watching.old }
     requires small { formula.now.variables ≤ 2 ^ 30 }
     requires conflict { IsConflicting formula.now machine.old line.first }
-    requires lesson { IsLesson (all_clauses formula.now machine.old.learned) machine.old.trail.items line.first record { line = line; landing = Some landing } }
+    requires lesson { IsLesson (all_clauses formula.now machine.old.learned) machine.old.trail.items line.first line (Some landing) }
     requires paid { length machine.old.moves.items < budget }
     ensures searching { OnOk result (IsSearching formula.now budget machine.new watching.new) }
     ensures moves { OnOk result (length machine.new.moves.items ≡ length machine.old.moves.items + 1) }
@@ -117,26 +113,21 @@ fn learn(
     }
 }
 
-/// One round. `known` is as many variables as were known, from the first one on, where the last literal was decided; the
-/// next is sought behind them.
+/// One round.
 pub(crate) fn next_round(
     alloc: Global,
     machine: &mut Machine,
     watching: &mut Watching,
     formula: &Formula,
     budget: u64,
-    known: &mut u32,
 ) -> Result<Round, Memory>
     requires searching { IsSearching formula.now budget machine.old watching.old }
     requires small { formula.now.variables ≤ 2 ^ 30 }
     ensures { IfOk result (IsRound formula.now budget machine.old machine.new watching.new) }
 {
     match propagate(machine, watching, formula, budget)? {
-        Queue::Read => decide(machine, watching, formula, budget, known),
-        Queue::Conflict(number) => {
-            *known = 0;
-            learn(alloc, machine, watching, formula, number, budget)
-        }
+        Queue::Read => decide(machine, watching, formula, budget),
+        Queue::Conflict(number) => learn(alloc, machine, watching, formula, number, budget),
         Queue::Spent => Ok(Round::Spent),
     }
 }

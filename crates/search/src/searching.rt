@@ -30,16 +30,8 @@ pub fn search(alloc: Global, formula: &Formula, budget: u64) -> Result<Found, Me
         Queue::Conflict(number) => return machine.contradicted(alloc, formula, number),
         Queue::Spent => return machine.end(alloc, formula),
     }
-    let mut known = 0;
     for _ in 0..budget {
-        match next_round(
-            alloc,
-            &mut machine,
-            &mut watching,
-            formula,
-            budget,
-            &mut known,
-        )? {
+        match next_round(alloc, &mut machine, &mut watching, formula, budget)? {
             Round::Went => {}
             Round::Model => return machine.satisfied(alloc, formula),
             Round::Refuted(line) => return machine.refuted(formula, line),

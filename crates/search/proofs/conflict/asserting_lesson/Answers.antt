@@ -1,5 +1,5 @@
-use Rattle.std.proofs.Common.{◌≡◌, ◌∙◌, ℕ, ◌+◌, ◌-◌, ◌<◌, List, sym, ap, arith, refl, get_or, pos, neg_ℤ, true, None, Some}
-use Rattle.std.specs.Prelude.{ℤ, slice_get}
+use Rattle.std.proofs.Common.{◌≡◌, ◌∙◌, ℕ, ◌-◌, ap, arith, get_or, pos, neg_ℤ, true, None}
+use Rattle.std.specs.Prelude.{ℤ}
 use Rattle.std.specs.Global.{Vec}
 use Rattle.std.proofs.lemmas.Int.{to_z-of_z}
 use Rattle.std.proofs.lemmas.Option.{get_or_from_slice_get, slice_get_within}
@@ -42,7 +42,7 @@ go_back-requires-clause-going c =
     let marks = rw c.literals.ensures.value at c.in_ok-add_others.ensures.marks in
     let is : (x : ℤ) → marked ByKey c.add_others.new.marks x ≡ has_literal first x = λ x. first_marks _ _ _ (c.requires.clear x) (marks x) in
     let inside = c.requires.start.1 in
-    going_begins trail first c.args.reach (marked ByKey c.args.marks.now) (marked ByKey c.add_others.new.marks) record { start = c.args.start; found = c.new.result; low = c.args.reach - 1; steps = c.new-2.result } c.add_others.new.chain c.requires.reach c.requires.clear is c.new.ensures.items (omega (arith, inside)) inside added
+    going_begins trail first c.args.reach (marked ByKey c.args.marks.now) (marked ByKey c.add_others.new.marks) record { start = c.args.start; found = c.new.result; low = c.args.reach - 1; steps = c.new-2.result; seen = c.new-3.result } c.add_others.new.chain c.requires.reach c.requires.clear is c.new.ensures.items (omega (arith, inside)) inside added
 
 pub offset_bounds-trail-chain : goal.offset_bounds-trail-chain
 offset_bounds-trail-chain c =
@@ -135,8 +135,8 @@ landing_of-landing-requires-clause-falses c =
     let neg_fits = to_z-of_z _ _ (literal_fits c.negation-literal.result c.negation-literal.ensures.literal.1) in
     rw (neg_fits, value) (others_false n trail kept set chain left clauses first chain.steps.items back e at c.args.start from)
 
-pub new-requires-3 : goal.new-requires-3
-new-requires-3 c =
+pub new-requires-4 : goal.new-requires-4
+new-requires-4 c =
     let n = c.args.formula.now.variables in
     let trail = c.args.trail.now in
     let clauses = all_clauses c.args.formula.now c.args.learned.now in

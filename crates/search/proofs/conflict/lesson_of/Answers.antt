@@ -1,4 +1,4 @@
-use Rattle.std.proofs.Common.{◌≡◌, sym}
+use Rattle.std.proofs.Common.{sym}
 use Rattle.search.specs.Sound.{all_clauses}
 use Rattle.search.proofs.ChainLaws.{clause_keys, reach_inside}
 use Rattle.search.proofs.conflict.lesson_of.Goals as goal

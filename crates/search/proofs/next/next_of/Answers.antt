@@ -21,10 +21,10 @@ pub returns-in-Some : goal.returns-in-Some
 returns-in-Some c =
     let same : marked ByKey c.args.values.now ≡ is_true c.args.trail.now = λ i x. c.requires.values x i in
     let conflict = subst (λ set. IsScan set (all_clauses c.args.formula.now c.args.learned.now) (scan.Conflict c.in-Conflict.number)) same c.in-Conflict.ensures in
-    let over = landing_over c.args.formula.now c.args.learned.now c.args.trail.now c.in-Conflict.number c.in_ok-lesson-in-Conflict.lesson c.in-Some.landing c.requires.sound c.in_ok-lesson-in-Conflict.ensures.lesson c.in-Some.is in
+    let over = landing_over c.args.formula.now c.args.learned.now c.args.trail.now c.in-Conflict.number c.in_ok-lesson-in-Conflict.lesson.line c.in_ok-lesson-in-Conflict.lesson.landing c.in-Some.landing c.requires.sound c.in_ok-lesson-in-Conflict.ensures.lesson c.in-Some.is in
     let fits = literal_fits c.in-Some.landing.literal (literal-over c.args.formula.now.variables c.in-Some.landing.literal c.requires.small over).1 in
     rw (to_z-of_z _ _ fits)
-    (next_jump c.args.formula.now c.args.learned.now c.args.trail.now c.in-Conflict.number c.in_ok-lesson-in-Conflict.lesson c.in-Some.landing conflict c.in_ok-lesson-in-Conflict.ensures.lesson c.in-Some.is)
+    (next_jump c.args.formula.now c.args.learned.now c.args.trail.now c.in-Conflict.number c.in_ok-lesson-in-Conflict.lesson.line c.in_ok-lesson-in-Conflict.lesson.landing c.in-Some.landing conflict c.in_ok-lesson-in-Conflict.ensures.lesson c.in-Some.is)
 
 pub returns-in-Unit : goal.returns-in-Unit
 returns-in-Unit c =

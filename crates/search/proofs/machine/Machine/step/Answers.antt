@@ -15,5 +15,5 @@ returns-clause-at c =
     let m = c.args.self.now in
     let n = c.put.new.self in
     let is = rw (to_z-of_z _ _ c.ranges.literal) at c.in_ok-put.ensures in
-    let held = held_more c.args.formula.now m n c.args.literal c.args.reason c.requires.at.held c.requires.over c.requires.free c.requires.implied is.trail is.values is.places is.same in
-    at_more c.args.formula.now m n _ c.args.literal c.args.reason c.args.made c.requires.at held is.trail is.same c.requires.allowed refl refl refl refl refl c.in_ok-push.ensures.items
+    let held = held_more c.args.formula.now m n c.args.literal c.args.reason c.requires.at.held c.requires.over c.requires.free c.requires.implied is.trail is.values is.places is.order is.same in
+    at_more c.args.formula.now m n _ c.args.literal c.args.reason c.args.made c.requires.at held is.trail is.same c.requires.allowed refl refl refl refl refl refl c.in_ok-push.ensures.items

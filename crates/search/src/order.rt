@@ -1,0 +1,217 @@
+// The order of decisions.
+ghost use Rattle.std.specs.Prelude.{◌≡◌, ◌⊎◌, ◌+◌, ◌<◌, ◌≤◌, ℕ, Some, true, [], IfOk, IfNone, IfSome, OnOk, length, slice_get};
+ghost use Rattle.search.specs.Watching.{is_among};
+
+use std::alloc::{AllocError, Global};
+
+/// Variables, those first that were active in conflicts, in a heap (as in MiniSat). What contracts say is which ones are in
+/// it; their order is free.
+#[derive(Debug, Drop)]
+pub(crate) struct Order {
+    pub heap: Vec<u32>,
+    /// By variable, where it came to stand when it was last moved. One that left the heap isn't there any more.
+    pub places: Vec<usize>,
+    /// By variable.
+    pub activities: Vec<u64>,
+    /// What the next bump adds.
+    pub increment: u64,
+}
+
+// Activities above this one are scaled.
+const MOST: u64 = 1 << 60;
+
+impl Order {
+    /// All of so many variables, from 1 on.
+    pub fn new(alloc: Global, variables: u32) -> Result<Order, AllocError>
+        requires { variables ≤ 1073741824 }
+        ensures { IfOk result (λ order. (v : ℕ) → 1 ≤ v → v ≤ variables → is_among v order.heap.items ≡ true) }
+    {
+        let mut heap = Vec::new(alloc);
+        let mut places = Vec::new(alloc);
+        places.push(0)?;
+        for variable in 0..variables {
+            heap.push(variable + 1)?;
+            places.push(variable as usize)?;
+        }
+        Ok(Order {
+            heap,
+            places,
+            activities: vec![in alloc; 0; variables as usize + 1]?,
+            increment: 256,
+        })
+    }
+
+    fn activity(&self, variable: u32) -> u64 {
+        match self.activities.get(variable as usize) {
+            Some(activity) => *activity,
+            None => 0,
+        }
+    }
+
+    // Whether a variable goes before another: it is more active, or as active and lower.
+    fn precedes(&self, first: u32, second: u32) -> bool {
+        let one = self.activity(first);
+        let other = self.activity(second);
+        one > other || one == other && first < second
+    }
+
+    // Notes where a variable stands.
+    fn note(&mut self, at: usize)
+        requires { at < length self.old.heap.items }
+        ensures { self.new.heap ≡ self.old.heap }
+    {
+        let variable = self.heap[at] as usize;
+        if variable < self.places.len() {
+            self.places[variable] = at;
+        }
+    }
+
+    fn exchange(&mut self, first: usize, second: usize)
+        requires first { first < length self.old.heap.items }
+        requires second { second < length self.old.heap.items }
+        ensures members { (v : ℕ) → is_among v self.new.heap.items ≡ is_among v self.old.heap.items }
+        ensures length { length self.new.heap.items ≡ length self.old.heap.items }
+    {
+        self.heap.swap(first, second);
+        self.note(first);
+        self.note(second);
+    }
+
+    // Where a variable stands in the heap, if it does.
+    fn place_of(&self, variable: u32) -> Option<usize>
+        ensures { IfSome result (λ at. slice_get self.now.heap.items at ≡ Some variable) }
+    {
+        match self.places.get(variable as usize) {
+            Some(at) => {
+                if *at < self.heap.len() && self.heap[*at] == variable {
+                    Some(*at)
+                } else {
+                    None
+                }
+            }
+            None => None,
+        }
+    }
+
+    // Moves a variable up as far as it goes before others.
+    fn rise(&mut self, at: usize)
+        requires { at < length self.old.heap.items }
+        ensures members { (v : ℕ) → is_among v self.new.heap.items ≡ is_among v self.old.heap.items }
+    {
+        let mut at = at;
+        while at > 0 {
+            let parent = (at - 1) / 2;
+            if !self.precedes(self.heap[at], self.heap[parent]) {
+                return;
+            }
+            self.exchange(at, parent);
+            at = parent;
+        }
+    }
+
+    // The one of two children that goes before the other, if there is one.
+    fn child_of(&self, at: usize) -> Option<usize>
+        requires { at < length self.now.heap.items }
+        ensures { IfSome result (λ child. (at < child) × (child < length self.now.heap.items)) }
+    {
+        let left = at + at + 1;
+        if left >= self.heap.len() {
+            return None;
+        }
+        let right = left + 1;
+        if right < self.heap.len() && self.precedes(self.heap[right], self.heap[left]) {
+            return Some(right);
+        }
+        Some(left)
+    }
+
+    // Moves a variable down as far as others go before it.
+    fn sink(&mut self, at: usize)
+        requires { at < length self.old.heap.items }
+        ensures members { (v : ℕ) → is_among v self.new.heap.items ≡ is_among v self.old.heap.items }
+        ensures length { length self.new.heap.items ≡ length self.old.heap.items }
+    {
+        let mut at = at;
+        while let Some(child) = self.child_of(at) {
+            if !self.precedes(self.heap[child], self.heap[at]) {
+                return;
+            }
+            self.exchange(at, child);
+            at = child;
+        }
+    }
+
+    /// Puts a variable into the heap, if it isn't there.
+    pub fn insert(&mut self, variable: u32) -> Result<(), AllocError>
+        ensures here { OnOk result (is_among variable self.new.heap.items ≡ true) }
+        ensures keeps { OnOk result ((v : ℕ) → is_among v self.old.heap.items ≡ true → is_among v self.new.heap.items ≡ true) }
+    {
+        if self.place_of(variable).is_some() {
+            return Ok(());
+        }
+        let last = self.heap.len();
+        self.heap.push(variable)?;
+        self.note(last);
+        self.rise(last);
+        Ok(())
+    }
+
+    /// The first variable.
+    pub fn first(&self) -> Option<u32>
+        ensures none { IfNone result (self.now.heap.items ≡ []) }
+        ensures some { IfSome result (λ v. slice_get self.now.heap.items 0 ≡ Some v) }
+    {
+        self.heap.first().copied()
+    }
+
+    /// Takes the first variable away.
+    pub fn drop_first(&mut self)
+        requires { 0 < length self.old.heap.items }
+        ensures members { (v : ℕ) → is_among v self.old.heap.items ≡ true → (slice_get self.old.heap.items 0 ≡ Some v) ⊎ (is_among v self.new.heap.items ≡ true) }
+        ensures length { length self.new.heap.items + 1 ≡ length self.old.heap.items }
+    {
+        self.heap.swap_remove(0);
+        if !self.heap.is_empty() {
+            self.note(0);
+            self.sink(0);
+        }
+    }
+
+    // Scales all activities.
+    fn rescale(&mut self)
+        ensures { self.new.heap ≡ self.old.heap }
+    {
+        for activity in self.activities.iter_mut() {
+            *activity = *activity >> 40;
+        }
+        self.increment = (self.increment >> 40) + 1;
+    }
+
+    /// A variable was active in a conflict.
+    pub fn bump(&mut self, variable: u32)
+        ensures { (v : ℕ) → is_among v self.new.heap.items ≡ is_among v self.old.heap.items }
+    {
+        let index = variable as usize;
+        if index >= self.activities.len() {
+            return;
+        }
+        let activity = self.activities[index].saturating_add(self.increment);
+        self.activities[index] = activity;
+        if activity > MOST {
+            self.rescale();
+        }
+        if let Some(at) = self.place_of(variable) {
+            self.rise(at);
+        }
+    }
+
+    /// The variables of these literals were active in a conflict, and earlier bumps count less from now on.
+    pub fn bump_all(&mut self, literals: &[i32])
+        ensures { (v : ℕ) → is_among v self.new.heap.items ≡ is_among v self.old.heap.items }
+    {
+        for literal in literals {
+            self.bump(literal.unsigned_abs());
+        }
+        self.increment = self.increment.saturating_add(self.increment / 16);
+    }
+}
