@@ -1,5 +1,5 @@
 -- Sets of keys, seen as lists of words.
-use Rattle.std.proofs.Common.{◌≡◌, ℕ, zero, suc, ◌<◌, Bool, true, false, not, if◌then◌else◌, ◌||◌, List, [], ◌∷◌, ◌++◌, map, length, get_or, Vec, Global, Option, Some, None, refl, sym, ap, ◌∙◌, subst, arith, nat_eq}
+use Rattle.std.proofs.Common.{◌≡◌, ℕ, zero, suc, ◌<◌, Bool, true, false, not, if◌then◌else◌, ◌||◌, List, [], ◌∷◌, ◌++◌, map, length, get_or, Vec, Global, Option, Some, None, refl, sym, ap, ◌∙◌, subst, ⊎_elim, arith, nat_eq}
 use Rattle.std.specs.Prelude.{slice_get, position, Contains, MatchOption}
 use Rattle.std.specs.Option.{is_some}
 use Rattle.std.specs.Cmp.Lexicographic.{pointwise, bytes_decides, nat_list_eq_equiv}
@@ -9,7 +9,10 @@ use Rattle.std.proofs.lemmas.List.{map-append}
 use Rattle.std.proofs.lemmas.List.Quantifiers.{position-Some}
 use Rattle.std.proofs.lemmas.Map.Views.{Contains-from_any, list_any-from_Contains}
 use Rattle.indexmap.specs.IndexSet.{insert_key}
-use Rattle.reached.specs.Searching.{IsAdded}
+use Rattle.std.specs.Prelude.{slice_index_or}
+use Rattle.std.proofs.lemmas.Option.{same_Some, slice_get_within, slice_get-get_or}
+use Rattle.reached.specs.Searching.{Extends, IsAdded}
+use Rattle.reached.proofs.Lists.{get_left, push_cases}
 
 abbrev pub KeyVec : Type 0
 KeyVec = Vec ℕ Global
@@ -61,3 +64,32 @@ numbered v ks i e =
 pub number_tells : (v : KeyVec) (ks : List KeyVec) (all : List (List ℕ)) (r : Option ℕ) → map words ks ≡ all → r ≡ position (key_eq v) ks → is_some r ≡ list_any (key_eq v) ks → MatchOption r (¬ Contains all v.items) (λ n. slice_get all n ≡ Some v.items)
 number_tells v ks all None seen index there = subst (λ l. ¬ Contains l v.items) seen (not_there v ks there)
 number_tells v ks all (Some i) seen index there = subst (λ (l : List (List ℕ)). slice_get l i ≡ Some v.items) seen (numbered v ks i (sym index))
+
+read_at_word : (ks : List KeyVec) (i : ℕ) (k : KeyVec) → slice_get ks i ≡ Some k → slice_get (map words ks) i ≡ Some k.items
+read_at_word [] i k e = absurd (cc)
+read_at_word (j ∷ ks) zero k e = let same : j ≡ k = cc in ap (λ (v : KeyVec). Some v.items) same
+read_at_word (j ∷ ks) (suc i) k e = read_at_word ks i k e
+
+-- the place of a key that was put in
+pub placed : (v : KeyVec) (ks : List KeyVec) (n : ℕ) (k : KeyVec) → slice_get ks n ≡ Some k → key_eq v k ≡ true → slice_get (map words ks) n ≡ Some v.items
+placed v ks n k there same = read_at_word ks n k there ∙ ap Some (sym (same_words v.items k.items same))
+
+contains_at : (xs : List (List ℕ)) (i : ℕ) (w : List ℕ) → slice_get xs i ≡ Some w → Contains xs w
+contains_at xs i w e =
+    let within = slice_get_within xs i w e in
+    (i, within, same_Some (slice_index_or xs i w) w (sym (slice_get-get_or xs i w within) ∙ e))
+
+-- a table grows by a key that was not there
+pub grown : (old new : List (List ℕ)) (key : List ℕ) (added : Bool) → IsAdded added old key new → Extends old new
+grown old new key false is = subst (Extends old) (sym is.1) (record { stays = λ i w e. e; entries = λ h. h })
+grown old new key true is =
+    let other : (i : ℕ) (w : List ℕ) → slice_get old i ≡ Some w → key ≡ w → ⊥ = λ i w e same. is.0 (subst (Contains old) (sym same) (contains_at old i w e)) in
+    subst (Extends old) (sym is.1)
+    (record {
+      stays = λ i w e. get_left old (key ∷ []) i w e;
+      entries = λ apart i j w e d.
+          ⊎_elim
+          (λ a. ⊎_elim (λ b. apart i j w a b) (λ last. absurd (other i w a last.1)) (push_cases old key j w d))
+          (λ last. ⊎_elim (λ b. absurd (other j w b last.1)) (λ end. last.0 ∙ sym end.0) (push_cases old key j w d))
+          (push_cases old key i w e);
+    })

@@ -62,3 +62,9 @@ pub apart_append : (ps qs : List Pair) → IsApart ps → IsApart qs → ((p : P
 apart_append [] qs h k other = k
 apart_append (p ∷ ps) qs h k other =
     (λ i. ⊎_elim (λ a. h.0 a) (λ b. other p (inl refl) b) (in_parts ps qs p i), apart_append ps qs h.1 k (λ r i. other r (inr i)))
+
+pub push_cases : {X : Type 0} (xs : List X) (x : X) (k : ℕ) (y : X) → slice_get (xs ++ x ∷ []) k ≡ Some y → (slice_get xs k ≡ Some y) ⊎ ((k ≡ length xs) × (x ≡ y))
+push_cases [] x zero y e = let same : x ≡ y = cc in inr (refl, same)
+push_cases [] x (suc k) y e = absurd (cc)
+push_cases (z ∷ xs) x zero y e = inl e
+push_cases (z ∷ xs) x (suc k) y e = ⊎_elim (λ a. inl a) (λ b. inr (omega (arith, b.0), b.1)) (push_cases xs x k y e)

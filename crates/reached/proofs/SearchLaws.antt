@@ -2,7 +2,7 @@
 use Rattle.std.proofs.Common.{◌≡◌, ℕ, ◌+◌, ◌^◌, ◌<◌, ◌≤◌, List, [], ◌∷◌, ◌++◌, length, Option, Some, None, refl, sym, ap, ◌∙◌, subst, inl, inr, ⊎_elim, arith, length-append}
 use Rattle.std.proofs.lemmas.List.{length-map}
 use Rattle.std.specs.Prelude.{slice_get, Contains}
-use Rattle.std.proofs.lemmas.List.Elements.{Contains-push, Contains-push_cases, Contains-append_left}
+use Rattle.std.proofs.lemmas.List.Elements.{Contains-push_cases}
 use Rattle.std.proofs.lemmas.Option.{same_Some}
 use Rattle.cfa.specs.declared.parts.Edge.{Edge}
 use Rattle.cfa.specs.declared.parts.Function.{Function}
@@ -11,9 +11,8 @@ use Rattle.cfa.specs.Contexts.{Pair, IsOnce, along, first_pair}
 use Rattle.reached.specs.declared.bounds.Bounds.{Bounds}
 use Rattle.reached.specs.declared.search.Open.{Open}
 use Rattle.reached.specs.Reaching.{AreTooMany, FollowsWithin, IsReachedWithin}
-use Rattle.reached.specs.Searching.{AreInOrder, AreWays, IsApart, IsFound, IsIn, IsNextAlong, IsOrdered, IsSearching, IsTrail, key_of, pairs_of, ways_left, work_left}
-use Rattle.reached.proofs.KeyLaws.{key_tells}
-use Rattle.reached.proofs.Lists.{apart_append, apart_places, in_at, in_parts}
+use Rattle.reached.specs.Searching.{AreInOrder, AreWays, IsApart, IsFound, IsIn, IsNextAlong, IsOrdered, IsSearching, IsTrail, pairs_of, ways_left, work_left}
+use Rattle.reached.proofs.Lists.{apart_append, apart_places, in_at, in_left, in_parts, in_right}
 use Rattle.reached.proofs.Trails.{tail_trail, trail_apart, trail_once, trail_reached}
 
 -- an edge leads from a pair to one pair alone
@@ -35,21 +34,21 @@ module _ (parts : GraphParts) (bounds : Bounds) (f : Function) where
     reached = λ p h. absurd h;
     apart = λ p h. absurd h;
     looked = λ o h. absurd h;
-    keyed = λ p h. absurd (⊎_elim (λ a. a) (λ b. b) h);
-    found = λ p h. absurd (omega (arith, h.1));
+    listed = λ p h. absurd (⊎_elim (λ a. a) (λ b. b) h);
+    known = λ p h. absurd h;
     counted = refl;
     few = omega arith;
     small = λ o h. absurd h;
     ends = λ e n. absurd (cc);
   }
 
-  module _ (done : List Pair) (way : List Open) (keys : List (List ℕ)) where
+  module _ (done : List Pair) (way : List Open) (found : List Pair) where
     -- where all is finished, the pairs are in order
-    pub ended : IsSearching parts bounds f None done way keys → way ≡ [] → AreInOrder parts bounds f done
+    pub ended : IsSearching parts bounds f None done way found → way ≡ [] → AreInOrder parts bounds f done
     ended s e = record { first = s.ends e refl; ordered = s.ordered; reached = s.reached; few = let counted = s.counted in let few = s.few in omega arith }
 
     -- the pair that comes next was found before
-    pub known : (q : Pair) → IsSearching parts bounds f (Some q) done way keys → (way ≡ [] → ⊥) → Contains keys (key_of q) → IsSearching parts bounds f None done way keys
+    pub known : (q : Pair) → IsSearching parts bounds f (Some q) done way found → (way ≡ [] → ⊥) → IsIn found q → IsSearching parts bounds f None done way found
     known q s some there = record {
       trail = s.trail;
       ordered = s.ordered;
@@ -57,10 +56,10 @@ module _ (parts : GraphParts) (bounds : Bounds) (f : Function) where
       apart = s.apart;
       looked = λ o i at e r follows.
           ⊎_elim (λ left. inl left)
-          (λ rest. inr (⊎_elim (λ is. inl is) (λ next. inl (let same : q ≡ r = same_Some q r next in subst (IsFound done way) same (s.found q there))) rest))
+          (λ rest. inr (⊎_elim (λ is. inl is) (λ next. inl (let same : q ≡ r = same_Some q r next in subst (IsFound done way) same (s.known q there))) rest))
           (s.looked o i at e r follows);
-      keyed = s.keyed;
-      found = s.found;
+      listed = s.listed;
+      known = s.known;
       counted = s.counted;
       few = s.few;
       small = s.small;
@@ -68,11 +67,11 @@ module _ (parts : GraphParts) (bounds : Bounds) (f : Function) where
     }
 
     module _ (k : ℕ) (there : slice_get parts.functions k ≡ Some f) (once : IsOnce parts) where
-      unfound : (next : Option Pair) (q : Pair) → IsSearching parts bounds f next done way keys → ¬ Contains keys (key_of q) → ¬ IsFound done way q
-      unfound next q s new is = new (s.keyed q is)
+      unfound : (next : Option Pair) (q : Pair) → IsSearching parts bounds f next done way found → ¬ IsIn found q → ¬ IsFound done way q
+      unfound next q s new is = new (s.listed q is)
 
       -- one more pair would be too many
-      pub too_many : (q : Pair) → IsSearching parts bounds f (Some q) done way keys → IsTrail parts bounds f (q ∷ pairs_of way) → ¬ Contains keys (key_of q) → 50000 < length keys + 1 → AreTooMany parts bounds f
+      pub too_many : (q : Pair) → IsSearching parts bounds f (Some q) done way found → IsTrail parts bounds f (q ∷ pairs_of way) → ¬ IsIn found q → 50000 < length found + 1 → AreTooMany parts bounds f
       too_many q s trail new many =
           let unknown = unfound (Some q) q s new in
           let other : (p : Pair) → IsIn (q ∷ pairs_of way) p → ¬ IsIn done p = λ p i. ⊎_elim (λ e d. unknown (inl (subst (IsIn done) (sym e) d))) (λ r. s.apart p r) i in
@@ -90,14 +89,12 @@ module _ (parts : GraphParts) (bounds : Bounds) (f : Function) where
           }
 
       -- the pair that comes next is new, and goes onto the way
-      pub visited : (q : Pair) (ways : List ℕ) (o : Open) → o ≡ record { pair = q; ways = ways } → IsSearching parts bounds f (Some q) done way keys → IsTrail parts bounds f (q ∷ pairs_of way) → ¬ Contains keys (key_of q) → length keys + 1 ≤ 50000
-          → AreWays parts q ways → length ways < 2 ^ 64 → IsSearching parts bounds f None done (o ∷ way) (keys ++ key_of q ∷ [])
-      visited q ways o is s trail new room all short =
+      pub visited : (q : Pair) (ways : List ℕ) (o : Open) → o.pair ≡ q → o.ways ≡ ways → IsSearching parts bounds f (Some q) done way found → IsTrail parts bounds f (q ∷ pairs_of way) → ¬ IsIn found q → length found + 1 ≤ 50000 → AreWays parts q ways → length ways < 2 ^ 64
+          → IsSearching parts bounds f None done (o ∷ way) (found ++ q ∷ [])
+      visited q ways o own own_ways s trail new room all short =
           let unknown = unfound (Some q) q s new in
-          let own : o.pair ≡ q = ap (λ (r : Open). r.pair) is in
-          let own_ways : o.ways ≡ ways = ap (λ (r : Open). r.ways) is in
           let counted = s.counted in
-          let long = length-append keys (key_of q ∷ []) in
+          let long = length-append found (q ∷ []) in
           let wider : (p : Pair) → IsFound done way p → IsFound done (o ∷ way) p = λ p h. ⊎_elim (λ a. inl a) (λ b. inr (inr b)) h in
           record {
             trail = subst (λ p. IsTrail parts bounds f (p ∷ pairs_of way)) (sym own) trail;
@@ -115,23 +112,22 @@ module _ (parts : GraphParts) (bounds : Bounds) (f : Function) where
                 (λ rest. inr (⊎_elim (λ h. inl (wider r h)) (λ next. inl (inr (inl (own ∙ same_Some q r next)))) rest))
                 (s.looked w older at e r follows))
                 i;
-            keyed = λ p h.
-                let before : IsFound done way p → Contains (keys ++ key_of q ∷ []) (key_of p) = λ b. Contains-append_left keys (key_of q ∷ []) (key_of p) (s.keyed p b) in
-                ⊎_elim (λ a. before (inl a))
-                (λ b. ⊎_elim (λ e. subst (λ r. Contains (keys ++ key_of q ∷ []) (key_of r)) (sym own ∙ e) (Contains-push keys (key_of q))) (λ c. before (inr c)) b)
+            listed = λ p h.
+                ⊎_elim (λ a. in_left found (q ∷ []) p (s.listed p (inl a)))
+                (λ b. ⊎_elim (λ e. in_right found (q ∷ []) p (inl (sym own ∙ e))) (λ c. in_left found (q ∷ []) p (s.listed p (inr c))) b)
                 h;
-            found = λ p h.
-                ⊎_elim (λ b. wider p (s.found p b)) (λ e. inr (inl (own ∙ key_tells q p e))) (Contains-push_cases keys (key_of q) (key_of p) h);
+            known = λ p h.
+                ⊎_elim (λ b. wider p (s.known p b)) (λ last. ⊎_elim (λ e. inr (inl (own ∙ e))) (λ none. absurd none) last) (in_parts found (q ∷ []) p h);
             counted = omega arith;
             few = omega arith;
             small = λ w i. ⊎_elim (λ e. subst (λ (l : List ℕ). length l < 2 ^ 64) (sym own_ways ∙ ap (λ (x : Open). x.ways) e) short) (λ r. s.small w r) i;
             ends = λ e n. absurd (cc);
           }
 
-module _ (parts : GraphParts) (bounds : Bounds) (f : Function) (done : List Pair) (o : Open) (way : List Open) (keys : List (List ℕ)) (s : IsSearching parts bounds f None done (o ∷ way) keys) where
+module _ (parts : GraphParts) (bounds : Bounds) (f : Function) (done : List Pair) (o : Open) (way : List Open) (found : List Pair) (s : IsSearching parts bounds f None done (o ∷ way) found) where
   module _ (k : ℕ) (there : slice_get parts.functions k ≡ Some f) (once : IsOnce parts) where
     -- each edge of the pair that was last on the way was followed, so it is finished
-    pub finished : o.ways ≡ [] → IsSearching parts bounds f None (o.pair ∷ done) way keys
+    pub finished : o.ways ≡ [] → IsSearching parts bounds f None (o.pair ∷ done) way found
     finished none =
         let moved : (p : Pair) → IsFound done (o ∷ way) p → IsFound (o.pair ∷ done) way p = λ p h. ⊎_elim (λ a. inl (inr a)) (λ b. ⊎_elim (λ e. inl (inl e)) (λ c. inr c) b) h in
         let back : (p : Pair) → IsFound (o.pair ∷ done) way p → IsFound done (o ∷ way) p = λ p h. ⊎_elim (λ a. ⊎_elim (λ e. inr (inl e)) (λ d. inl d) a) (λ b. inr (inr b)) h in
@@ -152,8 +148,8 @@ module _ (parts : GraphParts) (bounds : Bounds) (f : Function) (done : List Pair
           apart = λ p i d. ⊎_elim (λ e. trail_once parts bounds f k there once o.pair (pairs_of way) s.trail (subst (IsIn (pairs_of way)) (sym e) i)) (λ r. s.apart p (inr i) r) d;
           looked = λ w i at e q follows.
               ⊎_elim (λ left. inl left) (λ rest. inr (⊎_elim (λ h. inl (moved q h)) (λ next. inr next) rest)) (s.looked w (inr i) at e q follows);
-          keyed = λ p h. s.keyed p (back p h);
-          found = λ p h. moved p (s.found p h);
+          listed = λ p h. s.listed p (back p h);
+          known = λ p h. moved p (s.known p h);
           counted = omega arith;
           few = s.few;
           small = λ w i. s.small w (inr i);
@@ -168,8 +164,8 @@ module _ (parts : GraphParts) (bounds : Bounds) (f : Function) (done : List Pair
   by_next at (Some r) is e q follows = ap Some (one_target parts bounds at is.0 e o.pair r q is.1 follows)
 
   -- an edge of the pair that was last on the way is followed, and leads to the pair that comes next, or to none
-  pub followed : (ways : List ℕ) (at : ℕ) (next : Option Pair) → o.ways ≡ ways ++ at ∷ [] → IsNextAlong parts bounds at o.pair next → IsSearching parts bounds f next done (record { pair = o.pair; ways = ways } ∷ way) keys
-  followed ways at next all is =
+  pub followed : (n : ℕ) (ways : List ℕ) (at : ℕ) (next : Option Pair) → o.ways ≡ ways ++ at ∷ [] → IsNextAlong parts bounds at o.pair next → IsSearching parts bounds f next done (record { pair = o.pair; frames = n; ways = ways } ∷ way) found
+  followed n ways at next all is =
       let shorter = ap length all ∙ length-append ways (at ∷ []) in
       let old = s.small o (inl refl) in
       record {
@@ -190,8 +186,8 @@ module _ (parts : GraphParts) (bounds : Bounds) (f : Function) (done : List Pair
             (s.looked o (inl refl) b e q own))
             (λ older. ⊎_elim (λ left. inl left) (λ rest. ⊎_elim (λ h. inr (inl h)) (λ none. absurd (cc)) rest) (s.looked w (inr older) b e q follows))
             i;
-        keyed = s.keyed;
-        found = s.found;
+        listed = s.listed;
+        known = s.known;
         counted = s.counted;
         few = s.few;
         small = λ w i. ⊎_elim (λ e. subst (λ (l : List ℕ). length l < 2 ^ 64) (ap (λ (x : Open). x.ways) e) (omega arith)) (λ r. s.small w (inr r)) i;
@@ -205,11 +201,11 @@ module _ (parts : GraphParts) (bounds : Bounds) (f : Function) (done : List Pair
       by [] h = omega arith
       by (x ∷ w) h = h x (inl refl)
 
-  pub finished_less : work_left keys way < work_left keys (o ∷ way)
-  finished_less = let low = left_small in omega arith
+  pub finished_less : (n : ℕ) → work_left n way < work_left n (o ∷ way)
+  finished_less n = let low = left_small in omega arith
 
-  pub followed_less : (ways : List ℕ) (at : ℕ) → o.ways ≡ ways ++ at ∷ [] → work_left keys (record { pair = o.pair; ways = ways } ∷ way) < work_left keys (o ∷ way)
-  followed_less ways at all = let shorter = ap length all ∙ length-append ways (at ∷ []) in omega arith
+  pub followed_less : (n m : ℕ) (ways : List ℕ) (at : ℕ) → o.ways ≡ ways ++ at ∷ [] → work_left n (record { pair = o.pair; frames = m; ways = ways } ∷ way) < work_left n (o ∷ way)
+  followed_less n m ways at all = let shorter = ap length all ∙ length-append ways (at ∷ []) in omega arith
 
-pub visited_less : (keys : List (List ℕ)) (key : List ℕ) (o : Open) (way : List Open) → length keys + 1 ≤ 50000 → length o.ways < 2 ^ 64 → work_left (keys ++ key ∷ []) (o ∷ way) ≤ work_left keys way
-visited_less keys key o way room short = let long = length-append keys (key ∷ []) in omega arith
+pub visited_less : (n m : ℕ) (o : Open) (way : List Open) → m ≡ n + 1 → m ≤ 50000 → length o.ways < 2 ^ 64 → work_left m (o ∷ way) ≤ work_left n way
+visited_less n m o way grown room short = omega arith

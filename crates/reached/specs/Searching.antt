@@ -12,6 +12,7 @@ use Rattle.reached.specs.declared.bounds.Bounds.{Bounds}
 use Rattle.reached.specs.declared.search.Open.{Open}
 use Rattle.reached.specs.declared.step.Step.{Step}
 use Rattle.reached.specs.declared.search.Search.{Search}
+use Rattle.reached.specs.declared.search.Listed.{Listed}
 use Rattle.reached.specs.Reaching.{edges_of, FollowsWithin, IsNextWithin, IsReachedWithin}
 
 -- ---- steps
@@ -75,13 +76,39 @@ call_words (Some call) = 1 ∷ call ∷ []
 abbrev pub frame_words : FrameContext → List ℕ
 frame_words f = call_words f.call ++ length f.counters ∷ f.counters
 
-abbrev pub frames_words : List FrameContext → List ℕ
-frames_words [] = []
-frames_words (f ∷ callers) = frame_words f ++ frames_words callers
+-- a frame's entry in a table of frames: the number of its callers, and its words
+abbrev pub entry_of : ℕ → FrameContext → List ℕ
+entry_of callers f = callers ∷ frame_words f
 
--- the words by which a pair is found again: no two pairs have the same
-abbrev pub key_of : Pair → List ℕ
-key_of p = p.node ∷ p.context.taken ∷ frames_words p.context.frames
+-- Frames have a number in a table: 0 where there are none, and else 1 more than the place of the first one's entry, which
+-- has the number of its callers.
+abbrev pub AreNumbered : List (List ℕ) → List FrameContext → ℕ → Type 0
+AreNumbered table [] n = n ≡ 0
+AreNumbered table (f ∷ callers) n = (m : ℕ) × AreNumbered table callers m × (place : ℕ) × (n ≡ place + 1) × (slice_get table place ≡ Some (entry_of m f))
+
+-- the words by which a pair is found again, whose frames have a number
+abbrev pub key_by : ℕ → Pair → List ℕ
+key_by n p = p.node ∷ p.context.taken ∷ n ∷ []
+
+-- no entry is at two places
+abbrev pub AreEntries : List (List ℕ) → Type 0
+AreEntries table = (i j : ℕ) (w : List ℕ) → slice_get table i ≡ Some w → slice_get table j ≡ Some w → i ≡ j
+
+-- a table has all that an earlier one had, at the same places, and no entry twice where that had none
+pub record Extends (old new : List (List ℕ)) : Type 0 where
+  pub stays : (i : ℕ) (w : List ℕ) → slice_get old i ≡ Some w → slice_get new i ≡ Some w
+  pub entries : AreEntries old → AreEntries new
+
+-- keys are those of pairs, one by one, by the numbers of their frames
+pub record AreKeys (table keys : List (List ℕ)) (pairs : List Pair) : Type 0 where
+  pub entries : AreEntries table
+  pub long : length keys ≡ length pairs
+  pub each : (i : ℕ) (p : Pair) → slice_get pairs i ≡ Some p → (n : ℕ) × AreNumbered table p.context.frames n × (slice_get keys i ≡ Some (key_by n p))
+
+-- pairs have numbers of their frames, one by one
+pub record HaveNumbers (table : List (List ℕ)) (pairs : List Pair) (numbers : List ℕ) : Type 0 where
+  pub long : length numbers ≡ length pairs
+  pub each : (i : ℕ) (p : Pair) → slice_get pairs i ≡ Some p → (n : ℕ) × (slice_get numbers i ≡ Some n) × AreNumbered table p.context.frames n
 
 -- whether a key was added: at the end, unless it was there
 abbrev pub IsAdded : Bool → List (List ℕ) → List ℕ → List (List ℕ) → Type 0
@@ -121,16 +148,16 @@ IsFound done way p = IsIn done p ⊎ IsIn (pairs_of way) p
 -- A search in depth. The pairs that are finished, the last one first, are in order. Those on the way, the last one first,
 -- are a walk from the entry, and each of their steps was followed unless its edge is left, or it leads to the pair that
 -- comes next.
-pub record IsSearching (parts : GraphParts) (bounds : Bounds) (f : Function) (next : Option Pair) (done : List Pair) (way : List Open) (keys : List (List ℕ)) : Type 0 where
+pub record IsSearching (parts : GraphParts) (bounds : Bounds) (f : Function) (next : Option Pair) (done : List Pair) (way : List Open) (found : List Pair) : Type 0 where
   pub trail : IsTrail parts bounds f (pairs_of way)
   pub ordered : IsOrdered parts bounds done
   pub reached : (p : Pair) → IsIn done p → IsReachedWithin parts bounds f p
   pub apart : (p : Pair) → IsIn (pairs_of way) p → ¬ IsIn done p
   pub looked : (o : Open) → IsIn way o → (at : ℕ) (e : Edge) (q : Pair) → FollowsWithin parts bounds at e o.pair q → Contains o.ways at ⊎ (IsFound done way q ⊎ (next ≡ Some q))
-  pub keyed : (p : Pair) → IsFound done way p → Contains keys (key_of p)
-  pub found : (p : Pair) → Contains keys (key_of p) → IsFound done way p
-  pub counted : length keys ≡ length done + length way
-  pub few : length keys ≤ 50000
+  pub listed : (p : Pair) → IsFound done way p → IsIn found p
+  pub known : (p : Pair) → IsIn found p → IsFound done way p
+  pub counted : length found ≡ length done + length way
+  pub few : length found ≤ 50000
   pub small : (o : Open) → IsIn way o → length o.ways < 2 ^ 64
   pub ends : way ≡ [] → next ≡ None → slice_get done 0 ≡ Some (first_pair f)
 
@@ -140,23 +167,29 @@ ways_left [] = 0
 ways_left (o ∷ way) = length o.ways
 
 -- what a search has still to do, at most: pairs are found, then pairs are finished, then edges are followed
-abbrev pub work_left : List (List ℕ) → List Open → ℕ
-work_left keys way = (50001 - length keys) * 2 ^ 66 + (length way * 2 ^ 64 + ways_left way)
+abbrev pub work_left : ℕ → List Open → ℕ
+work_left found way = (50001 - found) * 2 ^ 66 + (length way * 2 ^ 64 + ways_left way)
 
--- a search from the entry of a function, in a graph in which no walk comes to a pair twice
+-- A search from the entry of a function, in a graph in which no walk comes to a pair twice: its keys are those of the pairs
+-- that were found, and the pairs that it holds have the numbers of their frames beside them.
 pub record IsSearchOf (parts : GraphParts) (bounds : Bounds) (k : ℕ) (f : Function) (next : Option Pair) (s : Search) : Type 0 where
   pub function : slice_get parts.functions k ≡ Some f
   pub once : IsOnce parts
-  pub searching : IsSearching parts bounds f next (reverse s.finished) (reverse s.way) s.found
+  pub found : List Pair
+  pub searching : IsSearching parts bounds f next (reverse s.finished) (reverse s.way) found
+  pub keys : AreKeys s.frames s.keys found
+  pub numbers : HaveNumbers s.frames s.finished s.numbers
+  pub on_way : (o : Open) → IsIn s.way o → AreNumbered s.frames o.pair.context.frames o.frames
 
 -- a pair comes next in a search: it follows the pair that was last on the way, or it is the first
-pub record ComesNext (parts : GraphParts) (bounds : Bounds) (k : ℕ) (f : Function) (q : Pair) (s : Search) : Type 0 where
+pub record ComesNext (parts : GraphParts) (bounds : Bounds) (k : ℕ) (f : Function) (q : Pair) (n : ℕ) (s : Search) : Type 0 where
   pub search : IsSearchOf parts bounds k f (Some q) s
   pub trail : IsTrail parts bounds f (q ∷ pairs_of (reverse s.way))
-  pub begins : reverse s.way ≡ [] → s.found ≡ []
+  pub begins : reverse s.way ≡ [] → s.keys ≡ []
+  pub number : AreNumbered s.frames q.context.frames n
 
 abbrev pub work_of : Search → ℕ
-work_of s = work_left s.found (reverse s.way)
+work_of s = work_left (length s.keys) (reverse s.way)
 
 abbrev pub IsFunctionOf : GraphParts → Function → Type 0
 IsFunctionOf parts f = (k : ℕ) × (slice_get parts.functions k ≡ Some f)
@@ -172,43 +205,49 @@ pub record AreInOrder (parts : GraphParts) (bounds : Bounds) (f : Function) (pai
   pub reached : (p : Pair) → IsIn pairs p → IsReachedWithin parts bounds f p
   pub few : length pairs ≤ 50000
 
--- ---- the steps of a pair, by keys
+-- pairs in order, with their keys and the numbers of their frames
+pub record AreListed (parts : GraphParts) (bounds : Bounds) (f : Function) (l : Listed) : Type 0 where
+  pub order : AreInOrder parts bounds f l.pairs.items
+  pub entries : AreEntries l.frames
+  pub numbers : HaveNumbers l.frames l.pairs.items l.numbers.items
+
+-- ---- the steps of a pair
 
 -- the step from a pair along the edge of a number within the bounds, or that there is none
-abbrev pub IsStepAlong : GraphParts → Bounds → List (List ℕ) → Pair → ℕ → Option Step → Type 0
-IsStepAlong parts bounds keys p at None = (e : Edge) (q : Pair) → ¬ FollowsWithin parts bounds at e p q
-IsStepAlong parts bounds keys p at (Some s) = (s.edge ≡ at) × (e : Edge) × (q : Pair) × FollowsWithin parts bounds at e p q × (slice_get keys s.to ≡ Some (key_of q))
+abbrev pub IsStepAlong : GraphParts → Bounds → List Pair → Pair → ℕ → Option Step → Type 0
+IsStepAlong parts bounds pairs p at None = (e : Edge) (q : Pair) → ¬ FollowsWithin parts bounds at e p q
+IsStepAlong parts bounds pairs p at (Some s) = (s.edge ≡ at) × (e : Edge) × (q : Pair) × FollowsWithin parts bounds at e p q × (slice_get pairs s.to ≡ Some q)
 
--- a step within the bounds from a pair leads to the pair whose key has its number
-abbrev pub LeadsToKey : GraphParts → Bounds → List (List ℕ) → Pair → Step → Type 0
-LeadsToKey parts bounds keys p s = (e : Edge) × (q : Pair) × FollowsWithin parts bounds s.edge e p q × (slice_get keys s.to ≡ Some (key_of q))
+-- a step within the bounds from a pair leads to the pair that has its number
+abbrev pub LeadsWithin : GraphParts → Bounds → List Pair → Pair → Step → Type 0
+LeadsWithin parts bounds pairs p s = (e : Edge) × (q : Pair) × FollowsWithin parts bounds s.edge e p q × (slice_get pairs s.to ≡ Some q)
 
 -- a step along the edge of a number to a pair is in a list
-abbrev pub HasStep : List (List ℕ) → List Step → ℕ → Pair → Type 0
-HasStep keys steps at q = (s : Step) × IsIn steps s × (s.edge ≡ at) × (slice_get keys s.to ≡ Some (key_of q))
+abbrev pub HasStep : List Pair → List Step → ℕ → Pair → Type 0
+HasStep pairs steps at q = (s : Step) × IsIn steps s × (s.edge ≡ at) × (slice_get pairs s.to ≡ Some q)
 
 abbrev pub with_step : List Step → Option Step → List Step
 with_step steps None = steps
 with_step steps (Some s) = steps ++ s ∷ []
 
 -- the steps from a pair along edges of these numbers, which rise
-pub record AreStepsAlong (parts : GraphParts) (bounds : Bounds) (keys : List (List ℕ)) (p : Pair) (ways : List ℕ) (steps : List Step) : Type 0 where
-  pub each : (s : Step) → IsIn steps s → LeadsToKey parts bounds keys p s
+pub record AreStepsAlong (parts : GraphParts) (bounds : Bounds) (pairs : List Pair) (p : Pair) (ways : List ℕ) (steps : List Step) : Type 0 where
+  pub each : (s : Step) → IsIn steps s → LeadsWithin parts bounds pairs p s
   pub along : (s : Step) → IsIn steps s → Contains ways s.edge
-  pub all : (at : ℕ) → Contains ways at → (e : Edge) (q : Pair) → FollowsWithin parts bounds at e p q → HasStep keys steps at q
+  pub all : (at : ℕ) → Contains ways at → (e : Edge) (q : Pair) → FollowsWithin parts bounds at e p q → HasStep pairs steps at q
   pub rising : IsStrictlyIncreasing (edges_of steps)
 
 -- all steps from a pair, by rising number of the edge
-pub record AreStepsTo (parts : GraphParts) (bounds : Bounds) (keys : List (List ℕ)) (p : Pair) (steps : List Step) : Type 0 where
-  pub each : (s : Step) → IsIn steps s → LeadsToKey parts bounds keys p s
-  pub all : (at : ℕ) (e : Edge) (q : Pair) → FollowsWithin parts bounds at e p q → HasStep keys steps at q
+pub record AreStepsTo (parts : GraphParts) (bounds : Bounds) (pairs : List Pair) (p : Pair) (steps : List Step) : Type 0 where
+  pub each : (s : Step) → IsIn steps s → LeadsWithin parts bounds pairs p s
+  pub all : (at : ℕ) (e : Edge) (q : Pair) → FollowsWithin parts bounds at e p q → HasStep pairs steps at q
   pub rising : IsStrictlyIncreasing (edges_of steps)
 
--- each step from a pair within the bounds leads to a pair with one of these keys
-abbrev pub HasKeysOf : GraphParts → Bounds → List (List ℕ) → Pair → Type 0
-HasKeysOf parts bounds keys p = (q : Pair) → IsNextWithin parts bounds p q → Contains keys (key_of q)
+-- each step from a pair within the bounds leads to one of these pairs
+abbrev pub StaysAmong : GraphParts → Bounds → List Pair → Pair → Type 0
+StaysAmong parts bounds pairs p = (q : Pair) → IsNextWithin parts bounds p q → IsIn pairs q
 
 -- a list of steps for each pair
-pub record AreRows (parts : GraphParts) (bounds : Bounds) (keys : List (List ℕ)) (pairs : List Pair) (rows : List (List Step)) : Type 0 where
+pub record AreRows (parts : GraphParts) (bounds : Bounds) (pairs : List Pair) (rows : List (List Step)) : Type 0 where
   pub long : length rows ≡ length pairs
-  pub each : (i : ℕ) (p : Pair) (row : List Step) → slice_get pairs i ≡ Some p → slice_get rows i ≡ Some row → AreStepsTo parts bounds keys p row
+  pub each : (i : ℕ) (p : Pair) (row : List Step) → slice_get pairs i ≡ Some p → slice_get rows i ≡ Some row → AreStepsTo parts bounds pairs p row

@@ -1,6 +1,6 @@
-// The words by which a pair is found again.
+// The words by which frames and pairs are found again.
 ghost use Rattle.std.specs.Prelude.{◌≡◌, ◌++◌, OnOk, IfOk};
-ghost use Rattle.reached.specs.Searching.{frame_words, key_of};
+ghost use Rattle.reached.specs.Searching.{entry_of, frame_words, key_by};
 
 use crate::pair::{CallFrame, NodeInContext};
 use fq_core::Memory;
@@ -26,15 +26,23 @@ fn add_frame(key: &mut Vec<u32>, frame: &CallFrame) -> Result<(), Memory>
     Ok(())
 }
 
-/// The key of a pair. It has the words of all frames; a table of callers would make it shorter.
-pub(crate) fn key_of(alloc: Global, pair: &NodeInContext) -> Result<Vec<u32>, Memory>
-    ensures { IfOk result (λ key. key.items ≡ key_of pair.now) }
+/// A frame's entry in a table of frames, with the number of its callers.
+pub(crate) fn entry_of(alloc: Global, callers: u32, frame: &CallFrame) -> Result<Vec<u32>, Memory>
+    ensures { IfOk result (λ entry. entry.items ≡ entry_of callers frame.now) }
+{
+    let mut entry = Vec::new(alloc);
+    entry.push(callers)?;
+    add_frame(&mut entry, frame)?;
+    Ok(entry)
+}
+
+/// The key of a pair whose frames have a number.
+pub(crate) fn key_by(alloc: Global, number: u32, pair: &NodeInContext) -> Result<Vec<u32>, Memory>
+    ensures { IfOk result (λ key. key.items ≡ key_by number pair.now) }
 {
     let mut key = Vec::new(alloc);
     key.push(pair.node())?;
     key.push(pair.taken())?;
-    for frame in pair.frames().iter() {
-        add_frame(&mut key, frame)?;
-    }
+    key.push(number)?;
     Ok(key)
 }

@@ -1,6 +1,6 @@
 // Keys in the order in which they were added.
-ghost use Rattle.std.specs.Prelude.{◌≡◌, [], length, slice_get, Contains, IfOk, MatchOption};
-ghost use Rattle.reached.specs.Searching.{IsAdded};
+ghost use Rattle.std.specs.Prelude.{◌≡◌, ℕ, List, [], ◌∷◌, length, slice_get, Contains, IfOk, OnOk, MatchOption};
+ghost use Rattle.reached.specs.Searching.{Extends, IsAdded};
 
 use fq_core::Memory;
 use indexmap::IndexSet;
@@ -42,6 +42,28 @@ impl Keys {
     {
         let (_, added) = self.set.insert_full(key)?;
         Ok(added)
+    }
+
+    /// The number of a key, which is added at the end unless it is there.
+    pub(crate) fn place(&mut self, key: Vec<u32>) -> Result<usize, Memory>
+        ensures place { IfOk result (λ n. slice_get self.new n ≡ Some key.items) }
+        ensures extends { OnOk result (Extends self.old self.new) }
+    {
+        let (number, _added) = self.set.insert_full(key)?;
+        Ok(number)
+    }
+
+    /// The first word of the key of a number.
+    pub(crate) fn first_word(&self, number: usize) -> u32
+        ensures { (word : ℕ) (rest : List ℕ) → slice_get self.now number ≡ Some (word ∷ rest) → result ≡ word }
+    {
+        match self.set.get_index(number) {
+            None => 0,
+            Some(key) => match key.first() {
+                None => 0,
+                Some(word) => *word,
+            },
+        }
     }
 
     /// The number of a key.

@@ -5,12 +5,14 @@
 //! pairs so that each step leads to a later one, and refuses, with code 80, where there are more than 50,000. The
 //! definitions are in specs/Reaching, and what the search keeps is in specs/Searching.
 //!
-//! Frames share their callers, so a step costs one cell. But the key of a pair has the words of all its frames, and each
-//! context is compared with the bounds frame by frame: a table of callers would spare both.
+//! Frames share their callers, so a step costs one cell. A table gives each row of frames a number, from the words of the
+//! running frame and the number of its callers, and the key by which a pair is found again has that number alone. A
+//! context is compared with the bounds frame by frame.
 #![tactic(auto)]
 
 mod bounds;
 mod context;
+mod frames;
 mod key;
 mod keys;
 pub mod laws;

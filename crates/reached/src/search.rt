@@ -4,14 +4,15 @@ ghost use Rattle.cfa.specs.declared.parts.Function.{Function as OneFunction};
 ghost use Rattle.cfa.specs.Contexts.{IsOnce};
 ghost use Rattle.reached.specs.declared.bounds.Bounds.{Bounds as WalkBounds};
 ghost use Rattle.reached.specs.Reaching.{IsReachedFault};
-ghost use Rattle.reached.specs.Searching.{AreInOrder, IsBetween, IsFunctionOf, IsSearchOf, ComesNext, work_of};
+ghost use Rattle.reached.specs.Searching.{AreListed, IsBetween, IsFunctionOf, IsSearchOf, ComesNext, work_of};
 
 use crate::bounds::Bounds;
 use crate::context::first_pair;
-use crate::key::key_of;
+use crate::frames::first_number;
+use crate::key::key_by;
 use crate::keys::Keys;
 use crate::pair::NodeInContext;
-use crate::ways::{next_along, ways};
+use crate::ways::{numbered_along, ways};
 use cfa::{Function, Graph};
 use containers::Vector;
 use fq_core::{Fault, Place, Refusal};
@@ -27,44 +28,68 @@ const TOO_MANY_PAIRS: u16 = 80;
 #[derive(Drop)]
 pub(crate) struct Open {
     pub(crate) pair: NodeInContext,
+    /// The number of its frames.
+    pub(crate) frames: u32,
     pub(crate) ways: Vector<u32>,
 }
 
 /// A search in depth, with a stack of its own.
 #[derive(Drop)]
 pub(crate) struct Search {
+    /// The entries of all frames that were met.
+    pub(crate) frames: Keys,
     /// The keys of all pairs that were found.
-    pub(crate) found: Keys,
+    pub(crate) keys: Keys,
     /// The pairs of which all edges were followed, in the order in which that was done.
     pub(crate) finished: Vector<NodeInContext>,
+    /// The numbers of their frames.
+    pub(crate) numbers: Vector<u32>,
     /// The pairs on the way from the first one to the one that is looked at.
     pub(crate) way: Vector<Open>,
+}
+
+/// The pairs that are reached, so ordered that each step leads to a later one.
+#[derive(Drop)]
+pub(crate) struct Listed {
+    pub(crate) pairs: Vec<NodeInContext>,
+    /// The numbers of their frames.
+    pub(crate) numbers: Vec<u32>,
+    /// The entries of all frames that were met.
+    pub(crate) frames: Keys,
 }
 
 impl Search {
     // Nothing was found yet.
     fn new(alloc: Global) -> Search
-        ensures { (result.found ≡ []) × (result.finished ≡ []) × (result.way ≡ []) }
+        ensures { (result.frames ≡ []) × (result.keys ≡ []) × (result.finished ≡ []) × (result.numbers ≡ []) × (result.way ≡ []) }
     {
         Search {
-            found: Keys::new(alloc),
+            frames: Keys::new(alloc),
+            keys: Keys::new(alloc),
             finished: Vector::new(alloc),
+            numbers: Vector::new(alloc),
             way: Vector::new(alloc),
         }
     }
 
     // Goes on to the pair that comes next, unless it was found before. It cannot be on the way, since no walk comes to a
     // pair twice.
-    fn visit(&mut self, alloc: Global, graph: &Graph, pair: NodeInContext) -> Result<(), Fault>
-        ensures ok { OnOk result ((bounds : WalkBounds) (k : ℕ) (f : OneFunction) → ComesNext graph.now bounds k f pair self.old → IsSearchOf graph.now bounds k f None self.new) }
+    fn visit(
+        &mut self,
+        alloc: Global,
+        graph: &Graph,
+        pair: NodeInContext,
+        frames: u32,
+    ) -> Result<(), Fault>
+        ensures ok { OnOk result ((bounds : WalkBounds) (k : ℕ) (f : OneFunction) → ComesNext graph.now bounds k f pair frames self.old → IsSearchOf graph.now bounds k f None self.new) }
         ensures work { OnOk result (work_of self.new ≤ work_of self.old) }
-        ensures err { IfErr result (λ fault. (bounds : WalkBounds) (k : ℕ) (f : OneFunction) → ComesNext graph.now bounds k f pair self.old → IsReachedFault graph.now bounds f fault) }
+        ensures err { IfErr result (λ fault. (bounds : WalkBounds) (k : ℕ) (f : OneFunction) → ComesNext graph.now bounds k f pair frames self.old → IsReachedFault graph.now bounds f fault) }
     {
-        let key = key_of(alloc, &pair)?;
-        if !self.found.add(key)? {
+        let key = key_by(alloc, frames, &pair)?;
+        if !self.keys.add(key)? {
             return Ok(());
         }
-        if self.found.len() > MOST_PAIRS {
+        if self.keys.len() > MOST_PAIRS {
             return Err(Fault::Refused(Refusal {
                 code: TOO_MANY_PAIRS,
                 place: Place::Limit {
@@ -74,7 +99,7 @@ impl Search {
         }
         let ways = Vector::from_vec(ways(alloc, graph, &pair)?);
         let _left = ways.len();
-        self.way.push(Open { pair, ways })?;
+        self.way.push(Open { pair, frames, ways })?;
         Ok(())
     }
 
@@ -88,18 +113,31 @@ impl Search {
         let Some(top) = self.way.pop() else {
             return Ok(());
         };
-        let Open { pair, mut ways } = top;
+        let Open {
+            pair,
+            frames,
+            mut ways,
+        } = top;
         match ways.pop() {
             None => {
                 self.finished.push(pair)?;
+                self.numbers.push(frames)?;
                 Ok(())
             }
             Some(at) => {
-                let next = next_along(alloc, graph, bounds, &pair, at)?;
-                self.way.push(Open { pair, ways })?;
+                let next = numbered_along(
+                    alloc,
+                    graph,
+                    bounds,
+                    &mut self.frames,
+                    &pair,
+                    frames,
+                    at,
+                )?;
+                self.way.push(Open { pair, frames, ways })?;
                 match next {
                     None => Ok(()),
-                    Some(next) => self.visit(alloc, graph, next),
+                    Some((next, number)) => self.visit(alloc, graph, next, number),
                 }
             }
         }
@@ -115,7 +153,8 @@ fn begin(alloc: Global, graph: &Graph, function: &Function) -> Result<Search, Fa
 {
     let first = first_pair(alloc, function)?;
     let mut search = Search::new(alloc);
-    match search.visit(alloc, graph, first) {
+    let number = first_number(alloc, &mut search.frames, first.frames())?;
+    match search.visit(alloc, graph, first, number) {
         Err(fault) => Err(fault),
         Ok(()) => Ok(search),
     }
@@ -152,19 +191,30 @@ pub(crate) fn pairs_in_order(
     graph: &Graph,
     bounds: &Bounds,
     function: &Function,
-) -> Result<Vec<NodeInContext>, Fault>
+) -> Result<Listed, Fault>
     requires once { IsOnce graph.now }
     requires there { IsFunctionOf graph.now function.now }
-    ensures ok { IfOk result (λ pairs. AreInOrder graph.now bounds.now function.now pairs.items) }
+    ensures ok { IfOk result (λ listed. AreListed graph.now bounds.now function.now listed) }
     ensures err { IfErr result (λ fault. IsReachedFault graph.now bounds.now function.now fault) }
 {
     match search_from(alloc, graph, bounds, function) {
         Err(fault) => Err(fault),
         Ok(search) => {
-            let Search { finished, .. } = search;
+            let Search {
+                finished,
+                numbers,
+                frames,
+                ..
+            } = search;
             let mut pairs = finished.into_vec();
             pairs.reverse();
-            Ok(pairs)
+            let mut numbers = numbers.into_vec();
+            numbers.reverse();
+            Ok(Listed {
+                pairs,
+                numbers,
+                frames,
+            })
         }
     }
 }

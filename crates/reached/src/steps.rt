@@ -1,56 +1,77 @@
 // The steps of the pairs.
-ghost use Rattle.std.specs.Prelude.{◌≡◌, ◌≤◌, length, map, IfOk, OnOk};
+ghost use Rattle.std.specs.Prelude.{◌≡◌, ◌<◌, slice_get, vec_len, Some, IfOk, OnOk};
 ghost use Rattle.std.specs.List.Sorted.{IsStrictlyIncreasing};
 ghost use Rattle.reached.specs.Reaching.{AreDistinct};
-ghost use Rattle.reached.specs.Searching.{AreRows, AreStepsAlong, AreStepsTo, HasKeysOf, IsIn, IsStepAlong, key_of, with_step};
+ghost use Rattle.reached.specs.Searching.{AreEntries, AreKeys, AreRows, AreStepsAlong, AreStepsTo, Extends, HaveNumbers, IsStepAlong, with_step};
+ghost use Rattle.reached.specs.Placing.{ArePlaces};
 ghost use Rattle.cfa.specs.Contexts.{Pair};
 
 use crate::bounds::Bounds;
-use crate::key::key_of;
+use crate::key::key_by;
 use crate::keys::Keys;
 use crate::pair::NodeInContext;
 use crate::step::Step;
-use crate::ways::{next_along, ways};
+use crate::ways::{numbered_along, ways};
 use cfa::Graph;
 use containers::Vector;
 use fq_core::Memory;
 use std::alloc::Global;
 
-/// The keys of pairs, in their order.
-pub(crate) fn keys_of(alloc: Global, pairs: &[NodeInContext]) -> Result<Keys, Memory>
-    requires { AreDistinct pairs.now }
-    ensures { IfOk result (λ keys. keys ≡ map key_of pairs.now) }
+/// The keys of pairs, in their order, from the numbers of their frames.
+pub(crate) fn keys_of(
+    alloc: Global,
+    table: &Keys,
+    pairs: &[NodeInContext],
+    numbers: &[u32],
+) -> Result<Keys, Memory>
+    requires apart { AreDistinct pairs.now }
+    requires entries { AreEntries table.now }
+    requires numbers { HaveNumbers table.now pairs.now numbers.now }
+    ensures { IfOk result (λ keys. AreKeys table.now keys pairs.now) }
 {
     let mut keys = Keys::new(alloc);
-    for pair in pairs {
-        let key = key_of(alloc, pair)?;
+    for (at, pair) in pairs.iter().enumerate() {
+        let key = key_by(alloc, numbers[at], pair)?;
         let _added = keys.add(key)?;
     }
     Ok(keys)
 }
 
-// The step from a pair along an edge, if the bounds allow one.
+/// Pairs, by whose keys steps find them.
+#[derive(Drop)]
+pub(crate) struct Places {
+    pub(crate) pairs: Vec<NodeInContext>,
+    /// The numbers of their frames.
+    pub(crate) numbers: Vec<u32>,
+    pub(crate) keys: Keys,
+}
+
+// The step from the pair of a number along an edge, if the bounds allow one.
 fn step_along(
     alloc: Global,
     graph: &Graph,
     bounds: &Bounds,
-    keys: &Keys,
-    pair: &NodeInContext,
+    table: &mut Keys,
+    places: &Places,
+    from: usize,
     at: u32,
 ) -> Result<Option<Step>, Memory>
-    requires few { length keys.now ≤ 50000 }
-    requires closed { HasKeysOf graph.now bounds.now keys.now pair.now }
-    ensures { IfOk result (λ step. IsStepAlong graph.now bounds.now keys.now pair.now at step) }
+    requires places { ArePlaces graph.now bounds.now table.old places.now }
+    requires from { from < vec_len places.now.pairs }
+    ensures step { IfOk result (λ step. (p : Pair) → slice_get places.now.pairs.items from ≡ Some p → IsStepAlong graph.now bounds.now places.now.pairs.items p at step) }
+    ensures extends { OnOk result (Extends table.old table.new) }
 {
-    match next_along(alloc, graph, bounds, pair, at)? {
+    let pair = &places.pairs[from];
+    let number = places.numbers[from];
+    match numbered_along(alloc, graph, bounds, table, pair, number, at)? {
         None => Ok(None),
-        Some(next) => {
-            let key = key_of(alloc, &next)?;
-            match keys.number_of(&key) {
+        Some((next, number)) => {
+            let key = key_by(alloc, number, &next)?;
+            match places.keys.number_of(&key) {
                 None => unreachable!(),
-                Some(number) => Ok(Some(Step {
+                Some(to) => Ok(Some(Step {
                     edge: at,
-                    to: number as u32,
+                    to: to as u32,
                 })),
             }
         }
@@ -69,42 +90,46 @@ fn add(steps: &mut Vector<Step>, step: Option<Step>) -> Result<(), Memory>
     }
 }
 
-// The steps from a pair along edges, which rise.
+// The steps from the pair of a number along edges, which rise.
 fn steps_along(
     alloc: Global,
     graph: &Graph,
     bounds: &Bounds,
-    keys: &Keys,
-    pair: &NodeInContext,
+    table: &mut Keys,
+    places: &Places,
+    from: usize,
     ways: &[u32],
 ) -> Result<Vector<Step>, Memory>
-    requires few { length keys.now ≤ 50000 }
-    requires closed { HasKeysOf graph.now bounds.now keys.now pair.now }
+    requires places { ArePlaces graph.now bounds.now table.old places.now }
+    requires from { from < vec_len places.now.pairs }
     requires rising { IsStrictlyIncreasing ways.now }
-    ensures { IfOk result (λ steps. AreStepsAlong graph.now bounds.now keys.now pair.now ways.now steps) }
+    ensures steps { IfOk result (λ steps. (p : Pair) → slice_get places.now.pairs.items from ≡ Some p → AreStepsAlong graph.now bounds.now places.now.pairs.items p ways.now steps) }
+    ensures places_after { OnOk result (ArePlaces graph.now bounds.now table.new places.now) }
 {
     let mut steps = Vector::new(alloc);
     for at in ways {
-        let step = step_along(alloc, graph, bounds, keys, pair, *at)?;
+        let step = step_along(alloc, graph, bounds, table, places, from, *at)?;
         add(&mut steps, step)?;
     }
     Ok(steps)
 }
 
-// All steps from a pair.
+// All steps from the pair of a number.
 fn steps_of(
     alloc: Global,
     graph: &Graph,
     bounds: &Bounds,
-    keys: &Keys,
-    pair: &NodeInContext,
+    table: &mut Keys,
+    places: &Places,
+    from: usize,
 ) -> Result<Vector<Step>, Memory>
-    requires few { length keys.now ≤ 50000 }
-    requires closed { HasKeysOf graph.now bounds.now keys.now pair.now }
-    ensures { IfOk result (λ steps. AreStepsTo graph.now bounds.now keys.now pair.now steps) }
+    requires places { ArePlaces graph.now bounds.now table.old places.now }
+    requires from { from < vec_len places.now.pairs }
+    ensures steps { IfOk result (λ steps. (p : Pair) → slice_get places.now.pairs.items from ≡ Some p → AreStepsTo graph.now bounds.now places.now.pairs.items p steps) }
+    ensures places_after { OnOk result (ArePlaces graph.now bounds.now table.new places.now) }
 {
-    let ways = ways(alloc, graph, pair)?;
-    let steps = steps_along(alloc, graph, bounds, keys, pair, &ways)?;
+    let ways = ways(alloc, graph, &places.pairs[from])?;
+    let steps = steps_along(alloc, graph, bounds, table, places, from, &ways)?;
     Ok(steps)
 }
 
@@ -113,16 +138,15 @@ pub(crate) fn rows_of(
     alloc: Global,
     graph: &Graph,
     bounds: &Bounds,
-    keys: &Keys,
-    pairs: &[NodeInContext],
+    table: &mut Keys,
+    places: &Places,
 ) -> Result<Vec<Vector<Step>>, Memory>
-    requires few { length keys.now ≤ 50000 }
-    requires closed { (p : Pair) → IsIn pairs.now p → HasKeysOf graph.now bounds.now keys.now p }
-    ensures { IfOk result (λ rows. AreRows graph.now bounds.now keys.now pairs.now rows.items) }
+    requires { ArePlaces graph.now bounds.now table.old places.now }
+    ensures { IfOk result (λ rows. AreRows graph.now bounds.now places.now.pairs.items rows.items) }
 {
     let mut rows = Vec::new(alloc);
-    for pair in pairs {
-        let row = steps_of(alloc, graph, bounds, keys, pair)?;
+    for from in 0..places.pairs.len() {
+        let row = steps_of(alloc, graph, bounds, table, places, from)?;
         rows.push(row)?;
     }
     Ok(rows)

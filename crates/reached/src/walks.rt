@@ -5,9 +5,9 @@ ghost use Rattle.cfa.specs.Contexts.{IsOnce};
 ghost use Rattle.reached.specs.Reaching.{AreReached, IsReachedFault};
 
 use crate::bounds::Bounds;
-use crate::search::pairs_in_order;
+use crate::search::{Listed, pairs_in_order};
 use crate::step::Reached;
-use crate::steps::{keys_of, rows_of};
+use crate::steps::{Places, keys_of, rows_of};
 use cfa::Graph;
 use containers::Vector;
 use fq_core::Fault;
@@ -30,12 +30,23 @@ pub fn reached(alloc: Global, graph: &Graph, entry: u32, bounds: Bounds) -> Resu
     ensures refused { IfErr result (λ fault. (f : OneFunction) → slice_get graph.now.functions entry ≡ Some f → IsReachedFault graph.now bounds f fault) }
 {
     let function = &graph.functions()[entry as usize];
-    let pairs = match pairs_in_order(alloc, graph, &bounds, function) {
+    let listed = match pairs_in_order(alloc, graph, &bounds, function) {
         Err(fault) => return Err(fault),
-        Ok(pairs) => pairs,
+        Ok(listed) => listed,
     };
-    let keys = keys_of(alloc, &pairs)?;
-    let rows = rows_of(alloc, graph, &bounds, &keys, &pairs)?;
+    let Listed {
+        pairs,
+        numbers,
+        mut frames,
+    } = listed;
+    let keys = keys_of(alloc, &frames, &pairs, &numbers)?;
+    let places = Places {
+        pairs,
+        numbers,
+        keys,
+    };
+    let rows = rows_of(alloc, graph, &bounds, &mut frames, &places)?;
+    let Places { pairs, .. } = places;
     Ok(Reached {
         pairs: Vector::from_vec(pairs),
         steps: Vector::from_vec(rows),

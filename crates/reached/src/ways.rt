@@ -1,12 +1,15 @@
 // The ways on from a pair.
-ghost use Rattle.std.specs.Prelude.{◌≡◌, ◌<◌, ◌↔◌, length, IsTrue, IfOk};
+ghost use Rattle.std.specs.Prelude.{◌≡◌, ◌<◌, ◌↔◌, length, IsTrue, IfOk, OnOk, IfSome};
+ghost use Rattle.std.specs.Option.{option_map};
 ghost use Rattle.std.specs.List.Sorted.{IsStrictlyIncreasing};
 ghost use Rattle.cfa.specs.Graph.{IsExit};
 ghost use Rattle.cfa.specs.Table.{outgoing_of};
-ghost use Rattle.reached.specs.Searching.{return_after, running_call, AreWays, IsNextAlong};
+ghost use Rattle.reached.specs.Searching.{return_after, running_call, AreNumbered, AreWays, Extends, IsNextAlong};
 
 use crate::bounds::Bounds;
 use crate::context::{is_within, leaves, pair_along, running_call};
+use crate::frames::number_along;
+use crate::keys::Keys;
 use crate::pair::NodeInContext;
 use cfa::Graph;
 use cfa::laws::outgoing_edges;
@@ -101,5 +104,31 @@ pub(crate) fn next_along(
                 Ok(None)
             }
         }
+    }
+}
+
+/// The pair that follows along an edge within the bounds, if one does, with the number of its frames.
+pub(crate) fn numbered_along(
+    alloc: Global,
+    graph: &Graph,
+    bounds: &Bounds,
+    table: &mut Keys,
+    pair: &NodeInContext,
+    number: u32,
+    at: u32,
+) -> Result<Option<(NodeInContext, u32)>, Memory>
+    ensures next { IfOk result (λ next. IsNextAlong graph.now bounds.now at pair.now (option_map (λ n. n.0) next)) }
+    ensures number { IfOk result (λ next. AreNumbered table.old pair.now.context.frames number → IfSome next (λ n. AreNumbered table.new n.0.context.frames n.1)) }
+    ensures extends { OnOk result (Extends table.old table.new) }
+{
+    match next_along(alloc, graph, bounds, pair, at)? {
+        None => Ok(None),
+        Some(next) => match graph.edges().get(at as usize) {
+            None => Ok(None),
+            Some(edge) => {
+                let number = number_along(alloc, table, edge, number, next.frames())?;
+                Ok(Some((next, number)))
+            }
+        },
     }
 }

@@ -1,6 +1,6 @@
-use Rattle.std.proofs.Common.{◌≡◌, map, take}
-use Rattle.reached.specs.Searching.{key_of}
+use Rattle.std.proofs.Common.{take}
+use Rattle.reached.specs.Searching.{AreKeys}
 use Rattle.reached.proofs.steps.keys_of.Given as goal
 
-abbrev pub invariant-loop-pair : goal.invariant-loop-pair
-invariant-loop-pair l = l.keys ≡ map key_of (take l.pair-index l.pairs)
+abbrev pub invariant-loop-at : goal.invariant-loop-at
+invariant-loop-at l = AreKeys l.table l.keys (take l.at l.pairs)

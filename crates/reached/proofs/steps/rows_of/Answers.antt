@@ -1,16 +1,27 @@
-use Rattle.std.proofs.Common.{refl}
-use Rattle.cfa.proofs.Eaches.{read_at}
-use Rattle.reached.proofs.Lists.{in_at}
-use Rattle.reached.proofs.StepLaws.{rows_more}
+use Rattle.std.proofs.Common.{◌≡◌, ◌<◌, length, sym, subst, arith}
+use Rattle.cfa.proofs.Eaches.{element_at}
+use Rattle.reached.proofs.StepLaws.{AreRowsBelow, no_rows, rows_more, rows_all}
 use Rattle.reached.proofs.steps.rows_of.Goals as goal
 
-pub steps_of-requires-clause-closed : goal.steps_of-requires-clause-closed
-steps_of-requires-clause-closed c =
-    let there = read_at c.args.pairs.now c.args.pairs.now refl c.loop-pair.pair-index c.pair-item.result c.loop-pair-test.true c.pair-item.is in
-    c.requires.closed c.pair-item.result (in_at c.args.pairs.now c.loop-pair.pair-index c.pair-item.result there)
+pub loop-from-init : goal.loop-from-init
+loop-from-init c = (
+  c.requires,
+  subst (AreRowsBelow c.args.graph.now c.args.bounds.now c.args.places.now.pairs.items 0) (sym c.new-rows.ensures.items) (no_rows c.args.graph.now c.args.bounds.now c.args.places.now.pairs.items),
+)
 
-pub loop-pair-preserved : goal.loop-pair-preserved
-loop-pair-preserved c =
-    let there = read_at c.args.pairs.now c.args.pairs.now refl c.loop-pair.pair-index c.pair-item.result c.loop-pair-test.true c.pair-item.is in
-    rows_more c.args.graph.now c.args.bounds.now c.args.keys.now c.args.pairs.now c.loop-pair.pair-index c.loop-pair.rows.items c.push.new.self.items c.pair-item.result c.in_ok-row.row there c.loop-pair.invariant c.in_ok-row.ensures
-    c.in_ok-push.ensures.items
+pub steps_of-requires-clause-places : goal.steps_of-requires-clause-places
+steps_of-requires-clause-places c = c.loop-from.invariant.0
+
+pub loop-from-preserved : goal.loop-from-preserved
+loop-from-preserved c =
+    let inside : c.loop-from.from < length c.args.places.now.pairs.items = omega arith in
+    let there = element_at c.args.places.now.pairs.items c.loop-from.from inside in (
+      c.in_ok-row.ensures.places_after,
+      rows_more c.args.graph.now c.args.bounds.now c.args.places.now.pairs.items c.loop-from.from c.loop-from.rows.items c.push.new.self.items there.0 c.in_ok-row.row there.1 c.loop-from.invariant.1 (c.in_ok-row.ensures.steps there.0 there.1)
+          c.in_ok-push.ensures.items,
+    )
+
+pub returns : goal.returns
+returns c =
+    let all : c.loop-from.from ≡ length c.args.places.now.pairs.items = omega arith in
+    rows_all c.args.graph.now c.args.bounds.now c.args.places.now.pairs.items c.loop-from.from c.loop-from.rows.items all c.loop-from.invariant.1

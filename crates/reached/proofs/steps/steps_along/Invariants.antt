@@ -1,6 +1,10 @@
-use Rattle.std.proofs.Common.{take}
+use Rattle.std.proofs.Common.{◌≡◌, Some, take}
+use Rattle.std.specs.Prelude.{slice_get}
+use Rattle.cfa.specs.Contexts.{Pair}
+use Rattle.reached.specs.Placing.{ArePlaces}
 use Rattle.reached.specs.Searching.{AreStepsAlong}
 use Rattle.reached.proofs.steps.steps_along.Given as goal
 
 abbrev pub invariant-loop-at : goal.invariant-loop-at
-invariant-loop-at l = AreStepsAlong l.graph l.bounds l.keys l.pair (take l.at-index l.ways) l.steps
+invariant-loop-at l =
+    ArePlaces l.graph l.bounds l.table l.places × ((p : Pair) → slice_get l.places.pairs.items l.from ≡ Some p → AreStepsAlong l.graph l.bounds l.places.pairs.items p (take l.at-index l.ways) l.steps)

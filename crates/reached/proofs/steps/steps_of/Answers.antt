@@ -1,11 +1,14 @@
-use Rattle.std.proofs.Common.{sym, subst}
-use Rattle.std.specs.List.Sorted.{IsStrictlyIncreasing}
+use Rattle.std.proofs.Common.{◌<◌, length, refl, sym, ◌∙◌, subst, arith}
+use Rattle.std.proofs.lemmas.Option.{same_Some}
+use Rattle.cfa.proofs.Eaches.{read_at}
+use Rattle.reached.specs.Searching.{AreWays}
 use Rattle.reached.proofs.StepLaws.{all_steps}
 use Rattle.reached.proofs.steps.steps_of.Goals as goal
 
-pub steps_along-requires-clause-rising : goal.steps_along-requires-clause-rising
-steps_along-requires-clause-rising c = subst IsStrictlyIncreasing (sym c.deref.ensures.value) c.in_ok-ways.ensures.rising
-
-pub returns : goal.returns
-returns c =
-    all_steps c.args.graph.now c.args.bounds.now c.args.keys.now c.args.pair.now c.in_ok-ways.ways.items c.deref.result.now c.in_ok-steps.steps c.deref.ensures.value c.in_ok-ways.ensures.all c.in_ok-steps.ensures
+pub returns-clause-steps : goal.returns-clause-steps
+returns-clause-steps c p own =
+    let inside : c.args.from < length c.args.places.now.pairs.items = omega arith in
+    let there = read_at c.args.places.now.pairs.items c.args.places.now.pairs.items refl c.args.from c.index.result.now inside c.index.ensures in
+    let same = same_Some c.index.result.now p (sym there ∙ own) in
+    all_steps c.args.graph.now c.args.bounds.now c.args.places.now.pairs.items p c.in_ok-ways.ways.items c.deref.result.now c.in_ok-steps.steps c.deref.ensures.value (subst (λ r. AreWays c.args.graph.now r c.in_ok-ways.ways.items) same c.in_ok-ways.ensures.all)
+    (c.in_ok-steps.ensures.steps p own)
