@@ -14,4 +14,5 @@ mod scopes;
 mod size;
 mod tally;
 
+pub use operations::node_weights;
 pub use size::size_of_unwinding;

@@ -87,9 +87,9 @@ fn operation_weight(graph: &Graph, operation: &Operation) -> u64
     }
 }
 
-/// By node, the weight of the operations that leave it.
+/// By node, the weight of the operations that leave it, as it is counted: up to 1 above the limit of the size sum.
 #[tactic(auto, unfolding(crate::specs::Capped::capped))]
-pub(crate) fn node_weights(alloc: Global, graph: &Graph) -> Result<Vec<u64>, Memory>
+pub fn node_weights(alloc: Global, graph: &Graph) -> Result<Vec<u64>, Memory>
     ensures { IfOk result (λ table. (node : ℕ) → slice_index table.items node ≡ capped (operations_weight graph.now node)) }
 {
     graph.well_formed();
