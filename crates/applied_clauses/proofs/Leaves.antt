@@ -9,7 +9,8 @@ use Rattle.fq_core.specs.declared.refusal.Fault.TheVariants as fault
 use Rattle.applied_clauses.specs.declared.applied_tree.AppliedTree.{AppliedTree}
 use Rattle.fql_read.specs.Usable.{is_within}
 use Rattle.fql_read.specs.declared.cover.CoverTree.{CoverTree, the_lemmas}
-use Rattle.fql_read.specs.declared.cover.CoverTree.TheVariants.{Dot, Plus, Arrow}
+use Rattle.fql_read.specs.declared.cover.CoverTree.TheVariants.{Nodes, Edges, Dot, Plus, Arrow}
+use Rattle.fql_read.specs.declared.cover.Split.{Split}
 use Rattle.fql_read.specs.declared.filter.Filter.{Filter}
 use Rattle.filters.specs.Kept.{kept_by}
 use Rattle.filters.specs.Parts.{Part, is_among, part_of}
@@ -78,11 +79,11 @@ module _ (parts : GraphParts) (a : Part) where
       (λ b l. list_all_by p.edge (is_edge parts) path edge_there l))))
 
 module _ (parts : GraphParts) (base : Part) (f : Filter) (count : ℕ) where
-  pub nodes_there : tree_within parts count (nodes (kept parts base f).nodes) ≡ true
-  nodes_there = numbers_below _ (length parts.nodes)
+  pub nodes_there : (is : List ℕ) → list_all (λ i. nat_lt i count) is ≡ true → tree_within parts count (nodes (kept parts base f).nodes is) ≡ true
+  nodes_there is h = λ i. numbers_below (kept_by parts f base).node (length parts.nodes) i && h i
 
-  pub edges_there : tree_within parts count (edges (kept parts base f).edges) ≡ true
-  edges_there = numbers_below _ (length parts.edges)
+  pub edges_there : (is : List ℕ) → list_all (λ i. nat_lt i count) is ≡ true → tree_within parts count (edges (kept parts base f).edges is) ≡ true
+  edges_there is h = λ i. numbers_below (kept_by parts f base).edge (length parts.edges) i && h i
 
   pub paths_there : (k : ℕ) → tree_within parts count (paths (paths_of parts (kept parts base f) k)) ≡ true
   paths_there k =
@@ -90,7 +91,16 @@ module _ (parts : GraphParts) (base : Part) (f : Filter) (count : ℕ) where
       all_kept (is_path parts (part_of (target_of parts a)) k) (has_edges parts) (ordered_lists (length parts.edges) (k * length parts.edges)) (path_there parts a k)
 
 pub anywhere_there : (parts : GraphParts) (base : Part) (count : ℕ) → tree_within parts count (anywhere parts base) ≡ true
-anywhere_there parts base count = numbers_below base.edge (length parts.edges)
+anywhere_there parts base count = λ i. numbers_below base.edge (length parts.edges) i && true
+
+-- the predicates of PRED are there where the clause is within its ranges
+pub within_nodes : (count : ℕ) (s : Split) → is_within count (Nodes s) ≡ list_all (λ i. nat_lt i count) s.predicates
+unfolding is_within
+within_nodes count s = search (rules, the_lemmas)
+
+pub within_edges : (count : ℕ) (s : Split) → is_within count (Edges s) ≡ list_all (λ i. nat_lt i count) s.predicates
+unfolding is_within
+within_edges count s = search (rules, the_lemmas)
 
 -- both parts of a joined clause name what is there
 pub both_there : (a b first second : Bool) → IsTrue (first && second) → (IsTrue first → a ≡ true) → (IsTrue second → b ≡ true) → (a && b) ≡ true

@@ -1,6 +1,6 @@
 -- What the letters of a clause stand for in a control flow automaton (FQL: Holzer, Schallhart, Tautschnig, Veith, VMCAI
 -- 2009 and ASE 2010).
-use Rattle.std.specs.Prelude.{ℕ, Bool, List, length, Option, Some, None, codes}
+use Rattle.std.specs.Prelude.{ℕ, Bool, List, [], length, Option, Some, None, codes}
 use Rattle.std.specs.List.{filter, range_with_len}
 use Rattle.cfa.specs.declared.parts.GraphParts.{GraphParts}
 use Rattle.filters.specs.declared.target_graph.TargetGraph.{TargetGraph}
@@ -32,12 +32,12 @@ module _ (parts : GraphParts) (base : Part) where
 
   -- `"ID*"`: any edges of the base graph, one after another
   abbrev pub anywhere : Tree
-  anywhere = quoted (repeat (edges (target_of parts base).edges) 0 None) (codes "ID*")
+  anywhere = quoted (repeat (edges (target_of parts base).edges []) 0 None) (codes "ID*")
 
   -- each filter is one of the base graph, and `A -> B` stands for `A."ID*".B`
   abbrev pub applied_step : CoverTree-F Tree → Tree
-  applied_step (CoverTree-F.Nodes f) = nodes (kept f).nodes
-  applied_step (CoverTree-F.Edges f) = edges (kept f).edges
+  applied_step (CoverTree-F.Nodes s) = nodes (kept s.filter).nodes s.predicates
+  applied_step (CoverTree-F.Edges s) = edges (kept s.filter).edges s.predicates
   applied_step (CoverTree-F.Paths f k) = paths (paths_of parts (kept f) k)
   applied_step (CoverTree-F.Predicate i) = predicate i
   applied_step (CoverTree-F.Quoted body text) = quoted body text

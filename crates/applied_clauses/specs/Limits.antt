@@ -17,8 +17,8 @@ paths_limit ps = if nat_lt most_paths (length ps) then Some most_paths else (if 
 
 -- the limit that the first `PATHS` passes that passes one, in the order of the text, within quotation marks too
 abbrev pub passed_limit : Tree → Option ℕ
-passed_limit (nodes ns) = None
-passed_limit (edges es) = None
+passed_limit (nodes ns is) = None
+passed_limit (edges es is) = None
 passed_limit (paths ps) = paths_limit ps
 passed_limit (predicate i) = None
 passed_limit (quoted body text) = passed_limit body

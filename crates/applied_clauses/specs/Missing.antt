@@ -7,8 +7,8 @@ use Rattle.fql_read.specs.declared.cover.CoverTree.TheOpen.{CoverTree-F}
 
 module _ (parts : GraphParts) where
   abbrev pub missing_step : CoverTree-F (Option ℕ) → Option ℕ
-  missing_step (CoverTree-F.Nodes f) = missing_name parts f
-  missing_step (CoverTree-F.Edges f) = missing_name parts f
+  missing_step (CoverTree-F.Nodes s) = missing_name parts s.filter
+  missing_step (CoverTree-F.Edges s) = missing_name parts s.filter
   missing_step (CoverTree-F.Paths f k) = missing_name parts f
   missing_step (CoverTree-F.Predicate i) = None
   missing_step (CoverTree-F.Quoted body text) = body

@@ -3,10 +3,11 @@ use Rattle.std.specs.Prelude.{ℕ, List, Option}
 use Rattle.applied_clauses.specs.declared.applied_tree.AppliedTree.{AppliedTree, fold-AppliedTree}
 use Rattle.applied_clauses.specs.declared.applied_tree.AppliedTree.TheOpen.{AppliedTree-F}
 
--- an expression of a clause: `NODES`, `EDGES` and `PATHS` with the nodes, the edges and the paths that they stand for
+-- An expression of a clause: `NODES`, `EDGES` and `PATHS` with the nodes, the edges and the paths that they stand for, and
+-- with the predicates by which PRED tells states apart, the innermost first.
 pub data Tree : Type 0 where
-  nodes : List ℕ → Tree
-  edges : List ℕ → Tree
+  nodes : List ℕ → List ℕ → Tree
+  edges : List ℕ → List ℕ → Tree
   paths : List (List ℕ) → Tree
   predicate : ℕ → Tree
   quoted : Tree → List ℕ → Tree
@@ -15,8 +16,8 @@ pub data Tree : Type 0 where
   repeat : Tree → ℕ → Option ℕ → Tree
 
 abbrev pub tree_step : AppliedTree-F Tree → Tree
-tree_step (AppliedTree-F.Nodes ns) = nodes ns
-tree_step (AppliedTree-F.Edges es) = edges es
+tree_step (AppliedTree-F.Nodes ns is) = nodes ns is
+tree_step (AppliedTree-F.Edges es is) = edges es is
 tree_step (AppliedTree-F.Paths ps) = paths ps
 tree_step (AppliedTree-F.Predicate i) = predicate i
 tree_step (AppliedTree-F.Quoted body text) = quoted body text

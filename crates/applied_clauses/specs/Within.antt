@@ -18,8 +18,8 @@ module _ (parts : GraphParts) where
 
   -- each node, each edge and each of so many predicates is there, and each path has an edge
   abbrev pub tree_within : ℕ → Tree → Bool
-  tree_within count (nodes ns) = list_all is_node ns
-  tree_within count (edges es) = list_all is_edge es
+  tree_within count (nodes ns is) = list_all is_node ns && list_all (λ i. nat_lt i count) is
+  tree_within count (edges es is) = list_all is_edge es && list_all (λ i. nat_lt i count) is
   tree_within count (paths ps) = list_all has_edges ps
   tree_within count (predicate i) = nat_lt i count
   tree_within count (quoted body text) = tree_within count body

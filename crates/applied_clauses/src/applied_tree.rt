@@ -6,10 +6,10 @@ use patterns::NumberSet;
 /// An expression of a clause, with what its letters stand for. An arrow `A -> B` is `A."ID*".B` here.
 #[derive(Debug, Drop)]
 pub enum AppliedTree {
-    /// `NODES`: these nodes.
-    Nodes(NumberSet),
-    /// `EDGES`: these edges.
-    Edges(NumberSet),
+    /// `NODES`: these nodes, told apart by the predicates of these numbers, the innermost of `PRED` first.
+    Nodes(NumberSet, Vector<u32>),
+    /// `EDGES`: these edges, told apart so where they begin and where they end.
+    Edges(NumberSet, Vector<u32>),
     /// `PATHS`: these paths, in order, each as its edges.
     Paths(Vector<Vector<u32>>),
     /// A predicate, by its place in the query's list, from 0.

@@ -14,10 +14,10 @@ ghost use Rattle.graph_paths.specs.Paths.{paths_of};
 use crate::applied_tree::AppliedTree;
 use crate::bases::kept;
 use cfa::Graph;
-use containers::{Boxed, TryClone};
+use containers::{Boxed, TryClone, Vector};
 use filters::TargetGraph;
 use fq_core::{Fault, Memory, Name, Place, Refusal};
-use fql_read::{CoverTree, Filter};
+use fql_read::{CoverTree, Filter, Split};
 use graph_paths::{PathFault, paths};
 use patterns::NumberSet;
 use std::alloc::Global;
@@ -47,10 +47,10 @@ fn predicate(number: u32) -> AppliedTree
 }
 
 #[tactic(auto, unfolding(crate::specs::Trees::tree_of))]
-fn edges(set: NumberSet) -> AppliedTree
-    ensures { tree_of result ≡ edges set }
+fn edges(set: NumberSet, predicates: Vector<u32>) -> AppliedTree
+    ensures { tree_of result ≡ edges set predicates }
 {
-    AppliedTree::Edges(set)
+    AppliedTree::Edges(set, predicates)
 }
 
 #[tactic(auto, unfolding(crate::specs::Trees::tree_of))]
@@ -98,28 +98,30 @@ fn nodes_of(
     alloc: Global,
     graph: &Graph,
     base: &TargetGraph,
-    filter: &Filter,
+    split: &Split,
 ) -> Result<AppliedTree, Memory>
     requires within { IsWithin graph.now (part_of base.now) }
-    requires named { missing_name graph.now filter.now ≡ None }
-    ensures { IfOk result (λ t. tree_of t ≡ nodes (kept graph.now (part_of base.now) filter.now).nodes) }
+    requires named { missing_name graph.now split.now.filter ≡ None }
+    ensures { IfOk result (λ t. tree_of t ≡ nodes (kept graph.now (part_of base.now) split.now.filter).nodes split.now.predicates) }
 {
-    let target = kept(alloc, graph, base, filter)?;
-    Ok(AppliedTree::Nodes(target.nodes))
+    let predicates = split.predicates.try_clone(alloc)?;
+    let target = kept(alloc, graph, base, &split.filter)?;
+    Ok(AppliedTree::Nodes(target.nodes, predicates))
 }
 
 fn edges_of(
     alloc: Global,
     graph: &Graph,
     base: &TargetGraph,
-    filter: &Filter,
+    split: &Split,
 ) -> Result<AppliedTree, Memory>
     requires within { IsWithin graph.now (part_of base.now) }
-    requires named { missing_name graph.now filter.now ≡ None }
-    ensures { IfOk result (λ t. tree_of t ≡ edges (kept graph.now (part_of base.now) filter.now).edges) }
+    requires named { missing_name graph.now split.now.filter ≡ None }
+    ensures { IfOk result (λ t. tree_of t ≡ edges (kept graph.now (part_of base.now) split.now.filter).edges split.now.predicates) }
 {
-    let target = kept(alloc, graph, base, filter)?;
-    Ok(edges(target.edges))
+    let predicates = split.predicates.try_clone(alloc)?;
+    let target = kept(alloc, graph, base, &split.filter)?;
+    Ok(edges(target.edges, predicates))
 }
 
 #[tactic(auto, unfolding(crate::specs::Trees::tree_of))]
@@ -161,7 +163,8 @@ fn anywhere(alloc: Global, graph: &Graph, base: &TargetGraph) -> Result<AppliedT
     ensures { IfOk result (λ t. tree_of t ≡ anywhere graph.now (part_of base.now)) }
 {
     let _edges = base.edges.as_slice();
-    let any = repeat(alloc, edges(base.edges.try_clone(alloc)?), 0, None)?;
+    let unsplit = Vector::new(alloc);
+    let any = repeat(alloc, edges(base.edges.try_clone(alloc)?, unsplit), 0, None)?;
     quoted(alloc, any, b"ID*")
 }
 
@@ -184,8 +187,8 @@ pub fn apply_clause(
     ensures within { (count : ℕ) → IsTrue (is_within count tree.now) → IfOk result (λ clause. tree_within graph.now count (tree_of clause) ≡ true) }
 {
     match tree {
-        CoverTree::Nodes(filter) => Ok(nodes_of(alloc, graph, base, filter)?),
-        CoverTree::Edges(filter) => Ok(edges_of(alloc, graph, base, filter)?),
+        CoverTree::Nodes(split) => Ok(nodes_of(alloc, graph, base, split)?),
+        CoverTree::Edges(split) => Ok(edges_of(alloc, graph, base, split)?),
         CoverTree::Paths(filter, k) => paths_of(alloc, graph, base, filter, *k),
         CoverTree::Predicate(number) => Ok(predicate(*number)),
         CoverTree::Quoted { body, text } => {

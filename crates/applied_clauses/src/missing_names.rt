@@ -14,9 +14,8 @@ pub fn missing_in(alloc: Global, graph: &Graph, tree: &CoverTree) -> Result<Opti
     ensures { IfOk result (λ column. column ≡ missing_in graph.now tree.now) }
 {
     match tree {
-        CoverTree::Nodes(filter) | CoverTree::Edges(filter) | CoverTree::Paths(filter, _) => {
-            missing(alloc, graph, filter)
-        }
+        CoverTree::Nodes(split) | CoverTree::Edges(split) => missing(alloc, graph, &split.filter),
+        CoverTree::Paths(filter, _) => missing(alloc, graph, filter),
         CoverTree::Predicate(_) => Ok(None),
         CoverTree::Quoted { body, .. } | CoverTree::Repeat { body, .. } => {
             missing_in(alloc, graph, body)

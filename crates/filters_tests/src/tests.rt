@@ -91,7 +91,7 @@ fn over_whole(alloc: Global, graph: &Graph, filter: &Filter) -> Result<Applied, 
 
 fn of_cover(alloc: Global, graph: &Graph, cover: &CoverTree) -> Result<Applied, Fault> {
     match cover {
-        CoverTree::Edges(filter) => Ok(over_whole(alloc, graph, filter)?),
+        CoverTree::Edges(split) => Ok(over_whole(alloc, graph, &split.filter)?),
         _ => Err(Fault::Memory),
     }
 }

@@ -19,15 +19,17 @@ use Rattle.fql_read.specs.declared.operator.Operator.TheVariants as operator
 use Rattle.fql_read.specs.declared.operator.Part.{Part}
 use Rattle.fql_read.specs.declared.operator.Part.TheVariants as part
 use Rattle.fql_read.specs.declared.filter.Filter.{Filter}
+use Rattle.fql_read.specs.declared.cover.Split.{Split}
 use Rattle.fql_read.specs.declared.cover.CoverTree.{CoverTree}
 use Rattle.fql_read.specs.declared.cover.CoverTree.TheVariants as cover
 use Rattle.fql_read.specs.Forms.{Text, joined, least_of, most_of, between}
 use Rattle.fql_read.specs.Tables.{head_of, atom_of, operator_of, level, number_in, place_of_predicate}
-use Rattle.fql_read.specs.Spelled.{mark, DerivesFilter, a_bare, a_named, a_file, a_line, some_kinds, a_single, a_double, Derives, some_nodes, some_edges, some_paths, a_predicate, a_filter, in_parentheses, quoted, grouped, two, any_times, times}
-use Rattle.fql_read.specs.Reading.{Reader, filter_in, paths_at, closed_at, quoted_at, atom_at, operand_at, behind, operators_at, level_by, expr_at}
+use Rattle.fql_read.specs.Spelled.{mark, DerivesFilter, a_bare, a_named, a_file, a_line, some_kinds, a_single, a_double, DerivesSplit, no_split, a_split, Derives, some_nodes, some_edges, some_paths, a_predicate, alone, in_parentheses, quoted, grouped, two, any_times, times}
+use Rattle.fql_read.specs.Reading.{Reader, filter_in, split_in, paths_at, closed_at, quoted_at, atom_at, operand_at, behind, operators_at, level_by, expr_at}
 use Rattle.fql_read.proofs.Steps.{Stops}
 use Rattle.fql_read.proofs.Loops.{operators_end}
 use Rattle.fql_read.proofs.AgainFilters.{single_again, filter_in_again}
+use Rattle.fql_read.proofs.SplitLaws.{split_in_again, pred_atom}
 use Rattle.fql_read.proofs.TakesCovers.{level_most}
 
 -- ---- what a filter and a predicate begin with
@@ -90,15 +92,15 @@ Stops_top k rest le op e = omega (arith, level_most op)
 
 module _ (text : List ℕ) (ps : List Text) where
   module _ (r : Reader) (x : Part) (t : Token) where
-    nodes_again : (f : Filter) (ts : List Token) (p q : ℕ) (rest : List Token) → atom_of t.sign ≡ atom.Nodes → DerivesFilter f ts
-        → operand_at text ps r x (t ∷ mark marks.Open p ∷ (ts ++ mark marks.Close q ∷ []) ++ rest) ≡ Some (cover.Nodes f, rest)
+    nodes_again : (s : Split) (ts : List Token) (p q : ℕ) (rest : List Token) → atom_of t.sign ≡ atom.Nodes → DerivesSplit ps s ts
+        → operand_at text ps r x (t ∷ mark marks.Open p ∷ (ts ++ mark marks.Close q ∷ []) ++ rest) ≡ Some (cover.Nodes s, rest)
     unfolding operand_at atom_at
-    nodes_again f ts p q rest e d = rw (append_assoc, e, single_again filter_in f ts p q rest (filter_in_again d (mark marks.Close q ∷ rest))) refl
+    nodes_again s ts p q rest e d = rw (append_assoc, e, single_again (split_in ps) s ts p q rest (split_in_again ps d (mark marks.Close q ∷ rest))) refl
 
-    edges_again : (f : Filter) (ts : List Token) (p q : ℕ) (rest : List Token) → atom_of t.sign ≡ atom.Edges → DerivesFilter f ts
-        → operand_at text ps r x (t ∷ mark marks.Open p ∷ (ts ++ mark marks.Close q ∷ []) ++ rest) ≡ Some (cover.Edges f, rest)
+    edges_again : (s : Split) (ts : List Token) (p q : ℕ) (rest : List Token) → atom_of t.sign ≡ atom.Edges → DerivesSplit ps s ts
+        → operand_at text ps r x (t ∷ mark marks.Open p ∷ (ts ++ mark marks.Close q ∷ []) ++ rest) ≡ Some (cover.Edges s, rest)
     unfolding operand_at atom_at
-    edges_again f ts p q rest e d = rw (append_assoc, e, single_again filter_in f ts p q rest (filter_in_again d (mark marks.Close q ∷ rest))) refl
+    edges_again s ts p q rest e d = rw (append_assoc, e, single_again (split_in ps) s ts p q rest (split_in_again ps d (mark marks.Close q ∷ rest))) refl
 
     paths_again : (f : Filter) (n : ℕ) (ts : List Token) (u : Token) (p q s : ℕ) (rest : List Token) → atom_of t.sign ≡ atom.Paths → DerivesFilter f ts → number_in u.sign ≡ Some n
         → operand_at text ps r x (t ∷ mark marks.Open p ∷ (ts ++ mark marks.Comma q ∷ u ∷ mark marks.Close s ∷ []) ++ rest) ≡ Some (cover.Paths f n, rest)
@@ -127,16 +129,20 @@ module _ (text : List ℕ) (ps : List Text) where
   unfolding operand_at atom_at quoted_at closed_at
   grouped_again r t c ts q rest e h = rw (append_assoc, e, h) refl
 
-  first_filter_again : (r : Reader) (x : Part) (f : Filter) (t : Token) (us rest : List Token) → atom_of t.sign ≡ atom.Filter → filter_in (t ∷ us) ≡ Some (f, rest)
-      → operand_at text ps r x (t ∷ us) ≡ Some (cover.Edges f, rest)
+  first_split_again : (r : Reader) (x : Part) (s : Split) (t : Token) (us rest : List Token) → atom_of t.sign ≡ atom.Filter → split_in ps (t ∷ us) ≡ Some (s, rest)
+      → operand_at text ps r x (t ∷ us) ≡ Some (cover.Edges s, rest)
   unfolding operand_at atom_at
-  first_filter_again r x f t us rest e h = rw (e, h) refl
+  first_split_again r x s t us rest e h = rw (e, h) refl
 
-  filter_again : (r : Reader) (x : Part) (f : Filter) (ts rest : List Token) → DerivesFilter f ts → operand_at text ps r x (ts ++ rest) ≡ Some (cover.Edges f, rest)
-  filter_again r x f ts rest d =
-      let b = filter_first d in
+  split_first : {s : Split} {xs : List Token} → DerivesSplit ps s xs → FirstIsFilter xs
+  split_first (no_split d) = filter_first d
+  split_first (a_split t u p q o k d h) = record { first = t; others = _; is = refl; fits = pred_atom t.sign k }
+
+  alone_again : (r : Reader) (x : Part) (s : Split) (ts rest : List Token) → DerivesSplit ps s ts → operand_at text ps r x (ts ++ rest) ≡ Some (cover.Edges s, rest)
+  alone_again r x s ts rest d =
+      let b = split_first d in
       let is : ts ++ rest ≡ b.first ∷ (b.others ++ rest) = ap (λ us. us ++ rest) b.is in
-      rw is (first_filter_again r x f b.first (b.others ++ rest) rest b.fits (ap filter_in (sym is) ∙ filter_in_again d rest))
+      rw is (first_split_again r x s b.first (b.others ++ rest) rest b.fits (ap (split_in ps) (sym is) ∙ split_in_again ps d rest))
 
   -- the reader comes to the operators behind the tree
   record Reaches (n : ℕ) (x : Part) (j : ℕ) (c : CoverTree) (xs rest : List Token) : Type 0 where
@@ -189,11 +195,11 @@ module _ (text : List ℕ) (ps : List Text) where
   at_level (suc m) x k c xs rest some d stops = level_again m x k c xs rest (d m refl) stops
 
   reaches : {x : Part} {k : ℕ} {c : CoverTree} {xs : List Token} → Derives text ps x k c xs → (n j : ℕ) (rest : List Token) → length xs + length rest ≤ n → j ≤ k → Stops (suc k) rest → Reaches n x j c xs rest
-  reaches (some_nodes {x = x} {f = f} {ts = ts} t p q e d) n j rest le jk stops = by_operand n x j _ _ rest (nodes_again (expr_at text ps n) x t f ts p q rest e d)
-  reaches (some_edges {x = x} {f = f} {ts = ts} t p q e d) n j rest le jk stops = by_operand n x j _ _ rest (edges_again (expr_at text ps n) x t f ts p q rest e d)
+  reaches (some_nodes {x = x} {s = s} {ts = ts} t p q e d) n j rest le jk stops = by_operand n x j _ _ rest (nodes_again (expr_at text ps n) x t s ts p q rest e d)
+  reaches (some_edges {x = x} {s = s} {ts = ts} t p q e d) n j rest le jk stops = by_operand n x j _ _ rest (edges_again (expr_at text ps n) x t s ts p q rest e d)
   reaches (some_paths {x = x} {n = m} {f = f} {ts = ts} t u p q s e d h) n j rest le jk stops = by_operand n x j _ _ rest (paths_again (expr_at text ps n) x t f m ts u p q s rest e d h)
   reaches (a_predicate {x = x} {i = i} t e) n j rest le jk stops = by_operand n x j _ _ rest (predicate_again (expr_at text ps n) x t i rest e)
-  reaches (a_filter {x = x} {f = f} {ts = ts} d) n j rest le jk stops = by_operand n x j _ _ rest (filter_again (expr_at text ps n) x f ts rest d)
+  reaches (alone {x = x} {s = s} {ts = ts} d) n j rest le jk stops = by_operand n x j _ _ rest (alone_again (expr_at text ps n) x s ts rest d)
   reaches (in_parentheses {x = x} {c = c} {ts = ts} t q e d) n j rest le jk stops =
       by_operand n x j _ _ rest (parentheses_again (expr_at text ps n) x t c ts q rest e
       (at_level n x 1 c ts (mark marks.Close q ∷ rest) (omega arith) (λ m s. reaches d m 1 (mark marks.Close q ∷ rest) (omega (arith, length-append {A = Token})) (omega arith) (Stops_mark marks.Close q 2 rest refl)) (Stops_mark marks.Close q 1 rest refl)))

@@ -32,7 +32,7 @@ kinds_in_again : (ks : List StatementKind) (ts : List Token) (p q : ℕ) (rest :
 unfolding kinds_in
 kinds_in_again ks ts p q rest d = kinds_again d (length (ts ++ mark marks.Close q ∷ rest)) q rest (omega (arith, length-append ts (mark marks.Close q ∷ rest)))
 
-pub single_again : (r : FilterReader) (g : Filter) (ts : List Token) (p q : ℕ) (rest : List Token) → r (ts ++ mark marks.Close q ∷ rest) ≡ Some (g, mark marks.Close q ∷ rest)
+pub single_again : {A : Type 0} (r : List Token → Read A) (g : A) (ts : List Token) (p q : ℕ) (rest : List Token) → r (ts ++ mark marks.Close q ∷ rest) ≡ Some (g, mark marks.Close q ∷ rest)
     → single_at r (mark marks.Open p ∷ (ts ++ mark marks.Close q ∷ rest)) ≡ Some (g, rest)
 unfolding single_at
 single_again r g ts p q rest e = rw e refl

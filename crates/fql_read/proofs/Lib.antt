@@ -4,6 +4,7 @@ pub mod Loops
 pub mod Predicates
 pub mod QueryLaws
 pub mod QueryOutcome
+pub mod SplitLaws
 pub mod Steps
 pub mod TakesCovers
 pub mod TakesFilters

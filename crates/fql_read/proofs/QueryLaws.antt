@@ -1,5 +1,5 @@
 -- What is read as a query is spelled by its tokens, and what they spell is read.
-use Rattle.std.proofs.Common.{◌≡◌, ℕ, suc, Bool, true, false, List, [], ◌∷◌, ◌++◌, length, Option, Some, None, refl, sym, ap, ◌∙◌, append_assoc, arith}
+use Rattle.std.proofs.Common.{◌≡◌, ℕ, suc, ◌<◌, Bool, true, false, List, [], ◌∷◌, ◌++◌, length, Option, Some, None, refl, sym, ap, ◌∙◌, append_assoc, arith}
 use Rattle.std.specs.Prelude.{IfSome, if◌then◌else◌}
 use Rattle.std.proofs.lemmas.List.{length-append, append-nil}
 use Rattle.fql_tokens.specs.declared.token.Mark.{Mark}
@@ -14,20 +14,22 @@ use Rattle.fql_read.specs.declared.operator.Atom.TheVariants as atom
 use Rattle.fql_read.specs.declared.operator.Part.{Part}
 use Rattle.fql_read.specs.declared.operator.Part.TheVariants as part
 use Rattle.fql_read.specs.declared.filter.Filter.{Filter}
+use Rattle.fql_read.specs.declared.cover.Split.{Split}
 use Rattle.fql_read.specs.declared.cover.CoverTree.{CoverTree}
 use Rattle.fql_read.specs.declared.query.Clause.{Clause}
 use Rattle.fql_read.specs.declared.query.Query.{Query}
 use Rattle.fql_read.specs.Forms.{Text}
 use Rattle.fql_read.specs.Tables.{head_of, atom_of, keyword_in, place_of_predicate}
-use Rattle.fql_read.specs.Spelled.{mark, DerivesFilter, a_bare, a_named, a_file, a_line, some_kinds, a_single, a_double, Derives, some_nodes, some_edges, some_paths, a_predicate, a_filter, in_parentheses, quoted, grouped, two, any_times, times}
-use Rattle.fql_read.specs.Reading.{Read, is_mark, starts, tail, filter_in, expr_at}
+use Rattle.fql_read.specs.Spelled.{mark, DerivesFilter, a_bare, a_named, a_file, a_line, some_kinds, a_single, a_double, DerivesSplit, no_split, a_split, Derives, some_nodes, some_edges, some_paths, a_predicate, alone, in_parentheses, quoted, grouped, two, any_times, times}
+use Rattle.fql_read.specs.Reading.{Read, is_mark, keyword_at, starts, tail, filter_in, expr_at}
 use Rattle.fql_read.specs.QueryForm.{IsAnchor, not_there, there, DerivesClause, a_clause, DerivesBase, no_base, a_base, DerivesPassing, no_passing, a_passing, DerivesQuery, a_query}
-use Rattle.fql_read.specs.ReadingQueries.{past, clause_at, is_in, is_cover, is_passing, keyword_at, base_at, cover_at, passing_at, at_end, query_at}
+use Rattle.fql_read.specs.ReadingQueries.{past, clause_at, is_in, is_cover, is_passing, base_at, cover_at, passing_at, at_end, query_at}
 use Rattle.fql_read.proofs.Steps.{then_some, either_some, starts-true, Stops}
 use Rattle.fql_read.proofs.TakesFilters.{Takes, filter_in_takes}
 use Rattle.fql_read.proofs.TakesCovers.{expr_takes}
 use Rattle.fql_read.proofs.AgainFilters.{filter_in_again}
 use Rattle.fql_read.proofs.AgainCovers.{expr_again, Stops_mark}
+use Rattle.fql_read.proofs.SplitLaws.{pred_no_start}
 
 -- ---- what is read is spelled
 
@@ -167,13 +169,17 @@ filter_no_start (some_kinds t p q e d) = by_head t _ (λ h. cc)
 filter_no_start (a_single t p q e d) = by_head t _ (λ h. cc)
 filter_no_start (a_double t p q r e d f) = by_head t _ (λ h. cc)
 
+split_no_start : {ps : List Text} {s : Split} {xs : List Token} → DerivesSplit ps s xs → NoStart xs
+split_no_start (no_split d) = filter_no_start d
+split_no_start (a_split t u p q o k d h) = record { first = t; others = _; is = refl; fits = pred_no_start t.sign k }
+
 module _ (text : List ℕ) (ps : List Text) where
   no_start : {x : Part} {k : ℕ} {c : CoverTree} {xs : List Token} → Derives text ps x k c xs → NoStart xs
   no_start (some_nodes t p q e d) = by_atom t _ (λ h. cc)
   no_start (some_edges t p q e d) = by_atom t _ (λ h. cc)
   no_start (some_paths t u p q r e d h) = by_atom t _ (λ h. cc)
   no_start (a_predicate t e) = record { first = t; others = []; is = refl; fits = predicate_no_start ps t.sign _ e }
-  no_start (a_filter d) = filter_no_start d
+  no_start (alone d) = split_no_start d
   no_start (in_parentheses t q e d) = by_atom t _ (λ h. cc)
   no_start (quoted t q e d) = by_atom t _ (λ h. cc)
   no_start (grouped t q e d) = by_atom t _ (λ h. cc)
@@ -252,3 +258,14 @@ module _ (text : List ℕ) (ps : List Text) where
   unfolding query_at
   query_again (a_query {ys = ys} {zs = zs} t b k c p) =
       rw (base_again b t (ys ++ zs) k, cover_again t zs k c (passing_follows p), passing_again p) refl
+
+-- ---- something follows a query
+
+pub more_follows : (text : List ℕ) (ps : List Text) (ts : List Token) (b : Option Filter) (us : List Token) (c : Clause) (vs : List Token) (p : Option Clause) (ws : List Token)
+    → base_at ts ≡ Some (b, us) → cover_at text ps us ≡ Some (c, vs) → passing_at text ps vs ≡ Some (p, ws) → 0 < length ws → query_at text ps ts ≡ None
+unfolding query_at
+more_follows text ps ts b us c vs p ws e f g some = rw (e, f, g) (at ws some)
+  where
+    at : (ws : List Token) → 0 < length ws → at_end (record { base = b; cover = c; passing = p; predicates = ps }) ws ≡ None
+    at [] some = absurd (omega arith)
+    at (t ∷ ts) some = refl

@@ -38,15 +38,15 @@ tokens_accepted : (text : List ℕ) (ts : List Token) (q : Query) → AreTokens 
 unfolding tokens_outcome
 tokens_accepted text ts q a e = at (query_at text (predicates_of ts) ts) refl e
   where
-    few : (r : Query) (v : Bool) → nat_le (letters_of r) most_letters ≡ v → query_at text (predicates_of ts) ts ≡ Some r → first_repetition r.cover.body ≡ None → bad_number ts ≡ None → by_letters r v ≡ Ok q → Asks text q
+    few : (r : Query) (v : Bool) → nat_le (letters_of ts r) most_letters ≡ v → query_at text (predicates_of ts) ts ≡ Some r → first_repetition r.cover.body ≡ None → bad_number ts ≡ None → by_letters r v ≡ Ok q → Asks text q
     few r false l g h i e = absurd cc
     few r true l g h i e =
         let same : r ≡ q = cc in
-        subst (λ (s : Query). Asks text s) same (record { tokens = ts; cut = a; spelled = read_spelled text ts r g; once = h; bounded = i; few = leb-true (letters_of r) most_letters l })
+        subst (λ (s : Query). Asks text s) same (record { tokens = ts; cut = a; spelled = read_spelled text ts r g; once = h; bounded = i; few = leb-true (letters_of ts r) most_letters l })
 
-    bounded : (r : Query) (o : Option ℕ) → bad_number ts ≡ o → query_at text (predicates_of ts) ts ≡ Some r → first_repetition r.cover.body ≡ None → by_number r o ≡ Ok q → Asks text q
+    bounded : (r : Query) (o : Option ℕ) → bad_number ts ≡ o → query_at text (predicates_of ts) ts ≡ Some r → first_repetition r.cover.body ≡ None → by_number ts r o ≡ Ok q → Asks text q
     bounded r (Some c) i g h e = absurd cc
-    bounded r None i g h e = few r (nat_le (letters_of r) most_letters) refl g h i e
+    bounded r None i g h e = few r (nat_le (letters_of ts r) most_letters) refl g h i e
 
     once : (r : Query) (o : Option ℕ) → first_repetition r.cover.body ≡ o → query_at text (predicates_of ts) ts ≡ Some r → by_repetition ts r o ≡ Ok q → Asks text q
     once r (Some c) h g e = absurd cc
@@ -60,16 +60,16 @@ tokens_refused : (text : List ℕ) (ts : List Token) (code : ℕ) (p : Place) �
 unfolding tokens_outcome
 tokens_refused text ts code p a e = at (query_at text (predicates_of ts) ts) refl e
   where
-    few : (r : Query) (v : Bool) → nat_le (letters_of r) most_letters ≡ v → query_at text (predicates_of ts) ts ≡ Some r → first_repetition r.cover.body ≡ None → bad_number ts ≡ None → by_letters r v ≡ Refused code p → IsRefusedQuery text code p
+    few : (r : Query) (v : Bool) → nat_le (letters_of ts r) most_letters ≡ v → query_at text (predicates_of ts) ts ≡ Some r → first_repetition r.cover.body ≡ None → bad_number ts ≡ None → by_letters r v ≡ Refused code p → IsRefusedQuery text code p
     few r true l g h i e = absurd cc
     few r false l g h i e =
         same_refusal {X = Query} 63 code (place.Limit most_letters) p (IsRefusedQuery text) e
-        (too_many ts r a (read_spelled text ts r g) h i (leb-false (letters_of r) most_letters l))
+        (too_many ts r a (read_spelled text ts r g) h i (leb-false (letters_of ts r) most_letters l))
 
-    bounded : (r : Query) (o : Option ℕ) → bad_number ts ≡ o → query_at text (predicates_of ts) ts ≡ Some r → first_repetition r.cover.body ≡ None → by_number r o ≡ Refused code p → IsRefusedQuery text code p
+    bounded : (r : Query) (o : Option ℕ) → bad_number ts ≡ o → query_at text (predicates_of ts) ts ≡ Some r → first_repetition r.cover.body ≡ None → by_number ts r o ≡ Refused code p → IsRefusedQuery text code p
     bounded r (Some c) i g h e =
         same_refusal {X = Query} 64 code (place.Query c) p (IsRefusedQuery text) e (out_of_bounds ts r c a (read_spelled text ts r g) h i)
-    bounded r None i g h e = few r (nat_le (letters_of r) most_letters) refl g h i e
+    bounded r None i g h e = few r (nat_le (letters_of ts r) most_letters) refl g h i e
 
     once : (r : Query) (o : Option ℕ) → first_repetition r.cover.body ≡ o → query_at text (predicates_of ts) ts ≡ Some r → by_repetition ts r o ≡ Refused code p → IsRefusedQuery text code p
     once r (Some c) h g e =
@@ -95,7 +95,7 @@ query_accepted text q e = at (text_outcome text) refl e
 pub query_accepts : (text : List ℕ) (q : Query) → Asks text q → query_outcome text ≡ Ok q
 unfolding query_outcome tokens_outcome
 query_accepts text q a =
-    let few : nat_le (letters_of q) most_letters ≡ true = le-leb _ _ a.few in
+    let few : nat_le (letters_of a.tokens q) most_letters ≡ true = le-leb _ _ a.few in
     rw (text_accepts text a.tokens a.cut, spelled_read text a.tokens q a.spelled, a.once, a.bounded, few) refl
 
 pub query_refused : (text : List ℕ) (code : ℕ) (p : Place) → query_outcome text ≡ Refused code p → IsRefusedQuery text code p
@@ -117,7 +117,7 @@ query_refuses {text} (no_query ts a none) = rw (text_accepts text ts a) (at (que
 query_refuses {text} (repeats ts q c a d h) = rw (text_accepts text ts a, spelled_read text ts q d, h) refl
 query_refuses {text} (out_of_bounds ts q c a d h i) = rw (text_accepts text ts a, spelled_read text ts q d, h, i) refl
 query_refuses {text} (too_many ts q a d h i many) =
-    let more : nat_le (letters_of q) most_letters ≡ false = lt-leb _ _ many in
+    let more : nat_le (letters_of ts q) most_letters ≡ false = lt-leb _ _ many in
     rw (text_accepts text ts a, spelled_read text ts q d, h, i, more) refl
 
 pub one_query : (text : List ℕ) (q r : Query) → Asks text q → Asks text r → q ≡ r

@@ -16,9 +16,10 @@ use Rattle.fql_read.specs.declared.filter.Filter.{Filter}
 use Rattle.fql_read.specs.declared.cover.CoverTree.{CoverTree}
 use Rattle.fql_read.specs.Forms.{Text}
 use Rattle.fql_read.specs.Tables.{atom_of, operator_of, level, number_in, place_of_predicate}
-use Rattle.fql_read.specs.Spelled.{mark, DerivesFilter, Derives, some_nodes, some_edges, some_paths, a_predicate, a_filter, in_parentheses, quoted, grouped, two, any_times, times}
-use Rattle.fql_read.specs.Reading.{Read, Reader, expect, column_of, one_at, single_at, filter_in, paths_at, operator_at, closed_at, quoted_at, atom_at, operand_at, behind, operators_at, level_by, expr_at}
+use Rattle.fql_read.specs.Spelled.{mark, DerivesFilter, DerivesSplit, Derives, some_nodes, some_edges, some_paths, a_predicate, alone, in_parentheses, quoted, grouped, two, any_times, times}
+use Rattle.fql_read.specs.Reading.{Read, Reader, expect, column_of, one_at, single_at, filter_in, split_in, paths_at, operator_at, closed_at, quoted_at, atom_at, operand_at, behind, operators_at, level_by, expr_at}
 use Rattle.fql_read.proofs.Steps.{then_some, expect_takes, one_takes, Stops, by_operator_some}
+use Rattle.fql_read.proofs.SplitLaws.{split_in_takes}
 use Rattle.fql_read.proofs.TakesFilters.{Takes, single_takes, filter_in_takes}
 
 pub level_most : (op : Operator) → level op ≤ 4
@@ -113,10 +114,10 @@ module _ (text : List ℕ) (ps : List Text) where
     atom_takes : (x : Part) (a : Atom) (t : Token) (ts : List Token) → atom_of t.sign ≡ a → IfSome (atom_at text ps r x a t ts) (λ u. Takes (Operands x u.0) (t ∷ ts) u.1)
     unfolding atom_at
     atom_takes x atom.Nodes t ts e =
-        then_some (single_at filter_in ts) _ _ (single_takes filter_in filter_in_takes ts) (λ f b.
+        then_some (single_at (split_in ps) ts) _ _ (single_takes (DerivesSplit ps) (split_in ps) (split_in_takes ps) ts) (λ f b.
         record { front = t ∷ mark marks.Open b.begin ∷ (b.front ++ mark marks.Close b.end ∷ []); parts = let h = b.parts in simp append_assoc cc; fact = λ k. some_nodes t b.begin b.end e b.fact })
     atom_takes x atom.Edges t ts e =
-        then_some (single_at filter_in ts) _ _ (single_takes filter_in filter_in_takes ts) (λ f b.
+        then_some (single_at (split_in ps) ts) _ _ (single_takes (DerivesSplit ps) (split_in ps) (split_in_takes ps) ts) (λ f b.
         record { front = t ∷ mark marks.Open b.begin ∷ (b.front ++ mark marks.Close b.end ∷ []); parts = let h = b.parts in simp append_assoc cc; fact = λ k. some_edges t b.begin b.end e b.fact })
     atom_takes x atom.Paths t ts e =
         then_some (paths_at ts) _ _ (paths_take ts) (λ f b.
@@ -139,8 +140,8 @@ module _ (text : List ℕ) (ps : List Text) where
         last (Some u) h g = g u h
     atom_takes x atom.Quote t ts e = quoted_takes x t ts e
     atom_takes x atom.Filter t ts e =
-        then_some (filter_in (t ∷ ts)) _ _ (filter_in_takes (t ∷ ts)) (λ f d.
-        record { front = d.front; parts = d.parts; fact = λ k. a_filter d.fact })
+        then_some (split_in ps (t ∷ ts)) _ _ (split_in_takes ps (t ∷ ts)) (λ f d.
+        record { front = d.front; parts = d.parts; fact = λ k. alone d.fact })
 
     operand_takes : (x : Part) (ts : List Token) → IfSome (operand_at text ps r x ts) (λ u. Takes (Operands x u.0) ts u.1)
     unfolding operand_at

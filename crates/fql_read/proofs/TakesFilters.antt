@@ -70,9 +70,9 @@ kinds_in_take ts =
 abbrev pub SoundFilters : FilterReader → Type 0
 SoundFilters r = (ts : List Token) → IfSome (r ts) (λ x. Takes (DerivesFilter x.0) ts x.1)
 
-pub single_takes : (r : FilterReader) → SoundFilters r → (ts : List Token) → IfSome (single_at r ts) (λ x. Inside (DerivesFilter x.0) ts x.1)
+pub single_takes : {A : Type 0} (D : A → List Token → Type 0) (r : List Token → Read A) → ((ts : List Token) → IfSome (r ts) (λ x. Takes (D x.0) ts x.1)) → (ts : List Token) → IfSome (single_at r ts) (λ x. Inside (D x.0) ts x.1)
 unfolding single_at
-single_takes r sound ts =
+single_takes D r sound ts =
     then_some (expect marks.Open ts) _ _ (expect_takes marks.Open ts) (λ a o.
     then_some (r a) _ _ (sound a) (λ x d.
     then_some (expect marks.Close x.1) _ _ (expect_takes marks.Close x.1) (λ rest c.
@@ -115,7 +115,7 @@ module _ (r : FilterReader) (sound : SoundFilters r) where
       then_some (kinds_in ts) _ _ (kinds_in_take ts) (λ x b.
       record { front = _; parts = simp append_assoc cc; fact = some_kinds t b.begin b.end e b.fact })
   after_head_takes (head.Single f) t ts e =
-      then_some (single_at r ts) _ _ (single_takes r sound ts) (λ x b.
+      then_some (single_at r ts) _ _ (single_takes DerivesFilter r sound ts) (λ x b.
       record { front = _; parts = simp append_assoc cc; fact = a_single t b.begin b.end e b.fact })
   after_head_takes (head.Double f) t ts e =
       then_some (double_at r ts) _ _ (double_takes r sound ts) (λ x b.

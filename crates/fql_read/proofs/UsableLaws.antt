@@ -1,7 +1,9 @@
 -- What is spelled within the limits is usable.
 use Rattle.std.proofs.Common.{◌≡◌, ℕ, zero, suc, ◌+◌, ◌≤◌, ◌<◌, Bool, true, false, List, [], ◌∷◌, ◌++◌, length, Option, Some, None, refl, sym, ap, ◌∙◌, append_assoc, arith, rules}
 use Rattle.std.specs.Prelude.{IfSome, IsTrue, if◌then◌else◌, nat_lt, nat_le, ◌||◌, ◌&&◌, ◌==◌, max}
+use Rattle.std.specs.List.{list_all, list_any}
 use Rattle.std.specs.Str.{bytes_eq}
+use Rattle.std.proofs.lemmas.List.Folds.{list_all-append}
 use Rattle.std.proofs.lemmas.List.Quantifiers.{position-Some}
 use Rattle.std.proofs.lemmas.Bool.{and_from, le-leb, leb-false, lt-ltb}
 use Rattle.fql_tokens.specs.declared.token.Mark.{Mark}
@@ -20,14 +22,15 @@ use Rattle.fql_read.specs.declared.operator.Part.{Part}
 use Rattle.fql_read.specs.declared.operator.Part.TheVariants as part
 use Rattle.fql_read.specs.declared.cover.CoverTree.{CoverTree, the_lemmas}
 use Rattle.fql_read.specs.declared.cover.CoverTree.TheVariants as cover
+use Rattle.fql_read.specs.declared.cover.Split.{Split}
 use Rattle.fql_read.specs.declared.filter.Filter.{Filter}
 use Rattle.fql_read.specs.declared.query.Clause.{Clause}
 use Rattle.fql_read.specs.declared.query.Query.{Query}
-use Rattle.fql_read.specs.Forms.{Text, joined, least_of, most_of, between, place_in}
+use Rattle.fql_read.specs.Forms.{Text, joined, least_of, most_of, between, place_in, with_place}
 use Rattle.fql_read.specs.Tables.{operator_of, number_in, place_of_predicate}
-use Rattle.fql_read.specs.Spelled.{mark, Derives, some_nodes, some_edges, some_paths, a_predicate, a_filter, in_parentheses, quoted, grouped, two, any_times, times}
+use Rattle.fql_read.specs.Spelled.{mark, DerivesSplit, no_split, a_split, Derives, some_nodes, some_edges, some_paths, a_predicate, alone, in_parentheses, quoted, grouped, two, any_times, times}
 use Rattle.fql_read.specs.QueryForm.{DerivesClause, a_clause, DerivesPassing, no_passing, a_passing, DerivesQuery, a_query, predicates_of}
-use Rattle.fql_read.specs.QueryLimits.{most_letters, first_repetition, letters_of, bounds_behind, is_outside, sign_outside, first_outside, bad_number}
+use Rattle.fql_read.specs.QueryLimits.{most_letters, first_repetition, clause_letters, bounds_behind, is_outside, sign_outside, first_outside, bad_number}
 use Rattle.fql_read.specs.Asks.{Asks}
 use Rattle.fql_read.proofs.Predicates.{Differ, predicates_differ}
 use Rattle.fql_read.specs.Usable.{is_few, is_within, quote_depth, IsUsable}
@@ -35,13 +38,13 @@ use Rattle.fql_read.specs.Usable.{is_few, is_within, quote_depth, IsUsable}
 -- ---- what is asked of a tree, by its form
 
 module _ (n : ℕ) where
-  within-nodes : (f : Filter) → is_within n (cover.Nodes f) ≡ true
+  within-nodes : (s : Split) → is_within n (cover.Nodes s) ≡ list_all (λ i. nat_lt i n) s.predicates
   unfolding is_within
-  within-nodes f = search (rules, the_lemmas)
+  within-nodes s = search (rules, the_lemmas)
 
-  within-edges : (f : Filter) → is_within n (cover.Edges f) ≡ true
+  within-edges : (s : Split) → is_within n (cover.Edges s) ≡ list_all (λ i. nat_lt i n) s.predicates
   unfolding is_within
-  within-edges f = search (rules, the_lemmas)
+  within-edges s = search (rules, the_lemmas)
 
   within-paths : (f : Filter) (k : ℕ) → is_within n (cover.Paths f k) ≡ (nat_le 1 k && nat_le k 100)
   unfolding is_within
@@ -65,13 +68,13 @@ module _ (n : ℕ) where
   unfolding is_within
   within-repeat a least most column = search (rules, the_lemmas)
 
-depth-nodes : (f : Filter) → quote_depth (cover.Nodes f) ≡ 0
+depth-nodes : (s : Split) → quote_depth (cover.Nodes s) ≡ 0
 unfolding quote_depth
-depth-nodes f = search (rules, the_lemmas)
+depth-nodes s = search (rules, the_lemmas)
 
-depth-edges : (f : Filter) → quote_depth (cover.Edges f) ≡ 0
+depth-edges : (s : Split) → quote_depth (cover.Edges s) ≡ 0
 unfolding quote_depth
-depth-edges f = search (rules, the_lemmas)
+depth-edges s = search (rules, the_lemmas)
 
 depth-paths : (f : Filter) (k : ℕ) → quote_depth (cover.Paths f k) ≡ 0
 unfolding quote_depth
@@ -189,14 +192,26 @@ repeat_within : (b : Bool) (least : ℕ) (most : Option ℕ) → IsTrue b → le
 repeat_within b least most h l m =
     and_from (b && nat_le least 100) (is_few most) (and_from b (nat_le least 100) h (le-leb least 100 l)) m
 
+-- the places of PRED's predicates
+place_added : (n : ℕ) (ks : List ℕ) (i : ℕ) → list_all (λ k. nat_lt k n) ks ≡ true → nat_lt i n ≡ true → list_all (λ k. nat_lt k n) (with_place ks i) ≡ true
+place_added n ks i h g = at (list_any (λ k. k == i) ks)
+  where
+    at : (b : Bool) → list_all (λ k. nat_lt k n) (if b then ks else ks ++ i ∷ []) ≡ true
+    at true = h
+    at false = list_all-append (λ k. nat_lt k n) ks (i ∷ []) ∙ (λ j. h j && (g j && true))
+
+split_within : (ps : List Text) {s : Split} {xs : List Token} → DerivesSplit ps s xs → list_all (λ i. nat_lt i (length ps)) s.predicates ≡ true
+split_within ps (no_split d) = refl
+split_within ps (a_split {s = s} {i = i} t u p q o k d h) = place_added (length ps) s.predicates i (split_within ps d) (place_within ps u.sign i h)
+
 module _ (text : List ℕ) (ps : List Text) where
   within : {x : Part} {k : ℕ} {c : CoverTree} {xs : List Token} → Derives text ps x k c xs → (b : Bounds) → first_outside b xs ≡ None → IsTrue (is_within (length ps) c)
-  within (some_nodes {f = f} t p q e d) b i = within-nodes (length ps) f
-  within (some_edges {f = f} t p q e d) b i = within-edges (length ps) f
+  within (some_nodes {s = s} t p q e d) b i = within-nodes (length ps) s ∙ split_within ps d
+  within (some_edges {s = s} t p q e d) b i = within-edges (length ps) s ∙ split_within ps d
   within (some_paths {n = n} {f = f} {ts = ts} t u p q r e d h) b i =
       rw (within-paths (length ps) f n) (path_within n (number_inside (bounds_behind t.sign) (mark marks.Open p ∷ ts) (mark marks.Comma q) u (mark marks.Close r ∷ []) n (first_inside b t (mark marks.Open p ∷ (ts ++ mark marks.Comma q ∷ u ∷ mark marks.Close r ∷ [])) i).1 h))
   within (a_predicate {i = k} t e) b i = rw (within-predicate (length ps) k) (place_within ps t.sign k e)
-  within (a_filter {f = f} d) b i = within-edges (length ps) f
+  within (alone {s = s} d) b i = within-edges (length ps) s ∙ split_within ps d
   within (in_parentheses {ts = ts} t q e d) b i =
       within d (bounds_behind t.sign) (front_inside (bounds_behind t.sign) ts (mark marks.Close q ∷ []) (first_inside b t (ts ++ mark marks.Close q ∷ []) i).1)
   within (quoted {c = c} {ts = ts} t q e d) b i =
@@ -212,11 +227,11 @@ module _ (text : List ℕ) (ps : List Text) where
       rw (within-repeat (length ps) a (least_of c n) (most_of c n) t.column) (repeat_within (is_within (length ps) a) (least_of c n) (most_of c n) (within d b (front_inside b xs (t ∷ u ∷ []) i)) (least_small c n few) (most_small c n few))
 
   unquoted : {x : Part} {k : ℕ} {c : CoverTree} {xs : List Token} → Derives text ps x k c xs → (x ≡ part.Cover → ⊥) → quote_depth c ≤ 0
-  unquoted (some_nodes {f = f} t p q e d) n = omega (arith, depth-nodes f)
-  unquoted (some_edges {f = f} t p q e d) n = omega (arith, depth-edges f)
+  unquoted (some_nodes {s = s} t p q e d) n = omega (arith, depth-nodes s)
+  unquoted (some_edges {s = s} t p q e d) n = omega (arith, depth-edges s)
   unquoted (some_paths {n = k} {f = f} t u p q r e d h) n = omega (arith, depth-paths f k)
   unquoted (a_predicate {i = i} t e) n = omega (arith, depth-predicate i)
-  unquoted (a_filter {f = f} d) n = omega (arith, depth-edges f)
+  unquoted (alone {s = s} d) n = omega (arith, depth-edges s)
   unquoted (in_parentheses t q e d) n = unquoted d n
   unquoted (quoted t q e d) n = absurd (n refl)
   unquoted (grouped t q e d) n = unquoted d (λ h. cc)
@@ -225,11 +240,11 @@ module _ (text : List ℕ) (ps : List Text) where
   unquoted (times {n = m} {c = c} {a = a} t u e h le d) n = omega (arith, depth-repeat a (least_of c m) (most_of c m) t.column, unquoted d n)
 
   apart : {x : Part} {k : ℕ} {c : CoverTree} {xs : List Token} → Derives text ps x k c xs → quote_depth c ≤ 1
-  apart (some_nodes {f = f} t p q e d) = omega (arith, depth-nodes f)
-  apart (some_edges {f = f} t p q e d) = omega (arith, depth-edges f)
+  apart (some_nodes {s = s} t p q e d) = omega (arith, depth-nodes s)
+  apart (some_edges {s = s} t p q e d) = omega (arith, depth-edges s)
   apart (some_paths {n = k} {f = f} t u p q r e d h) = omega (arith, depth-paths f k)
   apart (a_predicate {i = i} t e) = omega (arith, depth-predicate i)
-  apart (a_filter {f = f} d) = omega (arith, depth-edges f)
+  apart (alone {s = s} d) = omega (arith, depth-edges s)
   apart (in_parentheses t q e d) = apart d
   apart (quoted {c = c} t q e d) = omega (arith, depth-quoted c (between text t.column q), unquoted d (λ h. cc))
   apart (grouped t q e d) = apart d
@@ -255,7 +270,7 @@ module _ (text : List ℕ) (ps : List Text) where
   passing_unquoted no_passing = tt
   passing_unquoted (a_passing t e d) = clause_unquoted d
 
-  query_usable : {q : Query} {ts : List Token} → DerivesQuery text ps q ts → Differ ps → bad_number ts ≡ None → first_repetition q.cover.body ≡ None → letters_of q ≤ most_letters → IsUsable q
+  query_usable : {q : Query} {ts : List Token} → DerivesQuery text ps q ts → Differ ps → bad_number ts ≡ None → first_repetition q.cover.body ≡ None → clause_letters q ≤ most_letters → IsUsable q
   unfolding bad_number
   query_usable (a_query {xs = xs} {ys = ys} {zs = zs} t b k c p) listed i once few =
       let rest = rest_inside bounds.Any xs t (ys ++ zs) i in
@@ -271,4 +286,4 @@ module _ (text : List ℕ) (ps : List Text) where
       }
 
 pub asks_usable : (text : List ℕ) (q : Query) → Asks text q → IsUsable q
-asks_usable text q a = query_usable text (predicates_of a.tokens) a.spelled (predicates_differ a.tokens) a.bounded a.once a.few
+asks_usable text q a = let few = a.few in query_usable text (predicates_of a.tokens) a.spelled (predicates_differ a.tokens) a.bounded a.once (omega arith)

@@ -16,7 +16,7 @@ pub record Asks (text : List ℕ) (q : Query) : Type 0 where
   pub spelled : Spells text tokens q
   pub once : first_repetition q.cover.body ≡ None
   pub bounded : bad_number tokens ≡ None
-  pub few : letters_of q ≤ most_letters
+  pub few : letters_of tokens q ≤ most_letters
 
 -- bytes ask for no query, for the cause of this code, at this place; of several causes the first is told
 pub data IsRefusedQuery (text : List ℕ) : ℕ → Place → Type 0 where
@@ -26,5 +26,5 @@ pub data IsRefusedQuery (text : List ℕ) : ℕ → Place → Type 0 where
       → IsRefusedQuery text 62 (place.Query column)
   out_of_bounds : (ts : List Token) (q : Query) (column : ℕ) → AreTokens text ts → Spells text ts q → first_repetition q.cover.body ≡ None → bad_number ts ≡ Some column
       → IsRefusedQuery text 64 (place.Query column)
-  too_many : (ts : List Token) (q : Query) → AreTokens text ts → Spells text ts q → first_repetition q.cover.body ≡ None → bad_number ts ≡ None → most_letters < letters_of q
+  too_many : (ts : List Token) (q : Query) → AreTokens text ts → Spells text ts q → first_repetition q.cover.body ≡ None → bad_number ts ≡ None → most_letters < letters_of ts q
       → IsRefusedQuery text 63 (place.Limit most_letters)

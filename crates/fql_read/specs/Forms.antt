@@ -1,5 +1,6 @@
 -- The parts that trees of queries are made of.
-use Rattle.std.specs.Prelude.{ℕ, ◌-◌, List, [], ◌∷◌, take, drop, find, position, Option, Some, None, codes}
+use Rattle.std.specs.Prelude.{ℕ, ◌-◌, ◌==◌, ◌++◌, if◌then◌else◌, List, [], ◌∷◌, take, drop, find, position, Option, Some, None, codes}
+use Rattle.std.specs.List.{list_any}
 use Rattle.std.specs.Str.{bytes_eq}
 use Rattle.fq_core.specs.declared.statement_kind.StatementKind.{StatementKind}
 use Rattle.fq_core.specs.declared.statement_kind.StatementKind.TheVariants as kinds
@@ -19,6 +20,7 @@ use Rattle.fql_read.specs.declared.operator.Count.TheVariants as count
 use Rattle.fql_read.specs.declared.filter.Filter.{Filter, roll-Filter}
 use Rattle.fql_read.specs.declared.filter.FilterForm.{FilterForm}
 use Rattle.fql_read.specs.declared.filter.FilterForm.TheVariants as form
+use Rattle.fql_read.specs.declared.cover.Split.{Split}
 use Rattle.fql_read.specs.declared.cover.CoverTree.{CoverTree}
 use Rattle.fql_read.specs.declared.cover.CoverTree.TheVariants as cover
 
@@ -103,3 +105,14 @@ between text p q = take (q - 1 - p) (drop p text)
 -- the place of a predicate among the texts of a query's predicates
 abbrev pub place_in : List Text → Text → Option ℕ
 place_in ps w = position (λ v. bytes_eq v w) ps
+
+-- places of predicates, and behind them one more, unless it is among them
+abbrev pub with_place : List ℕ → ℕ → List ℕ
+with_place ks i = if list_any (λ k. k == i) ks then ks else ks ++ i ∷ []
+
+-- a filter without PRED, and PRED of a filter or a PRED by one more predicate
+abbrev pub unsplit : Filter → Split
+unsplit f = record { filter = f; predicates = [] }
+
+abbrev pub split_by : Split → ℕ → Split
+split_by s i = record { filter = s.filter; predicates = with_place s.predicates i }

@@ -1,10 +1,11 @@
 -- What is refused of a query that the tokens spell, by its limits.
-use Rattle.std.specs.Prelude.{ℕ, ◌+◌, Bool, false, ◌||◌, ◌==◌, nat_lt, if◌then◌else◌, List, [], ◌∷◌, Option, Some, None}
+use Rattle.std.specs.Prelude.{ℕ, ◌+◌, Bool, true, false, ◌&&◌, ◌||◌, ◌==◌, nat_lt, if◌then◌else◌, List, [], ◌∷◌, Option, Some, None}
 use Rattle.std.specs.Option.{option_map_or}
 use Rattle.fql_tokens.specs.declared.token.Mark.TheVariants as marks
 use Rattle.fql_tokens.specs.declared.token.Sign.{Sign}
 use Rattle.fql_tokens.specs.declared.token.Sign.TheVariants as sign
 use Rattle.fql_tokens.specs.declared.token.Token.{Token}
+use Rattle.fql_read.specs.Tables.{is_pred, keyword_in}
 use Rattle.fql_read.specs.declared.cover.CoverTree.{CoverTree, fold-CoverTree}
 use Rattle.fql_read.specs.declared.cover.CoverTree.TheOpen.{CoverTree-F}
 use Rattle.fql_read.specs.declared.limits.Bounds.{Bounds}
@@ -23,8 +24,8 @@ or_first (Some a) b = Some a
 
 -- the column of the first mark outside quotation marks that says how often an expression occurs
 abbrev pub repetition_step : CoverTree-F (Option ℕ) → Option ℕ
-repetition_step (CoverTree-F.Nodes f) = None
-repetition_step (CoverTree-F.Edges f) = None
+repetition_step (CoverTree-F.Nodes s) = None
+repetition_step (CoverTree-F.Edges s) = None
 repetition_step (CoverTree-F.Paths f n) = None
 repetition_step (CoverTree-F.Predicate i) = None
 repetition_step (CoverTree-F.Quoted body text) = None
@@ -62,10 +63,10 @@ first_outside b (t ∷ ts) = if sign_outside b t.sign then Some t.column else fi
 unfoldable pub bad_number : List Token → Option ℕ
 bad_number ts = first_outside bounds.Any ts
 
--- how many letters an expression has, within quotation marks too
+-- how many letters an expression has without those of PRED, within quotation marks too
 abbrev pub letters_step : CoverTree-F ℕ → ℕ
-letters_step (CoverTree-F.Nodes f) = 1
-letters_step (CoverTree-F.Edges f) = 1
+letters_step (CoverTree-F.Nodes s) = 1
+letters_step (CoverTree-F.Edges s) = 1
 letters_step (CoverTree-F.Paths f n) = 1
 letters_step (CoverTree-F.Predicate i) = 1
 letters_step (CoverTree-F.Quoted body text) = body
@@ -78,5 +79,22 @@ unfoldable pub letters : CoverTree → ℕ
 letters = fold-CoverTree ℕ letters_step
 
 -- those of both clauses
-abbrev pub letters_of : Query → ℕ
-letters_of q = letters q.cover.body + option_map_or (λ (c : Clause). letters c.body) q.passing 0
+abbrev pub clause_letters : Query → ℕ
+clause_letters q = letters q.cover.body + option_map_or (λ (c : Clause). letters c.body) q.passing 0
+
+-- a token that opens parentheses
+abbrev pub opens : Sign → Bool
+opens (sign.Mark marks.Open) = true
+opens _ = false
+
+-- How many PRED there are among tokens: the word with `(` behind it. A name may be the same word, but has `)` behind it.
+abbrev pub preds_behind : Bool → List Token → ℕ
+preds_behind pred [] = 0
+preds_behind pred (t ∷ ts) = (if pred && opens t.sign then 1 else 0) + preds_behind (is_pred (keyword_in t.sign)) ts
+
+unfoldable pub preds : List Token → ℕ
+preds ts = preds_behind false ts
+
+-- how many letters a query has: those of its clauses, and one for each PRED
+abbrev pub letters_of : List Token → Query → ℕ
+letters_of ts q = preds ts + clause_letters q

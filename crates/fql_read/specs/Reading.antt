@@ -4,6 +4,7 @@ use Rattle.std.specs.Prelude.{ℕ, zero, suc, Bool, false, ◌==◌, nat_le, if�
 use Rattle.fq_core.specs.declared.statement_kind.StatementKind.{StatementKind}
 use Rattle.fql_tokens.specs.declared.token.Mark.{Mark}
 use Rattle.fql_tokens.specs.declared.token.Mark.TheVariants as marks
+use Rattle.fql_tokens.specs.declared.token.Keyword.{Keyword}
 use Rattle.fql_tokens.specs.declared.token.Sign.{Sign}
 use Rattle.fql_tokens.specs.declared.token.Sign.TheVariants as sign
 use Rattle.fql_tokens.specs.declared.token.Token.{Token}
@@ -17,10 +18,11 @@ use Rattle.fql_read.specs.declared.operator.Part.{Part}
 use Rattle.fql_read.specs.declared.operator.Part.TheVariants as part
 use Rattle.fql_read.specs.declared.filter.Filter.{Filter}
 use Rattle.fql_read.specs.declared.filter.FilterForm.TheVariants as form
+use Rattle.fql_read.specs.declared.cover.Split.{Split}
 use Rattle.fql_read.specs.declared.cover.CoverTree.{CoverTree}
 use Rattle.fql_read.specs.declared.cover.CoverTree.TheVariants as cover
-use Rattle.fql_read.specs.Forms.{Text, filter, bare_form, named_form, single_form, double_form, joined, least_of, most_of, between}
-use Rattle.fql_read.specs.Tables.{head_of, atom_of, operator_of, level, name_in, file_in, number_in, kind_in, place_of_predicate}
+use Rattle.fql_read.specs.Forms.{Text, filter, bare_form, named_form, single_form, double_form, unsplit, split_by, joined, least_of, most_of, between}
+use Rattle.fql_read.specs.Tables.{head_of, atom_of, operator_of, level, name_in, file_in, number_in, kind_in, keyword_in, is_pred, place_of_predicate}
 pub use Rattle.fql_read.specs.Tables.{◌>>=◌}
 
 -- a value, and the tokens after it
@@ -65,6 +67,11 @@ abbrev pub column_of : List Token → ℕ
 column_of [] = 0
 column_of (t ∷ ts) = t.column
 
+-- the word of the query language that the first token is
+abbrev pub keyword_at : List Token → Option Keyword
+keyword_at [] = None
+keyword_at (t ∷ ts) = keyword_in t.sign
+
 -- what the first token holds
 abbrev pub one_at : {A : Type 0} → (Sign → Option A) → List Token → Read A
 one_at f [] = None
@@ -91,8 +98,8 @@ kinds_in ts = expect marks.Open ts >>= λ a. kinds_at (length a) a
 abbrev pub FilterReader : Type 0
 FilterReader = List Token → Read Filter
 
--- one filter in parentheses
-unfoldable pub single_at : FilterReader → List Token → Read Filter
+-- one filter in parentheses, or another form
+unfoldable pub single_at : {A : Type 0} → (List Token → Read A) → List Token → Read A
 single_at r ts = expect marks.Open ts >>= λ a. r a >>= λ x. expect marks.Close x.1 >>= λ rest. Some (x.0, rest)
 
 -- two filters in parentheses
@@ -130,6 +137,26 @@ paths_at ts =
     expect marks.Open ts >>= λ a. filter_in a >>= λ x. expect marks.Comma x.1 >>= λ b. one_at number_in b >>= λ n.
     expect marks.Close n.1 >>= λ rest. Some ((x.0, n.0), rest)
 
+-- ---- filters, and PRED of them
+
+abbrev pub SplitReader : Type 0
+SplitReader = List Token → Read Split
+
+-- what follows PRED
+unfoldable pub pred_at : List Text → SplitReader → List Token → Read Split
+pred_at ps r ts =
+    expect marks.Open ts >>= λ a. r a >>= λ x. expect marks.Comma x.1 >>= λ b. one_at (place_of_predicate ps) b >>= λ i.
+    expect marks.Close i.1 >>= λ rest. Some (split_by x.0 i.0, rest)
+
+-- a filter or PRED, with a bound on how deep it nests
+unfoldable pub split_at : List Text → ℕ → SplitReader
+split_at ps zero ts = None
+split_at ps (suc n) ts =
+    if is_pred (keyword_at ts) then pred_at ps (split_at ps n) (tail ts) else (filter_in ts >>= λ f. Some (unsplit f.0, f.1))
+
+unfoldable pub split_in : List Text → SplitReader
+split_in ps ts = split_at ps (suc (length ts)) ts
+
 -- ---- clauses
 
 -- How an expression whose operators bind so tightly is read in a part of a query.
@@ -158,13 +185,13 @@ quoted_at text r part.Quoted p ts = None
 
 -- what an expression begins with, its first token t before the tokens ts
 unfoldable pub atom_at : List ℕ → List Text → Reader → Part → Atom → Token → List Token → Read CoverTree
-atom_at text ps r x atom.Nodes t ts = single_at filter_in ts >>= λ f. Some (cover.Nodes f.0, f.1)
-atom_at text ps r x atom.Edges t ts = single_at filter_in ts >>= λ f. Some (cover.Edges f.0, f.1)
+atom_at text ps r x atom.Nodes t ts = single_at (split_in ps) ts >>= λ f. Some (cover.Nodes f.0, f.1)
+atom_at text ps r x atom.Edges t ts = single_at (split_in ps) ts >>= λ f. Some (cover.Edges f.0, f.1)
 atom_at text ps r x atom.Paths t ts = paths_at ts >>= λ f. Some (cover.Paths f.0.0 f.0.1, f.1)
 atom_at text ps r x atom.Predicate t ts = one_at (place_of_predicate ps) (t ∷ ts) >>= λ i. Some (cover.Predicate i.0, i.1)
 atom_at text ps r x atom.Group t ts = closed_at r x marks.Close ts
 atom_at text ps r x atom.Quote t ts = quoted_at text r x t.column ts
-atom_at text ps r x atom.Filter t ts = filter_in (t ∷ ts) >>= λ f. Some (cover.Edges f.0, f.1)
+atom_at text ps r x atom.Filter t ts = split_in ps (t ∷ ts) >>= λ f. Some (cover.Edges f.0, f.1)
 
 unfoldable pub operand_at : List ℕ → List Text → Reader → Part → List Token → Read CoverTree
 operand_at text ps r x [] = None

@@ -15,8 +15,7 @@ use Rattle.fql_read.specs.declared.filter.Filter.{Filter}
 use Rattle.fql_read.specs.declared.query.Clause.{Clause}
 use Rattle.fql_read.specs.declared.query.Query.{Query}
 use Rattle.fql_read.specs.Forms.{Text}
-use Rattle.fql_read.specs.Tables.{keyword_in}
-use Rattle.fql_read.specs.Reading.{◌>>=◌, Read, tail, starts, filter_in, expr_at}
+use Rattle.fql_read.specs.Reading.{◌>>=◌, Read, tail, starts, keyword_at, filter_in, expr_at}
 use Rattle.fql_read.specs.QueryForm.{predicates_of}
 use Rattle.fql_read.specs.QueryLimits.{most_letters, first_repetition, bad_number, letters_of}
 
@@ -41,10 +40,6 @@ is_cover _ = false
 abbrev pub is_passing : Option Keyword → Bool
 is_passing (Some keywords.Passing) = true
 is_passing _ = false
-
-abbrev pub keyword_at : List Token → Option Keyword
-keyword_at [] = None
-keyword_at (t ∷ ts) = keyword_in t.sign
 
 unfoldable pub base_at : List Token → Read (Option Filter)
 base_at ts = if is_in (keyword_at ts) then (filter_in (tail ts) >>= λ f. Some (Some f.0, f.1)) else Some (None, ts)
@@ -72,13 +67,13 @@ abbrev pub by_letters : Query → Bool → Result Query Fault
 by_letters q true = Ok q
 by_letters q false = Err (refusal 63 (place.Limit most_letters))
 
-abbrev pub by_number : Query → Option ℕ → Result Query Fault
-by_number q (Some c) = Err (refusal 64 (place.Query c))
-by_number q None = by_letters q (nat_le (letters_of q) most_letters)
+abbrev pub by_number : List Token → Query → Option ℕ → Result Query Fault
+by_number ts q (Some c) = Err (refusal 64 (place.Query c))
+by_number ts q None = by_letters q (nat_le (letters_of ts q) most_letters)
 
 abbrev pub by_repetition : List Token → Query → Option ℕ → Result Query Fault
 by_repetition ts q (Some c) = Err (refusal 62 (place.Query c))
-by_repetition ts q None = by_number q (bad_number ts)
+by_repetition ts q None = by_number ts q (bad_number ts)
 
 abbrev pub limited : List Token → Query → Result Query Fault
 limited ts q = by_repetition ts q (first_repetition q.cover.body)

@@ -3,6 +3,7 @@ use Rattle.std.specs.Prelude.{◌≡◌, ℕ, suc, ◌≤◌, List, [], ◌∷�
 use Rattle.fq_core.specs.declared.statement_kind.StatementKind.{StatementKind}
 use Rattle.fql_tokens.specs.declared.token.Mark.{Mark}
 use Rattle.fql_tokens.specs.declared.token.Mark.TheVariants as marks
+use Rattle.fql_tokens.specs.declared.token.Keyword.TheVariants as keywords
 use Rattle.fql_tokens.specs.declared.token.Sign.TheVariants as sign
 use Rattle.fql_tokens.specs.declared.token.Token.{Token}
 use Rattle.fql_read.specs.declared.operator.BareFilter.{BareFilter}
@@ -18,10 +19,11 @@ use Rattle.fql_read.specs.declared.operator.Part.{Part}
 use Rattle.fql_read.specs.declared.operator.Part.TheVariants as part
 use Rattle.fql_read.specs.declared.filter.Filter.{Filter}
 use Rattle.fql_read.specs.declared.filter.FilterForm.TheVariants as form
+use Rattle.fql_read.specs.declared.cover.Split.{Split}
 use Rattle.fql_read.specs.declared.cover.CoverTree.{CoverTree}
 use Rattle.fql_read.specs.declared.cover.CoverTree.TheVariants as cover
-use Rattle.fql_read.specs.Forms.{Text, filter, bare_form, named_form, single_form, double_form, joined, least_of, most_of, between}
-use Rattle.fql_read.specs.Tables.{head_of, atom_of, operator_of, level, name_in, file_in, number_in, kind_in, place_of_predicate}
+use Rattle.fql_read.specs.Forms.{Text, filter, bare_form, named_form, single_form, double_form, unsplit, split_by, joined, least_of, most_of, between}
+use Rattle.fql_read.specs.Tables.{head_of, atom_of, operator_of, level, name_in, file_in, number_in, kind_in, keyword_in, place_of_predicate}
 
 -- a token that is a mark, with its column
 abbrev pub mark : Mark → ℕ → Token
@@ -49,17 +51,23 @@ pub data DerivesFilter : Filter → List Token → Type 0 where
   a_double : {f : DoubleFilter} {g h : Filter} {xs ys : List Token} (t : Token) (p q r : ℕ) → head_of t.sign ≡ head.Double f → DerivesFilter g xs → DerivesFilter h ys
       → DerivesFilter (filter t.column (double_form f g h)) (t ∷ mark marks.Open p ∷ (xs ++ mark marks.Comma q ∷ (ys ++ mark marks.Close r ∷ [])))
 
+-- what NODES and EDGES are of: a filter, or PRED of one, whose predicates' texts are among those given
+pub data DerivesSplit (ps : List Text) : Split → List Token → Type 0 where
+  no_split : {f : Filter} {ts : List Token} → DerivesFilter f ts → DerivesSplit ps (unsplit f) ts
+  a_split : {s : Split} {i : ℕ} {ts : List Token} (t u : Token) (p q r : ℕ) → keyword_in t.sign ≡ Some keywords.Pred → DerivesSplit ps s ts → place_of_predicate ps u.sign ≡ Some i
+      → DerivesSplit ps (split_by s i) (t ∷ mark marks.Open p ∷ (ts ++ mark marks.Comma q ∷ u ∷ mark marks.Close r ∷ []))
+
 -- an expression in a part of a query, whose operators bind so tightly or tighter: `+` at 1, `->` at 2 and `.` at 3, which
 -- group to the left, and at 4 what says how often it occurs. The predicates' texts are given, and the bytes of the query.
 pub data Derives (text : List ℕ) (ps : List Text) : Part → ℕ → CoverTree → List Token → Type 0 where
-  some_nodes : {x : Part} {k : ℕ} {f : Filter} {ts : List Token} (t : Token) (p q : ℕ) → atom_of t.sign ≡ atom.Nodes → DerivesFilter f ts
-      → Derives text ps x k (cover.Nodes f) (t ∷ mark marks.Open p ∷ (ts ++ mark marks.Close q ∷ []))
-  some_edges : {x : Part} {k : ℕ} {f : Filter} {ts : List Token} (t : Token) (p q : ℕ) → atom_of t.sign ≡ atom.Edges → DerivesFilter f ts
-      → Derives text ps x k (cover.Edges f) (t ∷ mark marks.Open p ∷ (ts ++ mark marks.Close q ∷ []))
+  some_nodes : {x : Part} {k : ℕ} {s : Split} {ts : List Token} (t : Token) (p q : ℕ) → atom_of t.sign ≡ atom.Nodes → DerivesSplit ps s ts
+      → Derives text ps x k (cover.Nodes s) (t ∷ mark marks.Open p ∷ (ts ++ mark marks.Close q ∷ []))
+  some_edges : {x : Part} {k : ℕ} {s : Split} {ts : List Token} (t : Token) (p q : ℕ) → atom_of t.sign ≡ atom.Edges → DerivesSplit ps s ts
+      → Derives text ps x k (cover.Edges s) (t ∷ mark marks.Open p ∷ (ts ++ mark marks.Close q ∷ []))
   some_paths : {x : Part} {k n : ℕ} {f : Filter} {ts : List Token} (t u : Token) (p q r : ℕ) → atom_of t.sign ≡ atom.Paths → DerivesFilter f ts → number_in u.sign ≡ Some n
       → Derives text ps x k (cover.Paths f n) (t ∷ mark marks.Open p ∷ (ts ++ mark marks.Comma q ∷ u ∷ mark marks.Close r ∷ []))
   a_predicate : {x : Part} {k i : ℕ} (t : Token) → place_of_predicate ps t.sign ≡ Some i → Derives text ps x k (cover.Predicate i) (t ∷ [])
-  a_filter : {x : Part} {k : ℕ} {f : Filter} {ts : List Token} → DerivesFilter f ts → Derives text ps x k (cover.Edges f) ts
+  alone : {x : Part} {k : ℕ} {s : Split} {ts : List Token} → DerivesSplit ps s ts → Derives text ps x k (cover.Edges s) ts
   in_parentheses : {x : Part} {k : ℕ} {c : CoverTree} {ts : List Token} (t : Token) (q : ℕ) → atom_of t.sign ≡ atom.Group → Derives text ps x 1 c ts
       → Derives text ps x k c (t ∷ (ts ++ mark marks.Close q ∷ []))
   -- quotation marks make one letter of an expression in the cover clause, group in the passing clause, and don't nest

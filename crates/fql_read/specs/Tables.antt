@@ -1,5 +1,5 @@
 -- What tokens begin, and what joins.
-use Rattle.std.specs.Prelude.{ℕ, List, Option, Some, None}
+use Rattle.std.specs.Prelude.{ℕ, Bool, true, false, List, Option, Some, None}
 use Rattle.fq_core.specs.declared.statement_kind.StatementKind.{StatementKind}
 use Rattle.fql_tokens.specs.declared.token.Mark.{Mark}
 use Rattle.fql_tokens.specs.declared.token.Mark.TheVariants as marks
@@ -105,6 +105,11 @@ None >>= f = None
 abbrev pub keyword_in : Sign → Option Keyword
 keyword_in (sign.Word k w) = k
 keyword_in _ = None
+
+-- it is PRED
+abbrev pub is_pred : Option Keyword → Bool
+is_pred (Some keywords.Pred) = true
+is_pred _ = false
 
 -- the word that a token is, in any role
 abbrev pub name_in : Sign → Option Text

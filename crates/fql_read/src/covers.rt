@@ -2,7 +2,7 @@
 ghost use Rattle.std.specs.Prelude.{◌≡◌, ◌≤◌, ◌<◌, length, Some, None, IfOk, take, drop};
 ghost use Rattle.fql_read.specs.Gives.{Gives};
 ghost use Rattle.fql_read.specs.Forms.{joined, least_of, most_of, between};
-ghost use Rattle.fql_read.specs.Reading.{single_at, filter_in, paths_at, quoted_at, closed_at, atom_at, operand_at, behind, level_by, expr_at};
+ghost use Rattle.fql_read.specs.Reading.{paths_at, quoted_at, closed_at, atom_at, operand_at, behind, level_by, expr_at};
 
 use crate::cover::CoverTree;
 use crate::cursor::{
@@ -11,6 +11,7 @@ use crate::cursor::{
 use crate::filter::Filter;
 use crate::filters::first_filter;
 use crate::operator::{Atom, Count, Join, Operator, Part, atom_of, level_of};
+use crate::splits::{bracketed_split, first_split};
 use crate::stop::Stop;
 use containers::Boxed;
 use fq_core::Name;
@@ -74,17 +75,6 @@ fn between(text: &[u8], from: u32, to: u32) -> &[u8]
 {
     let length = to.saturating_sub(1).saturating_sub(from);
     first_bytes(bytes_from(text, from as usize), length as usize)
-}
-
-// A filter in parentheses.
-#[tactic(auto, unfolding(crate::specs::Reading::single_at))]
-fn bracketed_filter(alloc: Global, tokens: &[Token]) -> Result<(Filter, &[Token]), Stop>
-    ensures { Gives (λ x. (x.0, x.1.now)) result (single_at filter_in tokens.now) }
-{
-    let rest = expect_mark(tokens, Mark::Open)?;
-    let (filter, rest) = first_filter(alloc, rest)?;
-    let rest = expect_mark(rest, Mark::Close)?;
-    Ok((filter.into_inner(), rest))
 }
 
 // A filter and a number in parentheses.
@@ -175,12 +165,12 @@ fn operand<'a>(
     };
     match atom_of(&first.sign) {
         Atom::Nodes => {
-            let (filter, rest) = bracketed_filter(alloc, rest)?;
-            Ok((node(alloc, CoverTree::Nodes(filter))?, rest))
+            let (split, rest) = bracketed_split(alloc, predicates, rest)?;
+            Ok((node(alloc, CoverTree::Nodes(split))?, rest))
         }
         Atom::Edges => {
-            let (filter, rest) = bracketed_filter(alloc, rest)?;
-            Ok((node(alloc, CoverTree::Edges(filter))?, rest))
+            let (split, rest) = bracketed_split(alloc, predicates, rest)?;
+            Ok((node(alloc, CoverTree::Edges(split))?, rest))
         }
         Atom::Paths => {
             let (filter, number, rest) = bracketed_paths(alloc, rest)?;
@@ -193,8 +183,8 @@ fn operand<'a>(
         Atom::Group => closed(alloc, text, predicates, part, depth, Mark::Close, rest),
         Atom::Quote => quoted(alloc, text, predicates, part, depth, first.column, rest),
         Atom::Filter => {
-            let (filter, rest) = first_filter(alloc, tokens)?;
-            Ok((node(alloc, CoverTree::Edges(filter.into_inner()))?, rest))
+            let (split, rest) = first_split(alloc, predicates, tokens)?;
+            Ok((node(alloc, CoverTree::Edges(split))?, rest))
         }
     }
 }

@@ -4,12 +4,12 @@ ghost use Rattle.std.specs.Str.{bytes_eq};
 ghost use Rattle.fql_read.specs.Gives.{Gives};
 ghost use Rattle.fql_read.specs.Forms.{place_in};
 ghost use Rattle.fql_read.specs.Tables.{name_in, file_in, number_in, place_of_predicate};
-ghost use Rattle.fql_read.specs.Reading.{code_of, starts, tail, expect, column_of, one_at, bracketed_at, operator_at};
+ghost use Rattle.fql_read.specs.Reading.{code_of, starts, tail, expect, column_of, keyword_at, one_at, bracketed_at, operator_at};
 
 use crate::operator::{Operator, operator_of};
 use crate::stop::Stop;
 use fq_core::Name;
-use fql_tokens::{Mark, Sign, Token};
+use fql_tokens::{Keyword, Mark, Sign, Token};
 use std::alloc::Global;
 
 fn code(mark: Mark) -> u8
@@ -63,6 +63,18 @@ pub fn first_column(tokens: &[Token]) -> u32
     match tokens {
         [] => 0,
         [first, ..] => first.column,
+    }
+}
+
+pub fn first_keyword(tokens: &[Token]) -> Option<Keyword>
+    ensures { result ≡ keyword_at tokens.now }
+{
+    match tokens {
+        [] => None,
+        [first, ..] => match &first.sign {
+            Sign::Word(keyword, _) => *keyword,
+            _ => None,
+        },
     }
 }
 

@@ -17,10 +17,11 @@ mod limits;
 mod operator;
 mod queries;
 mod query;
+mod splits;
 mod stop;
 
 pub use calls::read_query;
-pub use cover::CoverTree;
+pub use cover::{CoverTree, Split};
 pub use filter::{Filter, FilterForm};
 pub use laws::one_query;
 pub use query::{Clause, Query};

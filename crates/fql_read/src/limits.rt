@@ -1,10 +1,12 @@
 // What is refused of a query that the tokens spell, by its limits.
-ghost use Rattle.std.specs.Prelude.{◌≡◌, ◌-◌, ◌≤◌, nat_le};
+ghost use Rattle.std.specs.Prelude.{◌≡◌, ◌-◌, ◌≤◌, length, nat_le};
 ghost use Rattle.std.specs.Option.{SomeIff};
-ghost use Rattle.fql_read.specs.QueryLimits.{or_first, first_repetition, bounds_behind, is_outside, sign_outside, bad_number, most_letters, letters, letters_of};
+ghost use Rattle.fql_read.specs.Tables.{is_pred, keyword_in};
+ghost use Rattle.fql_read.specs.QueryLimits.{or_first, first_repetition, bounds_behind, is_outside, sign_outside, bad_number, most_letters, letters, clause_letters, letters_of, opens, preds, preds_behind};
 
 use crate::cover::CoverTree;
 use crate::query::Query;
+use crate::splits::is_pred;
 use fql_tokens::{Mark, Sign, Token};
 
 /// The greatest number of letters of a query.
@@ -108,15 +110,62 @@ fn letters_left(tree: &CoverTree, most: u32) -> Option<u32>
     }
 }
 
-/// Whether a query has no more letters than the limit allows.
-pub fn has_few_letters(query: &Query) -> bool
-    ensures { result ≡ nat_le (letters_of query.now) most_letters }
+// Whether both clauses have no more letters than this.
+fn has_few_letters_in_clauses(query: &Query, most: u32) -> bool
+    ensures { result ≡ nat_le (clause_letters query.now) most }
 {
-    match letters_left(&query.cover.body, MOST_LETTERS) {
+    match letters_left(&query.cover.body, most) {
         None => false,
         Some(rest) => match &query.passing {
             None => true,
             Some(clause) => letters_left(&clause.body, rest).is_some(),
         },
+    }
+}
+
+fn opens(sign: &Sign) -> bool
+    ensures { result ≡ opens sign.now }
+{
+    match sign {
+        Sign::Mark(Mark::Open) => true,
+        _ => false,
+    }
+}
+
+// Whether a token is the word `PRED`.
+fn is_pred_word(sign: &Sign) -> bool
+    ensures { result ≡ is_pred (keyword_in sign.now) }
+{
+    match sign {
+        Sign::Word(keyword, _) => is_pred(*keyword),
+        _ => false,
+    }
+}
+
+// How many `PRED` there are among tokens.
+#[tactic(auto, unfolding(crate::specs::QueryLimits::preds))]
+fn preds(tokens: &[Token]) -> u32
+    requires { length tokens.now ≤ 5000 }
+    ensures { result ≡ preds tokens.now }
+{
+    let mut count = 0;
+    let mut behind = false;
+    for token in tokens {
+        if behind && opens(&token.sign) {
+            count += 1;
+        }
+        behind = is_pred_word(&token.sign);
+    }
+    count
+}
+
+/// Whether a query that these tokens spell has no more letters than the limit allows.
+pub fn has_few_letters(query: &Query, tokens: &[Token]) -> bool
+    requires { length tokens.now ≤ 5000 }
+    ensures { result ≡ nat_le (letters_of tokens.now query.now) most_letters }
+{
+    match MOST_LETTERS.checked_sub(preds(tokens)) {
+        None => false,
+        Some(most) => has_few_letters_in_clauses(query, most),
     }
 }

@@ -64,7 +64,7 @@ pub enum Atom {
     Predicate,
     Group,
     Quote,
-    /// A filter, or nothing.
+    /// A filter, `PRED` of one, or nothing.
     Filter,
 }
 

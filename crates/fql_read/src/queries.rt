@@ -2,12 +2,11 @@
 ghost use Rattle.std.specs.Prelude.{◌≡◌, ◌≤◌, length, Ok, Err, IfOk, MatchOption};
 ghost use Rattle.fq_core.specs.Refusals.{IsUnlessMemory};
 ghost use Rattle.fql_read.specs.Gives.{Gives};
-ghost use Rattle.fql_read.specs.Tables.{keyword_in};
 ghost use Rattle.fql_read.specs.QueryForm.{predicates_of};
-ghost use Rattle.fql_read.specs.ReadingQueries.{past, clause_at, is_in, is_cover, is_passing, keyword_at, base_at, cover_at, passing_at, query_at, spelled_of, limited, tokens_outcome};
+ghost use Rattle.fql_read.specs.ReadingQueries.{past, clause_at, is_in, is_cover, is_passing, base_at, cover_at, passing_at, query_at, spelled_of, limited, tokens_outcome};
 
 use crate::covers::expression;
-use crate::cursor::{others, place_of, starts_with};
+use crate::cursor::{first_keyword, others, place_of, starts_with};
 use crate::filter::Filter;
 use crate::filters::first_filter;
 use crate::limits::{MOST_LETTERS, bad_number, has_few_letters, repetition};
@@ -67,18 +66,6 @@ fn clause<'a>(
         last: starts_with(rest, Mark::End),
     };
     Ok((clause, past(rest, Mark::End)))
-}
-
-fn first_keyword(tokens: &[Token]) -> Option<Keyword>
-    ensures { result ≡ keyword_at tokens.now }
-{
-    match tokens {
-        [] => None,
-        [first, ..] => match &first.sign {
-            Sign::Word(keyword, _) => *keyword,
-            _ => None,
-        },
-    }
 }
 
 fn is_in(keyword: Option<Keyword>) -> bool
@@ -194,6 +181,7 @@ fn spelled(alloc: Global, text: &[u8], tokens: &[Token]) -> Result<Query, Fault>
 
 // The first limit that a query breaks.
 fn broken_limit(query: &Query, tokens: &[Token]) -> Option<Fault>
+    requires { length tokens.now ≤ 5000 }
     ensures { MatchOption result (limited tokens.now query.now ≡ Ok query.now) (λ fault. limited tokens.now query.now ≡ Err fault) }
 {
     if let Some(column) = repetition(&query.cover.body) {
@@ -202,7 +190,7 @@ fn broken_limit(query: &Query, tokens: &[Token]) -> Option<Fault>
     if let Some(column) = bad_number(tokens) {
         return Some(refusal(64, Place::Query { column }));
     }
-    if has_few_letters(query) {
+    if has_few_letters(query, tokens) {
         return None;
     }
     let number = MOST_LETTERS as u64;
@@ -210,6 +198,7 @@ fn broken_limit(query: &Query, tokens: &[Token]) -> Option<Fault>
 }
 
 fn limited(query: Query, tokens: &[Token]) -> Result<Query, Fault>
+    requires { length tokens.now ≤ 5000 }
     ensures { result ≡ limited tokens.now query }
 {
     match broken_limit(&query, tokens) {

@@ -244,6 +244,102 @@ fn limits(rt: HostRuntime) -> Result<(), Fail> {
     Ok(())
 }
 
+// PRED of a filter tells its graph's states apart by predicates, the innermost first, each once.
+#[test]
+fn trees_of_splits(rt: HostRuntime) -> Result<(), Fail> {
+    let rows = [
+        (
+            "cover NODES(PRED(@FUNC(g),{v == 9}))",
+            "nodes 18:FUNC g/p0; v == 9",
+        ),
+        ("cover PRED(@CALL(g),{y == 0})", "12:CALL g/p0; y == 0"),
+        ("cover EDGES(pred(Pred(ID,{a}),{b}))", "23:ID/p0/p1; a; b"),
+        (
+            "cover {b}.PRED(PRED(ID,{a}),{b})",
+            "(p0 . 21:ID/p1/p0); b; a",
+        ),
+        ("cover PRED(PRED(ID,{a}),{a})", "17:ID/p0; a"),
+        (
+            "cover PRED(PRED(PRED(ID,{a}),{b}),{a})",
+            "22:ID/p0/p1; a; b",
+        ),
+        (
+            "cover \"PRED(ID,{a})*\"",
+            "<PRED(ID,{a})*> [13:ID/p0 x0..@20]; a",
+        ),
+        ("cover ID passing PRED(ID,{a})", "7:ID | 23:ID/p0; a"),
+        ("cover @FUNC(PRED)", "7:FUNC PRED"),
+        (
+            "cover PRED(NOT(ID),{a}).NODES(ID)",
+            "(12:NOT(16:ID)/p0 . nodes 31:ID); a",
+        ),
+    ];
+    for (query, tree) in rows {
+        assert_eq!(rt; reading(rt.alloc(), query)?.as_str(), tree, "{query}");
+    }
+    Ok(())
+}
+
+// It stands in no operator, not in PATHS and not after `in`.
+#[test]
+fn splits_elsewhere(rt: HostRuntime) -> Result<(), Fail> {
+    let rows = [
+        "cover PATHS(PRED(ID,{a}),1)",
+        "in PRED(ID,{a}) cover ID",
+        "cover NOT(PRED(ID,{a}))",
+        "cover UNION(ID,PRED(ID,{a}))",
+        "cover PRED",
+        "cover PRED(ID)",
+        "cover PRED(ID,a)",
+        "cover PRED(ID,{a},{b})",
+        "cover PRED({a},ID)",
+        "cover PRED((ID),{a})",
+        "cover PRED(NODES(ID),{a})",
+    ];
+    for query in rows {
+        assert_eq!(rt; refused(rt.alloc(), query.as_bytes()), (61, 0), "{query}");
+    }
+    Ok(())
+}
+
+// Each PRED adds a letter, also one of a text that is there, and its text adds none. What stands alone is a letter too.
+#[test]
+fn letters_of_splits(rt: HostRuntime) -> Result<(), Fail> {
+    let alloc = rt.alloc();
+    let many = built(alloc, b"cover PRED(ID,{a})", b"+PRED(ID,{a})", b"", b"", 99)?;
+    assert_eq!(rt; refused(alloc, &many), (1, 0));
+    let many = built(
+        alloc,
+        b"cover ID+PRED(ID,{a})",
+        b"+PRED(ID,{a})",
+        b"",
+        b"",
+        99,
+    )?;
+    assert_eq!(rt; refused(alloc, &many), (63, 200));
+    let many = built(
+        alloc,
+        b"cover NODES(PRED(PRED(ID,{a}),{a}))",
+        b"+ID",
+        b"",
+        b"",
+        197,
+    )?;
+    assert_eq!(rt; refused(alloc, &many), (1, 0));
+    let many = built(
+        alloc,
+        b"cover NODES(PRED(PRED(ID,{a}),{a}))",
+        b"+ID",
+        b"",
+        b"",
+        198,
+    )?;
+    assert_eq!(rt; refused(alloc, &many), (63, 200));
+    let many = built(alloc, b"cover @FUNC(PRED)", b"+@FUNC(PRED)", b"", b"", 199)?;
+    assert_eq!(rt; refused(alloc, &many), (1, 0));
+    Ok(())
+}
+
 #[test]
 fn tokens_have_their_columns(rt: HostRuntime) -> Result<(), Fail> {
     let tokens = query_tokens(rt.alloc(), b"in\r\n @FILE (a b) <=12");

@@ -20,6 +20,7 @@ spelling keywords.Passing = codes "passing"
 spelling keywords.Nodes = codes "NODES"
 spelling keywords.Edges = codes "EDGES"
 spelling keywords.Paths = codes "PATHS"
+spelling keywords.Pred = codes "PRED"
 spelling keywords.Id = codes "ID"
 spelling keywords.Not = codes "NOT"
 spelling keywords.Complement = codes "COMPLEMENT"
@@ -46,7 +47,7 @@ filter_spelling filters.Use = codes "USE"
 
 abbrev pub all_keywords : List Keyword
 all_keywords =
-    keywords.In ∷ keywords.Cover ∷ keywords.Passing ∷ keywords.Nodes ∷ keywords.Edges ∷ keywords.Paths ∷ keywords.Id ∷
+    keywords.In ∷ keywords.Cover ∷ keywords.Passing ∷ keywords.Nodes ∷ keywords.Edges ∷ keywords.Paths ∷ keywords.Pred ∷ keywords.Id ∷
     keywords.Not ∷ keywords.Complement ∷ keywords.Union ∷ keywords.Intersect ∷ keywords.SetMinus ∷ keywords.Compose ∷ []
 
 abbrev pub all_filters : List FilterName

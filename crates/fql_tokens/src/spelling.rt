@@ -4,13 +4,14 @@ ghost use Rattle.fql_tokens.specs.Spelling.{is_written, spelling, filter_spellin
 
 use crate::token::{FilterName, Keyword, Mark};
 
-const KEYWORDS: [Keyword; 13] = [
+const KEYWORDS: [Keyword; 14] = [
     Keyword::In,
     Keyword::Cover,
     Keyword::Passing,
     Keyword::Nodes,
     Keyword::Edges,
     Keyword::Paths,
+    Keyword::Pred,
     Keyword::Id,
     Keyword::Not,
     Keyword::Complement,
@@ -47,6 +48,7 @@ fn spelling(keyword: Keyword) -> &'static [u8]
         Keyword::Nodes => b"NODES",
         Keyword::Edges => b"EDGES",
         Keyword::Paths => b"PATHS",
+        Keyword::Pred => b"PRED",
         Keyword::Id => b"ID",
         Keyword::Not => b"NOT",
         Keyword::Complement => b"COMPLEMENT",

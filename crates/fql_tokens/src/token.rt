@@ -41,6 +41,7 @@ pub enum Keyword {
     Nodes,
     Edges,
     Paths,
+    Pred,
     Id,
     Not,
     Complement,

@@ -11,13 +11,14 @@ use Rattle.goals.specs.Forms.{Pattern, quote_patterns, word_pattern}
 use Rattle.goals.specs.Plans.{goals_of, goals_with}
 use Rattle.goals.specs.Words.{Word, goal_words, quotes_of, same_letter, same_word, words_of}
 use Rattle.goals.specs.declared.goal_letter.GoalLetter.{GoalLetter}
-use Rattle.goals.specs.declared.goal_letter.GoalLetter.TheVariants.{Node, Edge, Predicate, Quoted}
+use Rattle.goals.specs.declared.goal_letter.GoalLetter.TheVariants.{Node, Edge, Predicate, Absent, Quoted}
 use Rattle.goals.proofs.Seen.{any_seen, words_equal}
 
 same_as_itself : (a : GoalLetter) → same_letter a a ≡ true
 same_as_itself (Node n) = eq-eqb n n refl
 same_as_itself (Edge n) = eq-eqb n n refl
 same_as_itself (Predicate n) = eq-eqb n n refl
+same_as_itself (Absent n) = eq-eqb n n refl
 same_as_itself (Quoted n) = eq-eqb n n refl
 
 word_as_itself : (w : Word) → same_word w w ≡ true

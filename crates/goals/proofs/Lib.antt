@@ -1,3 +1,4 @@
+pub mod Dotted
 pub mod Capped
 pub mod Causes
 pub mod Counted

@@ -1,7 +1,7 @@
 -- The greatest number of letters of a word, without its words.
 use Rattle.std.proofs.Common.{◌≡◌, ℕ, zero, suc, ◌+◌, ◌*◌, ◌≤◌, ◌==◌, ◌||◌, true, false, max, if◌then◌else◌, List, [], ◌∷◌, ◌++◌, fold, length, map, refl, sym, ap, ◌∙◌, arith}
 use Rattle.std.specs.Prelude.{nat_lt, slice_get, slice_index_or}
-use Rattle.std.specs.List.{list_any}
+use Rattle.std.specs.List.{flat_map, list_any}
 use Rattle.std.proofs.lemmas.List.Sums.{sum_by-cons}
 use Rattle.std.specs.Option.{option_map_or}
 use Rattle.std.proofs.lemmas.Bool.Decides.{nat_tests}
@@ -13,9 +13,9 @@ use Rattle.applied_clauses.specs.Trees as tree
 use Rattle.applied_clauses.specs.Trees.{Tree}
 use Rattle.goals.specs.Counts.{greatest, joined_letters, longest, one_of, tree_letters}
 use Rattle.goals.specs.Forms.{Pattern, dots, either_of, edge_pattern, path_pattern, pattern_of, quote_patterns, letter_pattern, word_pattern}
-use Rattle.goals.specs.Words.{Quote, Word, number_of, product, texts, words}
+use Rattle.goals.specs.Words.{Quote, Word, edge_words, number_of, product, texts, truth_words, words}
 use Rattle.goals.specs.declared.goal_letter.GoalLetter.{GoalLetter}
-use Rattle.goals.specs.declared.goal_letter.GoalLetter.TheVariants.{Node, Edge, Predicate}
+use Rattle.goals.specs.declared.goal_letter.GoalLetter.TheVariants.{Node, Edge, Predicate, Absent}
 use Rattle.goals.proofs.Products.{length-words}
 
 -- ---- letters of patterns
@@ -68,8 +68,8 @@ count_paths ps = count_choices (map path_pattern ps) ∙ each ps
 
 -- the letters of a clause are counted without its pattern
 pub count_tree : (t : Tree) → letter_count (form (pattern_of t)) ≡ tree_letters t
-count_tree (tree.nodes ns) = ap letter_count (form_letter _)
-count_tree (tree.edges es) = ap letter_count (form_letter _)
+count_tree (tree.nodes ns is) = ap letter_count (form_letter _)
+count_tree (tree.edges es is) = ap letter_count (form_letter _)
 count_tree (tree.paths ps) = count_paths ps
 count_tree (tree.predicate i) = ap letter_count (form_letter _)
 count_tree (tree.quoted body text) = count_tree body
@@ -136,13 +136,53 @@ module _ (qs : List Quote) where
       some_both : (n m a b : ℕ) → joined_letters (suc n) (suc m) a b ≡ a + b
       some_both n m a b = grind (arith, nat_tests)
 
-  ones : (f : ℕ → GoalLetter) → ((n : ℕ) → word_letters (f n ∷ []) ≡ 1) → (ns : List ℕ) → most (map (λ n. f n ∷ []) ns) ≡ one_of ns
-  ones f one [] = refl
-  ones f one (n ∷ ns) = let here = one n in let rest = ones f one ns in let few = at_most_one ns in omega arith
+  -- the same number of letters from each part
+  each_most : (f : ℕ → List Word) (c : ℕ) → ((n : ℕ) → most (f n) ≡ c) → (ns : List ℕ) → most (flat_map f ns) ≡ one_of ns c
+  each_most f c each [] = refl
+  each_most f c each (n ∷ ns) = let here = each n in let rest = each_most f c each ns in let few = at_most ns in let both = most-append (f n) (flat_map f ns) in omega arith
     where
-      at_most_one : (ms : List ℕ) → one_of ms ≤ 1
-      at_most_one [] = omega arith
-      at_most_one (m ∷ ms) = omega arith
+      at_most : (ms : List ℕ) → one_of ms c ≤ c
+      at_most [] = omega arith
+      at_most (m ∷ ms) = omega arith
+
+  -- there are truth words, and each has a letter for each predicate
+  some_truths : (is : List ℕ) → (w : Word) × (ws : List Word) × (truth_words is ≡ w ∷ ws)
+  some_truths [] = ([], [], refl)
+  some_truths (i ∷ is) =
+      let rest = some_truths is in
+      (Predicate i ∷ rest.0, map (λ w. Predicate i ∷ w) rest.1 ++ product ((Absent i ∷ []) ∷ []) (rest.0 ∷ rest.1), ap (product ((Predicate i ∷ []) ∷ (Absent i ∷ []) ∷ [])) rest.2)
+
+  truths_most : (is : List ℕ) → most (truth_words is) ≡ length is
+  truths_most [] = omega arith
+  truths_most (i ∷ is) =
+      let rest = some_truths is in
+      let own = truths_most is in
+      let known : most (rest.0 ∷ rest.1) ≡ length is = ap most (sym rest.2) ∙ own in
+      let one = one_letter (Predicate i) _ refl (ap letter_count (form_letter _)) in
+      let other = one_letter (Absent i) _ refl (ap letter_count (form_letter _)) in
+      let all = most_product_some (Predicate i ∷ []) ((Absent i ∷ []) ∷ []) rest.0 rest.1 in
+      let parts : most (truth_words (i ∷ is)) ≡ most (product ((Predicate i ∷ []) ∷ (Absent i ∷ []) ∷ []) (rest.0 ∷ rest.1)) = ap (λ ws. most (product ((Predicate i ∷ []) ∷ (Absent i ∷ []) ∷ []) ws)) rest.2 in
+      omega arith
+
+  behind_most : (l : GoalLetter) → word_letters (l ∷ []) ≡ 1 → (is : List ℕ) → most (map (λ t. l ∷ t) (truth_words is)) ≡ length is + 1
+  behind_most l one is =
+      let rest = some_truths is in
+      let own = truths_most is in
+      let known : most (rest.0 ∷ rest.1) ≡ length is = ap most (sym rest.2) ∙ own in
+      let all = most_followed (l ∷ []) rest.0 rest.1 in
+      let parts : most (map (λ t. l ∷ t) (truth_words is)) ≡ most (map (λ t. l ∷ t) (rest.0 ∷ rest.1)) = ap (λ ws. most (map (λ t. l ∷ t) ws)) rest.2 in
+      omega arith
+
+  edge_most : (is : List ℕ) (e : ℕ) → most (edge_words (truth_words is) e) ≡ 2 * length is + 1
+  edge_most is e =
+      let rest = some_truths is in
+      let own = truths_most is in
+      let known : most (rest.0 ∷ rest.1) ≡ length is = ap most (sym rest.2) ∙ own in
+      let behind = behind_most (Edge e) (one_letter (Edge e) _ refl (count_edge e)) is in
+      let later : most (map (λ t. Edge e ∷ t) (rest.0 ∷ rest.1)) ≡ length is + 1 = ap (λ ws. most (map (λ t. Edge e ∷ t) ws)) (sym rest.2) ∙ behind in
+      let all = most_product_some rest.0 rest.1 (Edge e ∷ rest.0) (map (λ t. Edge e ∷ t) rest.1) in
+      let parts : most (edge_words (truth_words is) e) ≡ most (edge_words (rest.0 ∷ rest.1) e) = ap (λ ws. most (edge_words ws e)) rest.2 in
+      omega arith
 
   edges_of_path : (path : List ℕ) → word_letters (map Edge path) ≡ length path
   edges_of_path [] = refl
@@ -159,8 +199,8 @@ module _ (qs : List Quote) where
 
   -- the greatest number of letters of a word
   most_words : (t : Tree) → most (words (texts qs) t) ≡ longest qs t
-  most_words (tree.nodes ns) = ones Node (λ n. one_letter (Node n) _ refl (ap letter_count (form_letter _))) ns
-  most_words (tree.edges es) = ones Edge (λ e. one_letter (Edge e) _ refl (count_edge e)) es
+  most_words (tree.nodes ns is) = each_most (λ n. map (λ t. Node n ∷ t) (truth_words is)) (length is + 1) (λ n. behind_most (Node n) (one_letter (Node n) _ refl (ap letter_count (form_letter _))) is) ns
+  most_words (tree.edges es is) = each_most (edge_words (truth_words is)) (2 * length is + 1) (edge_most is) es
   most_words (tree.paths ps) = paths_most ps
   most_words (tree.predicate i) = let one = one_letter (Predicate i) _ refl (ap letter_count (form_letter _)) in omega arith
   most_words (tree.quoted body text) = let one = quote_at qs (number_of (texts qs) text) in omega arith

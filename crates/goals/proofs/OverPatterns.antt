@@ -1,6 +1,6 @@
 -- The patterns of a plan name what is there.
 use Rattle.std.proofs.Common.{◌≡◌, ℕ, zero, suc, ◌&&◌, Bool, true, false, List, [], ◌∷◌, ◌++◌, fold, map, refl, sym, ap, ◌∙◌, true≢false}
-use Rattle.std.specs.Prelude.{Option, Some, None, slice_index_or}
+use Rattle.std.specs.Prelude.{Option, Some, None, nat_lt, slice_index_or}
 use Rattle.std.specs.List.{list_all}
 use Rattle.std.specs.Option.{option_map_or}
 use Rattle.std.proofs.lemmas.List.Folds.{list_all-append}
@@ -10,14 +10,14 @@ use Rattle.patterns.specs.declared.pattern.Pattern.TheVariants as pattern
 use Rattle.patterns.proofs.Forms.{form_nothing, form_letter, form_dot, form_either, form_repeat}
 use Rattle.applied_clauses.specs.Trees as tree
 use Rattle.applied_clauses.specs.Trees.{Tree}
-use Rattle.applied_clauses.specs.Within.{has_edges, is_edge, tree_within}
+use Rattle.applied_clauses.specs.Within.{has_edges, is_edge, is_node, tree_within}
 use Rattle.goals.specs.Forms.{Pattern, dots, either_of, edge_pattern, path_pattern, pattern_of, quote_patterns, letter_pattern, word_pattern}
 use Rattle.goals.specs.GoalForm.{GoalForm}
 use Rattle.goals.specs.Over.{form_there, letter_there, pattern_there, word_there}
 use Rattle.goals.specs.Plans.{goals_with, passing_of}
 use Rattle.goals.specs.Words.{Quote, Word, quoted}
 use Rattle.goals.specs.declared.goal_letter.GoalLetter.{GoalLetter}
-use Rattle.goals.specs.declared.goal_letter.GoalLetter.TheVariants.{Node, Edge, Predicate, Quoted}
+use Rattle.goals.specs.declared.goal_letter.GoalLetter.TheVariants.{Node, Edge, Predicate, Absent, Quoted}
 use Rattle.goals.specs.declared.plan.PassingPattern.{PassingPattern}
 use Rattle.goals.proofs.Seen.{both_true}
 
@@ -70,8 +70,8 @@ module _ (parts : GraphParts) (count : ℕ) where
   paths_there (p ∷ ps) h = both_true (has_edges parts p) (list_all (has_edges parts) ps) h (λ here rest. λ i. path_there p here i && paths_there ps rest i)
 
   pub tree_there : (t : Tree) → within t ≡ true → there (pattern_of t) ≡ true
-  tree_there (tree.nodes ns) h = ap (form_there parts count) (form_letter _) ∙ h
-  tree_there (tree.edges es) h = ap (form_there parts count) (form_letter _) ∙ h
+  tree_there (tree.nodes ns is) h = ap (form_there parts count) (form_letter _) ∙ both_true (list_all (is_node parts) ns) (list_all (λ i. nat_lt i count) is) h (λ here rest. here)
+  tree_there (tree.edges es is) h = ap (form_there parts count) (form_letter _) ∙ both_true (list_all (is_edge parts) es) (list_all (λ i. nat_lt i count) is) h (λ here rest. here)
   tree_there (tree.paths ps) h = choices_there (map path_pattern ps) (paths_there ps h)
   tree_there (tree.predicate i) h = ap (form_there parts count) (form_letter _) ∙ h
   tree_there (tree.quoted body text) h = tree_there body h
@@ -91,8 +91,8 @@ module _ (parts : GraphParts) (count : ℕ) where
   body_within q = within q.body
 
   pub quoted_within : (t : Tree) → within t ≡ true → list_all body_within (quoted t) ≡ true
-  quoted_within (tree.nodes ns) h = refl
-  quoted_within (tree.edges es) h = refl
+  quoted_within (tree.nodes ns is) h = refl
+  quoted_within (tree.edges es is) h = refl
   quoted_within (tree.paths ps) h = refl
   quoted_within (tree.predicate i) h = refl
   quoted_within (tree.quoted body text) h = λ i. h i && true
@@ -117,6 +117,7 @@ module _ (parts : GraphParts) (count : ℕ) where
     letter_pattern_there (Node n) h = ap (form_there parts count) (form_letter _) ∙ (λ i. h i && true)
     letter_pattern_there (Edge e) h = edge_there e h
     letter_pattern_there (Predicate i) h = ap (form_there parts count) (form_letter _) ∙ h
+    letter_pattern_there (Absent i) h = ap (form_there parts count) (form_letter _) ∙ h
     letter_pattern_there (Quoted i) h = numbered_there ps own i
 
     letters_there : (ls : List GoalLetter) → list_all (letter_there parts quotes count) ls ≡ true → list_all there (map (letter_pattern ps) ls) ≡ true

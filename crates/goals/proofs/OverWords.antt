@@ -16,9 +16,9 @@ use Rattle.goals.specs.Forms.{Pattern, quote_patterns, word_pattern}
 use Rattle.goals.specs.GoalForm.{GoalForm}
 use Rattle.goals.specs.Over.{IsPlanOver, letter_there, word_there}
 use Rattle.goals.specs.Plans.{goals_with}
-use Rattle.goals.specs.Words.{Quote, Text, Word, goal_words, number_of, product, quoted, quotes_of, same_text, same_word, texts, words, words_of}
+use Rattle.goals.specs.Words.{Quote, Text, Word, edge_words, goal_words, number_of, product, quoted, quotes_of, same_text, same_word, texts, truth_words, words, words_of}
 use Rattle.goals.specs.declared.goal_letter.GoalLetter.{GoalLetter}
-use Rattle.goals.specs.declared.goal_letter.GoalLetter.TheVariants.{Node, Edge, Predicate, Quoted}
+use Rattle.goals.specs.declared.goal_letter.GoalLetter.TheVariants.{Node, Edge, Predicate, Absent, Quoted}
 use Rattle.goals.proofs.Seen.{any_seen, both_true, or_cases, or_true}
 
 -- ---- texts of quoted letters
@@ -61,14 +61,6 @@ module _ (parts : GraphParts) (count : ℕ) (ts : List Text) where
   abbrev letter : GoalLetter → Bool
   letter l = letter_there parts (length ts) count l
 
-  node_words : (ns : List ℕ) → list_all (is_node parts) ns ≡ true → list_all there (map (λ n. Node n ∷ []) ns) ≡ true
-  node_words [] h = refl
-  node_words (n ∷ ns) h = both_true (is_node parts n) (list_all (is_node parts) ns) h (λ here rest. λ i. (here i && true) && node_words ns rest i)
-
-  edge_words : (es : List ℕ) → list_all (is_edge parts) es ≡ true → list_all there (map (λ e. Edge e ∷ []) es) ≡ true
-  edge_words [] h = refl
-  edge_words (e ∷ es) h = both_true (is_edge parts e) (list_all (is_edge parts) es) h (λ here rest. λ i. (here i && true) && edge_words es rest i)
-
   edge_letters : (es : List ℕ) → list_all (is_edge parts) es ≡ true → list_all letter (map Edge es) ≡ true
   edge_letters [] h = refl
   edge_letters (e ∷ es) h = both_true (is_edge parts e) (list_all (is_edge parts) es) h (λ here rest. λ i. here i && edge_letters es rest i)
@@ -90,21 +82,59 @@ module _ (parts : GraphParts) (count : ℕ) (ts : List Text) where
   followed (l ∷ ls) w h g = both_true (letter l) (list_all letter ls) h
       (λ here rest. λ i. here i && (list_all-append letter ls w ∙ (λ j. rest j && all_letters w g j)) i)
 
-  all_followed : (v : Word) → there v ≡ true → (ws : List Word) → list_all there ws ≡ true → list_all there (map (λ w. v ++ w) ws) ≡ true
-  all_followed v h [] g = refl
-  all_followed v h (w ∷ ws) g = both_true (there w) (list_all there ws) g (λ here rest. λ i. followed v w h here i && all_followed v h ws rest i)
+  -- what holds of the parts of words holds of all products
+  module _ (p q r : Word → Bool) (joins : (v w : Word) → p v ≡ true → q w ≡ true → r (v ++ w) ≡ true) where
+    all_followed : (v : Word) → p v ≡ true → (ws : List Word) → list_all q ws ≡ true → list_all r (map (λ w. v ++ w) ws) ≡ true
+    all_followed v h [] g = refl
+    all_followed v h (w ∷ ws) g = both_true (q w) (list_all q ws) g (λ here rest. λ i. joins v w h here i && all_followed v h ws rest i)
 
-  all_products : (vs ws : List Word) → list_all there vs ≡ true → list_all there ws ≡ true → list_all there (product vs ws) ≡ true
-  all_products [] ws h g = refl
-  all_products (v ∷ vs) ws h g = both_true (there v) (list_all there vs) h
-      (λ here rest. list_all-append there (map (λ w. v ++ w) ws) (product vs ws) ∙ (λ i. all_followed v here ws g i && all_products vs ws rest g i))
+    all_products : (vs ws : List Word) → list_all p vs ≡ true → list_all q ws ≡ true → list_all r (product vs ws) ≡ true
+    all_products [] ws h g = refl
+    all_products (v ∷ vs) ws h g = both_true (p v) (list_all p vs) h
+        (λ here rest. list_all-append r (map (λ w. v ++ w) ws) (product vs ws) ∙ (λ i. all_followed v here ws g i && all_products vs ws rest g i))
+
+  -- ---- truth words
+
+  abbrev letters : Word → Bool
+  letters w = list_all letter w
+
+  letters_joined : (v w : Word) → letters v ≡ true → letters w ≡ true → letters (v ++ w) ≡ true
+  letters_joined v w h g = list_all-append letter v w ∙ (λ i. h i && g i)
+
+  behind_letters : (v w : Word) → letters v ≡ true → there w ≡ true → there (v ++ w) ≡ true
+  behind_letters [] w h g = g
+  behind_letters (l ∷ ls) w h g = letters_joined (l ∷ ls) w h (all_letters w g)
+
+  truth_letters : (is : List ℕ) → list_all (λ i. nat_lt i count) is ≡ true → list_all letters (truth_words is) ≡ true
+  truth_letters [] h = refl
+  truth_letters (i ∷ is) h = both_true (nat_lt i count) (list_all (λ i. nat_lt i count) is) h
+      (λ here rest. all_products letters letters letters letters_joined ((Predicate i ∷ []) ∷ (Absent i ∷ []) ∷ []) (truth_words is)
+      (λ j. (here j && true) && ((here j && true) && true)) (truth_letters is rest))
+
+  behind_letter : (l : GoalLetter) → letter l ≡ true → (ws : List Word) → list_all letters ws ≡ true → list_all there (map (λ w. l ∷ w) ws) ≡ true
+  behind_letter l h [] g = refl
+  behind_letter l h (w ∷ ws) g = both_true (letters w) (list_all letters ws) g (λ here rest. λ i. (h i && here i) && behind_letter l h ws rest i)
+
+  all_mapped : (f : ℕ → List Word) (p : ℕ → Bool) → ((n : ℕ) → p n ≡ true → list_all there (f n) ≡ true) → (ns : List ℕ) → list_all p ns ≡ true → list_all there (flat_map f ns) ≡ true
+  all_mapped f p each [] h = refl
+  all_mapped f p each (n ∷ ns) h = both_true (p n) (list_all p ns) h
+      (λ here rest. list_all-append there (f n) (flat_map f ns) ∙ (λ i. each n here i && all_mapped f p each ns rest i))
+
+  node_words : (ns is : List ℕ) → list_all (is_node parts) ns ≡ true → list_all (λ i. nat_lt i count) is ≡ true → list_all there (words ts (tree.nodes ns is)) ≡ true
+  node_words ns is h g = all_mapped (λ n. map (λ t. Node n ∷ t) (truth_words is)) (is_node parts) (λ n e. behind_letter (Node n) e (truth_words is) (truth_letters is g)) ns h
+
+  all_edge_words : (es is : List ℕ) → list_all (is_edge parts) es ≡ true → list_all (λ i. nat_lt i count) is ≡ true → list_all there (words ts (tree.edges es is)) ≡ true
+  all_edge_words es is h g =
+      let truths = truth_letters is g in
+      all_mapped (edge_words (truth_words is)) (is_edge parts)
+      (λ k e. all_products letters there there behind_letters (truth_words is) (map (λ t. Edge k ∷ t) (truth_words is)) truths (behind_letter (Edge k) e (truth_words is) truths)) es h
 
   abbrev has_number : Quote → Bool
   has_number q = nat_lt (number_of ts q.text) (length ts)
 
   pub words_there : (t : Tree) → tree_within parts count t ≡ true → list_all has_number (quoted t) ≡ true → list_all there (words ts t) ≡ true
-  words_there (tree.nodes ns) h g = node_words ns h
-  words_there (tree.edges es) h g = edge_words es h
+  words_there (tree.nodes ns is) h g = both_true (list_all (is_node parts) ns) (list_all (λ i. nat_lt i count) is) h (node_words ns is)
+  words_there (tree.edges es is) h g = both_true (list_all (is_edge parts) es) (list_all (λ i. nat_lt i count) is) h (all_edge_words es is)
   words_there (tree.paths ps) h g = path_words ps h
   words_there (tree.predicate i) h g = λ j. (h j && true) && true
   words_there (tree.quoted body text) h g = g_of g
@@ -113,7 +143,7 @@ module _ (parts : GraphParts) (count : ℕ) (ts : List Text) where
       g_of e = λ j. e j && true
   words_there (tree.dot a b) h g = both_true (tree_within parts count a) (tree_within parts count b) h
       (λ ha hb. both_true (list_all has_number (quoted a)) (list_all has_number (quoted b)) (sym (list_all-append has_number (quoted a) (quoted b)) ∙ g)
-      (λ ga gb. all_products (words ts a) (words ts b) (words_there a ha ga) (words_there b hb gb)))
+      (λ ga gb. all_products there there there followed (words ts a) (words ts b) (words_there a ha ga) (words_there b hb gb)))
   words_there (tree.plus a b) h g = both_true (tree_within parts count a) (tree_within parts count b) h
       (λ ha hb. both_true (list_all has_number (quoted a)) (list_all has_number (quoted b)) (sym (list_all-append has_number (quoted a) (quoted b)) ∙ g)
       (λ ga gb. list_all-append there (words ts a) (words ts b) ∙ (λ i. words_there a ha ga i && words_there b hb gb i)))

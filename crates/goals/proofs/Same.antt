@@ -8,24 +8,33 @@ use Rattle.indexmap.specs.IndexSet.{insert_key, insert_all}
 use Rattle.goals.specs.Words.{Word, same_letter, same_word}
 use Rattle.goals.specs.contracts.goal_letter as contracts
 use Rattle.goals.specs.declared.goal_letter.GoalLetter.{GoalLetter}
-use Rattle.goals.specs.declared.goal_letter.GoalLetter.TheVariants.{Node, Edge, Predicate, Quoted}
+use Rattle.goals.specs.declared.goal_letter.GoalLetter.TheVariants.{Node, Edge, Predicate, Absent, Quoted}
 
 pub letters_same : (a b : GoalLetter) → contracts.GoalLetterPartialEq.TheImpl.ghosts.eq a b ≡ same_letter a b
 letters_same (Node m) (Node n) = refl
 letters_same (Node m) (Edge n) = refl
 letters_same (Node m) (Predicate n) = refl
+letters_same (Node m) (Absent n) = refl
 letters_same (Node m) (Quoted n) = refl
 letters_same (Edge m) (Node n) = refl
 letters_same (Edge m) (Edge n) = refl
 letters_same (Edge m) (Predicate n) = refl
+letters_same (Edge m) (Absent n) = refl
 letters_same (Edge m) (Quoted n) = refl
 letters_same (Predicate m) (Node n) = refl
 letters_same (Predicate m) (Edge n) = refl
 letters_same (Predicate m) (Predicate n) = refl
+letters_same (Predicate m) (Absent n) = refl
 letters_same (Predicate m) (Quoted n) = refl
+letters_same (Absent m) (Node n) = refl
+letters_same (Absent m) (Edge n) = refl
+letters_same (Absent m) (Predicate n) = refl
+letters_same (Absent m) (Absent n) = refl
+letters_same (Absent m) (Quoted n) = refl
 letters_same (Quoted m) (Node n) = refl
 letters_same (Quoted m) (Edge n) = refl
 letters_same (Quoted m) (Predicate n) = refl
+letters_same (Quoted m) (Absent n) = refl
 letters_same (Quoted m) (Quoted n) = refl
 
 module _ {A T : Type 0} (items : A → T) (eq : A → A → Bool) (same : T → T → Bool) (agree : (a b : A) → eq a b ≡ same (items a) (items b)) where

@@ -6,7 +6,7 @@ use Rattle.std.proofs.lemmas.List.Folds.{list_all-append, list_any-append}
 use Rattle.indexmap.specs.IndexSet.{insert_key, insert_all}
 use Rattle.goals.specs.Words.{Word, same_letter, same_word}
 use Rattle.goals.specs.declared.goal_letter.GoalLetter.{GoalLetter}
-use Rattle.goals.specs.declared.goal_letter.GoalLetter.TheVariants.{Node, Edge, Predicate, Quoted}
+use Rattle.goals.specs.declared.goal_letter.GoalLetter.TheVariants.{Node, Edge, Predicate, Absent, Quoted}
 
 or_false : (b : Bool) → (b || false) ≡ b
 or_false true = refl
@@ -55,18 +55,27 @@ letters_equal : (a b : GoalLetter) → same_letter a b ≡ true → a ≡ b
 letters_equal (Node m) (Node n) h = ap Node (eqb-true m n h)
 letters_equal (Node m) (Edge n) h = absurd (true≢false (sym h))
 letters_equal (Node m) (Predicate n) h = absurd (true≢false (sym h))
+letters_equal (Node m) (Absent n) h = absurd (true≢false (sym h))
 letters_equal (Node m) (Quoted n) h = absurd (true≢false (sym h))
 letters_equal (Edge m) (Node n) h = absurd (true≢false (sym h))
 letters_equal (Edge m) (Edge n) h = ap Edge (eqb-true m n h)
 letters_equal (Edge m) (Predicate n) h = absurd (true≢false (sym h))
+letters_equal (Edge m) (Absent n) h = absurd (true≢false (sym h))
 letters_equal (Edge m) (Quoted n) h = absurd (true≢false (sym h))
 letters_equal (Predicate m) (Node n) h = absurd (true≢false (sym h))
 letters_equal (Predicate m) (Edge n) h = absurd (true≢false (sym h))
 letters_equal (Predicate m) (Predicate n) h = ap Predicate (eqb-true m n h)
+letters_equal (Predicate m) (Absent n) h = absurd (true≢false (sym h))
 letters_equal (Predicate m) (Quoted n) h = absurd (true≢false (sym h))
+letters_equal (Absent m) (Node n) h = absurd (true≢false (sym h))
+letters_equal (Absent m) (Edge n) h = absurd (true≢false (sym h))
+letters_equal (Absent m) (Predicate n) h = absurd (true≢false (sym h))
+letters_equal (Absent m) (Absent n) h = ap Absent (eqb-true m n h)
+letters_equal (Absent m) (Quoted n) h = absurd (true≢false (sym h))
 letters_equal (Quoted m) (Node n) h = absurd (true≢false (sym h))
 letters_equal (Quoted m) (Edge n) h = absurd (true≢false (sym h))
 letters_equal (Quoted m) (Predicate n) h = absurd (true≢false (sym h))
+letters_equal (Quoted m) (Absent n) h = absurd (true≢false (sym h))
 letters_equal (Quoted m) (Quoted n) h = ap Quoted (eqb-true m n h)
 
 pub words_equal : (v w : Word) → same_word v w ≡ true → v ≡ w

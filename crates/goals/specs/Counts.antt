@@ -9,8 +9,8 @@ use Rattle.goals.specs.Words.{Text, Quote, number_of, texts}
 
 -- how many letters a clause has as a pattern, repetitions unrolled
 abbrev pub tree_letters : Tree → ℕ
-tree_letters (tree.nodes ns) = 1
-tree_letters (tree.edges es) = 1
+tree_letters (tree.nodes ns is) = 1
+tree_letters (tree.edges es is) = 1
 tree_letters (tree.paths ps) = edge_count ps
 tree_letters (tree.predicate i) = 1
 tree_letters (tree.quoted body text) = tree_letters body
@@ -18,10 +18,15 @@ tree_letters (tree.dot a b) = tree_letters a + tree_letters b
 tree_letters (tree.plus a b) = tree_letters a + tree_letters b
 tree_letters (tree.repeat body least most) = tree_letters body * times least most
 
+-- how many truth words so many predicates have
+abbrev pub truth_count : List ℕ → ℕ
+truth_count [] = 1
+truth_count (i ∷ is) = 2 * truth_count is
+
 -- how many words a clause has
 abbrev pub word_count : Tree → ℕ
-word_count (tree.nodes ns) = length ns
-word_count (tree.edges es) = length es
+word_count (tree.nodes ns is) = length ns * truth_count is
+word_count (tree.edges es is) = length es * (truth_count is * truth_count is)
 word_count (tree.paths ps) = length ps
 word_count (tree.predicate i) = 1
 word_count (tree.quoted body text) = 1
@@ -34,10 +39,10 @@ abbrev pub greatest : List ℕ → ℕ
 greatest [] = 0
 greatest (n ∷ ns) = max n (greatest ns)
 
--- 1 where there is one
-abbrev pub one_of : List ℕ → ℕ
-one_of [] = 0
-one_of (n ∷ ns) = 1
+-- this many, where there is one
+abbrev pub one_of : List ℕ → ℕ → ℕ
+one_of [] count = 0
+one_of (n ∷ ns) count = count
 
 -- the greatest number of letters of two words one after the other, from those of the parts and how many words these have
 abbrev pub joined_letters : ℕ → ℕ → ℕ → ℕ → ℕ
@@ -49,8 +54,8 @@ quote_letters qs text = option_map_or (λ (q : Quote). tree_letters q.body) (sli
 
 -- the greatest number of letters of the pattern of a word of a clause, or 0
 abbrev pub longest : List Quote → Tree → ℕ
-longest qs (tree.nodes ns) = one_of ns
-longest qs (tree.edges es) = one_of es
+longest qs (tree.nodes ns is) = one_of ns (length is + 1)
+longest qs (tree.edges es is) = one_of es (2 * length is + 1)
 longest qs (tree.paths ps) = greatest (map length ps)
 longest qs (tree.predicate i) = 1
 longest qs (tree.quoted body text) = quote_letters qs text

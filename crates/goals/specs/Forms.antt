@@ -8,7 +8,7 @@ use Rattle.applied_clauses.specs.Trees as tree
 use Rattle.applied_clauses.specs.Trees.{Tree}
 use Rattle.goals.specs.Words.{Word, Quote}
 use Rattle.goals.specs.declared.goal_letter.GoalLetter.{GoalLetter}
-use Rattle.goals.specs.declared.goal_letter.GoalLetter.TheVariants.{Node, Edge, Predicate, Quoted}
+use Rattle.goals.specs.declared.goal_letter.GoalLetter.TheVariants.{Node, Edge, Predicate, Absent, Quoted}
 
 abbrev pub Pattern : Type 0
 Pattern = declared.Pattern Letter
@@ -31,10 +31,11 @@ edge_pattern e = pattern.Letter (letter.Edges (e ∷ []))
 abbrev pub path_pattern : List ℕ → Pattern
 path_pattern path = dots (map edge_pattern path)
 
--- A clause as a regular pattern, where a letter over a set matches where some member does. Quotation marks group.
+-- A clause as a regular pattern, where a letter over a set matches where some member does, so that PRED tells nothing apart.
+-- Quotation marks group.
 abbrev pub pattern_of : Tree → Pattern
-pattern_of (tree.nodes ns) = pattern.Letter (letter.Nodes ns)
-pattern_of (tree.edges es) = pattern.Letter (letter.Edges es)
+pattern_of (tree.nodes ns is) = pattern.Letter (letter.Nodes ns)
+pattern_of (tree.edges es is) = pattern.Letter (letter.Edges es)
 pattern_of (tree.paths ps) = either_of (map path_pattern ps)
 pattern_of (tree.predicate i) = pattern.Letter (letter.Predicate i)
 pattern_of (tree.quoted body text) = pattern_of body
@@ -51,6 +52,7 @@ abbrev pub letter_pattern : List Pattern → GoalLetter → Pattern
 letter_pattern qs (Node n) = pattern.Letter (letter.Nodes (n ∷ []))
 letter_pattern qs (Edge e) = edge_pattern e
 letter_pattern qs (Predicate i) = pattern.Letter (letter.Predicate i)
+letter_pattern qs (Absent i) = pattern.Letter (letter.Absent i)
 letter_pattern qs (Quoted i) = slice_index_or qs i pattern.Nothing
 
 -- a goal's pattern: its word's letters one after another

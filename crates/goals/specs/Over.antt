@@ -14,7 +14,7 @@ use Rattle.goals.specs.GoalForm.{GoalForm}
 use Rattle.goals.specs.Plans.{most_words}
 use Rattle.goals.specs.Words.{Word}
 use Rattle.goals.specs.declared.goal_letter.GoalLetter.{GoalLetter}
-use Rattle.goals.specs.declared.goal_letter.GoalLetter.TheVariants.{Node, Edge, Predicate, Quoted}
+use Rattle.goals.specs.declared.goal_letter.GoalLetter.TheVariants.{Node, Edge, Predicate, Absent, Quoted}
 use Rattle.goals.specs.declared.plan.PassingPattern.{PassingPattern}
 use Rattle.goals.specs.declared.plan.Plan.{Plan}
 
@@ -24,6 +24,7 @@ module _ (parts : GraphParts) (quotes predicates : ℕ) where
   letter_there (Node n) = is_node parts n
   letter_there (Edge k) = is_edge parts k
   letter_there (Predicate i) = nat_lt i predicates
+  letter_there (Absent i) = nat_lt i predicates
   letter_there (Quoted i) = nat_lt i quotes
 
   -- a word has a letter, and its letters are there
@@ -37,6 +38,7 @@ module _ (parts : GraphParts) (predicates : ℕ) where
   set_there (letter.Nodes ns) = list_all (is_node parts) ns
   set_there (letter.Edges es) = list_all (is_edge parts) es
   set_there (letter.Predicate i) = nat_lt i predicates
+  set_there (letter.Absent i) = nat_lt i predicates
 
   -- and so are those of all its letters
   abbrev pub form_there : Form Letter → Bool

@@ -7,7 +7,7 @@ use Rattle.indexmap.specs.IndexSet.{insert_all}
 use Rattle.applied_clauses.specs.Trees as tree
 use Rattle.applied_clauses.specs.Trees.{Tree}
 use Rattle.goals.specs.declared.goal_letter.GoalLetter.{GoalLetter}
-use Rattle.goals.specs.declared.goal_letter.GoalLetter.TheVariants.{Node, Edge, Predicate, Quoted}
+use Rattle.goals.specs.declared.goal_letter.GoalLetter.TheVariants.{Node, Edge, Predicate, Absent, Quoted}
 
 abbrev pub Text : Type 0
 Text = List ℕ
@@ -24,8 +24,8 @@ pub record Quote : Type 0 where
 
 -- those that are letters of a clause, in the order of the text
 abbrev pub quoted : Tree → List Quote
-quoted (tree.nodes ns) = []
-quoted (tree.edges es) = []
+quoted (tree.nodes ns is) = []
+quoted (tree.edges es is) = []
 quoted (tree.paths ps) = []
 quoted (tree.predicate i) = []
 quoted (tree.quoted body text) = record { text = text; body = body } ∷ []
@@ -54,10 +54,21 @@ number_of ts text = position_or_len (λ t. bytes_eq t text) ts
 abbrev pub product : List Word → List Word → List Word
 product vs ws = flat_map (λ v. map (λ w. v ++ w) ws) vs
 
--- the words of a clause, in order. Outside quotation marks it has no repetition.
+-- the truth words of predicates: all lists of one letter for each, the predicate before the absent predicate, the first
+-- predicate outermost
+abbrev pub truth_words : List ℕ → List Word
+truth_words [] = [] ∷ []
+truth_words (i ∷ is) = product ((Predicate i ∷ []) ∷ (Absent i ∷ []) ∷ []) (truth_words is)
+
+-- each of these words, the edge, and each of them again
+abbrev pub edge_words : List Word → ℕ → List Word
+edge_words ts e = product ts (map (λ t. Edge e ∷ t) ts)
+
+-- The words of a clause, in order. A node is followed by each truth word, and an edge stands between each two of them.
+-- Outside quotation marks there is no repetition.
 abbrev pub words : List Text → Tree → List Word
-words ts (tree.nodes ns) = map (λ n. Node n ∷ []) ns
-words ts (tree.edges es) = map (λ e. Edge e ∷ []) es
+words ts (tree.nodes ns is) = flat_map (λ n. map (λ t. Node n ∷ t) (truth_words is)) ns
+words ts (tree.edges es is) = flat_map (edge_words (truth_words is)) es
 words ts (tree.paths ps) = map (λ path. map Edge path) ps
 words ts (tree.predicate i) = (Predicate i ∷ []) ∷ []
 words ts (tree.quoted body text) = (Quoted (number_of ts text) ∷ []) ∷ []
@@ -73,6 +84,7 @@ abbrev pub same_letter : GoalLetter → GoalLetter → Bool
 same_letter (Node m) (Node n) = m == n
 same_letter (Edge m) (Edge n) = m == n
 same_letter (Predicate m) (Predicate n) = m == n
+same_letter (Absent m) (Absent n) = m == n
 same_letter (Quoted m) (Quoted n) = m == n
 same_letter _ _ = false
 

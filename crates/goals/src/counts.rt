@@ -1,7 +1,7 @@
 // Counts of words and letters, of which nothing has to be listed.
-ghost use Rattle.std.specs.Prelude.{◌≡◌, ◌-◌, ◌^◌, min, length, map};
+ghost use Rattle.std.specs.Prelude.{◌≡◌, ◌+◌, ◌-◌, ◌*◌, ◌^◌, min, length, map};
 ghost use Rattle.applied_clauses.specs.Trees.{tree_of};
-ghost use Rattle.goals.specs.Counts.{greatest, joined_letters, longest, one_of, quote_letters, tree_letters, word_count};
+ghost use Rattle.goals.specs.Counts.{greatest, joined_letters, longest, one_of, quote_letters, tree_letters, truth_count, word_count};
 ghost use Rattle.goals.specs.Quotes.{quotes_in};
 ghost use Rattle.graph_paths.specs.Outcome.{edge_count};
 ghost use Rattle.patterns.specs.Letters.{times};
@@ -49,7 +49,7 @@ pub(crate) fn tree_letters(tree: &AppliedTree) -> u64
     ensures { result ≡ min (tree_letters (tree_of tree.now)) (2 ^ 64 - 1) }
 {
     match tree {
-        AppliedTree::Nodes(_) | AppliedTree::Edges(_) | AppliedTree::Predicate(_) => 1,
+        AppliedTree::Nodes(_, _) | AppliedTree::Edges(_, _) | AppliedTree::Predicate(_) => 1,
         AppliedTree::Paths(paths) => edge_count(paths),
         AppliedTree::Quoted { body, .. } => tree_letters(body),
         AppliedTree::Dot(a, b) | AppliedTree::Plus(a, b) => {
@@ -61,14 +61,42 @@ pub(crate) fn tree_letters(tree: &AppliedTree) -> u64
     }
 }
 
+/// How many truth words these predicates have, or the greatest u64 where there are more.
+#[tactic(auto, using(patterns::proofs::Capped::counted))]
+fn truth_count(predicates: &[u32]) -> u64
+    ensures { result ≡ min (truth_count predicates.now) (2 ^ 64 - 1) }
+{
+    match predicates {
+        [] => 1,
+        [_, rest @ ..] => truth_count(rest).saturating_mul(2),
+    }
+}
+
+/// How many words these edges have between two truth words, or the greatest u64 where there are more.
+#[tactic(auto, using(crate::proofs::Capped::capped_product, crate::proofs::Capped::capped_right))]
+fn edge_word_count(edges: &[u32], predicates: &[u32]) -> u64
+    ensures { result ≡ min (length edges.now * (truth_count predicates.now * truth_count predicates.now)) (2 ^ 64 - 1) }
+{
+    let truths = truth_count(predicates);
+    (edges.len() as u64).saturating_mul(truths.saturating_mul(truths))
+}
+
+/// How many words these nodes have before a truth word, or the greatest u64 where there are more.
+#[tactic(auto, using(crate::proofs::Capped::capped_right))]
+fn node_word_count(nodes: &[u32], predicates: &[u32]) -> u64
+    ensures { result ≡ min (length nodes.now * truth_count predicates.now) (2 ^ 64 - 1) }
+{
+    (nodes.len() as u64).saturating_mul(truth_count(predicates))
+}
+
 /// How many words a clause has, or the greatest u64 where there are more.
 #[tactic(auto, using(patterns::proofs::Capped::counted, crate::proofs::Capped::capped_product), unfolding(applied_clauses::specs::Trees::tree_of))]
 pub(crate) fn word_count(tree: &AppliedTree) -> u64
     ensures { result ≡ min (word_count (tree_of tree.now)) (2 ^ 64 - 1) }
 {
     match tree {
-        AppliedTree::Nodes(nodes) => nodes.as_slice().len() as u64,
-        AppliedTree::Edges(edges) => edges.as_slice().len() as u64,
+        AppliedTree::Nodes(nodes, predicates) => node_word_count(nodes.as_slice(), predicates),
+        AppliedTree::Edges(edges, predicates) => edge_word_count(edges.as_slice(), predicates),
         AppliedTree::Paths(paths) => paths.len() as u64,
         AppliedTree::Predicate(_) | AppliedTree::Quoted { .. } => 1,
         AppliedTree::Dot(a, b) => word_count(a).saturating_mul(word_count(b)),
@@ -77,10 +105,30 @@ pub(crate) fn word_count(tree: &AppliedTree) -> u64
     }
 }
 
-fn one_of(numbers: &[u32]) -> u64
-    ensures { result ≡ one_of numbers.now }
+fn one_of(numbers: &[u32], count: u64) -> u64
+    ensures { result ≡ one_of numbers.now count }
 {
-    if numbers.is_empty() { 0 } else { 1 }
+    match numbers {
+        [] => 0,
+        [_first, _rest @ ..] => count,
+    }
+}
+
+/// How many letters a node has with a truth word, if there is a node, or the greatest u64 where there are more.
+#[tactic(auto, using(crate::proofs::Capped::capped_one))]
+fn node_letters(nodes: &[u32], predicates: &[u32]) -> u64
+    ensures { result ≡ min (one_of nodes.now (length predicates.now + 1)) (2 ^ 64 - 1) }
+{
+    one_of(nodes, (predicates.len() as u64).saturating_add(1))
+}
+
+/// How many letters an edge has with two truth words, if there is an edge, or the greatest u64 where there are more.
+#[tactic(auto, using(crate::proofs::Capped::capped_one, crate::proofs::Capped::capped_more))]
+fn edge_letters(edges: &[u32], predicates: &[u32]) -> u64
+    ensures { result ≡ min (one_of edges.now (2 * length predicates.now + 1)) (2 ^ 64 - 1) }
+{
+    let truths = (predicates.len() as u64).saturating_mul(2);
+    one_of(edges, truths.saturating_add(1))
 }
 
 fn quote_letters(quotes: &[QuotedLetter], text: &Name) -> u64
@@ -98,8 +146,8 @@ pub(crate) fn longest(tree: &AppliedTree, quotes: &[QuotedLetter]) -> u64
     ensures { result ≡ min (longest (quotes_in quotes.now) (tree_of tree.now)) (2 ^ 64 - 1) }
 {
     match tree {
-        AppliedTree::Nodes(nodes) => one_of(nodes.as_slice()),
-        AppliedTree::Edges(edges) => one_of(edges.as_slice()),
+        AppliedTree::Nodes(nodes, predicates) => node_letters(nodes.as_slice(), predicates),
+        AppliedTree::Edges(edges, predicates) => edge_letters(edges.as_slice(), predicates),
         AppliedTree::Paths(paths) => longest_path(paths),
         AppliedTree::Predicate(_) => 1,
         AppliedTree::Quoted { text, .. } => quote_letters(quotes, text),

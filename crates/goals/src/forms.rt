@@ -114,8 +114,8 @@ pub(crate) fn pattern_of(alloc: Global, tree: &AppliedTree) -> Result<Pattern<Le
     ensures { IfOk result (λ p. p ≡ pattern_of (tree_of tree.now)) }
 {
     match tree {
-        AppliedTree::Nodes(nodes) => Ok(Pattern::Letter(Letter::Nodes(nodes.try_clone(alloc)?))),
-        AppliedTree::Edges(edges) => Ok(Pattern::Letter(Letter::Edges(edges.try_clone(alloc)?))),
+        AppliedTree::Nodes(nodes, _) => Ok(Pattern::Letter(Letter::Nodes(nodes.try_clone(alloc)?))),
+        AppliedTree::Edges(edges, _) => Ok(Pattern::Letter(Letter::Edges(edges.try_clone(alloc)?))),
         AppliedTree::Paths(paths) => paths_pattern(alloc, paths),
         AppliedTree::Predicate(number) => Ok(Pattern::Letter(Letter::Predicate(*number))),
         AppliedTree::Quoted { body, .. } => pattern_of(alloc, body),
@@ -160,6 +160,7 @@ fn letter_pattern(
         GoalLetter::Node(node) => Ok(Pattern::Letter(Letter::Nodes(single(alloc, node)?))),
         GoalLetter::Edge(edge) => edge_pattern(alloc, edge),
         GoalLetter::Predicate(number) => Ok(Pattern::Letter(Letter::Predicate(number))),
+        GoalLetter::Absent(number) => Ok(Pattern::Letter(Letter::Absent(number))),
         GoalLetter::Quoted(number) => quote_pattern(alloc, quotes, number),
     }
 }

@@ -9,6 +9,8 @@ pub enum GoalLetter {
     Edge(u32),
     /// A predicate, by its place among the query's.
     Predicate(u32),
+    /// A predicate that doesn't hold, by its place among the query's.
+    Absent(u32),
     /// A quoted expression, by the place of its text among the plan's.
     Quoted(u32),
 }

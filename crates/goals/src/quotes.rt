@@ -63,7 +63,7 @@ pub(crate) fn gathered<'a>(
     ensures { IfOk result (λ quotes. quotes_in quotes.items ≡ insert_all same_text (quotes_in found.entry.items) (quoted (tree_of tree.now))) }
 {
     match tree {
-        AppliedTree::Nodes(_) | AppliedTree::Edges(_) => Ok(found),
+        AppliedTree::Nodes(_, _) | AppliedTree::Edges(_, _) => Ok(found),
         AppliedTree::Paths(_) | AppliedTree::Predicate(_) => Ok(found),
         AppliedTree::Quoted { body, text } => with_quote(found, text, body),
         AppliedTree::Dot(a, b) => {

@@ -1,8 +1,9 @@
 // The words of clauses.
 ghost use Rattle.std.specs.Prelude.{◌≡◌, ◌++◌, [], ◌∷◌, IfOk, map};
+ghost use Rattle.std.specs.List.{flat_map};
 ghost use Rattle.applied_clauses.specs.Trees.{tree_of};
 ghost use Rattle.goals.specs.Quotes.{quotes_in};
-ghost use Rattle.goals.specs.Words.{number_of, product, texts, words};
+ghost use Rattle.goals.specs.Words.{edge_words, number_of, product, texts, truth_words, words};
 ghost use Rattle.goals.specs.declared.goal_letter.GoalLetter.TheVariants as letter;
 
 use crate::counts::word_count;
@@ -32,26 +33,6 @@ fn single_word(alloc: Global, letter: GoalLetter) -> Result<Vector<Vector<GoalLe
 {
     let mut words = Vector::new(alloc);
     words.push(letter_word(alloc, letter)?)?;
-    Ok(words)
-}
-
-fn node_words(alloc: Global, nodes: &[u32]) -> Result<Vector<Vector<GoalLetter>>, Memory>
-    ensures { IfOk result (λ words. words ≡ map (λ n. letter.Node n ∷ []) nodes.now) }
-{
-    let mut words = Vector::new(alloc);
-    for node in nodes {
-        words.push(letter_word(alloc, GoalLetter::Node(*node))?)?;
-    }
-    Ok(words)
-}
-
-fn edge_words(alloc: Global, edges: &[u32]) -> Result<Vector<Vector<GoalLetter>>, Memory>
-    ensures { IfOk result (λ words. words ≡ map (λ e. letter.Edge e ∷ []) edges.now) }
-{
-    let mut words = Vector::new(alloc);
-    for edge in edges {
-        words.push(letter_word(alloc, GoalLetter::Edge(*edge))?)?;
-    }
     Ok(words)
 }
 
@@ -129,6 +110,92 @@ fn product(
     Ok(words)
 }
 
+/// The words of a predicate that holds and of one that doesn't.
+fn truths(alloc: Global, predicate: u32) -> Result<Vector<Vector<GoalLetter>>, Memory>
+    ensures { IfOk result (λ words. words ≡ (letter.Predicate predicate ∷ []) ∷ (letter.Absent predicate ∷ []) ∷ []) }
+{
+    let mut words = Vector::new(alloc);
+    words.push(letter_word(alloc, GoalLetter::Predicate(predicate))?)?;
+    words.push(letter_word(alloc, GoalLetter::Absent(predicate))?)?;
+    Ok(words)
+}
+
+/// The truth words of these predicates.
+fn truth_words(alloc: Global, predicates: &[u32]) -> Result<Vector<Vector<GoalLetter>>, Memory>
+    ensures { IfOk result (λ words. words ≡ truth_words predicates.now) }
+{
+    match predicates {
+        [] => {
+            let mut words = Vector::new(alloc);
+            words.push(Vector::new(alloc))?;
+            Ok(words)
+        }
+        [first, rest @ ..] => {
+            let both = truths(alloc, *first)?;
+            let behind = truth_words(alloc, rest)?;
+            product(alloc, &both, &behind)
+        }
+    }
+}
+
+/// These words, each behind this letter.
+fn before(
+    alloc: Global,
+    letter: GoalLetter,
+    words: &[Vector<GoalLetter>],
+) -> Result<Vector<Vector<GoalLetter>>, Memory>
+    ensures { IfOk result (λ all. all ≡ map (λ word. letter ∷ word) words.now) }
+{
+    let first = letter_word(alloc, letter)?;
+    let none = Vector::new(alloc);
+    let all = with_followed(alloc, none, &first, words)?;
+    Ok(all)
+}
+
+/// These nodes, each followed by each of these words.
+#[tactic(auto, using(crate::proofs::Products::mapped_more))]
+fn node_words(
+    alloc: Global,
+    nodes: &[u32],
+    truths: &[Vector<GoalLetter>],
+) -> Result<Vector<Vector<GoalLetter>>, Memory>
+    ensures { IfOk result (λ words. words ≡ flat_map (λ n. map (λ t. letter.Node n ∷ t) truths.now) nodes.now) }
+{
+    let mut words = Vector::new(alloc);
+    for node in nodes {
+        words = joined(words, before(alloc, GoalLetter::Node(*node), truths)?)?;
+    }
+    Ok(words)
+}
+
+/// Each of these words, the edge, and each of them again.
+fn edge_words(
+    alloc: Global,
+    truths: &[Vector<GoalLetter>],
+    edge: u32,
+) -> Result<Vector<Vector<GoalLetter>>, Memory>
+    ensures { IfOk result (λ words. words ≡ edge_words truths.now edge) }
+{
+    let behind = before(alloc, GoalLetter::Edge(edge), truths)?;
+    product(alloc, truths, &behind)
+}
+
+/// The words of these edges, each between two of these words.
+#[tactic(auto, using(crate::proofs::Products::mapped_more))]
+fn all_edge_words(
+    alloc: Global,
+    truths: &[Vector<GoalLetter>],
+    edges: &[u32],
+) -> Result<Vector<Vector<GoalLetter>>, Memory>
+    ensures { IfOk result (λ words. words ≡ flat_map (edge_words truths.now) edges.now) }
+{
+    let mut words = Vector::new(alloc);
+    for edge in edges {
+        words = joined(words, edge_words(alloc, truths, *edge)?)?;
+    }
+    Ok(words)
+}
+
 fn joined(
     mut words: Vector<Vector<GoalLetter>>,
     others: Vector<Vector<GoalLetter>>,
@@ -154,8 +221,14 @@ pub(crate) fn words(
         return Ok(Vector::new(alloc));
     }
     match tree {
-        AppliedTree::Nodes(nodes) => node_words(alloc, nodes.as_slice()),
-        AppliedTree::Edges(edges) => edge_words(alloc, edges.as_slice()),
+        AppliedTree::Nodes(nodes, predicates) => {
+            let truths = truth_words(alloc, predicates)?;
+            node_words(alloc, nodes.as_slice(), &truths)
+        }
+        AppliedTree::Edges(edges, predicates) => {
+            let truths = truth_words(alloc, predicates)?;
+            all_edge_words(alloc, &truths, edges.as_slice())
+        }
         AppliedTree::Paths(paths) => path_words(alloc, paths),
         AppliedTree::Predicate(number) => single_word(alloc, GoalLetter::Predicate(*number)),
         AppliedTree::Quoted { text, .. } => quoted_words(alloc, quotes, text),

@@ -89,6 +89,36 @@ fn words_in_order(rt: HostRuntime) -> Result<(), Fail> {
             " p0 e0 q0 p1, p0 e1 q0 p1, p0 e2 q0 p1, p0 e3 q0 p1, p0 e2,",
         ),
         (
+            RETURNS,
+            "cover NODES(PRED(@LINE(3),{x}))",
+            " n1 p0, n1 !p0, n3 p0, n3 !p0,",
+        ),
+        (
+            RETURNS,
+            "cover PRED(@LINE(3),{x})",
+            " p0 e2 p0, p0 e2 !p0, !p0 e2 p0, !p0 e2 !p0,",
+        ),
+        (
+            RETURNS,
+            "cover {x > 1}.NODES(PRED(PRED(@LINE(3),{x}),{x > 1}))",
+            " p0 n1 p1 p0, p0 n1 p1 !p0, p0 n1 !p1 p0, p0 n1 !p1 !p0, p0 n3 p1 p0, p0 n3 p1 !p0, p0 n3 !p1 p0, p0 n3 !p1 !p0,",
+        ),
+        (
+            RETURNS,
+            "cover NODES(PRED(PRED(@LINE(3),{x}),{x}))",
+            " n1 p0, n1 !p0, n3 p0, n3 !p0,",
+        ),
+        (
+            RETURNS,
+            "cover \"PRED(@LINE(3),{x})\"+NODES(@LINE(3)).{x}+NODES(PRED(@LINE(3),{x}))",
+            " q0, n1 p0, n3 p0, n1 !p0, n3 !p0,",
+        ),
+        (
+            RETURNS,
+            "in @LINE(2) cover NODES(PRED(ID,{x})).@LINE(3)",
+            "72 query",
+        ),
+        (
             CONDITIONS,
             "cover PATHS(@CONDITIONGRAPH,1)",
             " e0 e2 e4, e0 e2 e5, e0 e3, e1,",

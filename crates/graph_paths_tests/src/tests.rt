@@ -127,7 +127,7 @@ fn of_cover(
     k: u32,
 ) -> Result<Vector<Vector<u32>>, Fault> {
     match cover {
-        CoverTree::Edges(filter) => of_filter(alloc, graph, filter, k),
+        CoverTree::Edges(split) => of_filter(alloc, graph, &split.filter, k),
         _ => Err(Fault::Memory),
     }
 }

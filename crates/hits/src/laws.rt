@@ -1,5 +1,5 @@
 //! Laws of the definitions in specs/. Each function does nothing: its contract is the law.
-ghost use Rattle.hits.specs.Laws.{HitsByTheirPaths, OneListOfHits, PathsOfHits};
+ghost use Rattle.hits.specs.Laws.{AbsentElsewhere, AbsentIsNegation, HitsByTheirPaths, OneListOfHits, PathsOfHits};
 
 use path_runner::laws::{counted_paths, recorded_runs};
 
@@ -21,3 +21,13 @@ pub fn paths_of_hits()
 {
     recorded_runs();
 }
+
+/// Where an expression has a value, the absent predicate of it says what the predicate of its negation says.
+pub fn absent_is_negation()
+    ensures { AbsentIsNegation }
+{}
+
+/// Where an expression is out of scope or traps, its predicate doesn't hold, so that the absent predicate does.
+pub fn absent_elsewhere()
+    ensures { AbsentElsewhere }
+{}

@@ -10,7 +10,7 @@ use Rattle.patterns.proofs.Forms.{form_letter, form_dot}
 use Rattle.goals.specs.Forms.{Pattern, edge_pattern, letter_pattern, word_pattern}
 use Rattle.goals.specs.GoalForm.{GoalForm, HasItsPattern}
 use Rattle.goals.specs.Words.{Word}
-use Rattle.goals.specs.declared.goal_letter.GoalLetter.TheVariants.{Node, Edge, Predicate, Quoted}
+use Rattle.goals.specs.declared.goal_letter.GoalLetter.TheVariants.{Node, Edge, Predicate, Absent, Quoted}
 use Rattle.run_match.proofs.Matches.{forward}
 use Rattle.measurer.specs.Openings.{BeginsWith, IsOpening, opening_of}
 use Rattle.measurer.proofs.Words.{edge_walk}
@@ -42,6 +42,7 @@ word_opening false [] qs = tt
 word_opening false (Node n ∷ w) qs = tt
 word_opening false (Edge e ∷ w) qs = (refl, dots_begin e (map (letter_pattern qs) w) (edge_pattern e) (edge_begins e))
 word_opening false (Predicate p ∷ w) qs = tt
+word_opening false (Absent p ∷ w) qs = tt
 word_opening false (Quoted q ∷ w) qs = tt
 
 -- the edge with which a goal's word begins is the one that its matches take first

@@ -1,5 +1,5 @@
 -- A word without quoted letters goes along a path exactly where its pattern matches.
-use Rattle.std.proofs.Common.{◌≡◌, ℕ, zero, suc, ◌+◌, ◌-◌, ◌≤◌, ◌⊎◌, ◌↔◌, ◌==◌, ◌||◌, inl, inr, Bool, true, false, List, [], ◌∷◌, fold, map, length, refl, sym, ◌∙◌, ap, subst, arith, eqb-true, eq-eqb}
+use Rattle.std.proofs.Common.{◌≡◌, ℕ, zero, suc, ◌+◌, ◌-◌, ◌≤◌, ◌⊎◌, ◌↔◌, ◌==◌, ◌||◌, inl, inr, Bool, true, false, not, List, [], ◌∷◌, fold, map, length, refl, sym, ◌∙◌, ap, subst, arith, eqb-true, eq-eqb}
 use Rattle.std.specs.Prelude.{slice_index}
 use Rattle.std.proofs.lemmas.Bool.{false≢true}
 use Rattle.patterns.specs.Letters.{form}
@@ -13,7 +13,7 @@ use Rattle.patterns.proofs.Forms.{form_letter, form_dot}
 use Rattle.goals.specs.Forms.{Pattern, dots, letter_pattern, word_pattern}
 use Rattle.goals.specs.Words.{Word}
 use Rattle.goals.specs.declared.goal_letter.GoalLetter.{GoalLetter}
-use Rattle.goals.specs.declared.goal_letter.GoalLetter.TheVariants.{Node, Edge, Predicate, Quoted}
+use Rattle.goals.specs.declared.goal_letter.GoalLetter.TheVariants.{Node, Edge, Predicate, Absent, Quoted}
 use Rattle.patterns.specs.Segments.{HasSegment}
 use Rattle.run_match.proofs.Matches.{forward}
 use Rattle.word_index.specs.Walks.{Goes, Walks, HasWalk, is_unquoted, is_plain}
@@ -21,6 +21,10 @@ use Rattle.word_index.specs.Walks.{Goes, Walks, HasWalk, is_unquoted, is_plain}
 or_false : (b : Bool) → (b || false) ≡ b
 or_false true = refl
 or_false false = refl
+
+not_true : (b : Bool) → not b ≡ true → b ≡ false
+not_true true h = sym h
+not_true false h = refl
 
 -- a list of one number
 one_member : (n x : ℕ) → ((n == x) || false) ≡ true → x ≡ n
@@ -57,17 +61,28 @@ module _ (qs : List Pattern) (path : PathView) where
     λ (e, s). inl (sym e, subst (λ k. (step_of path k).state (letter.Predicate p) ≡ true) (sym e) s),
   )
 
+  absent_walk : (p i j : ℕ) → LetterMatch (step_of path) (letter.Absent p) i j ↔ Goes path (Absent p) i j
+  absent_walk p i j = (
+    λ h. elim h [
+      | inl x ↦ (sym x.0, not_true _ (subst (λ k. (step_of path k).state (letter.Absent p) ≡ true) (sym x.0) x.1))
+      | inr x ↦ absurd (false≢true x.1)
+    ],
+    λ (e, s). inl (sym e, subst (λ k. (step_of path k).state (letter.Absent p) ≡ true) (sym e) (ap not s)),
+  )
+
   -- one letter
   letter_walk : (l : GoalLetter) (w : Word) (i j : ℕ) → is_unquoted (l ∷ w) ≡ true → Match (step_of path) (form (letter_pattern qs l)) i j ↔ Goes path l i j
   letter_walk (Node n) w i j u = subst (λ f. Match (step_of path) f i j ↔ Goes path (Node n) i j) (sym (form_letter (letter.Nodes (n ∷ [])))) (node_walk n i j)
   letter_walk (Edge n) w i j u = subst (λ f. Match (step_of path) f i j ↔ Goes path (Edge n) i j) (sym (form_letter (letter.Edges (n ∷ [])))) (edge_walk n i j)
   letter_walk (Predicate p) w i j u = subst (λ f. Match (step_of path) f i j ↔ Goes path (Predicate p) i j) (sym (form_letter (letter.Predicate p))) (predicate_walk p i j)
+  letter_walk (Absent p) w i j u = subst (λ f. Match (step_of path) f i j ↔ Goes path (Absent p) i j) (sym (form_letter (letter.Absent p))) (absent_walk p i j)
   letter_walk (Quoted q) w i j u = absurd (false≢true u)
 
   rest_unquoted : (l : GoalLetter) (w : Word) → is_unquoted (l ∷ w) ≡ true → is_unquoted w ≡ true
   rest_unquoted (Node n) w u = u
   rest_unquoted (Edge n) w u = u
   rest_unquoted (Predicate p) w u = u
+  rest_unquoted (Absent p) w u = u
   rest_unquoted (Quoted q) w u = absurd (false≢true u)
 
   -- a pattern and then the letters of a word

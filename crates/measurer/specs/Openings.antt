@@ -6,7 +6,7 @@ use Rattle.patterns.specs.Paths.{step_of}
 use Rattle.patterns.specs.declared.letter.Letter.{Letter}
 use Rattle.patterns.specs.declared.path_view.PathView.{PathView}
 use Rattle.goals.specs.Words.{Word}
-use Rattle.goals.specs.declared.goal_letter.GoalLetter.TheVariants.{Node, Edge, Predicate, Quoted}
+use Rattle.goals.specs.declared.goal_letter.GoalLetter.TheVariants.{Node, Edge, Predicate, Absent, Quoted}
 
 -- the edge with which a word begins, where matches may begin anywhere
 abbrev pub opening_of : Bool → Word → Option ℕ

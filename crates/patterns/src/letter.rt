@@ -15,6 +15,8 @@ pub enum Letter {
     Edges(NumberSet),
     /// Matches a state alone where the predicate of this number, from 0 to 63, holds.
     Predicate(u32),
+    /// Matches a state alone where the predicate of this number doesn't hold: it is false there, out of scope, or traps.
+    Absent(u32),
 }
 
 impl Letter {
@@ -36,6 +38,7 @@ impl Letter {
             Letter::Nodes(nodes) => nodes.contains(node),
             Letter::Edges(_) => false,
             Letter::Predicate(number) => has_bit(mask, *number),
+            Letter::Absent(number) => !has_bit(mask, *number),
         }
     }
 }
@@ -54,6 +57,7 @@ impl TryClone for Letter {
             Letter::Nodes(nodes) => Ok(Letter::Nodes(nodes.try_clone(alloc)?)),
             Letter::Edges(edges) => Ok(Letter::Edges(edges.try_clone(alloc)?)),
             Letter::Predicate(number) => Ok(Letter::Predicate(*number)),
+            Letter::Absent(number) => Ok(Letter::Absent(*number)),
         }
     }
 }

@@ -2,8 +2,8 @@
 //!
 //! A [`Pattern`] is made of letters by sequence, choice and bounded or unbounded repetition, as in FQL (Holzer,
 //! Schallhart, Tautschnig, Veith: VMCAI 2009, ASE 2010). A segment of a path goes from one state to a later one or the
-//! same. A node letter or a predicate matches a state alone, an edge letter one edge, and a sequence splits its segment at
-//! a shared state.
+//! same. A node letter, a predicate or an absent predicate matches a state alone, an edge letter one edge, and a sequence splits its
+//! segment at a shared state.
 //!
 //! The definitions are in specs/: `Match` (a segment matches a pattern, by splits), `Letters` (a pattern as plain data and
 //! its count of letters) and `Paths` (a recorded path). The layers above use that [`letters`] is that count, and that

@@ -34,6 +34,10 @@ fn predicate(number: u32) -> Pattern<Letter> {
     Pattern::Letter(Letter::Predicate(number))
 }
 
+fn absent(number: u32) -> Pattern<Letter> {
+    Pattern::Letter(Letter::Absent(number))
+}
+
 fn dot(alloc: Global, a: Pattern<Letter>, b: Pattern<Letter>) -> Made {
     Ok(Pattern::Dot(Boxed::new(alloc, a)?, Boxed::new(alloc, b)?))
 }
@@ -68,6 +72,11 @@ fn samples(alloc: Global) -> Result<Vec<Pattern<Letter>>, Memory> {
     all.push(predicate(0))?;
     all.push(predicate(5))?;
     all.push(predicate(64))?;
+    all.push(absent(0))?;
+    all.push(absent(5))?;
+    all.push(absent(64))?;
+    all.push(dot(alloc, absent(0), any_edge(alloc)?)?)?;
+    all.push(repeat(alloc, dot(alloc, any_edge(alloc)?, absent(0))?, 1, None)?)?;
     all.push(dot(alloc, edge(alloc, 0)?, edge(alloc, 1)?)?)?;
     all.push(dot(alloc, node(alloc, 1)?, predicate(0))?)?;
     all.push(dot(alloc, any_edge(alloc)?, predicate(0))?)?;

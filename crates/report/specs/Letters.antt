@@ -26,13 +26,14 @@ edge_place files None = []
 edge_place files (Some edge) = place_text files edge.span.file edge.span.line
 
 -- A letter of a goal: a node with its file and line; an edge with those of its first token; the text of a predicate in
--- braces; the text of a quoted expression in quotation marks. A number that names nothing has no place and no text.
+-- braces, and `!` before them where it is an absent predicate; the text of a quoted expression in quotation marks. A number that names nothing has no place and no text.
 abbrev pub letter_text : GraphParts → Plan → GoalLetter → List ℕ
 letter_text graph plan (letter.Node number) =
     codes "n" ++ decimal number ++ codes "@" ++ node_place graph.files (slice_get graph.nodes number)
 letter_text graph plan (letter.Edge number) =
     codes "e" ++ decimal number ++ codes "@" ++ edge_place graph.files (slice_get graph.edges number)
 letter_text graph plan (letter.Predicate number) = codes "{" ++ text_at plan.predicates number ++ codes "}"
+letter_text graph plan (letter.Absent number) = codes "!{" ++ text_at plan.predicates number ++ codes "}"
 letter_text graph plan (letter.Quoted number) = codes "\"" ++ text_at plan.quotes number ++ codes "\""
 
 -- each letter after a dot

@@ -94,6 +94,9 @@ fn push_letter(
         GoalLetter::Predicate(number) => {
             push_between(text, b"{", text_at(&plan.predicates, number), b"}")
         }
+        GoalLetter::Absent(number) => {
+            push_between(text, b"!{", text_at(&plan.predicates, number), b"}")
+        }
         GoalLetter::Quoted(number) => {
             push_between(text, b"\"", text_at(&plan.quotes, number), b"\"")
         }

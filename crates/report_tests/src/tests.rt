@@ -213,6 +213,10 @@ fn goals_of_queries(rt: HostRuntime) -> Result<(), Fail> {
             "cover {a == 1} . @LINE(3) -> @LINE(5)",
             "goals 1\ngoal 1 {a == 1} . e6@q.c:3 . \"ID*\" . e7@q.c:5\n",
         ),
+        (
+            "cover PRED(@LINE(3),{a == 1})",
+            "goals 4\ngoal 1 {a == 1} . e6@q.c:3 . {a == 1}\ngoal 2 {a == 1} . e6@q.c:3 . !{a == 1}\ngoal 3 !{a == 1} . e6@q.c:3 . {a == 1}\ngoal 4 !{a == 1} . e6@q.c:3 . !{a == 1}\n",
+        ),
     ] {
         match listed(alloc, &graph, query) {
             Ok(made) => assert_eq!(rt; made.as_slice(), text.as_bytes(), "at {query}"),

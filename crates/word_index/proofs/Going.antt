@@ -4,7 +4,7 @@ use Rattle.std.specs.Prelude.{slice_get, slice_index}
 use Rattle.patterns.specs.declared.path_view.PathView.{PathView}
 use Rattle.goals.specs.Words.{Word}
 use Rattle.goals.specs.declared.goal_letter.GoalLetter.{GoalLetter}
-use Rattle.goals.specs.declared.goal_letter.GoalLetter.TheVariants.{Node, Edge, Predicate, Quoted}
+use Rattle.goals.specs.declared.goal_letter.GoalLetter.TheVariants.{Node, Edge, Predicate, Absent, Quoted}
 use Rattle.word_index.specs.Walks.{Goes, Walks}
 use Rattle.word_index.specs.Groups.{GoesOn}
 
@@ -24,6 +24,7 @@ module _ (path : PathView) where
   goes_forward (Node n) i j h = let e = h.0 in omega arith
   goes_forward (Edge n) i j h = let e = h.0 in omega arith
   goes_forward (Predicate n) i j h = let e = h.0 in omega arith
+  goes_forward (Absent n) i j h = let e = h.0 in omega arith
   goes_forward (Quoted n) i j h = absurd h
 
   pub walks_forward : (w : Word) (i j : ℕ) → Walks path w i j → i ≤ j
@@ -35,6 +36,7 @@ module _ (path : PathView) where
   stays_there (Node n) i m s h = h.0
   stays_there (Edge e) i m s h = let x = s.0 in absurd (omega arith)
   stays_there (Predicate p) i m s h = h.0
+  stays_there (Absent p) i m s h = h.0
   stays_there (Quoted q) i m s h = absurd h
 
   module _ (last : Bool) (w : Word) (d k : ℕ) where

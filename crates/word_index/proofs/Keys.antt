@@ -10,7 +10,7 @@ use Rattle.std.proofs.lemmas.Bool.Decides.{nat_tests}
 use Rattle.goals.specs.GoalForm.{GoalForm}
 use Rattle.goals.specs.Words.{Word}
 use Rattle.goals.specs.declared.goal_letter.GoalLetter.{GoalLetter}
-use Rattle.goals.specs.declared.goal_letter.GoalLetter.TheVariants.{Node, Edge, Predicate, Quoted}
+use Rattle.goals.specs.declared.goal_letter.GoalLetter.TheVariants.{Node, Edge, Predicate, Absent, Quoted}
 use Rattle.word_index.specs.Order.{letter_key, key_of, keys, ranked, key_at, IsSortedFrom}
 use Rattle.word_index.specs.Groups.{IsGroup, IsNarrowed}
 use Rattle.word_index.specs.declared.group.Group.{Group}
@@ -19,6 +19,7 @@ pub key_above : (l : GoalLetter) → 0 < letter_key l
 key_above (Edge e) = omega arith
 key_above (Node n) = omega arith
 key_above (Predicate p) = omega arith
+key_above (Absent p) = omega arith
 key_above (Quoted q) = omega arith
 
 -- different letters have different numbers
@@ -26,18 +27,27 @@ pub same_key : (l m : GoalLetter) → letter_key l ≡ letter_key m → l ≡ m
 same_key (Edge a) (Edge b) e = ap Edge (omega arith)
 same_key (Edge a) (Node b) e = absurd (omega arith)
 same_key (Edge a) (Predicate b) e = absurd (omega arith)
+same_key (Edge a) (Absent b) e = absurd (omega arith)
 same_key (Edge a) (Quoted b) e = absurd (omega arith)
 same_key (Node a) (Edge b) e = absurd (omega arith)
 same_key (Node a) (Node b) e = ap Node (omega arith)
 same_key (Node a) (Predicate b) e = absurd (omega arith)
+same_key (Node a) (Absent b) e = absurd (omega arith)
 same_key (Node a) (Quoted b) e = absurd (omega arith)
 same_key (Predicate a) (Edge b) e = absurd (omega arith)
 same_key (Predicate a) (Node b) e = absurd (omega arith)
 same_key (Predicate a) (Predicate b) e = ap Predicate (omega arith)
+same_key (Predicate a) (Absent b) e = absurd (omega arith)
 same_key (Predicate a) (Quoted b) e = absurd (omega arith)
+same_key (Absent a) (Edge b) e = absurd (omega arith)
+same_key (Absent a) (Node b) e = absurd (omega arith)
+same_key (Absent a) (Predicate b) e = absurd (omega arith)
+same_key (Absent a) (Absent b) e = ap Absent (omega arith)
+same_key (Absent a) (Quoted b) e = absurd (omega arith)
 same_key (Quoted a) (Edge b) e = absurd (omega arith)
 same_key (Quoted a) (Node b) e = absurd (omega arith)
 same_key (Quoted a) (Predicate b) e = absurd (omega arith)
+same_key (Quoted a) (Absent b) e = absurd (omega arith)
 same_key (Quoted a) (Quoted b) e = ap Quoted (omega arith)
 
 pub key_is : (o : Option GoalLetter) (l : GoalLetter) → key_of o ≡ letter_key l → o ≡ Some l
@@ -117,13 +127,14 @@ module _ (goals : List GoalForm) (order : List ℕ) (letter : GoalLetter) (g : G
       let y : r < high = elim (cases_lt r high) [ inl lt ↦ lt | inr le ↦ let z = high_above r le b in absurd (omega arith) ] in
       (x, y)
 
-  pub narrowed_is : (depth : ℕ) → depth ≡ g.depth + 1 → g.depth < 2 ^ 64 - 1 → IsNarrowed goals order letter g (record { low = low; high = high; depth = depth })
+  pub narrowed_is : (depth : ℕ) → depth ≡ g.depth + 1 → g.depth < 2 ^ 64 - 1 → IsNarrowed goals order letter g (record { low = low; high = high; depth = depth; absents = g.absents })
   narrowed_is depth e small =
       let f : suc g.depth ≡ depth = omega arith in
       record {
         group = record {
           range = in_order;
           sorted = subst (λ d. IsSortedFrom goals order d low high) f (sorted_past goals order g.depth g.low g.high group.sorted letter low high low_from high_to with_letter);
+          absents = λ r d p from to e. group.absents r d p (omega arith) (omega arith) e;
         };
         deeper = sym f;
         small = small;

@@ -1,3 +1,4 @@
+pub mod Absents
 pub mod Keys
 pub mod Going
 pub mod Steps

@@ -17,7 +17,7 @@ use denote.Ref.{Bor}
 use Rattle.patterns.specs.declared.path_view.PathView.{PathView}
 use Rattle.goals.specs.GoalForm.{GoalForm}
 use Rattle.word_index.specs.Numbers.{Adds}
-use Rattle.word_index.specs.Order.{keys, ranked, IsSortedFrom, IsOrderOf}
+use Rattle.word_index.specs.Order.{keys, ranked, IsSortedFrom, IsIndexOf, IsOrderOf}
 use Rattle.word_index.specs.Walks.{word_at, is_plain, HasWalk, HasGoalWalk}
 use Rattle.word_index.specs.Groups.{IsGroup, GoesOn, Continues, IsAny}
 use Rattle.word_index.specs.declared.group.Group.{Group}
@@ -56,11 +56,15 @@ module _ (goals : List GoalForm) (order : List ℕ) (path : PathView) (last : Bo
         | inr above ↦ let e : i ≡ count = omega arith in inr (subst (λ k. Continues goals order path last IsAny all k n) e c)
       ]
 
-module _ (goals : List GoalForm) (order : List ℕ) (path : PathView) (first last : Bool) (all : Group) (at_low : all.low ≡ 0) (at_high : all.high ≡ length order) (shallow : all.depth ≡ 0) (ordered : IsOrderOf goals order) where
+module _ (goals : List GoalForm) (order : List ℕ) (path : PathView) (first last : Bool) (all : Group) (at_low : all.low ≡ 0) (at_high : all.high ≡ length order) (shallow : all.depth ≡ 0) (index : IsIndexOf goals order all.absents) where
+  ordered : IsOrderOf goals order
+  ordered = index.ordered
+
   pub is_group : IsGroup goals order all
   is_group = record {
     range = omega arith;
     sorted = subst (λ d. IsSortedFrom goals order d all.low all.high) (sym shallow) (subst (λ l. IsSortedFrom goals order 0 l all.high) (sym at_low) (subst (λ h. IsSortedFrom goals order 0 0 h) (sym at_high) ordered.sorted));
+    absents = λ r d p from to e. index.absents (slice_index order r) d p e;
   }
 
   walk_of : (i n : ℕ) → (first ≡ true → i ≡ 0) → Continues goals order path last IsAny all i n → HasGoalWalk goals first last path n

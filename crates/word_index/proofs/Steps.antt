@@ -9,11 +9,11 @@ use Rattle.patterns.specs.declared.path_view.PathView.{PathView}
 use Rattle.goals.specs.GoalForm.{GoalForm}
 use Rattle.goals.specs.Words.{Word}
 use Rattle.goals.specs.declared.goal_letter.GoalLetter.{GoalLetter}
-use Rattle.goals.specs.declared.goal_letter.GoalLetter.TheVariants.{Node, Edge, Predicate, Quoted}
+use Rattle.goals.specs.declared.goal_letter.GoalLetter.TheVariants.{Node, Edge, Predicate, Absent, Quoted}
 use Rattle.word_index.specs.Numbers.{Adds}
 use Rattle.word_index.specs.Order.{ranked, key_at, key_of}
 use Rattle.word_index.specs.Walks.{Goes, Walks}
-use Rattle.word_index.specs.Groups.{IsGroup, IsNarrowed, GoesOn, Continues, IsAny, IsEnd, IsLetter, IsPredicateBelow, IsNoEdge}
+use Rattle.word_index.specs.Groups.{IsGroup, IsNarrowed, GoesOn, Continues, IsAny, IsEnd, IsLetter, IsBelow, IsPredicateBelow, IsAbsentBelow, IsNoEdge}
 use Rattle.word_index.specs.declared.group.Group.{Group}
 use Rattle.word_index.proofs.Keys.{no_key}
 use Rattle.word_index.proofs.Going.{past_staying, before_letter, first_goes, past_edge, at_end, ends_here}
@@ -123,8 +123,8 @@ module _ (goals : List GoalForm) (order : List ℕ) (path : PathView) (last : Bo
 
   -- ---- predicates
 
-  pub no_predicates : (xs : List ℕ) → Adds (Continues goals order path last (IsPredicateBelow 0) g at) xs xs
-  no_predicates xs = adds_none _ xs (λ n c. let h = c.head in let lt = h.1.0 in absurd (omega arith))
+  pub none_below : (kind : ℕ → GoalLetter) (xs : List ℕ) → Adds (Continues goals order path last (IsBelow kind 0) g at) xs xs
+  none_below kind xs = adds_none _ xs (λ n c. let h = c.head in let lt = h.1.0 in absurd (omega arith))
 
   pub predicate_absent : (p : ℕ) (xs : List ℕ) (b : Bool) → b ≡ (bit_at (slice_index path.masks at) p == 1) → b ≡ false → Adds (Continues goals order path last (IsLetter (Predicate p)) g at) xs xs
   predicate_absent p xs b e f = adds_none _ xs (λ n c. let h = first_goes path last (ranked goals order c.rank) g.depth at (Predicate p) c.head c.goes in false≢true (sym f ∙ e ∙ h.1.0.1))
@@ -132,23 +132,27 @@ module _ (goals : List GoalForm) (order : List ℕ) (path : PathView) (last : Bo
   predicate_holds : (p : ℕ) (w : Word) → slice_get w g.depth ≡ Some (Predicate p) → GoesOn path last (drop g.depth w) at → (bit_at (slice_index path.masks at) p == 1) ≡ true
   predicate_holds p w e goes = let f = first_goes path last w g.depth at (Predicate p) e goes in f.1.0.1
 
-  more_to : (p n : ℕ) → (Continues goals order path last (IsPredicateBelow p) g at n ⊎ Continues goals order path last (IsLetter (Predicate p)) g at n) → Continues goals order path last (IsPredicateBelow (p + 1)) g at n
-  more_to p n (inl c) = known_as (IsPredicateBelow p) (IsPredicateBelow (p + 1)) n c (let h = c.head in let lt = h.1.0 in (h.0, (omega arith, h.1.1)))
-  more_to p n (inr c) = known_as (IsLetter (Predicate p)) (IsPredicateBelow (p + 1)) n c (p, (omega arith, c.head))
+  pub predicate_there : (p : ℕ) (xs : List ℕ) (b : Bool) → b ≡ (bit_at (slice_index path.masks at) p == 1) → b ≡ true → Adds (Continues goals order path last (IsLetter (Absent p)) g at) xs xs
+  predicate_there p xs b e f = adds_none _ xs (λ n c. let h = first_goes path last (ranked goals order c.rank) g.depth at (Absent p) c.head c.goes in false≢true (sym h.1.0.1 ∙ sym e ∙ f))
 
-  more_from : (p n : ℕ) → Continues goals order path last (IsPredicateBelow (p + 1)) g at n → (Continues goals order path last (IsPredicateBelow p) g at n ⊎ Continues goals order path last (IsLetter (Predicate p)) g at n)
-  more_from p n c =
-      let h = c.head in
-      let lt = h.1.0 in
-      elim (cases_lt h.0 p) [
-        | inl below ↦ inl (known_as (IsPredicateBelow (p + 1)) (IsPredicateBelow p) n c (h.0, (below, h.1.1)))
-        | inr above ↦ let e : h.0 ≡ p = omega arith in inr (known_as (IsPredicateBelow (p + 1)) (IsLetter (Predicate p)) n c (h.1.1 ∙ ap (λ q. Some (Predicate q)) e))
-      ]
+  module _ (kind : ℕ → GoalLetter) where
+    more_to : (p n : ℕ) → (Continues goals order path last (IsBelow kind p) g at n ⊎ Continues goals order path last (IsLetter (kind p)) g at n) → Continues goals order path last (IsBelow kind (p + 1)) g at n
+    more_to p n (inl c) = known_as (IsBelow kind p) (IsBelow kind (p + 1)) n c (let h = c.head in let lt = h.1.0 in (h.0, (omega arith, h.1.1)))
+    more_to p n (inr c) = known_as (IsLetter (kind p)) (IsBelow kind (p + 1)) n c (p, (omega arith, c.head))
 
-  -- one more predicate, which holds
-  pub predicate_more : (p : ℕ) (xs ys zs : List ℕ) → Adds (Continues goals order path last (IsPredicateBelow p) g at) xs ys → Adds (Continues goals order path last (IsLetter (Predicate p)) g at) ys zs
-      → Adds (Continues goals order path last (IsPredicateBelow (p + 1)) g at) xs zs
-  predicate_more p xs ys zs a b = adds_same _ (Continues goals order path last (IsPredicateBelow (p + 1)) g at) xs zs (more_to p) (more_from p) (adds_both _ _ xs ys zs a b)
+    more_from : (p n : ℕ) → Continues goals order path last (IsBelow kind (p + 1)) g at n → (Continues goals order path last (IsBelow kind p) g at n ⊎ Continues goals order path last (IsLetter (kind p)) g at n)
+    more_from p n c =
+        let h = c.head in
+        let lt = h.1.0 in
+        elim (cases_lt h.0 p) [
+          | inl below ↦ inl (known_as (IsBelow kind (p + 1)) (IsBelow kind p) n c (h.0, (below, h.1.1)))
+          | inr above ↦ let e : h.0 ≡ p = omega arith in inr (known_as (IsBelow kind (p + 1)) (IsLetter (kind p)) n c (h.1.1 ∙ ap (λ q. Some (kind q)) e))
+        ]
+
+    -- one more letter of the kind
+    pub letter_more : (p : ℕ) (xs ys zs : List ℕ) → Adds (Continues goals order path last (IsBelow kind p) g at) xs ys → Adds (Continues goals order path last (IsLetter (kind p)) g at) ys zs
+        → Adds (Continues goals order path last (IsBelow kind (p + 1)) g at) xs zs
+    letter_more p xs ys zs a b = adds_same _ (Continues goals order path last (IsBelow kind (p + 1)) g at) xs zs (more_to p) (more_from p) (adds_both _ _ xs ys zs a b)
 
   -- where no bit is set none holds
   pub none_hold : (p : ℕ) (xs : List ℕ) → slice_index path.masks at ≡ 0 → Adds (Continues goals order path last (IsPredicateBelow p) g at) xs xs
@@ -161,36 +165,41 @@ module _ (goals : List GoalForm) (order : List ℕ) (path : PathView) (last : Bo
 
   -- ---- all that stay
 
-  module _ (small : slice_index path.masks at < 2 ^ 64) where
-    stay_from : (n : ℕ) → Continues goals order path last IsNoEdge g at n
-        → ((Continues goals order path last IsEnd g at n ⊎ Continues goals order path last (IsLetter (Node (slice_index path.nodes at))) g at n) ⊎ Continues goals order path last (IsPredicateBelow 64) g at n)
+  -- a word ends, or goes on with the node, a predicate or an absent predicate
+  abbrev Stays : ℕ → Type 0
+  Stays n =
+      ((Continues goals order path last IsEnd g at n ⊎ Continues goals order path last (IsLetter (Node (slice_index path.nodes at))) g at n)
+      ⊎ Continues goals order path last (IsPredicateBelow 64) g at n) ⊎ Continues goals order path last (IsAbsentBelow g.absents) g at n
+
+  module _ (small : slice_index path.masks at < 2 ^ 64) (group : IsGroup goals order g) where
+    stay_from : (n : ℕ) → Continues goals order path last IsNoEdge g at n → Stays n
     stay_from n c = by_head (slice_get (ranked goals order c.rank) g.depth) refl c.head
       where
-        by_head : (o : Option GoalLetter) → slice_get (ranked goals order c.rank) g.depth ≡ o → IsNoEdge o
-            → ((Continues goals order path last IsEnd g at n ⊎ Continues goals order path last (IsLetter (Node (slice_index path.nodes at))) g at n) ⊎ Continues goals order path last (IsPredicateBelow 64) g at n)
-        by_head None e h = inl (inl (known_as IsNoEdge IsEnd n c e))
+        by_head : (o : Option GoalLetter) → slice_get (ranked goals order c.rank) g.depth ≡ o → IsNoEdge o → Stays n
+        by_head None e h = inl (inl (inl (known_as IsNoEdge IsEnd n c e)))
         by_head (Some (Node m)) e h =
             let f = first_goes path last (ranked goals order c.rank) g.depth at (Node m) e c.goes in
-            inl (inr (known_as IsNoEdge (IsLetter (Node (slice_index path.nodes at))) n c (e ∙ ap (λ x. Some (Node x)) (sym f.1.0.1))))
+            inl (inl (inr (known_as IsNoEdge (IsLetter (Node (slice_index path.nodes at))) n c (e ∙ ap (λ x. Some (Node x)) (sym f.1.0.1)))))
         by_head (Some (Edge m)) e h = absurd h
         by_head (Some (Predicate p)) e h =
             let bit = predicate_holds p (ranked goals order c.rank) e c.goes in
             let one : bit_at (slice_index path.masks at) p ≡ 1 = eqb-true _ 1 bit in
             let lt : p < 64 = elim (cases_lt p 64) [ inl x ↦ x | inr y ↦ let none = bit_at_above (slice_index path.masks at) 64 p small y in absurd (omega arith) ] in
-            inr (known_as IsNoEdge (IsPredicateBelow 64) n c (p, (lt, e)))
+            inl (inr (known_as IsNoEdge (IsPredicateBelow 64) n c (p, (lt, e))))
+        by_head (Some (Absent p)) e h = inr (known_as IsNoEdge (IsAbsentBelow g.absents) n c (p, (group.absents c.rank g.depth p c.from c.below e, e)))
         by_head (Some (Quoted q)) e h = let f = first_goes path last (ranked goals order c.rank) g.depth at (Quoted q) e c.goes in absurd f.1.0
 
-    stay_to : (n : ℕ) → ((Continues goals order path last IsEnd g at n ⊎ Continues goals order path last (IsLetter (Node (slice_index path.nodes at))) g at n) ⊎ Continues goals order path last (IsPredicateBelow 64) g at n)
-        → Continues goals order path last IsNoEdge g at n
-    stay_to n (inl (inl c)) = known_as IsEnd IsNoEdge n c (subst IsNoEdge (sym c.head) tt)
-    stay_to n (inl (inr c)) = known_as (IsLetter (Node (slice_index path.nodes at))) IsNoEdge n c (subst IsNoEdge (sym c.head) tt)
-    stay_to n (inr c) = let h = c.head in known_as (IsPredicateBelow 64) IsNoEdge n c (subst IsNoEdge (sym h.1.1) tt)
+    stay_to : (n : ℕ) → Stays n → Continues goals order path last IsNoEdge g at n
+    stay_to n (inl (inl (inl c))) = known_as IsEnd IsNoEdge n c (subst IsNoEdge (sym c.head) tt)
+    stay_to n (inl (inl (inr c))) = known_as (IsLetter (Node (slice_index path.nodes at))) IsNoEdge n c (subst IsNoEdge (sym c.head) tt)
+    stay_to n (inl (inr c)) = let h = c.head in known_as (IsPredicateBelow 64) IsNoEdge n c (subst IsNoEdge (sym h.1.1) tt)
+    stay_to n (inr c) = let h = c.head in known_as (IsAbsentBelow g.absents) IsNoEdge n c (subst IsNoEdge (sym h.1.1) tt)
 
-    pub staying : (letter : GoalLetter) → letter ≡ Node (slice_index path.nodes at) → (xs ys zs us : List ℕ) → Adds (Continues goals order path last IsEnd g at) xs ys → Adds (Continues goals order path last (IsLetter letter) g at) ys zs
-        → Adds (Continues goals order path last (IsPredicateBelow 64) g at) zs us → Adds (Continues goals order path last IsNoEdge g at) xs us
-    staying letter e xs ys zs us a b c =
+    pub staying : (letter : GoalLetter) → letter ≡ Node (slice_index path.nodes at) → (xs ys zs us vs : List ℕ) → Adds (Continues goals order path last IsEnd g at) xs ys → Adds (Continues goals order path last (IsLetter letter) g at) ys zs
+        → Adds (Continues goals order path last (IsPredicateBelow 64) g at) zs us → Adds (Continues goals order path last (IsAbsentBelow g.absents) g at) us vs → Adds (Continues goals order path last IsNoEdge g at) xs vs
+    staying letter e xs ys zs us vs a b c d =
         let b' : Adds (Continues goals order path last (IsLetter (Node (slice_index path.nodes at))) g at) ys zs = subst (λ l. Adds (Continues goals order path last (IsLetter l) g at) ys zs) e b in
-        adds_same _ (Continues goals order path last IsNoEdge g at) xs us stay_to stay_from (adds_both _ _ xs zs us (adds_both _ _ xs ys zs a b') c)
+        adds_same _ (Continues goals order path last IsNoEdge g at) xs vs stay_to stay_from (adds_both _ _ xs us vs (adds_both _ _ xs zs us (adds_both _ _ xs ys zs a b') c) d)
 
   -- ---- edges
 
@@ -206,6 +215,7 @@ module _ (goals : List GoalForm) (order : List ℕ) (path : PathView) (last : Bo
           by_head (Some (Node m)) e = known_as IsAny IsNoEdge n c (subst IsNoEdge (sym e) tt)
           by_head (Some (Edge m)) e = let f = past_edge path last (ranked goals order c.rank) g.depth at m e c.goes in let lt = f.1.1 in absurd (omega arith)
           by_head (Some (Predicate p)) e = known_as IsAny IsNoEdge n c (subst IsNoEdge (sym e) tt)
+          by_head (Some (Absent p)) e = known_as IsAny IsNoEdge n c (subst IsNoEdge (sym e) tt)
           by_head (Some (Quoted q)) e = known_as IsAny IsNoEdge n c (subst IsNoEdge (sym e) tt)
 
   -- a group of which nothing is left
@@ -235,6 +245,7 @@ module _ (goals : List GoalForm) (order : List ℕ) (path : PathView) (last : Bo
             let inside = narrowed.all_with_letter c.rank c.from c.below (e ∙ ap (λ x. Some (Edge x)) same) in
             inr (record { rank = c.rank; from = inside.0; below = inside.1; is = c.is; head = tt; goes = subst (λ d. GoesOn path last (drop d (ranked goals order c.rank)) (suc at)) (sym narrowed.deeper) f.1.0 })
         by_head (Some (Predicate p)) e = inl (known_as IsAny IsNoEdge n c (subst IsNoEdge (sym e) tt))
+        by_head (Some (Absent p)) e = inl (known_as IsAny IsNoEdge n c (subst IsNoEdge (sym e) tt))
         by_head (Some (Quoted q)) e = inl (known_as IsAny IsNoEdge n c (subst IsNoEdge (sym e) tt))
 
 -- ---- a walk from its beginning

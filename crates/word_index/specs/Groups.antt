@@ -4,15 +4,16 @@ use Rattle.patterns.specs.declared.path_view.PathView.{PathView}
 use Rattle.goals.specs.GoalForm.{GoalForm}
 use Rattle.goals.specs.Words.{Word}
 use Rattle.goals.specs.declared.goal_letter.GoalLetter.{GoalLetter}
-use Rattle.goals.specs.declared.goal_letter.GoalLetter.TheVariants.{Node, Edge, Predicate, Quoted}
+use Rattle.goals.specs.declared.goal_letter.GoalLetter.TheVariants.{Node, Edge, Predicate, Absent, Quoted}
 use Rattle.word_index.specs.Order.{ranked, IsSortedFrom}
 use Rattle.word_index.specs.Walks.{Walks}
 use Rattle.word_index.specs.declared.group.Group.{Group}
 
--- its words are in order from its depth on
+-- its words are in order from its depth on, and its number is above those of their absent predicates
 pub record IsGroup (goals : List GoalForm) (order : List ℕ) (g : Group) : Type 0 where
   pub range : g.low ≤ g.high
   pub sorted : IsSortedFrom goals order g.depth g.low g.high
+  pub absents : (r d p : ℕ) → g.low ≤ r → r < g.high → slice_get (ranked goals order r) d ≡ Some (Absent p) → p < g.absents
 
 -- the group of those words of another that go on with this letter, past it
 pub record IsNarrowed (goals : List GoalForm) (order : List ℕ) (letter : GoalLetter) (g narrow : Group) : Type 0 where
@@ -52,9 +53,15 @@ IsEnd o = o ≡ None
 abbrev pub IsLetter : GoalLetter → Option GoalLetter → Type 0
 IsLetter l o = o ≡ Some l
 
--- with a predicate of a number below this one
+-- with a letter of this kind, of a number below this one
+abbrev pub IsBelow : (ℕ → GoalLetter) → ℕ → Option GoalLetter → Type 0
+IsBelow letter n o = (p : ℕ) × ((p < n) × (o ≡ Some (letter p)))
+
 abbrev pub IsPredicateBelow : ℕ → Option GoalLetter → Type 0
-IsPredicateBelow n o = (p : ℕ) × ((p < n) × (o ≡ Some (Predicate p)))
+IsPredicateBelow n o = IsBelow Predicate n o
+
+abbrev pub IsAbsentBelow : ℕ → Option GoalLetter → Type 0
+IsAbsentBelow n o = IsBelow Absent n o
 
 -- with no edge
 abbrev pub IsNoEdge : Option GoalLetter → Type 0
@@ -62,4 +69,5 @@ IsNoEdge None = Unit {0}
 IsNoEdge (Some (Node n)) = Unit {0}
 IsNoEdge (Some (Edge e)) = ⊥
 IsNoEdge (Some (Predicate p)) = Unit {0}
+IsNoEdge (Some (Absent p)) = Unit {0}
 IsNoEdge (Some (Quoted q)) = Unit {0}

@@ -6,15 +6,16 @@ use Rattle.std.specs.Ordering.{is_lt, nat_cmp}
 use Rattle.goals.specs.GoalForm.{GoalForm}
 use Rattle.goals.specs.Words.{Word}
 use Rattle.goals.specs.declared.goal_letter.GoalLetter.{GoalLetter}
-use Rattle.goals.specs.declared.goal_letter.GoalLetter.TheVariants.{Node, Edge, Predicate, Quoted}
+use Rattle.goals.specs.declared.goal_letter.GoalLetter.TheVariants.{Node, Edge, Predicate, Absent, Quoted}
 use Rattle.word_index.specs.Walks.{word_at, is_plain}
 
 -- a number of its own for each letter
 abbrev pub letter_key : GoalLetter → ℕ
-letter_key (Edge e) = 4 * e + 1
-letter_key (Node n) = 4 * n + 2
-letter_key (Predicate p) = 4 * p + 3
-letter_key (Quoted q) = 4 * q + 4
+letter_key (Edge e) = 5 * e + 1
+letter_key (Node n) = 5 * n + 2
+letter_key (Predicate p) = 5 * p + 3
+letter_key (Absent p) = 5 * p + 4
+letter_key (Quoted q) = 5 * q + 5
 
 -- and 0 past the end of a word
 abbrev pub key_of : Option GoalLetter → ℕ
@@ -42,3 +43,12 @@ pub record IsOrderOf (goals : List GoalForm) (order : List ℕ) : Type 0 where
   pub sorted : IsSortedFrom goals order 0 0 (length order)
   pub plain : (r : ℕ) → r < length order → is_plain (ranked goals order r) ≡ true
   pub all : (g : ℕ) → is_plain (word_at goals g) ≡ true → Contains order g
+
+-- each number of an absent predicate of the goals' words is below this one
+abbrev pub AreAbsentsBelow : List GoalForm → ℕ → Type 0
+AreAbsentsBelow goals bound = (g d p : ℕ) → slice_get (word_at goals g) d ≡ Some (Absent p) → p < bound
+
+-- such an order of goals, and such a number
+pub record IsIndexOf (goals : List GoalForm) (order : List ℕ) (bound : ℕ) : Type 0 where
+  pub ordered : IsOrderOf goals order
+  pub absents : AreAbsentsBelow goals bound

@@ -5,7 +5,7 @@ use Rattle.patterns.specs.declared.path_view.PathView.{PathView}
 use Rattle.goals.specs.GoalForm.{GoalForm}
 use Rattle.goals.specs.Words.{Word}
 use Rattle.goals.specs.declared.goal_letter.GoalLetter.{GoalLetter}
-use Rattle.goals.specs.declared.goal_letter.GoalLetter.TheVariants.{Node, Edge, Predicate, Quoted}
+use Rattle.goals.specs.declared.goal_letter.GoalLetter.TheVariants.{Node, Edge, Predicate, Absent, Quoted}
 
 -- ---- words
 
@@ -23,6 +23,7 @@ is_unquoted [] = true
 is_unquoted (Node n ∷ w) = is_unquoted w
 is_unquoted (Edge e ∷ w) = is_unquoted w
 is_unquoted (Predicate p ∷ w) = is_unquoted w
+is_unquoted (Absent p ∷ w) = is_unquoted w
 is_unquoted (Quoted q ∷ w) = false
 
 -- it has a letter, and no quoted one
@@ -32,12 +33,13 @@ is_plain (l ∷ w) = is_unquoted (l ∷ w)
 
 -- ---- walks
 
--- A letter goes from one state to another. A node or a predicate stays at its state, and an edge goes to the next. No
--- quoted letter is meant here.
+-- A letter goes from one state to another. A node, a predicate or an absent predicate stays at its state, and an edge goes
+-- to the next. No quoted letter is meant here.
 abbrev pub Goes : PathView → GoalLetter → ℕ → ℕ → Type 0
 Goes path (Node n) i j = (j ≡ i) × (slice_index path.nodes i ≡ n)
 Goes path (Edge e) i j = (j ≡ suc i) × (slice_index path.edges i ≡ e)
 Goes path (Predicate p) i j = (j ≡ i) × ((bit_at (slice_index path.masks i) p == 1) ≡ true)
+Goes path (Absent p) i j = (j ≡ i) × ((bit_at (slice_index path.masks i) p == 1) ≡ false)
 Goes path (Quoted q) i j = ⊥
 
 -- a word goes from one state to another, letter by letter

@@ -4,4 +4,6 @@ pub(crate) struct Group {
     pub(crate) low: usize,
     pub(crate) high: usize,
     pub(crate) depth: usize,
+    /// A number above those of the absent predicates of the words.
+    pub(crate) absents: u32,
 }

@@ -1,12 +1,13 @@
 // The index.
-ghost use Rattle.std.specs.Prelude.{◌≡◌, ℕ, true, All, IfOk, OnOk};
+ghost use Rattle.std.specs.Prelude.{◌≡◌, ◌≤◌, ◌<◌, ℕ, true, All, IfOk, OnOk, Some, slice_get};
 ghost use Rattle.std.specs.List.{Contains};
 ghost use Rattle.word_index.specs.Numbers.{Adds};
-ghost use Rattle.word_index.specs.Order.{IsOrderOf};
+ghost use Rattle.goals.specs.declared.goal_letter.GoalLetter.TheVariants as letter;
+ghost use Rattle.word_index.specs.Order.{AreAbsentsBelow, IsIndexOf, IsOrderOf};
 ghost use Rattle.word_index.specs.Walks.{HasGoalWalk, is_plain, word_at};
 
 use crate::group::Group;
-use crate::letters::is_plain;
+use crate::letters::{absents_above, is_plain};
 use crate::numbers::Numbers;
 use crate::walk::add_walks;
 use crate::words::{compared, word_at};
@@ -20,15 +21,18 @@ use std::alloc::Global;
 #[derive(Debug, Drop)]
 pub struct WordIndex {
     order: Vector<u32>,
+    /// A number above those of the absent predicates of the words.
+    absents: u32,
 }
 
 impl WordIndex {
     /// The index of these goals.
     pub fn new(alloc: Global, goals: &[Goal]) -> Result<WordIndex, Memory>
-        ensures { IfOk result (λ index. IsOrderOf goals.now index.order) }
+        ensures { IfOk result (λ index. IsIndexOf goals.now index.order index.absents) }
     {
         Ok(WordIndex {
             order: Vector::from_vec(sorted_places(alloc, goals)?),
+            absents: absents_of(goals)?,
         })
     }
 
@@ -41,10 +45,10 @@ impl WordIndex {
         last: bool,
         numbers: &mut Numbers,
     ) -> Result<(), Memory>
-        requires { IsOrderOf goals.now self.now.order }
+        requires { IsIndexOf goals.now self.now.order self.now.absents }
         ensures { OnOk result (Adds (HasGoalWalk goals.now first last path.now) numbers.old numbers.new) }
     {
-        add_from_states(goals, &self.order, path, first, last, numbers)
+        add_from_states(goals, &self.order, self.absents, path, first, last, numbers)
     }
 }
 
@@ -52,18 +56,20 @@ impl WordIndex {
 fn add_from_states(
     goals: &[Goal],
     order: &[u32],
+    absents: u32,
     path: &RunPath,
     first: bool,
     last: bool,
     numbers: &mut Numbers,
 ) -> Result<(), Memory>
-    requires { IsOrderOf goals.now order.now }
+    requires { IsIndexOf goals.now order.now absents }
     ensures { OnOk result (Adds (HasGoalWalk goals.now first last path.now) numbers.old numbers.new) }
 {
     let all = Group {
         low: 0,
         high: order.len(),
         depth: 0,
+        absents,
     };
     if first {
         return add_walks(goals, order, path, last, all, 0, numbers);
@@ -72,6 +78,17 @@ fn add_from_states(
         add_walks(goals, order, path, last, all, at, numbers)?;
     }
     Ok(())
+}
+
+/// A number above those of the absent predicates of the goals' words.
+fn absents_of(goals: &[Goal]) -> Result<u32, Memory>
+    ensures { IfOk result (λ bound. AreAbsentsBelow goals.now bound) }
+{
+    let mut bound = 0u32;
+    for goal in goals {
+        bound = absents_above(goal.word(), bound)?;
+    }
+    Ok(bound)
 }
 
 /// The places of the goals whose words have letters, and no quoted ones.

@@ -1,8 +1,10 @@
 // Letters of words, and the numbers by which they are sorted.
-ghost use Rattle.std.specs.Prelude.{◌≡◌, ◌^◌, ◌<◌};
+ghost use Rattle.std.specs.Prelude.{◌≡◌, ◌^◌, ◌<◌, ◌≤◌, ℕ, IfOk, Some, slice_get};
+ghost use Rattle.goals.specs.declared.goal_letter.GoalLetter.TheVariants as kind;
 ghost use Rattle.word_index.specs.Order.{key_of, letter_key};
 ghost use Rattle.word_index.specs.Walks.{is_plain, is_unquoted};
 
+use fq_core::Memory;
 use goals::GoalLetter;
 
 /// A number of its own for each letter, above 0.
@@ -11,10 +13,11 @@ pub(crate) fn letter_key(letter: GoalLetter) -> u64
     ensures small { result < 2 ^ 35 }
 {
     match letter {
-        GoalLetter::Edge(edge) => 4 * (edge as u64) + 1,
-        GoalLetter::Node(node) => 4 * (node as u64) + 2,
-        GoalLetter::Predicate(number) => 4 * (number as u64) + 3,
-        GoalLetter::Quoted(number) => 4 * (number as u64) + 4,
+        GoalLetter::Edge(edge) => 5 * (edge as u64) + 1,
+        GoalLetter::Node(node) => 5 * (node as u64) + 2,
+        GoalLetter::Predicate(number) => 5 * (number as u64) + 3,
+        GoalLetter::Absent(number) => 5 * (number as u64) + 4,
+        GoalLetter::Quoted(number) => 5 * (number as u64) + 5,
     }
 }
 
@@ -26,6 +29,32 @@ pub(crate) fn key_of(letter: Option<GoalLetter>) -> u64
         None => 0,
         Some(letter) => letter_key(letter),
     }
+}
+
+/// This number, or one above that of the letter, if it is an absent predicate and its number isn't below this one.
+fn absent_above(letter: GoalLetter, bound: u32) -> Result<u32, Memory>
+    ensures from { IfOk result (λ above. bound ≤ above) }
+    ensures absent { IfOk result (λ above. (p : ℕ) → letter ≡ kind.Absent p → p < above) }
+{
+    match letter {
+        GoalLetter::Absent(number) => match number.checked_add(1) {
+            Some(above) => Ok(bound.max(above)),
+            None => Err(Memory),
+        },
+        _ => Ok(bound),
+    }
+}
+
+/// The same for all letters of a word.
+pub(crate) fn absents_above(word: &[GoalLetter], bound: u32) -> Result<u32, Memory>
+    ensures from { IfOk result (λ above. bound ≤ above) }
+    ensures absents { IfOk result (λ above. (d p : ℕ) → slice_get word.now d ≡ Some (kind.Absent p) → p < above) }
+{
+    let mut above = bound;
+    for letter in word {
+        above = absent_above(*letter, above)?;
+    }
+    Ok(above)
 }
 
 /// Whether no letter of a word is quoted.

@@ -59,5 +59,6 @@ pub(crate) fn narrowed(
         low,
         high,
         depth: group.depth + 1,
+        absents: group.absents,
     })
 }

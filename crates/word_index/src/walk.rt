@@ -2,7 +2,7 @@
 ghost use Rattle.std.specs.Prelude.{◌≡◌, ◌==◌, ◌^◌, ℕ, ◌<◌, ◌≤◌, length, OnOk, slice_index, suc, true, false, IfOk, ◌+◌};
 ghost use Rattle.std.specs.Int.{bit_at};
 ghost use Rattle.patterns.specs.Paths.{IsPath};
-ghost use Rattle.word_index.specs.Groups.{Continues, IsAny, IsEnd, IsGroup, IsLetter, IsNoEdge, IsPredicateBelow};
+ghost use Rattle.word_index.specs.Groups.{Continues, IsAbsentBelow, IsAny, IsEnd, IsGroup, IsLetter, IsNoEdge, IsPredicateBelow};
 ghost use Rattle.word_index.specs.Numbers.{Adds};
 ghost use Rattle.word_index.specs.Walks.{Goes};
 
@@ -110,13 +110,12 @@ fn mask_at(path: &RunPath, at: usize) -> u64
     path.masks().get(at).copied().unwrap_or(0)
 }
 
-/// Whether a bit, counted from the lowest, is set.
-#[tactic(auto, using(std::proofs::lemmas::Nat::Bits::shr_and_one))]
+/// Whether a bit, counted from the lowest, is set. There is none past the highest.
+#[tactic(auto, using(patterns::proofs::Members::no_bit, std::proofs::lemmas::Nat::Bits::shr_and_one))]
 fn has_bit(mask: u64, bit: u32) -> bool
-    requires { bit < 64 }
     ensures { result ≡ (bit_at mask bit == 1) }
 {
-    (mask >> bit) & 1 == 1
+    bit < 64 && (mask >> bit) & 1 == 1
 }
 
 /// Adds the goals of a group whose words go on with a predicate that holds at this state, and then go on.
@@ -133,7 +132,6 @@ fn add_with_predicate(
 ) -> Result<(), Memory>
     requires group { IsGroup goals.now order.now group }
     requires at { at ≤ length path.now.edges }
-    requires number { number < 64 }
     ensures { OnOk result (Adds (Continues goals.now order.now path.now last (IsLetter (GoalLetter.Predicate number)) group at) numbers.old numbers.new) }
 {
     if !has_bit(mask_at(path, at), number) {
@@ -167,6 +165,50 @@ fn add_with_predicates(
     Ok(())
 }
 
+/// Adds the goals of a group whose words go on with an absent predicate, which doesn't hold at this state, and then go on.
+#[cycle(walk)]
+fn add_with_absent(
+    goals: &[Goal],
+    order: &[u32],
+    path: &RunPath,
+    last: bool,
+    group: Group,
+    at: usize,
+    number: u32,
+    numbers: &mut Numbers,
+) -> Result<(), Memory>
+    requires group { IsGroup goals.now order.now group }
+    requires at { at ≤ length path.now.edges }
+    ensures { OnOk result (Adds (Continues goals.now order.now path.now last (IsLetter (GoalLetter.Absent number)) group at) numbers.old numbers.new) }
+{
+    if has_bit(mask_at(path, at), number) {
+        return Ok(());
+    }
+    let letter = GoalLetter::Absent(number);
+    add_with(goals, order, path, last, group, at, letter, numbers)
+}
+
+/// The same for all absent predicates.
+#[cycle(walk)]
+fn add_with_absents(
+    goals: &[Goal],
+    order: &[u32],
+    path: &RunPath,
+    last: bool,
+    group: Group,
+    at: usize,
+    numbers: &mut Numbers,
+) -> Result<(), Memory>
+    requires group { IsGroup goals.now order.now group }
+    requires at { at ≤ length path.now.edges }
+    ensures { OnOk result (Adds (Continues goals.now order.now path.now last (IsAbsentBelow group.absents) group at) numbers.old numbers.new) }
+{
+    for number in 0..group.absents {
+        add_with_absent(goals, order, path, last, group, at, number, numbers)?;
+    }
+    Ok(())
+}
+
 /// Adds the goals of a group whose words end at its depth, or go on with a letter that stays at this state.
 #[cycle(walk)]
 fn add_staying(
@@ -186,7 +228,8 @@ fn add_staying(
     let node = node_letter(path, at);
     add_with(goals, order, path, last, group, at, node, numbers)?;
     let _mask = mask_at(path, at);
-    add_with_predicates(goals, order, path, last, group, at, numbers)
+    add_with_predicates(goals, order, path, last, group, at, numbers)?;
+    add_with_absents(goals, order, path, last, group, at, numbers)
 }
 
 /// Adds the goals of a group whose words go on from this state to one at which a walk may end.

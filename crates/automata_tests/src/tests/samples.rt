@@ -30,6 +30,10 @@ pub fn predicate(number: u32) -> Pattern<Letter> {
     Pattern::Letter(Letter::Predicate(number))
 }
 
+pub fn absent(number: u32) -> Pattern<Letter> {
+    Pattern::Letter(Letter::Absent(number))
+}
+
 pub fn dot(alloc: Global, a: Pattern<Letter>, b: Pattern<Letter>) -> Made {
     Ok(Pattern::Dot(Boxed::new(alloc, a)?, Boxed::new(alloc, b)?))
 }
@@ -52,6 +56,7 @@ fn simple(alloc: Global, all: &mut Vec<Pattern<Letter>>) -> Result<(), Memory> {
     all.push(node(alloc, 1)?)?;
     all.push(edge(alloc, 2)?)?;
     all.push(predicate(0))?;
+    all.push(absent(1))?;
     all.push(dot(alloc, edge(alloc, 0)?, edge(alloc, 1)?)?)?;
     all.push(dot(alloc, node(alloc, 1)?, predicate(0))?)?;
     all.push(dot(alloc, any_edge(alloc)?, predicate(0))?)?;

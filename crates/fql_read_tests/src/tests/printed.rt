@@ -1,6 +1,6 @@
 // Queries as texts. A filter has its column before it, and a repetition its bounds and its column behind it.
 use fq_core::Name;
-use fql_read::{Clause, CoverTree, Filter, FilterForm, Query};
+use fql_read::{Clause, CoverTree, Filter, FilterForm, Query, Split};
 use std::fmt::Write;
 use std::test::Fail;
 
@@ -84,13 +84,22 @@ fn mark_of(tree: &CoverTree) -> &'static str {
     }
 }
 
+// A filter, and the places of the predicates of PRED behind it.
+fn show_split(text: &mut String, split: &Split) -> Result<(), Fail> {
+    show_filter(text, &split.filter)?;
+    for place in &split.predicates {
+        write!(text, "/p{place}")?;
+    }
+    Ok(())
+}
+
 fn show_tree(text: &mut String, tree: &CoverTree) -> Result<(), Fail> {
     match tree {
-        CoverTree::Nodes(filter) => {
+        CoverTree::Nodes(split) => {
             text.push_str("nodes ")?;
-            show_filter(text, filter)?;
+            show_split(text, split)?;
         }
-        CoverTree::Edges(filter) => show_filter(text, filter)?,
+        CoverTree::Edges(split) => show_split(text, split)?,
         CoverTree::Paths(filter, most) => {
             write!(text, "paths {most} ")?;
             show_filter(text, filter)?;

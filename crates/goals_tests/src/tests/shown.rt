@@ -18,6 +18,7 @@ fn show_letter(text: &mut String, letter: GoalLetter) -> Result<(), Fail> {
         GoalLetter::Node(node) => write!(text, " n{node}")?,
         GoalLetter::Edge(edge) => write!(text, " e{edge}")?,
         GoalLetter::Predicate(number) => write!(text, " p{number}")?,
+        GoalLetter::Absent(number) => write!(text, " !p{number}")?,
         GoalLetter::Quoted(number) => write!(text, " q{number}")?,
     }
     Ok(())
@@ -50,6 +51,7 @@ pub(crate) fn show_pattern(text: &mut String, pattern: &Pattern<Letter>) -> Resu
         Pattern::Letter(Letter::Nodes(nodes)) => show_set(text, "n", nodes.as_slice())?,
         Pattern::Letter(Letter::Edges(edges)) => show_set(text, "e", edges.as_slice())?,
         Pattern::Letter(Letter::Predicate(number)) => write!(text, "p{number};")?,
+        Pattern::Letter(Letter::Absent(number)) => write!(text, "!p{number};")?,
         Pattern::Dot(a, b) => {
             text.push_str("(")?;
             show_pattern(text, a)?;

@@ -25,7 +25,7 @@ static RUNS: [(&[u32], &[u32], &[u64]); 10] = [
     (&[3, 1, 1, 2, 1], &[2, 2, 1, 3], &[0, 0, 1, 1, 1]),
 ];
 
-static BODIES: [&str; 11] = [
+static BODIES: [&str; 15] = [
     "@LINE(2)->@LINE(3)",
     "ID->ID",
     "@LINE(3)->@LINE(2)->@LINE(5)",
@@ -37,6 +37,10 @@ static BODIES: [&str; 11] = [
     "\"ID*\".@LINE(3)",
     "\"@LINE(2)\"->@LINE(3)",
     "@LINE(2).@LINE(3)+@LINE(2)->@LINE(5)",
+    "NODES(PRED(ID,{x == 1}))",
+    "PRED(@LINE(2),{x == 1})->PRED(@LINE(3),{x == 1})",
+    "PRED(PRED(@LINE(2),{x == 1}),{x == 2})",
+    "\"PRED(ID,{x == 1})\".NODES(PRED(@LINE(3),{x == 1}))",
 ];
 
 // What stands before the body of a query, and behind it.

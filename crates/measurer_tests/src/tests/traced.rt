@@ -96,6 +96,10 @@ fn hits_of_traced_runs(rt: HostRuntime) -> Result<(), Fail> {
         ("cover ^@LINE(2)->{i + n == 4}", ";; 1;"),
         ("cover @LINE(6)->{n == 2}$", ";; 1;"),
         ("cover @LINE(6)->@LINE(2)", ";;;"),
+        ("cover PRED(@LINE(6),{i == 2})", " 4; 4; 2;"),
+        ("cover NODES(PRED(@LINE(6),{i == 2}))", " 2 4; 2 4; 2 3;"),
+        // It traps where i is 0, and else it is 1 / i.
+        ("cover NODES(PRED(@LINE(6),{1 / i}))", " 2 4; 2 3; 2 4;"),
         // No i is in scope at the function's exit.
         ("cover @LINE(6)->{i == 2}", ";;;"),
     ];

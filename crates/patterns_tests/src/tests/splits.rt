@@ -84,5 +84,8 @@ fn letter_matches(letter: &Letter, path: &PathView, i: usize, j: usize) -> bool 
         Letter::Predicate(0) => i == j && (i == 1 || i == 3),
         Letter::Predicate(5) => i == j && i == 4,
         Letter::Predicate(_) => false,
+        Letter::Absent(0) => i == j && i != 1 && i != 3,
+        Letter::Absent(5) => i == j && i != 4,
+        Letter::Absent(_) => i == j,
     }
 }

@@ -3,16 +3,20 @@ use Rattle.applied_clauses.specs.Trees.{tree_of}
 use Rattle.applied_clauses.specs.Within.{tree_within}
 use Rattle.filters.specs.Parts.{part_of}
 use Rattle.fql_read.specs.Usable.{is_within}
-use Rattle.applied_clauses.proofs.Leaves.{anywhere_last, anywhere_there, both_there, edges_there, nodes_there, outcome_there, paths_there, within_arrow, within_dot, within_plus}
+use Rattle.applied_clauses.proofs.Leaves.{anywhere_last, anywhere_there, both_there, edges_there, nodes_there, outcome_there, paths_there, within_arrow, within_dot, within_edges, within_nodes, within_plus}
 use Rattle.applied_clauses.proofs.applying.+apply_clause.Goals as goal
 
 pub returns-in_ok-nodes_of-in-Nodes-clause-within : goal.returns-in_ok-nodes_of-in-Nodes-clause-within
 returns-in_ok-nodes_of-in-Nodes-clause-within t c count h =
-    ap (tree_within c.args.graph.now count) c.in_ok-nodes_of-in-Nodes.ensures ∙ nodes_there c.args.graph.now (part_of c.args.base.now) c.in-Nodes.filter count
+    let s = c.in-Nodes.split in
+    let there = sym (within_nodes count s) ∙ sym (ap (is_within count) c.in-Nodes.is) ∙ h in
+    ap (tree_within c.args.graph.now count) c.in_ok-nodes_of-in-Nodes.ensures ∙ nodes_there c.args.graph.now (part_of c.args.base.now) s.filter count s.predicates there
 
 pub returns-in_ok-edges_of-in-Edges-clause-within : goal.returns-in_ok-edges_of-in-Edges-clause-within
 returns-in_ok-edges_of-in-Edges-clause-within t c count h =
-    ap (tree_within c.args.graph.now count) c.in_ok-edges_of-in-Edges.ensures ∙ edges_there c.args.graph.now (part_of c.args.base.now) c.in-Edges.filter count
+    let s = c.in-Edges.split in
+    let there = sym (within_edges count s) ∙ sym (ap (is_within count) c.in-Edges.is) ∙ h in
+    ap (tree_within c.args.graph.now count) c.in_ok-edges_of-in-Edges.ensures ∙ edges_there c.args.graph.now (part_of c.args.base.now) s.filter count s.predicates there
 
 pub returns-in-Paths-clause-within : goal.returns-in-Paths-clause-within
 returns-in-Paths-clause-within t c count h =

@@ -1,4 +1,4 @@
-use Rattle.std.proofs.Common.{◌≡◌, length, IfOk, None, ap, ◌∙◌, subst, codes}
+use Rattle.std.proofs.Common.{◌≡◌, [], length, IfOk, None, ap, ◌∙◌, subst, codes}
 use Rattle.applied_clauses.specs.Applied.{numbers}
 use Rattle.applied_clauses.specs.Trees.{Tree, edges, quoted, repeat, tree_of}
 use Rattle.filters.specs.Parts.{is_among}
@@ -10,7 +10,7 @@ returns c =
     let own = c.args.base.now.edges in
     let n = length c.args.graph.now.edges in
     let same : c.in_ok-try_clone.field-0 ≡ numbers (is_among own) n = c.in_ok-try_clone.ensures ∙ rising_numbers own n c.as_slice-edges.ensures.rise c.requires.edges in
-    let any : tree_of c.in_ok-any.any ≡ repeat (edges (numbers (is_among own) n)) 0 None =
-    c.in_ok-any.ensures ∙ ap (λ t. repeat t 0 None) (c.edges.ensures ∙ ap edges same) in
+    let any : tree_of c.in_ok-any.any ≡ repeat (edges (numbers (is_among own) n) []) 0 None =
+    c.in_ok-any.ensures ∙ ap (λ t. repeat t 0 None) (c.edges.ensures ∙ (λ i. edges (same i) (c.new-unsplit.ensures i))) in
     let P : Tree → Type 0 = λ b. IfOk c.quoted.result (λ t. tree_of t ≡ quoted b (codes "ID*")) in
     subst P any c.quoted.ensures

@@ -1,8 +1,9 @@
 use Rattle.std.proofs.Common.{◌≡◌, ◌+◌, ◌^◌, ◌<◌, ◌≤◌, ◌==◌, length, refl, sym, ◌∙◌, ap, subst, arith}
 use Rattle.std.specs.Int.{bit_at}
-use Rattle.word_index.specs.Groups.{Continues, IsPredicateBelow}
+use Rattle.goals.specs.declared.goal_letter.GoalLetter.TheVariants.{Absent, Predicate}
+use Rattle.word_index.specs.Groups.{Continues, IsAbsentBelow, IsPredicateBelow}
 use Rattle.word_index.specs.Numbers.{Adds}
-use Rattle.word_index.proofs.Steps.{on_ok, with_staying, with_none, predicate_absent, predicate_more, none_hold, staying, same_more, same_last, same_done}
+use Rattle.word_index.proofs.Steps.{on_ok, with_staying, with_none, predicate_absent, predicate_there, letter_more, none_hold, staying, same_more, same_last, same_done}
 use Rattle.word_index.proofs.walk.+walk.Goals as goal
 
 pub add_with-returns-in_ok-add_walks : goal.add_with-returns-in_ok-add_walks
@@ -22,19 +23,33 @@ add_with_predicates-returns-then-mask_at-eq0 t c =
 
 pub add_with_predicates-loop-number-preserved : goal.add_with_predicates-loop-number-preserved
 add_with_predicates-loop-number-preserved t c =
-    predicate_more c.args.goals.now c.args.order.now c.args.path.now c.args.last c.args.group c.args.at c.loop-number.number _ _ _ c.loop-number.invariant c.in_ok-add_with_predicate.ensures
+    letter_more c.args.goals.now c.args.order.now c.args.path.now c.args.last c.args.group c.args.at Predicate c.loop-number.number _ _ _ c.loop-number.invariant c.in_ok-add_with_predicate.ensures
 
 pub add_with_predicates-returns : goal.add_with_predicates-returns
 add_with_predicates-returns t c =
     let e : c.loop-number.number ≡ 64 = omega arith in
     subst (λ n. Adds (Continues c.args.goals.now c.args.order.now c.args.path.now c.args.last (IsPredicateBelow n) c.args.group c.args.at) c.args.numbers.now c.loop-number.numbers) e c.loop-number.invariant
 
+pub add_with_absent-returns-then-has_bit : goal.add_with_absent-returns-then-has_bit
+add_with_absent-returns-then-has_bit t c =
+    predicate_there c.args.goals.now c.args.order.now c.args.path.now c.args.last c.args.group c.args.at c.args.number c.args.numbers.now c.has_bit.result
+    (c.has_bit.ensures ∙ ap (λ m. bit_at m c.args.number == 1) c.mask_at.ensures.mask) c.if-has_bit.true
+
+pub add_with_absents-loop-number-preserved : goal.add_with_absents-loop-number-preserved
+add_with_absents-loop-number-preserved t c =
+    letter_more c.args.goals.now c.args.order.now c.args.path.now c.args.last c.args.group c.args.at Absent c.loop-number.number _ _ _ c.loop-number.invariant c.in_ok-add_with_absent.ensures
+
+pub add_with_absents-returns : goal.add_with_absents-returns
+add_with_absents-returns t c =
+    let e : c.loop-number.number ≡ c.args.group.absents = omega arith in
+    subst (λ n. Adds (Continues c.args.goals.now c.args.order.now c.args.path.now c.args.last (IsAbsentBelow n) c.args.group c.args.at) c.args.numbers.now c.loop-number.numbers) e c.loop-number.invariant
+
 pub add_staying-returns : goal.add_staying-returns
 add_staying-returns t c =
     let small = subst (λ m. m < 2 ^ 64) c.mask_at-mask.ensures.mask c.mask_at-mask.ensures.small in
-    on_ok c.add_with_predicates.result _ _
-    (λ h. staying c.args.goals.now c.args.order.now c.args.path.now c.args.last c.args.group c.args.at small c.node_letter-node.result c.node_letter-node.ensures _ _ _ _ c.in_ok-add_ends.ensures c.in_ok-add_with.ensures h)
-    c.add_with_predicates.ensures
+    on_ok c.add_with_absents.result _ _
+    (λ h. staying c.args.goals.now c.args.order.now c.args.path.now c.args.last c.args.group c.args.at small c.requires.group c.node_letter-node.result c.node_letter-node.ensures _ _ _ _ _ c.in_ok-add_ends.ensures c.in_ok-add_with.ensures c.in_ok-add_with_predicates.ensures h)
+    c.add_with_absents.ensures
 
 pub add_walks-returns-then-at-edges : goal.add_walks-returns-then-at-edges
 add_walks-returns-then-at-edges t c =

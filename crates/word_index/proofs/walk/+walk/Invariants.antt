@@ -1,5 +1,5 @@
 use Rattle.std.proofs.Common.{◌≡◌, ◌+◌, ◌-◌, ◌*◌, ◌^◌, ◌≤◌, length}
-use Rattle.word_index.specs.Groups.{Continues, IsGroup, IsPredicateBelow}
+use Rattle.word_index.specs.Groups.{Continues, IsAbsentBelow, IsGroup, IsPredicateBelow}
 use Rattle.word_index.specs.Numbers.{Adds}
 use Rattle.word_index.proofs.Steps.{Same}
 use Rattle.word_index.proofs.walk.+walk.Given as goal
@@ -12,6 +12,15 @@ decreases-add_with_predicate l = 8 * (2 ^ 64 - l.group.depth) + 1
 
 abbrev pub decreases-add_with_predicates : goal.decreases-add_with_predicates
 decreases-add_with_predicates l = 8 * (2 ^ 64 - l.group.depth) + 2
+
+abbrev pub decreases-add_with_absent : goal.decreases-add_with_absent
+decreases-add_with_absent l = 8 * (2 ^ 64 - l.group.depth) + 1
+
+abbrev pub decreases-add_with_absents : goal.decreases-add_with_absents
+decreases-add_with_absents l = 8 * (2 ^ 64 - l.group.depth) + 2
+
+abbrev pub invariant-add_with_absents-loop-number : goal.invariant-add_with_absents-loop-number
+invariant-add_with_absents-loop-number l = Adds (Continues l.goals l.order l.path l.last (IsAbsentBelow l.number) l.group l.at) l.initial.numbers l.numbers
 
 abbrev pub decreases-add_staying : goal.decreases-add_staying
 decreases-add_staying l = 8 * (2 ^ 64 - l.group.depth) + 3
