@@ -16,6 +16,16 @@ extended-word-requires c =
     } in
     fits_load (length c.args.store.now.cells) c.in_ok-frame.frame e.place e.kind (rw e.is at f)
 
+pub put-requires-clause-kind : goal.put-requires-clause-kind
+put-requires-clause-kind c =
+    let e = c.in-Load in
+    let f : FitsWithin (length c.args.store.now.cells) c.in_ok-frame.frame c.args.load.now = record {
+      room = room_of c.args.places.now;
+      has = has_room (length c.args.store.now.cells) c.in_ok-frame.frame c.args.places.now c.in_ok-frame.ensures.base c.in_ok-frame.ensures.arrays (grind arith) (grind arith) (grind arith);
+      fits = first_of (search rules, grind arith);
+    } in
+    fits_load (length c.args.store.now.cells) c.in_ok-frame.frame e.place e.kind (rw e.is at f)
+
 pub put-requires-clause-fits : goal.put-requires-clause-fits
 put-requires-clause-fits c =
     let e = c.in-Load in
