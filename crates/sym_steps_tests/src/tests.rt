@@ -230,12 +230,7 @@ fn fitted(
 }
 
 // The words behind so many.
-fn rest(
-    alloc: Global,
-    circuit: &Circuit,
-    words: &[Word],
-    from: usize,
-) -> Result<Vec<Word>, Memory>
+fn rest(alloc: Global, circuit: &Circuit, words: &[Word], from: usize) -> Result<Vec<Word>, Memory>
     requires { All (All (IsWire circuit.now)) words.now }
     ensures { IfOk result (λ rest. All (All (IsWire circuit.now)) rest.items) }
 {
@@ -275,7 +270,15 @@ fn ends(alloc: Global, source: &str, patterns: &[u64], most: u32) -> Result<(u32
     let first = start(alloc, &graph, entry, &words)?;
     let world = world_of(alloc, patterns)?;
     let answers = rest(alloc, &circuit, &store.cells, words.len())?;
-    run_in(&mut circuit, &graph, &weights, first, &answers, &world, most)
+    run_in(
+        &mut circuit,
+        &graph,
+        &weights,
+        first,
+        &answers,
+        &world,
+        most,
+    )
 }
 
 #[test]
