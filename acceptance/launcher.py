@@ -247,28 +247,75 @@ def prove_compares_with_the_release(tree):
     proved = tree.call(tree.path("bin/prove"))
     yield proved.returncode == 0 and "byte for byte" in proved.stdout and tree.calls() == ANEW
     yield tree.run().stdout == "one a b c\n" and tree.calls() == []
+    other = os.path.join(tree.elsewhere, "other")
+    shutil.copy(tree.path("tools/rt"), other)
+    tree.call(tree.path("bin/release"), other)
+    differs = "release/fshell is another program than these sources give"
+    for kit, said in (("a kit", ""), ("another kit", " by this kit; it was built by a kit")):
+        tree.write("kit", kit + "\n")
+        proved = tree.call(tree.path("bin/prove"))
+        yield (proved.returncode, proved.stdout) == (1, differs + said + "\n") and tree.calls() == ANEW
     tree.write("crates/fshell/src/main.rt", "two\n")
     proved = tree.call(tree.path("bin/prove"))
-    yield proved.returncode == 1 and "another program" in proved.stdout and tree.calls() == ANEW
+    yield proved.returncode == 1 and "it was built from others" in proved.stdout and tree.calls() == ANEW
     yield tree.run().stdout == "two a b c\n" and tree.calls() == []
     tree.write("broken", "")
     yield tree.call(tree.path("bin/prove")).returncode == 70
 
 
-def release_is_checked(tree):
-    def check():
-        return tree.call(tree.path("bin/release"), "--check")
-    tree.run()
-    yield check().returncode == 1 and "bin/release" in check().stdout
-    yield tree.call(tree.path("bin/release")).returncode == 0
-    yield (check().returncode, check().stdout) == (0, "release/ is what was built\n")
-    for name, text in (("crates/low/src/lib.rt", "newer\n"), ("kit", "another kit\n"), ("crates/fshell/out/fshell", "another\n"),
-                       ("release/fshell", "another\n"), ("release/fshell.sha256", "another\n")):
+def check(tree):
+    """The status and the text of bin/release --check."""
+    ended = tree.call(tree.path("bin/release"), "--check")
+    return ended.returncode, ended.stdout
+
+
+def refused(found):
+    """What it answers to a fault."""
+    return 1, f"release/ isn't what was built: {found}; bin/release puts what was built there\n"
+
+
+def faults_by_any_kit(tree):
+    """What is a fault of release/ whether or not the kit that is here built it."""
+    sources, its_sum = "it was built from other sources", "the sum beside its program is another's"
+    for name, text, found in (("crates/low/src/lib.rt", "newer\n", sources), ("release/KIT", "another kit\n", sources),
+                              ("release/KIT", None, sources), ("release/SOURCES.sha256", "another\n", sources),
+                              ("release/fshell", "another\n", its_sum), ("release/fshell", tree.text("release/fshell")[:-1], its_sum),
+                              ("release/fshell.sha256", "another\n", its_sum)):
         before = tree.text(name)
-        tree.write(name, text)
-        yield check().returncode == 1 and "bin/release" in check().stdout
+        tree.write(name, text) if text else os.remove(tree.path(name))
+        yield check(tree) == refused(found)
         tree.write(name, before)
-    yield check().returncode == 0
+    os.chmod(tree.path("release/fshell"), 0o644)
+    yield check(tree) == refused("its program can't be executed")
+    os.chmod(tree.path("release/fshell"), 0o755)
+    os.rename(tree.path("release/fshell"), tree.path("moved"))
+    yield check(tree) == refused("it has no program")
+    os.rename(tree.path("moved"), tree.path("release/fshell"))
+
+
+def release_is_checked(tree):
+    tree.run()
+    yield check(tree) == refused("it has no program")
+    yield tree.call(tree.path("bin/release")).returncode == 0
+    yield check(tree) == (0, "release/ is what was built\n")
+    yield from faults_by_any_kit(tree)
+    yield check(tree) == (0, "release/ is what was built\n")
+    tree.write("crates/fshell/out/fshell", "another\n")
+    yield check(tree) == refused("its program is another one")
+
+
+def release_by_another_kit_is_noted(tree):
+    tree.run()
+    tree.call(tree.path("bin/release"))
+    tree.write("kit", "another kit\n")
+    note = "; note: it was built by another kit, a kit\n"
+    yield check(tree) == (0, "release/ is what was built" + note)
+    yield from faults_by_any_kit(tree)
+    tree.write("crates/fshell/out/fshell", "another\n")
+    yield check(tree) == refused("its program is another one")
+    tree.set_time("crates/fshell/out/fshell", 5)
+    yield tree.call(tree.path("bin/release")).returncode == 0
+    yield check(tree) == (0, "release/ is what was built\n") and tree.text("release/KIT") == "another kit\n"
 
 
 def old_program_is_not_released(tree):
@@ -291,6 +338,9 @@ def gate_runs_all(tree):
     yield status == 1 and lines[0] == "one accepted" and "bin/release" in lines[1] and calls == all_crates
     tree.call(tree.path("bin/release"))
     yield gate() == (0, ["one accepted", "release/ is what was built"], all_crates)
+    tree.write("kit", "another kit\n")
+    status, lines, calls = gate()
+    yield status == 0 and lines[0] == "one accepted" and "another kit, a kit" in lines[1] and calls == all_crates
     tree.write("differs", "")
     yield gate()[0] == 1
     os.remove(tree.path("differs"))
@@ -304,7 +354,8 @@ CASES = [first_run_builds, second_run_builds_nothing, newer_source_is_built, oth
          released_program_runs_in_unwritable_tree, released_program_is_taken_for_newer_sources,
          changed_sources_are_never_answered_by_the_release, what_is_no_source_leaves_the_release,
          damaged_release_is_never_run, release_that_cannot_start_is_not_run, release_without_its_sum_is_not_run,
-         prove_compares_with_the_release, release_is_checked, old_program_is_not_released, gate_runs_all]
+         prove_compares_with_the_release, release_is_checked, release_by_another_kit_is_noted, old_program_is_not_released,
+         gate_runs_all]
 
 
 def failures():

@@ -68,6 +68,11 @@ is_of_these_sources() {
   [ -f "$release/KIT" ] && [ -n "$(released_sum)" ] && [ "$(sum_of_sources)" = "$(released_sum)" ]
 }
 
+# whether the kit with this line built the released program; another one may build another program of the same sources
+is_by_kit() {
+  [ "$(cat -- "$release/KIT" 2>/dev/null)" = "$1" ]
+}
+
 # whether a file has the bytes of the released program, by the sum that stands beside it
 is_whole() {
   [ -n "$(cut -c 1-64 "$release/fshell.sha256" 2>/dev/null)" ] &&
