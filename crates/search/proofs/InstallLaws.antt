@@ -2,6 +2,7 @@
 use Rattle.std.proofs.Common.{◌≡◌, ◌⊎◌, ℕ, zero, suc, ◌+◌, ◌*◌, ◌<◌, ◌≤◌, true, false, List, [], ◌∷◌, ◌++◌, length, take, map, get_or, pos, refl, sym, ◌∙◌, ap, arith, None, Some, length-append}
 use mathlib.Core.Logic.{inl, inr}
 use Rattle.std.specs.Prelude.{ℤ, slice_get, IfOk, Result, Ok, Err}
+use Rattle.std.specs.List.{list_all}
 use Rattle.std.specs.Ordering.{int_eq}
 use Rattle.std.proofs.lemmas.Option.{slice_get_read, slice_get_within}
 use Rattle.cnf.specs.declared.derivation.Derivation.{Derivation}
@@ -21,8 +22,9 @@ use Rattle.search.specs.Installs.{IsInstalling, IsMade, IsRefuted}
 use Rattle.search.specs.Machine.{is_true, with_entry}
 use Rattle.search.specs.Readings.{IsImplied, IsSearching}
 use Rattle.search.specs.Sound.{all_clauses}
-use Rattle.search.specs.Watching.{IsDecidedAt, IsPaired, is_among, list_of}
+use Rattle.search.specs.Watching.{IsDecidedAt, IsPaired, is_among, is_blocked, list_of, watchers_of}
 use Rattle.search.proofs.BackLaws.{or_behind, some_entry}
+use Rattle.search.proofs.ListsLaws.{clause_place}
 use Rattle.search.proofs.LookLaws.{other_test, satisfied_by}
 use Rattle.search.proofs.MachineLaws.{get_before}
 use Rattle.search.proofs.ScanLaws.{clauses_count}
@@ -42,7 +44,7 @@ own_literal x = rw (equal_literal x x refl) refl
 
 -- the first state
 pub installing_begins : (formula : Formula) (budget : ℕ) (m : Machine) (w : Watching) → IsAt formula m → m.trail.items ≡ [] → length m.learned.lines ≡ 0 → length m.moves.items ≡ 0
-    → length w.watchers.items ≡ 2 * formula.variables + 2 → ((x : ℤ) → list_of w.watchers.items x ≡ []) → w.pairs.items ≡ [] → w.head ≡ 0 → IsInstalling formula budget m w 0
+    → length w.watchers.items ≡ 2 * formula.variables + 2 → ((x : ℤ) → watchers_of w.watchers.items x ≡ []) → w.pairs.items ≡ [] → w.head ≡ 0 → IsInstalling formula budget m w 0
 installing_begins formula budget m w at trail lines moves lists none pairs head = record {
   at = at;
   watching = record {
@@ -52,7 +54,8 @@ installing_begins formula budget m w at trail lines moves lists none pairs head 
     pairs = rw pairs (omega arith);
     tracked = λ k clause pair named has. absurd (no_pair k pair has);
     own = λ k clause pair named has. absurd (no_pair k pair has);
-    within = λ x k h. let no : false ≡ true = sym (ap (is_among k) (none x)) ∙ h in absurd cc;
+    within = λ x k h. let no : false ≡ true = sym (ap (λ ws. is_among k (map clause_place ws)) (none x)) ∙ h in absurd cc;
+    blocked = λ x. ap (list_all (is_blocked (all_clauses formula m.learned))) (none x);
   };
   pairs = rw pairs refl;
   head = head;
@@ -110,7 +113,7 @@ installed_one formula budget m w n x place is clause own lists pairs head = reco
   watching =
       watching_paired formula m.learned m.trail.items w n record { left = x; right = x } (x ∷ []) (ap (slice_get (all_clauses formula m.learned)) is.pairs ∙ front_clause formula m.learned place (x ∷ []) clause) pairs head
       (ap length lists) (λ y k h. ap (λ l. is_among k (list_of l y)) lists ∙ h) (λ y k h. inl (ap (λ l. is_among k (list_of l y)) (sym lists) ∙ h)) (own_literal x, own_literal x)
-      (inl record { now = satisfied_by (is_true m.trail.items) (x ∷ []) x (own_literal x) own; before = λ d decided. absurd (is.undecided d decided) }) is.watching;
+      (inl record { now = satisfied_by (is_true m.trail.items) (x ∷ []) x (own_literal x) own; before = λ d decided. absurd (is.undecided d decided) }) (rw lists is.watching.blocked) is.watching;
   pairs = let count = length-append w.pairs.items (record { left = x; right = x } ∷ []) in let before = is.pairs in rw pairs (omega (arith, count, before));
   head = head ∙ is.head;
   undecided = is.undecided;
@@ -132,7 +135,8 @@ installed_pair formula budget m w n clause x y place is named left right differ 
         differ = differ;
         left_listed = gives.left_listed;
         right_listed = gives.right_listed;
-      })) is.watching;
+      }))
+      (gives.passing (is_blocked (all_clauses formula m.learned)) (rw (front_clause formula m.learned place clause named) right) (rw (front_clause formula m.learned place clause named) left) is.watching.blocked) is.watching;
   pairs = let count = length-append w.pairs.items (record { left = x; right = y } ∷ []) in let before = is.pairs in rw gives.pairs (omega (arith, count, before));
   head = gives.head ∙ is.head;
   undecided = is.undecided;

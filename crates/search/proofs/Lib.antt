@@ -10,6 +10,7 @@ pub mod LessonLaws
 pub mod ListsLaws
 pub mod LookLaws
 pub mod MachineLaws
+pub mod MinimizingLaws
 pub mod MoveLaws
 pub mod NextLaws
 pub mod OrderLaws
@@ -17,6 +18,7 @@ pub mod ReadLaws
 pub mod RoundLaws
 pub mod ScanLaws
 pub mod StatusLaws
+pub mod StepLaws
 pub mod TrailLaws
 pub mod TurnLaws
 pub mod VisitLaws

@@ -1,14 +1,14 @@
 -- How the watchers of a literal are visited.
-use Rattle.std.proofs.Common.{◌≡◌, ◌⊎◌, ℕ, zero, suc, ◌+◌, ◌<◌, ◌≤◌, Bool, true, false, ◌||◌, eqb, List, [], ◌∷◌, ◌++◌, length, take, refl, sym, ◌∙◌, ap, arith, get_or, pos, Option, None, Some}
+use Rattle.std.proofs.Common.{◌≡◌, ◌⊎◌, ℕ, zero, suc, ◌+◌, ◌<◌, ◌≤◌, Bool, true, false, ◌||◌, eqb, List, [], ◌∷◌, ◌++◌, length, map, take, refl, sym, ◌∙◌, ap, arith, get_or, pos, Option, None, Some}
 use mathlib.Core.Logic.{inl, inr}
 use Rattle.std.specs.Prelude.{ℤ, negsuc, neg_ℤ, not, ◌==◌, slice_get, slice_set, if◌then◌else◌}
 use Rattle.std.specs.List.{AllByRecursion, list_any}
-use Rattle.std.specs.Option.{is_some}
+use Rattle.std.specs.Option.{is_some, option_map}
 use Rattle.std.specs.Ordering.{int_eq}
 use Rattle.std.specs.Global.{Vec}
 use Rattle.std.proofs.lemmas.Bool.Decides.{Decides-eqb}
-use Rattle.std.proofs.lemmas.List.{take_all, length-set}
-use Rattle.std.proofs.lemmas.Option.{slice_get-get_or, slice_get_within}
+use Rattle.std.proofs.lemmas.List.{take_all, length-set, map-append}
+use Rattle.std.proofs.lemmas.Option.{slice_get-get_or, slice_get-map, slice_get_within}
 use Rattle.std.proofs.lemmas.Map.Keys.{IsDistinct-head, IsDistinct-tail}
 use Rattle.cnf.specs.declared.derivation.Derivation.{Derivation}
 use Rattle.cnf.specs.declared.formula.Formula.{Formula}
@@ -19,6 +19,7 @@ use Rattle.std.proofs.lemmas.List.Folds.{list_any-append}
 use Rattle.search.specs.declared.scan.Scan.TheVariants as scan
 use Rattle.search.specs.declared.trail.Entry.{Entry}
 use Rattle.search.specs.declared.watching.Pair.{Pair}
+use Rattle.search.specs.declared.watching.Watcher.{Watcher}
 use Rattle.search.specs.declared.watching.Watching.{Watching}
 use Rattle.search.specs.Machine.{IsOver, is_conflict, is_true, unit_of, with_entry}
 use Rattle.search.specs.Readings.{IsReading, IsRewatched, is_of_pair}
@@ -26,12 +27,12 @@ use Rattle.search.specs.Sound.{Implies, all_clauses}
 use Rattle.search.specs.Statuses.{IsScan}
 use Rattle.search.specs.Trails.{IsTrail, place, places}
 use Rattle.search.specs.Visits.{partner_of}
-use Rattle.search.specs.Watching.{IsOf, IsPair, IsPaired, IsTracked, IsWatched, IsWatching, is_among, is_satisfied, list_of}
+use Rattle.search.specs.Watching.{AllPassing, IsOf, IsPair, IsPaired, IsTracked, IsWatched, IsWatching, is_among, is_blocked, is_satisfied, list_of, watchers_of}
 use Rattle.search.proofs.BackLaws.{negated_twice, or_cases, some_entry, true_in_all, true_next}
 use Rattle.search.proofs.CutLaws.{absent}
 use Rattle.search.proofs.KeptLaws.{and_left, and_right, is_over-tells, unit_is}
 use Rattle.search.proofs.MachineLaws.{unit_implies}
-use Rattle.search.proofs.ListsLaws.{get-set_other, get-set_same}
+use Rattle.search.proofs.ListsLaws.{among_places, clause_place, get-set_other, get-set_same, passing_added, passing_removed, place_at}
 use Rattle.search.proofs.WatchLaws.{satisfied_more, watching_on}
 
 differ : (b : Bool) → b ≡ true → b ≡ false → ⊥
@@ -150,6 +151,7 @@ module _ (formula : Formula) (learned : Derivation) (trail : List Entry) (w n : 
       tracked = λ k c p at_k has. rw gives.head (by_place k c p at_k (rw gives.pairs at has) (eqb k place) refl);
       own = λ k c p at_k has. own_at k c p at_k (rw gives.pairs at has) (eqb k place) refl;
       within = λ z k h. rw (gives.pairs, length-set) (inside z k (gives.only z k h));
+      blocked = gives.passing (is_blocked (all_clauses formula learned)) (rw named (partner_own (is.watching.own place clause pair named paired))) is.watching.blocked;
     };
     literal = rw gives.head is.literal;
     done = λ j k c p h listed at_k has of. done_at j k c p h (sym (gives.front j h) ∙ listed) at_k (rw gives.pairs at has) of (eqb k place) refl;
@@ -221,6 +223,7 @@ reading_ends formula learned trail w n x at all is lists pairs head = record {
   pairs = rw pairs is.watching.pairs;
   own = rw pairs is.watching.own;
   within = rw (lists, pairs) is.watching.within;
+  blocked = rw lists is.watching.blocked;
   tracked = λ k clause pair named has. rw (lists, head) (by_kind k clause pair named (rw pairs at has) (is.watching.tracked k clause pair named (rw pairs at has)));
 }
   where
@@ -336,7 +339,7 @@ module _ (n : ℕ) (trail : List Entry) (kept : IsTrail n trail) where
           let free = open_not_true _ _ (unit_is trail clause x e).1 in
           absurd (never_both n trail found.0 kept found.2 (implied.others found.0 found.1 (λ same. differ (is_true trail found.0) found.2 (ap (is_true trail) same ∙ free))))
 
-  pub quiet_clause : (watchers : List (Vec ℕ)) (head place : ℕ) (clause : List ℤ) (pair : Pair) → length trail ≤ head → IsOf pair clause → IsTracked watchers trail head place clause pair → Tells clause
+  pub quiet_clause : (watchers : List (Vec Watcher)) (head place : ℕ) (clause : List ℤ) (pair : Pair) → length trail ≤ head → IsOf pair clause → IsTracked watchers trail head place clause pair → Tells clause
   quiet_clause watchers head place clause pair all own (inl s) = satisfied_tells clause s.now
   quiet_clause watchers head place clause pair all own (inr q) = (by_test (is_conflict (is_true trail) clause) refl, by_unit (unit_of (is_true trail) clause) refl)
     where
@@ -384,10 +387,10 @@ quiet_all formula learned trail w kept read full is = (
 
 -- ---- lists of watchers, one taken away after one was added
 
-module _ (w n : Watching) (mid : List (Vec ℕ)) (x : ℤ) (at place taken : ℕ) (pair : Pair)
+module _ (w n : Watching) (mid : List (Vec Watcher)) (x : ℤ) (at place taken : ℕ) (pair : Pair)
     (own : list_of mid pair.left ≡ list_of w.watchers.items pair.left ++ place ∷ []) (others : (z : ℤ) → int_eq z pair.left ≡ false → list_of mid z ≡ list_of w.watchers.items z)
     (here : slice_get (list_of w.watchers.items x) at ≡ Some place) (apart : int_eq pair.left x ≡ false)
-    (result : slice_get (list_of mid x) at ≡ Some taken) (shorter : length (list_of n.watchers.items x) + 1 ≡ length (list_of mid x))
+    (result : slice_get (list_of mid x) at ≡ Some taken)
     (front : (j : ℕ) → j < at → slice_get (list_of n.watchers.items x) j ≡ slice_get (list_of mid x) j)
     (rest : (k : ℕ) → is_among k (list_of mid x) ≡ (taken == k || is_among k (list_of n.watchers.items x)))
     (others_kept : (z : ℤ) → int_eq z x ≡ false → list_of n.watchers.items z ≡ list_of mid z) where
@@ -442,8 +445,10 @@ module _ (w n : Watching) (mid : List (Vec ℕ)) (x : ℤ) (at place taken : ℕ
           inl (ap (λ y. is_among k (list_of w.watchers.items y)) z_is ∙ ap (is_among k) (sym same) ∙ rest k ∙ behind (taken == k) _ (ap (λ y. is_among k (list_of n.watchers.items y)) (sym z_is) ∙ h))
       by_test false e = by_left (int_eq z pair.left) refl (ap (is_among k) (sym (others_kept z e)) ∙ h)
 
-  pub rewatched : n.pairs.items ≡ slice_set w.pairs.items place pair → n.head ≡ w.head → length n.watchers.items ≡ length w.watchers.items → IsRewatched w n x at place pair
-  rewatched pairs head lists = record {
+  by_places : n.pairs.items ≡ slice_set w.pairs.items place pair → n.head ≡ w.head → length n.watchers.items ≡ length w.watchers.items
+      → length (watchers_of n.watchers.items x) + 1 ≡ length (watchers_of w.watchers.items x)
+      → ((test : Watcher → Bool) → test record { place = place; blocker = pair.right } ≡ true → AllPassing test w.watchers.items → AllPassing test n.watchers.items) → IsRewatched w n x at place pair
+  by_places pairs head lists shorter passing = record {
     pairs = pairs;
     head = head;
     lists = lists;
@@ -451,16 +456,34 @@ module _ (w n : Watching) (mid : List (Vec ℕ)) (x : ℤ) (at place taken : ℕ
     only = only;
     adds = ap (is_among place) (others_kept pair.left apart) ∙ grown place ∙ behind (is_among place (list_of w.watchers.items pair.left)) _ (rw ((Decides-eqb place place).1 refl) refl);
     front = λ j h. front j h ∙ ap (λ l. slice_get l j) same;
-    shorter = shorter ∙ ap length same;
+    shorter = shorter;
+    passing = passing;
   }
     where
       behind : (a b : Bool) → b ≡ true → (a || b) ≡ true
       behind true b g = refl
       behind false b g = g
 
+pub rewatched : (w n : Watching) (mid : List (Vec Watcher)) (x : ℤ) (at place : ℕ) (taken : Watcher) (pair : Pair)
+    → watchers_of mid pair.left ≡ watchers_of w.watchers.items pair.left ++ record { place = place; blocker = pair.right } ∷ []
+    → ((z : ℤ) → int_eq z pair.left ≡ false → watchers_of mid z ≡ watchers_of w.watchers.items z) → slice_get (list_of w.watchers.items x) at ≡ Some place → int_eq pair.left x ≡ false
+    → slice_get (watchers_of mid x) at ≡ Some taken → length (watchers_of n.watchers.items x) + 1 ≡ length (watchers_of mid x)
+    → ((j : ℕ) → j < at → slice_get (watchers_of n.watchers.items x) j ≡ slice_get (watchers_of mid x) j)
+    → ((test : Watcher → Bool) → list_any test (watchers_of mid x) ≡ (test taken || list_any test (watchers_of n.watchers.items x)))
+    → ((z : ℤ) → int_eq z x ≡ false → watchers_of n.watchers.items z ≡ watchers_of mid z)
+    → n.pairs.items ≡ slice_set w.pairs.items place pair → n.head ≡ w.head → length n.watchers.items ≡ length w.watchers.items → IsRewatched w n x at place pair
+rewatched w n mid x at place taken pair own others here apart result shorter front rest kept pairs head lists =
+    by_places w n mid x at place taken.place pair
+    (ap (map clause_place) own ∙ map-append clause_place (watchers_of w.watchers.items pair.left) (record { place = place; blocker = pair.right } ∷ []))
+    (λ z h. ap (map clause_place) (others z h)) here apart (place_at (watchers_of mid x) at taken result)
+    (λ j h. slice_get-map clause_place (watchers_of n.watchers.items x) j ∙ ap (option_map clause_place) (front j h) ∙ sym (slice_get-map clause_place (watchers_of mid x) j))
+    (λ k. among_places (watchers_of mid x) k ∙ rest (λ v. clause_place v == k) ∙ ap (λ b. taken.place == k || b) (sym (among_places (watchers_of n.watchers.items x) k)))
+    (λ z h. ap (map clause_place) (kept z h)) pairs head lists (shorter ∙ ap length (others x (int_eq-sym x pair.left ∙ apart)))
+    (λ test new all. passing_removed test mid n.watchers.items x taken rest kept (passing_added test w.watchers.items mid pair.left record { place = place; blocker = pair.right } own others new all))
+
 -- ---- lists of watchers, one added
 
-module _ (old new : List (Vec ℕ)) (y : ℤ) (place : ℕ) (own : list_of new y ≡ list_of old y ++ place ∷ []) (others : (z : ℤ) → int_eq z y ≡ false → list_of new z ≡ list_of old z) where
+module _ (old new : List (Vec Watcher)) (y : ℤ) (place : ℕ) (own : list_of new y ≡ list_of old y ++ place ∷ []) (others : (z : ℤ) → int_eq z y ≡ false → list_of new z ≡ list_of old z) where
   added : (k : ℕ) → is_among k (list_of new y) ≡ (is_among k (list_of old y) || (place == k || false))
   added k = ap (is_among k) own ∙ list_any-append (λ p. p == k) (list_of old y) (place ∷ [])
 
@@ -493,20 +516,37 @@ module _ (old new : List (Vec ℕ)) (y : ℤ) (place : ℕ) (own : list_of new y
       behind true b g = refl
       behind false b g = g
 
-pub paired : (w n : Watching) (mid : List (Vec ℕ)) (place : ℕ) (pair : Pair)
-    → list_of mid pair.left ≡ list_of w.watchers.items pair.left ++ place ∷ [] → ((z : ℤ) → int_eq z pair.left ≡ false → list_of mid z ≡ list_of w.watchers.items z)
-    → list_of n.watchers.items pair.right ≡ list_of mid pair.right ++ place ∷ [] → ((z : ℤ) → int_eq z pair.right ≡ false → list_of n.watchers.items z ≡ list_of mid z)
+pub paired : (w n : Watching) (mid : List (Vec Watcher)) (place : ℕ) (pair : Pair)
+    → watchers_of mid pair.left ≡ watchers_of w.watchers.items pair.left ++ record { place = place; blocker = pair.right } ∷ []
+    → ((z : ℤ) → int_eq z pair.left ≡ false → watchers_of mid z ≡ watchers_of w.watchers.items z)
+    → watchers_of n.watchers.items pair.right ≡ watchers_of mid pair.right ++ record { place = place; blocker = pair.left } ∷ []
+    → ((z : ℤ) → int_eq z pair.right ≡ false → watchers_of n.watchers.items z ≡ watchers_of mid z)
     → n.pairs.items ≡ w.pairs.items ++ pair ∷ [] → n.head ≡ w.head → length n.watchers.items ≡ length w.watchers.items → IsPaired w n place pair
-paired w n mid place pair own others own_right others_right pairs head lists = record {
+paired w n mid place pair added others added_right others_beside pairs head lists = record {
   pairs = pairs;
   head = head;
   lists = lists;
-  keeps = λ x k h. added_keeps mid n.watchers.items pair.right place own_right others_right x k (added_keeps w.watchers.items mid pair.left place own others x k h);
+  keeps = λ x k h. added_keeps mid n.watchers.items pair.right place own_right others_right x k (added_keeps w.watchers.items mid pair.left place own others_left x k h);
   only = λ x k h. by_side x k (added_only mid n.watchers.items pair.right place own_right others_right x k h);
-  left_listed = added_keeps mid n.watchers.items pair.right place own_right others_right pair.left place (added_own w.watchers.items mid pair.left place own others);
+  left_listed = added_keeps mid n.watchers.items pair.right place own_right others_right pair.left place (added_own w.watchers.items mid pair.left place own others_left);
   right_listed = added_own mid n.watchers.items pair.right place own_right others_right;
+  passing = λ test left right all.
+      passing_added test mid n.watchers.items pair.right record { place = place; blocker = pair.left } added_right others_beside right
+      (passing_added test w.watchers.items mid pair.left record { place = place; blocker = pair.right } added others left all);
 }
   where
+    own : list_of mid pair.left ≡ list_of w.watchers.items pair.left ++ place ∷ []
+    own = ap (map clause_place) added ∙ map-append clause_place (watchers_of w.watchers.items pair.left) (record { place = place; blocker = pair.right } ∷ [])
+
+    others_left : (z : ℤ) → int_eq z pair.left ≡ false → list_of mid z ≡ list_of w.watchers.items z
+    others_left z h = ap (map clause_place) (others z h)
+
+    own_right : list_of n.watchers.items pair.right ≡ list_of mid pair.right ++ place ∷ []
+    own_right = ap (map clause_place) added_right ∙ map-append clause_place (watchers_of mid pair.right) (record { place = place; blocker = pair.left } ∷ [])
+
+    others_right : (z : ℤ) → int_eq z pair.right ≡ false → list_of n.watchers.items z ≡ list_of mid z
+    others_right z h = ap (map clause_place) (others_beside z h)
+
     by_side : (x : ℤ) (k : ℕ) → (is_among k (list_of mid x) ≡ true) ⊎ (k ≡ place) → (is_among k (list_of w.watchers.items x) ≡ true) ⊎ (k ≡ place)
-    by_side x k (inl h) = added_only w.watchers.items mid pair.left place own others x k h
+    by_side x k (inl h) = added_only w.watchers.items mid pair.left place own others_left x k h
     by_side x k (inr h) = inr h

@@ -25,7 +25,7 @@ use Rattle.search.specs.Machine.{IsOver, Moves, is_true, with_entry}
 use Rattle.search.specs.Nexts.{IsEnd, IsFound, jumped, state_of}
 use Rattle.search.specs.Readings.{IsSearching}
 use Rattle.search.specs.Sound.{all_clauses}
-use Rattle.search.specs.Watching.{IsDecidedAt, IsPaired, IsWatching, is_among, is_satisfied, list_of}
+use Rattle.search.specs.Watching.{IsDecidedAt, IsPaired, IsWatching, is_among, is_blocked, is_satisfied, list_of}
 use Rattle.search.proofs.BackLaws.{or_behind, some_entry, true_later}
 use Rattle.search.proofs.KeptLaws.{has_over, is_over-tells, line_over, unit_is}
 use Rattle.search.proofs.LookLaws.{satisfied_by}
@@ -150,7 +150,7 @@ module _ (formula : Formula) (budget : ℕ) (m : Machine) (w : Watching) (line :
         watching =
             watching_paired formula n.learned n.trail.items u v record { left = landing.literal; right = landing.literal } line.clause named vpairs vhead (ap length vlists)
             (λ y k h. ap (λ l. is_among k (list_of l y)) vlists ∙ h) (λ y k h. inl (ap (λ l. is_among k (list_of l y)) (sym vlists) ∙ h)) (own_in, own_in)
-            (inl record { now = own_true; before = λ d decided. absurd (never d decided) }) watching_cut;
+            (inl record { now = own_true; before = λ d decided. absurd (never d decided) }) (rw vlists watching_cut.blocked) watching_cut;
         full = let count = length-append u.pairs.items (record { left = landing.literal; right = landing.literal } ∷ []) in rw vpairs (omega (arith, count, full_before, counted));
         paid = omega (arith, moves, paid);
       }
@@ -176,7 +176,8 @@ module _ (formula : Formula) (budget : ℕ) (m : Machine) (w : Watching) (line :
               differ = int_eq-sym landing.literal y ∙ latest.1;
               left_listed = gives.left_listed;
               right_listed = gives.right_listed;
-            }) watching_cut;
+            })
+            (gives.passing (is_blocked (all_clauses formula n.learned)) (rw named latest.0) (rw named own_in) watching_cut.blocked) watching_cut;
         full = let count = length-append u.pairs.items (record { left = landing.literal; right = y } ∷ []) in rw gives.pairs (omega (arith, count, full_before, counted));
         paid = omega (arith, moves, paid);
       }

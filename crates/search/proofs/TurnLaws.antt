@@ -18,15 +18,20 @@ use Rattle.literal_marks.specs.Marks.{IsClear, marked}
 use Rattle.literal_marks.specs.declared.places.Places.TheVariants.{ByKey}
 use Rattle.search.specs.declared.machine.Machine.{Machine}
 use Rattle.search.specs.declared.moves.Move.{Move}
-use Rattle.search.specs.declared.order.Order.{Order}
 use Rattle.search.specs.declared.moves.Move.TheVariants as move
+use Rattle.search.specs.declared.moves.Step.{Step}
+use Rattle.search.specs.declared.moves.Step.TheVariants as step
+use Rattle.search.specs.declared.next.Next.{Next}
+use Rattle.search.specs.declared.next.Next.TheVariants as next
+use Rattle.search.specs.declared.order.Order.{Order}
 use Rattle.search.specs.declared.trail.Entry.{Entry}
 use Rattle.search.specs.At.{IsAt, IsHeld, IsSameBut}
 use Rattle.search.specs.Laws.{IsFormula, is_over}
-use Rattle.search.specs.Machine.{EndsAsModel, IsOver, Jumps, Moves, State, clauses_of, first_state, is_conflict, is_open, is_true, unit_of, with_entry}
-use Rattle.search.specs.Nexts.{jumped, state_of}
+use Rattle.search.specs.Machine.{EndsAsModel, IsFinished, IsOver, Jumps, Moves, Runs, State, clauses_of, first_state, is_conflict, is_open, is_true, unit_of, with_entry}
+use Rattle.search.specs.Nexts.{IsNext, jumped, state_of}
 use Rattle.search.specs.Orders.{AreListed}
 use Rattle.search.specs.Sound.{Implies, all_clauses}
+use Rattle.search.specs.Steps.{move_of, moves_of}
 use Rattle.search.specs.Trails.{AreLocated}
 use Rattle.search.specs.Watching.{is_among}
 use Rattle.search.proofs.BackLaws.{true_at, true_in_all}
@@ -37,6 +42,7 @@ use Rattle.search.proofs.MachineLaws.{all_true, checks_by, get_taken, numbered_l
 use Rattle.search.proofs.NextLaws.{same_clauses}
 use Rattle.search.proofs.OrderLaws.{listed_more}
 use Rattle.search.proofs.ScanLaws.{clauses_count}
+use Rattle.search.proofs.StepLaws.{jump_count-jump, jump_count-step, length-moves_of, moves-jump, moves-step, some_move}
 
 -- ---- the first state
 
@@ -71,6 +77,7 @@ at_first formula m is few trail learned moves values marks places all = record {
     few = let no_lines : length m.learned.lines ≡ 0 = rw learned refl in omega arith;
   };
   run = rw (trail, learned, moves) refl;
+  jumps = rw (learned, moves) refl;
   lines = let no_lines : length m.learned.lines ≡ 0 = rw learned refl in omega arith;
 }
   where
@@ -105,6 +112,22 @@ refuted_ends formula m line derivation at right empty lines =
       rw same (checks_by formula m.learned line at.held.rights (rw (same_clauses formula m.learned m.trail.items) at right) empty),
       rw lines (omega (arith, count, at.lines)),
     )
+
+-- what comes next shows that the state isn't finished
+unfinished_next : (formula : Formula) (s : State) (n : Next) → IsNext formula s n → (n ≡ next.Model → ⊥) → ((line : DerivationLine) → n ≡ next.Refuted line → ⊥) → IsFinished formula s → ⊥
+unfinished_next formula s next.Model is model refuted = absurd (model refl)
+unfinished_next formula s (next.Refuted line) is model refuted = absurd (refuted line refl)
+unfinished_next formula s (next.Propagate clause x) is model refuted = is.1
+unfinished_next formula s (next.Decide x) is model refuted = is.1
+unfinished_next formula s (next.Jump line cut x) is model refuted = is.1
+
+pub spent_ends : (formula : Formula) (m : Machine) (n : Next) (moves : List Move) → IsAt formula m → IsNext formula (state_of m.trail.items m.learned) n → (n ≡ next.Model → ⊥)
+    → ((line : DerivationLine) → n ≡ next.Refuted line → ⊥) → moves ≡ moves_of m.moves.items m.learned.lines
+    → (length moves ≡ length m.moves.items) × ((end : State) × Runs formula first_state moves end × (IsFinished formula end → ⊥))
+spent_ends formula m n moves at is model refuted gives = (
+  ap length gives ∙ length-moves_of m.moves.items m.learned.lines at.jumps,
+  (state_of m.trail.items m.learned, rw gives at.run, unfinished_next formula (state_of m.trail.items m.learned) n is model refuted),
+)
 
 -- ---- moves
 
@@ -186,6 +209,7 @@ at_ordered formula m n at trail values places learned moves size clear listed = 
     few = rw learned at.held.few;
   };
   run = rw (moves, trail, learned) at.run;
+  jumps = rw (moves, learned) at.jumps;
   lines = rw (moves, learned) at.lines;
 }
 
@@ -222,8 +246,8 @@ held_learn formula m n line held right trail values marks places listed learned 
 }
 
 -- a propagation or a decision
-pub at_more : (formula : Formula) (m n o : Machine) (x : ℤ) (reason : Option ℕ) (made : Move) → IsAt formula m → IsHeld formula n → n.trail.items ≡ with_entry m.trail.items x reason → IsSameBut m n
-    → Moves formula (state_of m.trail.items m.learned) made record { trail = with_entry m.trail.items x reason; learned = m.learned.lines }
+pub at_more : (formula : Formula) (m n o : Machine) (x : ℤ) (reason : Option ℕ) (made : Step) → IsAt formula m → IsHeld formula n → n.trail.items ≡ with_entry m.trail.items x reason → IsSameBut m n
+    → IsSomeAnd (move_of made) (λ move. Moves formula (state_of m.trail.items m.learned) move record { trail = with_entry m.trail.items x reason; learned = m.learned.lines })
     → o.trail ≡ n.trail → o.values ≡ n.values → o.learned ≡ n.learned → o.marks ≡ n.marks → o.places ≡ n.places → o.order ≡ n.order → o.moves.items ≡ n.moves.items ++ made ∷ [] → IsAt formula o
 at_more formula m n o x reason made at held trail same moved otrail ovalues olearned omarks oplaces oorder omoves = record {
   held = record {
@@ -238,7 +262,10 @@ at_more formula m n o x reason made at held trail same moved otrail ovalues olea
     listed = rw (otrail, oorder) held.listed;
     few = rw olearned held.few;
   };
-  run = rw (omoves, same.moves, otrail, trail, olearned, same.learned) (run_more formula first_state m.moves.items (state_of m.trail.items m.learned) made _ at.run moved);
+  run =
+      rw (omoves, same.moves, otrail, trail, olearned, same.learned, moves-step m.moves.items m.learned.lines made last.0 at.jumps last.1)
+      (run_more formula first_state (moves_of m.moves.items m.learned.lines) (state_of m.trail.items m.learned) last.0 _ at.run last.2);
+  jumps = rw (omoves, same.moves, olearned, same.learned) (jump_count-step m.moves.items made last.0 last.1 ∙ at.jumps);
   lines =
       let count = length-append n.moves.items (made ∷ []) in
       let own : length o.moves.items ≡ length n.moves.items + 1 = rw omoves count in
@@ -246,6 +273,9 @@ at_more formula m n o x reason made at held trail same moved otrail ovalues olea
       let lines : length o.learned.lines ≡ length m.learned.lines = rw (olearned, same.learned) refl in
       omega (arith, at.lines, own, before, lines);
 }
+  where
+    last : (last : Move) × (move_of made ≡ Some last) × Moves formula (state_of m.trail.items m.learned) last record { trail = with_entry m.trail.items x reason; learned = m.learned.lines }
+    last = some_move made _ moved
 
 -- ---- entries
 
@@ -301,7 +331,7 @@ pub at_jump : (formula : Formula) (m n o : Machine) (line : DerivationLine) (cut
     → n.trail.items ≡ with_entry (take cut m.trail.items) x (Some (length formula.clauses + length m.learned.lines + 1)) → n.learned ≡ record { lines = m.learned.lines ++ line ∷ [] }
     → n.moves.items ≡ m.moves.items
     → Moves formula (state_of m.trail.items m.learned) (move.Jump line cut) (jumped formula (state_of m.trail.items m.learned) line cut x)
-    → o.trail ≡ n.trail → o.values ≡ n.values → o.learned ≡ n.learned → o.marks ≡ n.marks → o.places ≡ n.places → o.order ≡ n.order → o.moves.items ≡ n.moves.items ++ move.Jump line cut ∷ [] → IsAt formula o
+    → o.trail ≡ n.trail → o.values ≡ n.values → o.learned ≡ n.learned → o.marks ≡ n.marks → o.places ≡ n.places → o.order ≡ n.order → o.moves.items ≡ n.moves.items ++ step.Jump cut ∷ [] → IsAt formula o
 at_jump formula m n o line cut x at held trail learned moves moved otrail ovalues olearned omarks oplaces oorder omoves = record {
   held = record {
     sound = rw (otrail, olearned) held.sound;
@@ -315,9 +345,16 @@ at_jump formula m n o line cut x at held trail learned moves moved otrail ovalue
     listed = rw (otrail, oorder) held.listed;
     few = rw olearned held.few;
   };
-  run = rw (omoves, moves, otrail, trail, olearned, learned) (rw count at (run_more formula first_state m.moves.items (state_of m.trail.items m.learned) (move.Jump line cut) _ at.run moved));
+  run =
+      rw (omoves, moves, otrail, trail, olearned, learned, moves-jump m.moves.items m.learned.lines cut line at.jumps)
+      (rw count at (run_more formula first_state (moves_of m.moves.items m.learned.lines) (state_of m.trail.items m.learned) (move.Jump line cut) _ at.run moved));
+  jumps =
+      let one = jump_count-jump m.moves.items cut in
+      let two = length-append m.learned.lines (line ∷ []) in
+      let before = at.jumps in
+      rw (omoves, moves, olearned, learned) (omega (arith, one, two, before));
   lines =
-      let grown = length-append n.moves.items (move.Jump line cut ∷ []) in
+      let grown = length-append n.moves.items (step.Jump cut ∷ []) in
       let own : length o.moves.items ≡ length n.moves.items + 1 = rw omoves grown in
       let before : length n.moves.items ≡ length m.moves.items = rw moves refl in
       let more = length-append m.learned.lines (line ∷ []) in
@@ -339,7 +376,7 @@ pub jump_steps : (formula : Formula) (m cut_m n o : Machine) (order : Order) (li
     → AreListed formula.variables m.trail.items order.heap.items → AreListed formula.variables (take cut m.trail.items) order.heap.items → IsSameBut (with_lines m lines order) cut_m
     → n.trail.items ≡ with_entry cut_m.trail.items x (Some number) → ((y : ℤ) → marked ByKey n.values.items y ≡ (marked ByKey cut_m.values.items y || int_eq x y))
     → n.places.items ≡ slice_set cut_m.places.items (literal_key x) (length cut_m.trail.items) → n.order ≡ cut_m.order → IsSameBut cut_m n
-    → o.trail ≡ n.trail → o.values ≡ n.values → o.learned ≡ n.learned → o.marks ≡ n.marks → o.places ≡ n.places → o.order ≡ n.order → o.moves.items ≡ n.moves.items ++ move.Jump line cut ∷ [] → IsAt formula o
+    → o.trail ≡ n.trail → o.values ≡ n.values → o.learned ≡ n.learned → o.marks ≡ n.marks → o.places ≡ n.places → o.order ≡ n.order → o.moves.items ≡ n.moves.items ++ step.Jump cut ∷ [] → IsAt formula o
 jump_steps formula m cut_m n o order lines line cut number x at over moved count few pushed cut_trail cut_values cut_places cut_order keeps listed cut_same trail values places norder same otrail ovalues olearned omarks oplaces oorder omoves =
     at_jump formula m n o line cut x at held
     (trail ∙ rw (cut_trail, count) refl)

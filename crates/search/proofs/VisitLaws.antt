@@ -20,6 +20,7 @@ use Rattle.search.specs.declared.reading.Visit.{Visit}
 use Rattle.search.specs.declared.reading.Visit.TheVariants as visit
 use Rattle.search.specs.declared.trail.Entry.{Entry}
 use Rattle.search.specs.declared.watching.Pair.{Pair}
+use Rattle.search.specs.declared.watching.Watcher.{Watcher}
 use Rattle.search.specs.declared.watching.Watching.{Watching}
 use Rattle.search.specs.At.{IsAt, IsHeld}
 use Rattle.search.specs.Conflicts.{IsConflicting}
@@ -29,9 +30,10 @@ use Rattle.search.specs.Nexts.{state_of}
 use Rattle.search.specs.Readings.{IsImplied, IsReading, IsRewatched, IsSearching, IsVisit, IsVisiting}
 use Rattle.search.specs.Sound.{all_clauses}
 use Rattle.search.specs.Visits.{partner_of}
-use Rattle.search.specs.Watching.{IsOf, IsWatching, is_among, is_satisfied, list_of}
+use Rattle.search.specs.Watching.{IsOf, IsWatching, is_among, is_blocked, is_satisfied, list_of, watchers_of}
 use Rattle.search.proofs.BackLaws.{negated-over, negated_twice, or_behind, over_at, some_entry}
 use Rattle.search.proofs.KeptLaws.{has_over, is_over-tells, numbered_over, unit_is}
+use Rattle.search.proofs.ListsLaws.{passing_at, place_at}
 use Rattle.search.proofs.LookLaws.{satisfied_by}
 use Rattle.search.proofs.NextLaws.{same_clauses}
 use Rattle.search.proofs.ReadLaws.{reading_ends, reading_moved, reading_next, reading_on}
@@ -147,6 +149,18 @@ visiting_satisfied formula budget m w x at place clause is here named own =
 pub visiting_conflict : (formula : Formula) (m : Machine) (place : ℕ) (clause : List ℤ) → slice_get (all_clauses formula m.learned) place ≡ Some clause → is_conflict (is_true m.trail.items) clause ≡ true
     → IsConflicting formula m (place + 1)
 visiting_conflict formula m place clause named own = rw (at_place formula m.learned place clause named) own
+
+-- a watcher whose blocking literal is true
+pub visiting_blocked : (formula : Formula) (budget : ℕ) (m : Machine) (w : Watching) (x : ℤ) (at : ℕ) (watcher : Watcher) → IsVisiting formula budget m w x at
+    → slice_get (watchers_of w.watchers.items x) at ≡ Some watcher → IsOver formula.variables watcher.blocker × (is_true m.trail.items watcher.blocker ≡ true → IsVisiting formula budget m w x (at + 1))
+visiting_blocked formula budget m w x at watcher is here =
+    let listed = place_at (watchers_of w.watchers.items x) at watcher here in
+    let found = watched_at formula m.learned m.trail.items w x at watcher.place is.reading.watching listed in
+    let blocked = passing_at (is_blocked (all_clauses formula m.learned)) (watchers_of w.watchers.items x) at watcher (is.reading.watching.blocked x) here in
+    let has : has_literal found.clause watcher.blocker ≡ true = rw found.named at blocked in (
+      literal_over formula m.learned watcher.place found.clause watcher.blocker is.searching.at.held.sound.clauses found.named has,
+      λ own. visiting_satisfied formula budget m w x at watcher.place found.clause is listed found.named (satisfied_by (is_true m.trail.items) found.clause watcher.blocker has own),
+    )
 
 -- ---- another literal watched
 

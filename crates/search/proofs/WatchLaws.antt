@@ -13,11 +13,13 @@ use Rattle.cnf.specs.declared.derivation.DerivationLine.{DerivationLine}
 use Rattle.cnf.specs.declared.formula.Formula.{Formula}
 use Rattle.search.specs.declared.trail.Entry.{Entry}
 use Rattle.search.specs.declared.watching.Pair.{Pair}
+use Rattle.search.specs.declared.watching.Watcher.{Watcher}
 use Rattle.search.specs.declared.watching.Watching.{Watching}
 use Rattle.search.specs.Machine.{is_true, with_entry}
 use Rattle.search.specs.Sound.{all_clauses}
-use Rattle.search.specs.Watching.{IsDecidedAt, IsOf, IsSatisfied, IsTracked, IsWatched, IsWatching, is_among, is_satisfied, list_of}
+use Rattle.search.specs.Watching.{AllPassing, IsDecidedAt, IsOf, IsSatisfied, IsTracked, IsWatched, IsWatching, is_among, is_blocked, is_satisfied, list_of, watchers_of}
 use Rattle.search.proofs.BackLaws.{some_entry}
+use Rattle.search.proofs.ListsLaws.{blocked_more, passing_more}
 use Rattle.search.proofs.MachineLaws.{get_before, get_taken, with_line}
 
 -- ---- satisfied clauses
@@ -77,7 +79,7 @@ module _ (trail : List Entry) (x : ℤ) (reason : Option ℕ) (head : ℕ) (insi
           let all : take head trail ≡ trail = take_all head trail (let at = last own in omega (arith, at)) in
           ap (λ s. is_satisfied s clause) h.1 ∙ is.now (ap (λ s. is_true s (neg_ℤ w)) (all ∙ sym h.1) ∙ t)
 
-  pub tracked_on : (watchers : List (Vec ℕ)) (place : ℕ) (clause : List ℤ) (pair : Pair) → IsTracked watchers trail head place clause pair → IsTracked watchers (with_entry trail x reason) head place clause pair
+  pub tracked_on : (watchers : List (Vec Watcher)) (place : ℕ) (clause : List ℤ) (pair : Pair) → IsTracked watchers trail head place clause pair → IsTracked watchers (with_entry trail x reason) head place clause pair
   tracked_on watchers place clause pair (inl is) = inl (satisfied_on clause is)
   tracked_on watchers place clause pair (inr is) = inr record {
     left = watched_on clause pair.left is.left;
@@ -112,6 +114,7 @@ watching_on formula learned trail w x reason last is = record {
   tracked = λ k clause pair at own. tracked_on trail x reason w.head is.head last w.watchers.items k clause pair (is.tracked k clause pair at own);
   own = is.own;
   within = is.within;
+  blocked = is.blocked;
 }
 
 -- ---- the trail is cut
@@ -143,7 +146,7 @@ module _ (trail : List Entry) (cut : ℕ) (decided : IsDecidedAt trail cut) wher
     before = λ d h t. let own = earlier d h in ap (λ s. is_satisfied s clause) own.1 ∙ is.before d own.0 (ap (λ s. is_true s (neg_ℤ w)) (sym own.1) ∙ t);
   }
 
-  pub tracked_back : (watchers : List (Vec ℕ)) (head place : ℕ) (clause : List ℤ) (pair : Pair) → IsTracked watchers trail head place clause pair → IsTracked watchers (take cut trail) cut place clause pair
+  pub tracked_back : (watchers : List (Vec Watcher)) (head place : ℕ) (clause : List ℤ) (pair : Pair) → IsTracked watchers trail head place clause pair → IsTracked watchers (take cut trail) cut place clause pair
   tracked_back watchers head place clause pair (inl is) = inl (satisfied_back clause is)
   tracked_back watchers head place clause pair (inr is) = inr record {
     left = watched_back head clause pair.left is.left;
@@ -163,6 +166,7 @@ module _ (trail : List Entry) (cut : ℕ) (decided : IsDecidedAt trail cut) wher
     tracked = λ k clause pair at own. rw (lists, head) (tracked_back w.watchers.items w.head k clause pair (is.tracked k clause pair at (rw pairs at own)));
     own = rw pairs is.own;
     within = rw (lists, pairs) is.within;
+    blocked = rw lists is.blocked;
   }
     where
       full : length (take cut trail) ≡ cut
@@ -193,6 +197,7 @@ watching_learned formula learned more trail w line gives is = record {
   tracked = λ k clause pair at own. is.tracked k clause pair (named k clause pair own (get_behind (all_clauses formula learned) line.clause k clause (rw all at at))) own;
   own = λ k clause pair at own. is.own k clause pair (named k clause pair own (get_behind (all_clauses formula learned) line.clause k clause (rw all at at))) own;
   within = is.within;
+  blocked = λ x. rw all (passing_more (is_blocked (all_clauses formula learned)) (is_blocked (all_clauses formula learned ++ line.clause ∷ [])) (watchers_of w.watchers.items x) (λ v. blocked_more (all_clauses formula learned) line.clause v) (is.blocked x));
 }
   where
     all : all_clauses formula more ≡ all_clauses formula learned ++ line.clause ∷ []
@@ -205,7 +210,7 @@ watching_learned formula learned more trail w line gives is = record {
 
 -- ---- one more pair
 
-pub tracked_listed : (watchers more : List (Vec ℕ)) (trail : List Entry) (head place : ℕ) (clause : List ℤ) (pair : Pair)
+pub tracked_listed : (watchers more : List (Vec Watcher)) (trail : List Entry) (head place : ℕ) (clause : List ℤ) (pair : Pair)
     → ((x : ℤ) → is_among place (list_of watchers x) ≡ true → is_among place (list_of more x) ≡ true) → IsTracked watchers trail head place clause pair → IsTracked more trail head place clause pair
 tracked_listed watchers more trail head place clause pair each (inl is) = inl is
 tracked_listed watchers more trail head place clause pair each (inr is) = inr record {
@@ -220,8 +225,9 @@ pub watching_paired : (formula : Formula) (learned : Derivation) (trail : List E
     → slice_get (all_clauses formula learned) (length w.pairs.items) ≡ Some clause → n.pairs.items ≡ w.pairs.items ++ pair ∷ [] → n.head ≡ w.head → length n.watchers.items ≡ length w.watchers.items
     → ((x : ℤ) (k : ℕ) → is_among k (list_of w.watchers.items x) ≡ true → is_among k (list_of n.watchers.items x) ≡ true)
     → ((x : ℤ) (k : ℕ) → is_among k (list_of n.watchers.items x) ≡ true → (is_among k (list_of w.watchers.items x) ≡ true) ⊎ (k ≡ length w.pairs.items))
-    → IsOf pair clause → IsTracked n.watchers.items trail w.head (length w.pairs.items) clause pair → IsWatching formula learned trail w → IsWatching formula learned trail n
-watching_paired formula learned trail w n pair clause named pairs head lists each only own tracked is = record {
+    → IsOf pair clause → IsTracked n.watchers.items trail w.head (length w.pairs.items) clause pair → AllPassing (is_blocked (all_clauses formula learned)) n.watchers.items
+    → IsWatching formula learned trail w → IsWatching formula learned trail n
+watching_paired formula learned trail w n pair clause named pairs head lists each only own tracked blocked is = record {
   lists = lists ∙ is.lists;
   head = rw head is.head;
   decided = rw head is.decided;
@@ -232,6 +238,7 @@ watching_paired formula learned trail w n pair clause named pairs head lists eac
   tracked = λ k c p at has. rw head (by_side k c p at (get_behind w.pairs.items pair k p (rw pairs at has)));
   own = λ k c p at has. own_by k c p at (get_behind w.pairs.items pair k p (rw pairs at has));
   within = λ x k h. rw pairs (below k (kept x k (only x k h)));
+  blocked = blocked;
 }
   where
     kept : (x : ℤ) (k : ℕ) → (is_among k (list_of w.watchers.items x) ≡ true) ⊎ (k ≡ length w.pairs.items) → k ≤ length w.pairs.items

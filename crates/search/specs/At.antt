@@ -9,6 +9,7 @@ use Rattle.search.specs.Machine.{Runs, first_state, is_true}
 use Rattle.search.specs.Nexts.{state_of}
 use Rattle.search.specs.Orders.{AreListed}
 use Rattle.search.specs.Sound.{IsSound}
+use Rattle.search.specs.Steps.{jump_count, moves_of}
 use Rattle.search.specs.Trails.{AreLocated}
 
 -- The trail and the learned lines are as they must be, the tables have places for all literals, nothing is marked, and the
@@ -28,7 +29,8 @@ pub record IsHeld (formula : Formula) (m : Machine) : Type 0 where
 -- and the moves led to it
 pub record IsAt (formula : Formula) (m : Machine) : Type 0 where
   pub held : IsHeld formula m
-  pub run : Runs formula first_state m.moves.items (state_of m.trail.items m.learned)
+  pub run : Runs formula first_state (moves_of m.moves.items m.learned.lines) (state_of m.trail.items m.learned)
+  pub jumps : jump_count m.moves.items ≡ length m.learned.lines
   pub lines : length m.learned.lines ≤ length m.moves.items
 
 -- all is the same but the trail and its tables

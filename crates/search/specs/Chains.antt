@@ -48,6 +48,15 @@ pub record IsAdded (trail : List Entry) (set : ℤ → Bool) (before : Chain) (n
   pub gathers : IsGathered trail set before → IsGathered trail next after
   pub low : (after.low ≡ before.low) ⊎ ((after.low < before.low) × IsMarkedAt trail next after.low)
 
+-- literals of the set were resolved away that are false before the start, and none was added
+pub record IsDropped (clauses : List (List ℤ)) (trail : List Entry) (set : ℤ → Bool) (before : Chain) (next : ℤ → Bool) (after : Chain) : Type 0 where
+  pub start : after.start ≡ before.start
+  pub low : after.low ≡ before.low
+  pub found : after.found.items ≡ before.found.items
+  pub less : (y : ℤ) → next y ≡ true → set y ≡ true
+  pub rest : (y : ℤ) → set y ≡ true → is_true (take before.start trail) (neg_ℤ y) ≡ false → next y ≡ true
+  pub back : (first : List ℤ) (front : ℕ) → IsBack clauses trail first front set before.steps.items → IsBack clauses trail first front next after.steps.items
+
 -- whether a literal is the one that is skipped
 abbrev pub skips : Option ℤ → ℤ → Bool
 skips None y = false

@@ -9,6 +9,7 @@ pub mod Nexts
 pub mod Orders
 pub mod Sound
 pub mod Statuses
+pub mod Steps
 pub mod Trails
 pub mod Watching
 pub mod Visits

@@ -10,12 +10,13 @@ use Rattle.search.specs.declared.reading.Queue.{Queue}
 use Rattle.search.specs.declared.reading.Queue.TheVariants as queue
 use Rattle.search.specs.declared.trail.Entry.{Entry}
 use Rattle.search.specs.declared.watching.Pair.{Pair}
+use Rattle.search.specs.declared.watching.Watcher.{Watcher}
 use Rattle.search.specs.declared.watching.Watching.{Watching}
 use Rattle.search.specs.At.{IsAt}
 use Rattle.search.specs.Conflicts.{IsConflicting}
 use Rattle.search.specs.Machine.{with_entry}
 use Rattle.search.specs.Sound.{all_clauses}
-use Rattle.search.specs.Watching.{IsWatching, is_among, is_satisfied, list_of}
+use Rattle.search.specs.Watching.{AllPassing, IsWatching, is_among, is_satisfied, list_of, watchers_of}
 
 abbrev pub is_of_pair : Pair → ℤ → Bool
 is_of_pair pair x = int_eq pair.left x || int_eq pair.right x
@@ -36,7 +37,8 @@ pub record IsRewatched (w n : Watching) (x : ℤ) (at place : ℕ) (pair : Pair)
   pub only : (z : ℤ) (k : ℕ) → is_among k (list_of n.watchers.items z) ≡ true → (is_among k (list_of w.watchers.items z) ≡ true) ⊎ (k ≡ place)
   pub adds : is_among place (list_of n.watchers.items pair.left) ≡ true
   pub front : (j : ℕ) → j < at → slice_get (list_of n.watchers.items x) j ≡ slice_get (list_of w.watchers.items x) j
-  pub shorter : length (list_of n.watchers.items x) + 1 ≡ length (list_of w.watchers.items x)
+  pub shorter : length (watchers_of n.watchers.items x) + 1 ≡ length (watchers_of w.watchers.items x)
+  pub passing : (test : Watcher → Bool) → test record { place = place; blocker = pair.right } ≡ true → AllPassing test w.watchers.items → AllPassing test n.watchers.items
 
 -- the search between two reads: the state is right, all clauses have their pairs, and the budget isn't passed
 pub record IsSearching (formula : Formula) (budget : ℕ) (m : Machine) (w : Watching) : Type 0 where
@@ -53,9 +55,9 @@ pub record IsVisiting (formula : Formula) (budget : ℕ) (m : Machine) (w : Watc
 -- what a visit leads to
 abbrev pub IsVisit : Formula → ℕ → Watching → Machine → Watching → ℤ → ℕ → Visit → Type 0
 IsVisit formula budget before m w x at visit.Stays =
-    IsVisiting formula budget m w x (at + 1) × (length (list_of w.watchers.items x) ≡ length (list_of before.watchers.items x))
+    IsVisiting formula budget m w x (at + 1) × (length (watchers_of w.watchers.items x) ≡ length (watchers_of before.watchers.items x))
 IsVisit formula budget before m w x at visit.Leaves =
-    IsVisiting formula budget m w x at × (length (list_of w.watchers.items x) + 1 ≡ length (list_of before.watchers.items x))
+    IsVisiting formula budget m w x at × (length (watchers_of w.watchers.items x) + 1 ≡ length (watchers_of before.watchers.items x))
 IsVisit formula budget before m w x at (visit.Conflict number) = IsSearching formula budget m w × IsConflicting formula m number
 IsVisit formula budget before m w x at visit.Spent = IsAt formula m × (length m.moves.items ≡ budget)
 

@@ -1,6 +1,6 @@
 -- Two watched literals a clause (Moskewicz, Madigan, Zhao, Zhang and Malik 2001; the words are those of MiniSat).
-use Rattle.std.specs.Prelude.{◌≡◌, ◌⊎◌, ℕ, ◌+◌, ◌*◌, ◌<◌, ◌≤◌, ℤ, neg_ℤ, Bool, true, false, ◌==◌, List, [], ◌∷◌, ◌++◌, length, take, slice_get, Some, None, IsSomeAnd}
-use Rattle.std.specs.List.{list_any}
+use Rattle.std.specs.Prelude.{◌≡◌, ◌⊎◌, ℕ, ◌+◌, ◌*◌, ◌<◌, ◌≤◌, ℤ, neg_ℤ, Bool, true, false, ◌==◌, List, [], ◌∷◌, ◌++◌, length, map, take, slice_get, Some, None, IsSomeAnd}
+use Rattle.std.specs.List.{list_all, list_any}
 use Rattle.std.specs.Option.{option_map_or}
 use Rattle.std.specs.Ordering.{int_eq}
 use Rattle.std.specs.Global.{Vec}
@@ -9,13 +9,26 @@ use Rattle.cnf.specs.declared.formula.Formula.{Formula}
 use Rattle.cnf.specs.Clauses.{has_literal, literal_key}
 use Rattle.search.specs.declared.trail.Entry.{Entry}
 use Rattle.search.specs.declared.watching.Pair.{Pair}
+use Rattle.search.specs.declared.watching.Watcher.{Watcher}
 use Rattle.search.specs.declared.watching.Watching.{Watching}
 use Rattle.search.specs.Machine.{is_true}
 use Rattle.search.specs.Sound.{all_clauses}
 
--- the places of the clauses that watch a literal
-abbrev pub list_of : List (Vec ℕ) → ℤ → List ℕ
-list_of watchers x = option_map_or (λ list. list.items) (slice_get watchers (literal_key x)) []
+-- the watchers of a literal
+abbrev pub watchers_of : List (Vec Watcher) → ℤ → List Watcher
+watchers_of watchers x = option_map_or (λ list. list.items) (slice_get watchers (literal_key x)) []
+
+-- the places of their clauses
+abbrev pub list_of : List (Vec Watcher) → ℤ → List ℕ
+list_of watchers x = map (λ w. w.place) (watchers_of watchers x)
+
+-- a watcher's blocking literal is in its clause
+abbrev pub is_blocked : List (List ℤ) → Watcher → Bool
+is_blocked clauses w = option_map_or (λ clause. has_literal clause w.blocker) (slice_get clauses w.place) false
+
+-- all watchers of each literal pass a test
+abbrev pub AllPassing : (Watcher → Bool) → List (Vec Watcher) → Type 0
+AllPassing test watchers = (x : ℤ) → list_all test (watchers_of watchers x) ≡ true
 
 abbrev pub is_among : ℕ → List ℕ → Bool
 is_among k places = list_any (λ place. place == k) places
@@ -39,7 +52,7 @@ pub record IsWatched (trail : List Entry) (head : ℕ) (clause : List ℤ) (x : 
   pub before : (d : ℕ) → IsDecidedAt trail d → is_true (take d trail) (neg_ℤ x) ≡ true → is_satisfied (take d trail) clause ≡ true
 
 -- two literals of a clause are watched, and the clause is among the watchers of both
-pub record IsPair (watchers : List (Vec ℕ)) (trail : List Entry) (head place : ℕ) (clause : List ℤ) (pair : Pair) : Type 0 where
+pub record IsPair (watchers : List (Vec Watcher)) (trail : List Entry) (head place : ℕ) (clause : List ℤ) (pair : Pair) : Type 0 where
   pub left : IsWatched trail head clause pair.left
   pub right : IsWatched trail head clause pair.right
   pub differ : int_eq pair.left pair.right ≡ false
@@ -47,7 +60,7 @@ pub record IsPair (watchers : List (Vec ℕ)) (trail : List Entry) (head place :
   pub right_listed : is_among place (list_of watchers pair.right) ≡ true
 
 -- what is kept of a clause: it has a pair, or is satisfied
-abbrev pub IsTracked : List (Vec ℕ) → List Entry → ℕ → ℕ → List ℤ → Pair → Type 0
+abbrev pub IsTracked : List (Vec Watcher) → List Entry → ℕ → ℕ → List ℤ → Pair → Type 0
 IsTracked watchers trail head place clause pair = IsSatisfied trail clause ⊎ IsPair watchers trail head place clause pair
 
 -- the literals of a pair are in a clause
@@ -64,6 +77,7 @@ pub record IsWatching (formula : Formula) (learned : Derivation) (trail : List E
       → IsTracked w.watchers.items trail w.head k clause pair
   pub own : (k : ℕ) (clause : List ℤ) (pair : Pair) → slice_get (all_clauses formula learned) k ≡ Some clause → slice_get w.pairs.items k ≡ Some pair → IsOf pair clause
   pub within : (x : ℤ) (k : ℕ) → is_among k (list_of w.watchers.items x) ≡ true → k < length w.pairs.items
+  pub blocked : AllPassing (is_blocked (all_clauses formula learned)) w.watchers.items
 
 -- one more clause watches two literals
 pub record IsPaired (w n : Watching) (place : ℕ) (pair : Pair) : Type 0 where
@@ -74,3 +88,5 @@ pub record IsPaired (w n : Watching) (place : ℕ) (pair : Pair) : Type 0 where
   pub only : (x : ℤ) (k : ℕ) → is_among k (list_of n.watchers.items x) ≡ true → (is_among k (list_of w.watchers.items x) ≡ true) ⊎ (k ≡ place)
   pub left_listed : is_among place (list_of n.watchers.items pair.left) ≡ true
   pub right_listed : is_among place (list_of n.watchers.items pair.right) ≡ true
+  pub passing : (test : Watcher → Bool) → test record { place = place; blocker = pair.right } ≡ true → test record { place = place; blocker = pair.left } ≡ true
+      → AllPassing test w.watchers.items → AllPassing test n.watchers.items

@@ -39,8 +39,13 @@ pub(crate) fn lowest_open(values: &[bool], known: u32, variables: u32) -> Option
     }
 }
 
-/// The negative literal of a variable, if it is an open one of so many.
-pub(crate) fn candidate(values: &[bool], variable: u32, variables: u32) -> Option<i32>
+/// The literal of a variable with this sign, if it is an open one of so many.
+pub(crate) fn candidate(
+    values: &[bool],
+    variable: u32,
+    is_positive: bool,
+    variables: u32,
+) -> Option<i32>
     requires { variables ≤ 2 ^ 30 }
     ensures some { IfSome result (λ x. IsOver variables x × (is_open (marked ByKey values.now) x ≡ true)) }
     ensures none { IfNone result ((x : ℤ) → IsOver variables x → unsigned_abs x ≡ variable → is_open (marked ByKey values.now) x ≡ false) }
@@ -51,6 +56,9 @@ pub(crate) fn candidate(values: &[bool], variable: u32, variables: u32) -> Optio
     let positive = variable as i32;
     if is_marked(&Places::ByKey, values, positive) || is_marked(&Places::ByKey, values, -positive) {
         return None;
+    }
+    if is_positive {
+        return Some(positive);
     }
     Some(-positive)
 }

@@ -14,6 +14,7 @@ ghost use Rattle.search.specs.declared.trail.Entry.{Entry as EntryValue};
 
 use crate::chain::{Chain, add_others, take_back};
 use crate::landing::{Landing, landing_of};
+use crate::minimizing::minimize;
 use crate::trail::Entry;
 use cnf::{Clause, Derivation, DerivationLine, Formula, clause_before, literal_key, negation};
 use containers::Vector;
@@ -168,7 +169,8 @@ fn refuting_lesson(
 }
 
 // Resolves a clause that is false by a beginning of the trail, in which the last decision has this place, until one literal
-// is left that wasn't false before it, the first unique implication point's negation.
+// is left that wasn't false before it, the first unique implication point's negation, and then on the literals that the
+// others imply.
 fn asserting_lesson(
     alloc: Global,
     marks: &mut [bool],
@@ -204,6 +206,7 @@ fn asserting_lesson(
     };
     add_others(marks, &mut chain, places, clause.literals(), None)?;
     go_back(marks, &mut chain, places, formula, learned, trail, reach)?;
+    minimize(alloc, marks, &mut chain, places, formula, learned, trail)?;
     let literal = negation(trail[chain.low].literal);
     let landing = landing_of(marks, trail, formula.variables, start, literal);
     chain.found.push(literal)?;

@@ -1,7 +1,7 @@
 // The formula's clauses get their watched literals. Those of one literal go on the trail.
 ghost use Rattle.std.specs.Prelude.{◌≡◌, ◌+◌, ◌*◌, ◌<◌, ◌≤◌, ◌^◌, ◌∷◌, [], ℤ, Some, IfOk, length, slice_get};
 ghost use Rattle.search.specs.Installs.{IsInstalled, IsInstalling, IsMade, IsPrepared};
-ghost use Rattle.search.specs.Watching.{list_of};
+ghost use Rattle.search.specs.Watching.{watchers_of};
 
 use crate::machine::Machine;
 use crate::reading::{Queue, Visit, imply};
@@ -15,7 +15,7 @@ use std::alloc::{AllocError, Global};
 /// Nothing is watched yet.
 pub(crate) fn nothing_watched(alloc: Global, variables: u32) -> Result<Watching, AllocError>
     ensures lists { IfOk result (λ w. length w.watchers.items ≡ 2 * variables + 2) }
-    ensures none { IfOk result (λ w. (x : ℤ) → list_of w.watchers.items x ≡ []) }
+    ensures none { IfOk result (λ w. (x : ℤ) → watchers_of w.watchers.items x ≡ []) }
     ensures pairs { IfOk result (λ w. w.pairs.items ≡ []) }
     ensures head { IfOk result (λ w. w.head ≡ 0) }
 {

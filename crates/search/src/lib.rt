@@ -3,22 +3,25 @@
 //!
 //! It stands on `cnf` and on `literal_marks`. specs/Machine.antt says what a move is; the laws say that histories end, and
 //! that none stops before.
-//! `search` propagates by two watched literals a clause and a queue (specs/Watching.antt), so that a move costs the watchers
-//! that it visits; all clauses are looked at once before the first move, and once where the budget is spent. A conflict is
-//! resolved to the first unique implication point (specs/Chains.antt), without a pass over the variables. The variable that
-//! was most active in conflicts is decided next; that each open one is listed is kept (specs/Orders.antt), their order is
-//! free. The layers above use what it answers (specs/Nexts.antt), and that `shown` appends what it is given, and after want
-//! of memory nothing.
+//! `search` propagates by two watched literals a clause, with a blocking literal beside each watcher, and a queue
+//! (specs/Watching.antt), so that a move costs the watchers that it visits; all clauses are looked at once before the first
+//! move, and once where the budget is spent. A conflict is resolved to the first unique implication point
+//! (specs/Chains.antt), without a pass over the variables. The variable that was most active in conflicts is decided next, to
+//! be as it last was; that each open one is listed is kept (specs/Orders.antt), their order is free. A learned line is kept
+//! once, and the history is made of it where the budget is spent (specs/Steps.antt). The layers above use what `search`
+//! answers (specs/Nexts.antt), and that `shown` appends what it is given, and after want of memory nothing.
 #![tactic(auto)]
 
 mod chain;
 mod choice;
 mod conflict;
 mod found;
+mod history;
 mod installing;
 mod landing;
 pub mod laws;
 mod machine;
+mod minimizing;
 mod moves;
 mod next;
 mod order;

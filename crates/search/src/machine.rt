@@ -14,6 +14,7 @@ ghost use Rattle.search.specs.Machine.{EndsAsModel, IsOver, Moves, clauses_of, i
 ghost use Rattle.search.specs.Nexts.{IsEnd, IsFound, jumped, state_of};
 ghost use Rattle.search.specs.Conflicts.{IsConflicting};
 ghost use Rattle.search.specs.Sound.{Implies, all_clauses};
+ghost use Rattle.search.specs.Steps.{move_of};
 ghost use Rattle.search.specs.Trails.{places};
 ghost use Rattle.search.specs.Watching.{IsDecidedAt, is_among};
 ghost use Rattle.search.specs.declared.moves.Move.TheVariants as move;
@@ -21,12 +22,13 @@ ghost use Rattle.search.specs.declared.moves.Move.TheVariants as move;
 use crate::choice::{candidate, model};
 use crate::conflict::{Lesson, lesson_of};
 use crate::found::Found;
-use crate::moves::{History, Move};
+use crate::history::history_of;
+use crate::moves::Step;
 use crate::next::{Next, next_of};
 use crate::order::Order;
 use crate::trail::Entry;
 use cnf::{Derivation, DerivationLine, Formula, literal_key};
-use containers::{TryClone, Vector};
+use containers::Vector;
 use fq_core::Memory;
 use literal_marks::{Places, mark, unmark};
 use std::alloc::{AllocError, Global};
@@ -38,7 +40,7 @@ pub(crate) struct Machine {
     // The literals on the trail, as marks by key.
     pub values: Vec<bool>,
     pub learned: Derivation,
-    pub moves: Vec<Move>,
+    pub moves: Vec<Step>,
     // By their keys, where the literals on the trail stand.
     pub places: Vec<u32>,
     pub order: Order,
@@ -124,15 +126,15 @@ impl Machine {
         formula: &Formula,
         literal: i32,
         reason: Option<u32>,
-        made: Move,
+        made: Step,
     ) -> Result<(), Memory>
         requires at { IsAt formula.now self.old }
         requires small { formula.now.variables ≤ 2 ^ 30 }
         requires over { IsOver formula.now.variables literal }
         requires free { is_open (is_true self.old.trail.items) literal ≡ true }
         requires implied { IfSome reason (λ number. IsSomeAnd (numbered (all_clauses formula.now self.old.learned) number) (Implies self.old.trail.items literal)) }
-        requires allowed { Moves formula.now (state_of self.old.trail.items self.old.learned) made
-            record { trail = with_entry self.old.trail.items literal reason; learned = self.old.learned.lines } }
+        requires allowed { IsSomeAnd (move_of made) (λ move. Moves formula.now (state_of self.old.trail.items self.old.learned) move
+            record { trail = with_entry self.old.trail.items literal reason; learned = self.old.learned.lines }) }
         ensures at { OnOk result (IsAt formula.now self.new) }
         ensures trail { OnOk result (self.new.trail.items ≡ with_entry self.old.trail.items literal reason) }
         ensures learned { OnOk result (self.new.learned ≡ self.old.learned) }
@@ -146,7 +148,6 @@ impl Machine {
     /// A jump: the trail is cut before a decided literal, a line is learned, and its one open literal is put on the trail.
     pub fn jump(
         &mut self,
-        alloc: Global,
         formula: &Formula,
         line: DerivationLine,
         cut: usize,
@@ -166,10 +167,7 @@ impl Machine {
         if number >= 0x1_0000_0000 {
             return Err(Memory);
         }
-        let made = Move::Jump {
-            line: line.try_clone(alloc)?,
-            cut: cut as u32,
-        };
+        let made = Step::Jump { cut: cut as u32 };
         self.learned.lines.push(line)?;
         list_entries(&mut self.order, &self.trail[cut..])?;
         self.cut_before(cut);
@@ -205,7 +203,7 @@ impl Machine {
         Ok(lesson)
     }
 
-    /// The negative literal of the first open variable in the order of decisions.
+    /// The literal of the first open variable in the order of decisions, with the sign that it last had on the trail.
     pub fn next_open(&mut self, formula: &Formula) -> Option<i32>
         requires at { IsAt formula.now self.old }
         requires small { formula.now.variables ≤ 2 ^ 30 }
@@ -215,7 +213,8 @@ impl Machine {
         ensures none { IfNone result ((x : ℤ) → IsOver formula.now.variables x → is_open (is_true self.old.trail.items) x ≡ false) }
     {
         while let Some(variable) = self.order.first() {
-            if let Some(literal) = candidate(&self.values, variable, formula.variables) {
+            let phase = self.order.phase(variable);
+            if let Some(literal) = candidate(&self.values, variable, phase, formula.variables) {
                 return Some(literal);
             }
             self.order.drop_first();
@@ -285,19 +284,21 @@ impl Machine {
                 Ok(Found::Model(Vector::from_vec(values)))
             }
             Next::Refuted(line) => Ok(Found::NoModel(self.refutation(line)?)),
-            _ => Ok(Found::Spent(History {
-                moves: Vector::from_vec(self.moves),
-            })),
+            _ => {
+                let history = history_of(alloc, self.moves, self.learned.lines)?;
+                Ok(Found::Spent(history))
+            }
         }
     }
 }
 
-// Lists the variables of entries' literals.
+// Lists the variables of entries' literals, which leave the trail.
 fn list_entries(order: &mut Order, entries: &[Entry]) -> Result<(), AllocError>
     ensures keeps { OnOk result ((v : ℕ) → is_among v order.old.heap.items ≡ true → is_among v order.new.heap.items ≡ true) }
     ensures listed { OnOk result ((x : ℤ) → is_true entries.now x ≡ true → is_among (unsigned_abs x) order.new.heap.items ≡ true) }
 {
     for entry in entries {
+        order.save_phase(entry.literal);
         order.insert(entry.literal.unsigned_abs())?;
     }
     Ok(())

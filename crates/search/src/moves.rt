@@ -16,6 +16,14 @@ pub enum Move {
     Jump { line: DerivationLine, cut: u32 },
 }
 
+/// What a search keeps of a move while it runs: the line that a jump learned stands among the learned ones.
+#[derive(Clone, Copy, Debug)]
+pub(crate) enum Step {
+    Propagate { clause: u32 },
+    Decide { literal: i32 },
+    Jump { cut: u32 },
+}
+
 /// Moves from the empty trail on.
 #[derive(Debug, Drop)]
 pub struct History {

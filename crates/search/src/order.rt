@@ -4,6 +4,17 @@ ghost use Rattle.search.specs.Watching.{is_among};
 
 use std::alloc::{AllocError, Global};
 
+/// How active a variable was in conflicts.
+#[derive(Clone, Copy, Debug)]
+pub(crate) struct Activity {
+    /// What its bumps added.
+    pub score: u64,
+    /// The number of its last bump, or 0.
+    pub last: u64,
+}
+
+const NONE: Activity = Activity { score: 0, last: 0 };
+
 /// Variables, those first that were active in conflicts, in a heap (as in MiniSat). What contracts say is which ones are in
 /// it; their order is free.
 #[derive(Debug, Drop)]
@@ -12,9 +23,13 @@ pub(crate) struct Order {
     /// By variable, where it came to stand when it was last moved. One that left the heap isn't there any more.
     pub places: Vec<usize>,
     /// By variable.
-    pub activities: Vec<u64>,
-    /// What the next bump adds.
+    pub activities: Vec<Activity>,
+    /// What a bump adds.
     pub increment: u64,
+    /// How many bumps there were.
+    pub bumps: u64,
+    /// By variable, whether it was true when it last left the trail.
+    pub phases: Vec<bool>,
 }
 
 // Activities above this one are scaled.
@@ -36,23 +51,50 @@ impl Order {
         Ok(Order {
             heap,
             places,
-            activities: vec![in alloc; 0; variables as usize + 1]?,
+            activities: vec![in alloc; NONE; variables as usize + 1]?,
             increment: 256,
+            bumps: 0,
+            phases: vec![in alloc; false; variables as usize + 1]?,
         })
     }
 
-    fn activity(&self, variable: u32) -> u64 {
+    fn activity(&self, variable: u32) -> Activity {
         match self.activities.get(variable as usize) {
             Some(activity) => *activity,
-            None => 0,
+            None => NONE,
         }
     }
 
-    // Whether a variable goes before another: it is more active, or as active and lower.
+    // Whether a variable goes before another: it is more active; of variables that are as active, the one that was bumped
+    // last goes first, and of those that never were, the lowest.
     fn precedes(&self, first: u32, second: u32) -> bool {
         let one = self.activity(first);
         let other = self.activity(second);
-        one > other || one == other && first < second
+        if one.score != other.score {
+            return one.score > other.score;
+        }
+        if one.last != other.last {
+            return one.last > other.last;
+        }
+        first < second
+    }
+
+    /// Whether a variable was true when it last left the trail; false where it was never on it.
+    pub fn phase(&self, variable: u32) -> bool {
+        match self.phases.get(variable as usize) {
+            Some(phase) => *phase,
+            None => false,
+        }
+    }
+
+    /// The literal of a variable leaves the trail.
+    pub fn save_phase(&mut self, literal: i32)
+        ensures { self.new.heap ≡ self.old.heap }
+    {
+        let variable = literal.unsigned_abs() as usize;
+        if variable < self.phases.len() {
+            self.phases[variable] = literal > 0;
+        }
     }
 
     // Notes where a variable stands.
@@ -182,7 +224,7 @@ impl Order {
         ensures { self.new.heap ≡ self.old.heap }
     {
         for activity in self.activities.iter_mut() {
-            *activity = *activity >> 40;
+            activity.score = activity.score >> 40;
         }
         self.increment = (self.increment >> 40) + 1;
     }
@@ -195,9 +237,13 @@ impl Order {
         if index >= self.activities.len() {
             return;
         }
-        let activity = self.activities[index].saturating_add(self.increment);
-        self.activities[index] = activity;
-        if activity > MOST {
+        let score = self.activities[index].score.saturating_add(self.increment);
+        self.bumps = self.bumps.saturating_add(1);
+        self.activities[index] = Activity {
+            score,
+            last: self.bumps,
+        };
+        if score > MOST {
             self.rescale();
         }
         if let Some(at) = self.place_of(variable) {
@@ -212,6 +258,6 @@ impl Order {
         for literal in literals {
             self.bump(literal.unsigned_abs());
         }
-        self.increment = self.increment.saturating_add(self.increment / 16);
+        self.increment = self.increment.saturating_add(self.increment / 20);
     }
 }

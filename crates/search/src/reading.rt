@@ -9,14 +9,17 @@ ghost use Rattle.search.specs.Machine.{is_true, unit_of};
 ghost use Rattle.search.specs.Readings.{IsImplied, IsLiteralRead, IsQueue, IsRewatched, IsSearching, IsVisit, IsVisiting};
 ghost use Rattle.search.specs.Sound.{all_clauses};
 ghost use Rattle.search.specs.Visits.{IsLook};
-ghost use Rattle.search.specs.Watching.{list_of};
+ghost use Rattle.search.specs.Watching.{list_of, watchers_of};
 
 use crate::machine::Machine;
-use crate::moves::Move;
+use crate::moves::Step;
 use crate::visit::{Look, look_at, partner};
-use crate::watching::{Pair, Watching, add_watcher, remove_watcher, watcher_at, watcher_count};
+use crate::watching::{
+    Pair, Watcher, Watching, add_watcher, remove_watcher, watcher_at, watcher_count,
+};
 use cnf::{Formula, clause_before, negation};
 use fq_core::Memory;
+use literal_marks::{Places, is_marked};
 use std::alloc::AllocError;
 
 /// What the visit of a watcher leads to.
@@ -57,7 +60,8 @@ fn rewatch(
     requires apart { int_eq left falsified ≡ false }
     ensures { OnOk result (IsRewatched watching.old watching.new falsified at place record { left = left; right = right }) }
 {
-    add_watcher(&mut watching.watchers, left, place)?;
+    let blocker = right;
+    add_watcher(&mut watching.watchers, left, Watcher { place, blocker })?;
     remove_watcher(&mut watching.watchers, falsified, at);
     watching.pairs[place as usize] = Pair { left, right };
     Ok(())
@@ -93,7 +97,7 @@ pub(crate) fn imply(
     if machine.moves.len() as u64 >= budget {
         return Ok(Visit::Spent);
     }
-    let made = Move::Propagate { clause: place + 1 };
+    let made = Step::Propagate { clause: place + 1 };
     machine.step(formula, literal, Some(place + 1), made)?;
     Ok(Visit::Stays)
 }
@@ -109,12 +113,16 @@ fn visit_at(
 ) -> Result<Visit, Memory>
     requires visiting { IsVisiting formula.now budget machine.old watching.old falsified at }
     requires small { formula.now.variables ≤ 2 ^ 30 }
-    requires at { at < length (list_of watching.old.watchers.items falsified) }
+    requires at { at < length (watchers_of watching.old.watchers.items falsified) }
     ensures visit { IfOk result (IsVisit formula.now budget watching.old machine.new watching.new falsified at) }
     ensures head { OnOk result (watching.new.head ≡ watching.old.head) }
     ensures more { OnOk result (length machine.old.moves.items ≤ length machine.new.moves.items) }
 {
-    let place = watcher_at(&watching.watchers, falsified, at);
+    let watcher = watcher_at(&watching.watchers, falsified, at);
+    if is_marked(&Places::ByKey, &machine.values, watcher.blocker) {
+        return Ok(Visit::Stays);
+    }
+    let place = watcher.place;
     let other = partner(watching.pairs[place as usize], falsified);
     match look_for(machine, formula, other, place) {
         Look::Satisfied => Ok(Visit::Stays),

@@ -8,7 +8,7 @@ ghost use Rattle.search.specs.Sound.{all_clauses};
 
 use crate::landing::Landing;
 use crate::machine::Machine;
-use crate::moves::Move;
+use crate::moves::Step;
 use crate::reading::{Queue, propagate};
 use crate::watching::{Pair, Watching, watch_pair};
 use cnf::{DerivationLine, Formula};
@@ -26,7 +26,7 @@ pub(crate) enum Round {
     Spent,
 }
 
-// Decides the first open variable in the order of decisions to be false, where the queue is read.
+// Decides the first open variable in the order of decisions to be as it last was, where the queue is read.
 fn decide(
     machine: &mut Machine,
     watching: &Watching,
@@ -44,7 +44,7 @@ fn decide(
             if machine.moves.len() as u64 >= budget {
                 return Ok(Round::Spent);
             }
-            machine.step(formula, literal, None, Move::Decide { literal })?;
+            machine.step(formula, literal, None, Step::Decide { literal })?;
             Ok(Round::Went)
         }
     }
@@ -52,7 +52,6 @@ fn decide(
 
 // Cuts the trail where a learned line has one open literal, and puts it on the trail.
 fn jump_back(
-    alloc: Global,
     machine: &mut Machine,
     watching: &mut Watching,
     formula: &Formula,
@@ -70,7 +69,7 @@ fn jump_back(
 {
     let literal = landing.literal;
     let count = (formula.clauses.len() + machine.learned.lines.len()) as u32;
-    machine.jump(alloc, formula, line, landing.cut, literal)?;
+    machine.jump(formula, line, landing.cut, literal)?;
     watching.head = landing.cut;
     match landing.other {
         Some(other) => watch_pair(watching, count, literal, other)?,
@@ -107,7 +106,7 @@ fn learn(
             if machine.moves.len() as u64 >= budget {
                 return Ok(Round::Spent);
             }
-            jump_back(alloc, machine, watching, formula, line, landing, budget)?;
+            jump_back(machine, watching, formula, line, landing, budget)?;
             Ok(Round::Went)
         }
     }

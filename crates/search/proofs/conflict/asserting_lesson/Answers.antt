@@ -46,18 +46,18 @@ go_back-requires-clause-going c =
 
 pub offset_bounds-trail-chain : goal.offset_bounds-trail-chain
 offset_bounds-trail-chain c =
-    let set = marked ByKey c.go_back.new.marks in
-    let found = some_entry c.args.trail.now c.go_back.new.chain.low (λ f. set (neg_ℤ f.literal) ≡ true) c.in_ok-go_back.ensures.going.low in
-    let within = slice_get_within c.args.trail.now c.go_back.new.chain.low found.0 found.1 in
+    let set = marked ByKey c.minimize.new.marks in
+    let found = some_entry c.args.trail.now c.minimize.new.chain.low (λ f. set (neg_ℤ f.literal) ≡ true) c.in_ok-minimize.ensures.going.low in
+    let within = slice_get_within c.args.trail.now c.minimize.new.chain.low found.0 found.1 in
     let short = trail_short c.args.formula.now.variables c.args.trail.now c.requires.sound.kept in
     let small = c.requires.small in
     record { fits = omega (arith, within, short, small) }
 
 pub bounds-trail-chain : goal.bounds-trail-chain
 bounds-trail-chain c =
-    let set = marked ByKey c.go_back.new.marks in
-    let found = some_entry c.args.trail.now c.go_back.new.chain.low (λ f. set (neg_ℤ f.literal) ≡ true) c.in_ok-go_back.ensures.going.low in
-    slice_get_within c.args.trail.now c.go_back.new.chain.low found.0 found.1
+    let set = marked ByKey c.minimize.new.marks in
+    let found = some_entry c.args.trail.now c.minimize.new.chain.low (λ f. set (neg_ℤ f.literal) ≡ true) c.in_ok-minimize.ensures.going.low in
+    slice_get_within c.args.trail.now c.minimize.new.chain.low found.0 found.1
 
 pub negation-literal-requires : goal.negation-literal-requires
 negation-literal-requires c =
@@ -70,14 +70,14 @@ negation-literal-requires c =
     let marks = rw c.literals.ensures.value at c.in_ok-add_others.ensures.marks in
     let is : (x : ℤ) → marked ByKey c.add_others.new.marks x ≡ has_literal first x = λ x. first_marks _ _ _ (c.requires.clear x) (marks x) in
     let begun = back_begins clauses trail first c.args.reach (marked ByKey c.add_others.new.marks) c.add_others.new.chain.steps.items c.requires.reach.falses is (ap (λ (v : Vec (ℕ × ℤ)). v.items) added.steps ∙ c.new-2.ensures.items) in
-    let set = marked ByKey c.go_back.new.marks in
-    let chain = c.go_back.new.chain in
-    let back = c.in_ok-go_back.ensures.back first begun in
-    let left = c.in_ok-go_back.ensures.going in
+    let set = marked ByKey c.minimize.new.marks in
+    let chain = c.minimize.new.chain in
+    let back = c.in_ok-minimize.ensures.back first (c.in_ok-go_back.ensures.back first begun) in
+    let left = c.in_ok-minimize.ensures.going in
     let found = some_entry trail chain.low (λ f. set (neg_ℤ f.literal) ≡ true) left.low in
     let e = found.0 in
     let at = found.1 in
-    let from = c.in_ok-go_back.ensures.start ∙ added.start in
+    let from = c.in_ok-minimize.ensures.start ∙ c.in_ok-go_back.ensures.start ∙ added.start in
     let over = over_at n trail chain.low e kept.over at in
     let fits = to_z-of_z _ _ (literal_fits e.literal (literal-over n e.literal c.requires.small over).1) in
     let read : get_or trail chain.low record { literal = pos 0; reason = None } ≡ e = get_or_from_slice_get trail chain.low e _ at in
@@ -94,14 +94,14 @@ landing_of-landing-requires-clause-free c =
     let marks = rw c.literals.ensures.value at c.in_ok-add_others.ensures.marks in
     let is : (x : ℤ) → marked ByKey c.add_others.new.marks x ≡ has_literal first x = λ x. first_marks _ _ _ (c.requires.clear x) (marks x) in
     let begun = back_begins clauses trail first c.args.reach (marked ByKey c.add_others.new.marks) c.add_others.new.chain.steps.items c.requires.reach.falses is (ap (λ (v : Vec (ℕ × ℤ)). v.items) added.steps ∙ c.new-2.ensures.items) in
-    let set = marked ByKey c.go_back.new.marks in
-    let chain = c.go_back.new.chain in
-    let back = c.in_ok-go_back.ensures.back first begun in
-    let left = c.in_ok-go_back.ensures.going in
+    let set = marked ByKey c.minimize.new.marks in
+    let chain = c.minimize.new.chain in
+    let back = c.in_ok-minimize.ensures.back first (c.in_ok-go_back.ensures.back first begun) in
+    let left = c.in_ok-minimize.ensures.going in
     let found = some_entry trail chain.low (λ f. set (neg_ℤ f.literal) ≡ true) left.low in
     let e = found.0 in
     let at = found.1 in
-    let from = c.in_ok-go_back.ensures.start ∙ added.start in
+    let from = c.in_ok-minimize.ensures.start ∙ c.in_ok-go_back.ensures.start ∙ added.start in
     let over = over_at n trail chain.low e kept.over at in
     let fits = to_z-of_z _ _ (literal_fits e.literal (literal-over n e.literal c.requires.small over).1) in
     let read : get_or trail chain.low record { literal = pos 0; reason = None } ≡ e = get_or_from_slice_get trail chain.low e _ at in
@@ -120,14 +120,14 @@ landing_of-landing-requires-clause-falses c =
     let marks = rw c.literals.ensures.value at c.in_ok-add_others.ensures.marks in
     let is : (x : ℤ) → marked ByKey c.add_others.new.marks x ≡ has_literal first x = λ x. first_marks _ _ _ (c.requires.clear x) (marks x) in
     let begun = back_begins clauses trail first c.args.reach (marked ByKey c.add_others.new.marks) c.add_others.new.chain.steps.items c.requires.reach.falses is (ap (λ (v : Vec (ℕ × ℤ)). v.items) added.steps ∙ c.new-2.ensures.items) in
-    let set = marked ByKey c.go_back.new.marks in
-    let chain = c.go_back.new.chain in
-    let back = c.in_ok-go_back.ensures.back first begun in
-    let left = c.in_ok-go_back.ensures.going in
+    let set = marked ByKey c.minimize.new.marks in
+    let chain = c.minimize.new.chain in
+    let back = c.in_ok-minimize.ensures.back first (c.in_ok-go_back.ensures.back first begun) in
+    let left = c.in_ok-minimize.ensures.going in
     let found = some_entry trail chain.low (λ f. set (neg_ℤ f.literal) ≡ true) left.low in
     let e = found.0 in
     let at = found.1 in
-    let from = c.in_ok-go_back.ensures.start ∙ added.start in
+    let from = c.in_ok-minimize.ensures.start ∙ c.in_ok-go_back.ensures.start ∙ added.start in
     let over = over_at n trail chain.low e kept.over at in
     let fits = to_z-of_z _ _ (literal_fits e.literal (literal-over n e.literal c.requires.small over).1) in
     let read : get_or trail chain.low record { literal = pos 0; reason = None } ≡ e = get_or_from_slice_get trail chain.low e _ at in
@@ -146,14 +146,14 @@ new-requires-4 c =
     let marks = rw c.literals.ensures.value at c.in_ok-add_others.ensures.marks in
     let is : (x : ℤ) → marked ByKey c.add_others.new.marks x ≡ has_literal first x = λ x. first_marks _ _ _ (c.requires.clear x) (marks x) in
     let begun = back_begins clauses trail first c.args.reach (marked ByKey c.add_others.new.marks) c.add_others.new.chain.steps.items c.requires.reach.falses is (ap (λ (v : Vec (ℕ × ℤ)). v.items) added.steps ∙ c.new-2.ensures.items) in
-    let set = marked ByKey c.go_back.new.marks in
-    let chain = c.go_back.new.chain in
-    let back = c.in_ok-go_back.ensures.back first begun in
-    let left = c.in_ok-go_back.ensures.going in
+    let set = marked ByKey c.minimize.new.marks in
+    let chain = c.minimize.new.chain in
+    let back = c.in_ok-minimize.ensures.back first (c.in_ok-go_back.ensures.back first begun) in
+    let left = c.in_ok-minimize.ensures.going in
     let found = some_entry trail chain.low (λ f. set (neg_ℤ f.literal) ≡ true) left.low in
     let e = found.0 in
     let at = found.1 in
-    let from = c.in_ok-go_back.ensures.start ∙ added.start in
+    let from = c.in_ok-minimize.ensures.start ∙ c.in_ok-go_back.ensures.start ∙ added.start in
     let over = over_at n trail chain.low e kept.over at in
     let fits = to_z-of_z _ _ (literal_fits e.literal (literal-over n e.literal c.requires.small over).1) in
     let read : get_or trail chain.low record { literal = pos 0; reason = None } ≡ e = get_or_from_slice_get trail chain.low e _ at in
@@ -173,14 +173,14 @@ returns-clause-lesson c =
     let marks = rw c.literals.ensures.value at c.in_ok-add_others.ensures.marks in
     let is : (x : ℤ) → marked ByKey c.add_others.new.marks x ≡ has_literal first x = λ x. first_marks _ _ _ (c.requires.clear x) (marks x) in
     let begun = back_begins clauses trail first c.args.reach (marked ByKey c.add_others.new.marks) c.add_others.new.chain.steps.items c.requires.reach.falses is (ap (λ (v : Vec (ℕ × ℤ)). v.items) added.steps ∙ c.new-2.ensures.items) in
-    let set = marked ByKey c.go_back.new.marks in
-    let chain = c.go_back.new.chain in
-    let back = c.in_ok-go_back.ensures.back first begun in
-    let left = c.in_ok-go_back.ensures.going in
+    let set = marked ByKey c.minimize.new.marks in
+    let chain = c.minimize.new.chain in
+    let back = c.in_ok-minimize.ensures.back first (c.in_ok-go_back.ensures.back first begun) in
+    let left = c.in_ok-minimize.ensures.going in
     let found = some_entry trail chain.low (λ f. set (neg_ℤ f.literal) ≡ true) left.low in
     let e = found.0 in
     let at = found.1 in
-    let from = c.in_ok-go_back.ensures.start ∙ added.start in
+    let from = c.in_ok-minimize.ensures.start ∙ c.in_ok-go_back.ensures.start ∙ added.start in
     let over = over_at n trail chain.low e kept.over at in
     let fits = to_z-of_z _ _ (literal_fits e.literal (literal-over n e.literal c.requires.small over).1) in
     let read : get_or trail chain.low record { literal = pos 0; reason = None } ≡ e = get_or_from_slice_get trail chain.low e _ at in
@@ -202,14 +202,14 @@ returns-clause-clear c =
     let marks = rw c.literals.ensures.value at c.in_ok-add_others.ensures.marks in
     let is : (x : ℤ) → marked ByKey c.add_others.new.marks x ≡ has_literal first x = λ x. first_marks _ _ _ (c.requires.clear x) (marks x) in
     let begun = back_begins clauses trail first c.args.reach (marked ByKey c.add_others.new.marks) c.add_others.new.chain.steps.items c.requires.reach.falses is (ap (λ (v : Vec (ℕ × ℤ)). v.items) added.steps ∙ c.new-2.ensures.items) in
-    let set = marked ByKey c.go_back.new.marks in
-    let chain = c.go_back.new.chain in
-    let back = c.in_ok-go_back.ensures.back first begun in
-    let left = c.in_ok-go_back.ensures.going in
+    let set = marked ByKey c.minimize.new.marks in
+    let chain = c.minimize.new.chain in
+    let back = c.in_ok-minimize.ensures.back first (c.in_ok-go_back.ensures.back first begun) in
+    let left = c.in_ok-minimize.ensures.going in
     let found = some_entry trail chain.low (λ f. set (neg_ℤ f.literal) ≡ true) left.low in
     let e = found.0 in
     let at = found.1 in
-    let from = c.in_ok-go_back.ensures.start ∙ added.start in
+    let from = c.in_ok-minimize.ensures.start ∙ c.in_ok-go_back.ensures.start ∙ added.start in
     let over = over_at n trail chain.low e kept.over at in
     let fits = to_z-of_z _ _ (literal_fits e.literal (literal-over n e.literal c.requires.small over).1) in
     let read : get_or trail chain.low record { literal = pos 0; reason = None } ≡ e = get_or_from_slice_get trail chain.low e _ at in

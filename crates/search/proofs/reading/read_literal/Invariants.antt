@@ -1,6 +1,6 @@
 use Rattle.std.proofs.Common.{◌≡◌, ◌-◌, ◌≤◌, length}
 use Rattle.search.specs.Readings.{IsVisiting}
-use Rattle.search.specs.Watching.{list_of}
+use Rattle.search.specs.Watching.{watchers_of}
 use Rattle.search.proofs.reading.read_literal.Given as goal
 
 abbrev pub invariant-loop-at : goal.invariant-loop-at
@@ -11,4 +11,4 @@ invariant-loop-at l = record {
 }
 
 abbrev pub decreases-loop-at : goal.decreases-loop-at
-decreases-loop-at l = length (list_of l.watching.watchers.items l.falsified) - l.at
+decreases-loop-at l = length (watchers_of l.watching.watchers.items l.falsified) - l.at

@@ -1,13 +1,17 @@
-use Rattle.std.proofs.Common.{◌≡◌, arith, false, true, neg_ℤ, Some}
+use Rattle.std.proofs.Common.{◌≡◌, ◌∙◌, refl, sym, arith, false, true, neg_ℤ, Some}
 use Rattle.std.specs.Prelude.{slice_get}
+use Rattle.std.specs.List.{list_any}
 use Rattle.std.proofs.lemmas.Int.{to_z-of_z}
 use Rattle.std.proofs.lemmas.Option.{slice_get_within}
+use Rattle.literal_marks.specs.Marks.{marked}
+use Rattle.literal_marks.specs.declared.places.Places.TheVariants.{ByKey}
 use Rattle.literal_marks.proofs.PlacesLaws.{literal_fits}
 use Rattle.search.specs.Machine.{IsOver, is_conflict, is_true, unit_of}
-use Rattle.search.specs.Watching.{list_of}
+use Rattle.search.specs.Watching.{is_satisfied, list_of, watchers_of}
 use Rattle.search.proofs.BackLaws.{literal-over}
+use Rattle.search.proofs.ListsLaws.{place_at}
 use Rattle.search.proofs.ScanLaws.{clauses_count}
-use Rattle.search.proofs.VisitLaws.{apart_from_read, literal_over, shown, visit_implied, visited_at, visiting_conflict, visiting_moved, watched_at}
+use Rattle.search.proofs.VisitLaws.{apart_from_read, literal_over, shown, visit_implied, visited_at, visiting_blocked, visiting_conflict, visiting_moved, visiting_satisfied, watched_at}
 use Rattle.search.proofs.reading.visit_at.Goals as goal
 
 pub index-requires : goal.index-requires
@@ -15,9 +19,9 @@ index-requires c =
     let m = c.args.machine.now in
     let w = c.args.watching.now in
     let x = c.args.falsified in
-    let place = c.watcher_at-place.result in
+    let place = c.watcher_at-watcher.result.place in
     let is = c.requires.visiting in
-    let here : slice_get (list_of w.watchers.items x) c.args.at ≡ Some place = rw (c.deref.ensures.value, to_z-of_z _ _ c.ranges.falsified) at c.watcher_at-place.ensures in
+    let here : slice_get (list_of w.watchers.items x) c.args.at ≡ Some place = place_at (watchers_of w.watchers.items x) c.args.at c.watcher_at-watcher.result (rw (c.deref.ensures.value, to_z-of_z _ _ c.ranges.falsified) at c.watcher_at-watcher.ensures) in
     let found = watched_at c.args.formula.now m.learned m.trail.items w x c.args.at place is.reading.watching here in
     let within = slice_get_within w.pairs.items place found.pair found.paired in
     let ok = w.pairs.ok.0 in
@@ -28,9 +32,9 @@ look_for-requires-clause-clause c =
     let m = c.args.machine.now in
     let w = c.args.watching.now in
     let x = c.args.falsified in
-    let place = c.watcher_at-place.result in
+    let place = c.watcher_at-watcher.result.place in
     let is = c.requires.visiting in
-    let here : slice_get (list_of w.watchers.items x) c.args.at ≡ Some place = rw (c.deref.ensures.value, to_z-of_z _ _ c.ranges.falsified) at c.watcher_at-place.ensures in
+    let here : slice_get (list_of w.watchers.items x) c.args.at ≡ Some place = place_at (watchers_of w.watchers.items x) c.args.at c.watcher_at-watcher.result (rw (c.deref.ensures.value, to_z-of_z _ _ c.ranges.falsified) at c.watcher_at-watcher.ensures) in
     let gives = rw (to_z-of_z _ _ c.ranges.falsified) at c.partner-other.ensures in
     let v = visited_at c.args.formula.now m.learned m.trail.items w x c.args.at place c.partner-other.result c.index.result.now is.reading.watching here c.index.ensures gives in
     let over = literal_over c.args.formula.now m.learned place v.clause c.partner-other.result is.searching.at.held.sound.clauses v.named v.has in
@@ -42,9 +46,9 @@ overflow_add-result c =
     let m = c.args.machine.now in
     let w = c.args.watching.now in
     let x = c.args.falsified in
-    let place = c.watcher_at-place.result in
+    let place = c.watcher_at-watcher.result.place in
     let is = c.requires.visiting in
-    let here : slice_get (list_of w.watchers.items x) c.args.at ≡ Some place = rw (c.deref.ensures.value, to_z-of_z _ _ c.ranges.falsified) at c.watcher_at-place.ensures in
+    let here : slice_get (list_of w.watchers.items x) c.args.at ≡ Some place = place_at (watchers_of w.watchers.items x) c.args.at c.watcher_at-watcher.result (rw (c.deref.ensures.value, to_z-of_z _ _ c.ranges.falsified) at c.watcher_at-watcher.ensures) in
     let gives = rw (to_z-of_z _ _ c.ranges.falsified) at c.partner-other.ensures in
     let v = visited_at c.args.formula.now m.learned m.trail.items w x c.args.at place c.partner-other.result c.index.result.now is.reading.watching here c.index.ensures gives in
     let over = literal_over c.args.formula.now m.learned place v.clause c.partner-other.result is.searching.at.held.sound.clauses v.named v.has in
@@ -60,9 +64,9 @@ imply-requires-clause-unit c =
     let m = c.args.machine.now in
     let w = c.args.watching.now in
     let x = c.args.falsified in
-    let place = c.watcher_at-place.result in
+    let place = c.watcher_at-watcher.result.place in
     let is = c.requires.visiting in
-    let here : slice_get (list_of w.watchers.items x) c.args.at ≡ Some place = rw (c.deref.ensures.value, to_z-of_z _ _ c.ranges.falsified) at c.watcher_at-place.ensures in
+    let here : slice_get (list_of w.watchers.items x) c.args.at ≡ Some place = place_at (watchers_of w.watchers.items x) c.args.at c.watcher_at-watcher.result (rw (c.deref.ensures.value, to_z-of_z _ _ c.ranges.falsified) at c.watcher_at-watcher.ensures) in
     let gives = rw (to_z-of_z _ _ c.ranges.falsified) at c.partner-other.ensures in
     let v = visited_at c.args.formula.now m.learned m.trail.items w x c.args.at place c.partner-other.result c.index.result.now is.reading.watching here c.index.ensures gives in
     let over = literal_over c.args.formula.now m.learned place v.clause c.partner-other.result is.searching.at.held.sound.clauses v.named v.has in
@@ -77,9 +81,9 @@ rewatch-requires-clause-room c =
     let m = c.args.machine.now in
     let w = c.args.watching.now in
     let x = c.args.falsified in
-    let place = c.watcher_at-place.result in
+    let place = c.watcher_at-watcher.result.place in
     let is = c.requires.visiting in
-    let here : slice_get (list_of w.watchers.items x) c.args.at ≡ Some place = rw (c.deref.ensures.value, to_z-of_z _ _ c.ranges.falsified) at c.watcher_at-place.ensures in
+    let here : slice_get (list_of w.watchers.items x) c.args.at ≡ Some place = place_at (watchers_of w.watchers.items x) c.args.at c.watcher_at-watcher.result (rw (c.deref.ensures.value, to_z-of_z _ _ c.ranges.falsified) at c.watcher_at-watcher.ensures) in
     let gives = rw (to_z-of_z _ _ c.ranges.falsified) at c.partner-other.ensures in
     let v = visited_at c.args.formula.now m.learned m.trail.items w x c.args.at place c.partner-other.result c.index.result.now is.reading.watching here c.index.ensures gives in
     let over = literal_over c.args.formula.now m.learned place v.clause c.partner-other.result is.searching.at.held.sound.clauses v.named v.has in
@@ -98,9 +102,9 @@ rewatch-requires-clause-place c =
     let m = c.args.machine.now in
     let w = c.args.watching.now in
     let x = c.args.falsified in
-    let place = c.watcher_at-place.result in
+    let place = c.watcher_at-watcher.result.place in
     let is = c.requires.visiting in
-    let here : slice_get (list_of w.watchers.items x) c.args.at ≡ Some place = rw (c.deref.ensures.value, to_z-of_z _ _ c.ranges.falsified) at c.watcher_at-place.ensures in
+    let here : slice_get (list_of w.watchers.items x) c.args.at ≡ Some place = place_at (watchers_of w.watchers.items x) c.args.at c.watcher_at-watcher.result (rw (c.deref.ensures.value, to_z-of_z _ _ c.ranges.falsified) at c.watcher_at-watcher.ensures) in
     let gives = rw (to_z-of_z _ _ c.ranges.falsified) at c.partner-other.ensures in
     let v = visited_at c.args.formula.now m.learned m.trail.items w x c.args.at place c.partner-other.result c.index.result.now is.reading.watching here c.index.ensures gives in
     let over = literal_over c.args.formula.now m.learned place v.clause c.partner-other.result is.searching.at.held.sound.clauses v.named v.has in
@@ -112,9 +116,9 @@ rewatch-requires-clause-apart c =
     let m = c.args.machine.now in
     let w = c.args.watching.now in
     let x = c.args.falsified in
-    let place = c.watcher_at-place.result in
+    let place = c.watcher_at-watcher.result.place in
     let is = c.requires.visiting in
-    let here : slice_get (list_of w.watchers.items x) c.args.at ≡ Some place = rw (c.deref.ensures.value, to_z-of_z _ _ c.ranges.falsified) at c.watcher_at-place.ensures in
+    let here : slice_get (list_of w.watchers.items x) c.args.at ≡ Some place = place_at (watchers_of w.watchers.items x) c.args.at c.watcher_at-watcher.result (rw (c.deref.ensures.value, to_z-of_z _ _ c.ranges.falsified) at c.watcher_at-watcher.ensures) in
     let gives = rw (to_z-of_z _ _ c.ranges.falsified) at c.partner-other.ensures in
     let v = visited_at c.args.formula.now m.learned m.trail.items w x c.args.at place c.partner-other.result c.index.result.now is.reading.watching here c.index.ensures gives in
     let over = literal_over c.args.formula.now m.learned place v.clause c.partner-other.result is.searching.at.held.sound.clauses v.named v.has in
@@ -130,9 +134,9 @@ returns-in-Conflict-clause-visit c =
     let m = c.args.machine.now in
     let w = c.args.watching.now in
     let x = c.args.falsified in
-    let place = c.watcher_at-place.result in
+    let place = c.watcher_at-watcher.result.place in
     let is = c.requires.visiting in
-    let here : slice_get (list_of w.watchers.items x) c.args.at ≡ Some place = rw (c.deref.ensures.value, to_z-of_z _ _ c.ranges.falsified) at c.watcher_at-place.ensures in
+    let here : slice_get (list_of w.watchers.items x) c.args.at ≡ Some place = place_at (watchers_of w.watchers.items x) c.args.at c.watcher_at-watcher.result (rw (c.deref.ensures.value, to_z-of_z _ _ c.ranges.falsified) at c.watcher_at-watcher.ensures) in
     let gives = rw (to_z-of_z _ _ c.ranges.falsified) at c.partner-other.ensures in
     let v = visited_at c.args.formula.now m.learned m.trail.items w x c.args.at place c.partner-other.result c.index.result.now is.reading.watching here c.index.ensures gives in
     let over = literal_over c.args.formula.now m.learned place v.clause c.partner-other.result is.searching.at.held.sound.clauses v.named v.has in
@@ -146,9 +150,9 @@ returns-in-Unit-clause-visit c =
     let m = c.args.machine.now in
     let w = c.args.watching.now in
     let x = c.args.falsified in
-    let place = c.watcher_at-place.result in
+    let place = c.watcher_at-watcher.result.place in
     let is = c.requires.visiting in
-    let here : slice_get (list_of w.watchers.items x) c.args.at ≡ Some place = rw (c.deref.ensures.value, to_z-of_z _ _ c.ranges.falsified) at c.watcher_at-place.ensures in
+    let here : slice_get (list_of w.watchers.items x) c.args.at ≡ Some place = place_at (watchers_of w.watchers.items x) c.args.at c.watcher_at-watcher.result (rw (c.deref.ensures.value, to_z-of_z _ _ c.ranges.falsified) at c.watcher_at-watcher.ensures) in
     let gives = rw (to_z-of_z _ _ c.ranges.falsified) at c.partner-other.ensures in
     let v = visited_at c.args.formula.now m.learned m.trail.items w x c.args.at place c.partner-other.result c.index.result.now is.reading.watching here c.index.ensures gives in
     let over = literal_over c.args.formula.now m.learned place v.clause c.partner-other.result is.searching.at.held.sound.clauses v.named v.has in
@@ -164,9 +168,9 @@ returns-in_ok-rewatch-in-Other-clause-visit c =
     let m = c.args.machine.now in
     let w = c.args.watching.now in
     let x = c.args.falsified in
-    let place = c.watcher_at-place.result in
+    let place = c.watcher_at-watcher.result.place in
     let is = c.requires.visiting in
-    let here : slice_get (list_of w.watchers.items x) c.args.at ≡ Some place = rw (c.deref.ensures.value, to_z-of_z _ _ c.ranges.falsified) at c.watcher_at-place.ensures in
+    let here : slice_get (list_of w.watchers.items x) c.args.at ≡ Some place = place_at (watchers_of w.watchers.items x) c.args.at c.watcher_at-watcher.result (rw (c.deref.ensures.value, to_z-of_z _ _ c.ranges.falsified) at c.watcher_at-watcher.ensures) in
     let gives = rw (to_z-of_z _ _ c.ranges.falsified) at c.partner-other.ensures in
     let v = visited_at c.args.formula.now m.learned m.trail.items w x c.args.at place c.partner-other.result c.index.result.now is.reading.watching here c.index.ensures gives in
     let over = literal_over c.args.formula.now m.learned place v.clause c.partner-other.result is.searching.at.held.sound.clauses v.named v.has in
@@ -178,3 +182,36 @@ returns-in_ok-rewatch-in-Other-clause-visit c =
     let rewatched = rw (to_z-of_z _ _ c.ranges.falsified, own, to_z-of_z _ _ fits, v.is) at c.in_ok-rewatch-in-Other.ensures in
     let apart = rw v.is at told.2 in
     (visiting_moved c.args.formula.now c.args.budget m w c.rewatch.new.watching x c.args.at place v.clause v.pair y is here v.named v.paired told.0 free apart rewatched, rewatched.shorter)
+
+pub returns-then-is_marked-clause-visit : goal.returns-then-is_marked-clause-visit
+returns-then-is_marked-clause-visit c =
+    let m = c.args.machine.now in
+    let w = c.args.watching.now in
+    let watcher = c.watcher_at-watcher.result in
+    let is = c.requires.visiting in
+    let at = rw (c.deref.ensures.value, to_z-of_z _ _ c.ranges.falsified) at c.watcher_at-watcher.ensures in
+    let told = visiting_blocked c.args.formula.now c.args.budget m w c.args.falsified c.args.at watcher is at in
+    let fits = literal_fits watcher.blocker (literal-over c.args.formula.now.variables watcher.blocker c.requires.small told.0).1 in
+    let shows : marked ByKey m.values.items watcher.blocker ≡ true = rw (c.deref-2.ensures.value, to_z-of_z _ _ fits) at (sym c.if-is_marked.ensures) in
+    (told.1 (sym (is.searching.at.held.values watcher.blocker) ∙ shows), refl)
+
+pub rewatch-requires-clause-here : goal.rewatch-requires-clause-here
+rewatch-requires-clause-here c =
+    let w = c.args.watching.now in
+    let here : slice_get (list_of w.watchers.items c.args.falsified) c.args.at ≡ Some c.watcher_at-watcher.result.place =
+    place_at (watchers_of w.watchers.items c.args.falsified) c.args.at c.watcher_at-watcher.result (rw (c.deref.ensures.value, to_z-of_z _ _ c.ranges.falsified) at c.watcher_at-watcher.ensures) in
+    rw (to_z-of_z _ _ c.ranges.falsified) here
+
+pub returns-in-Satisfied-clause-visit : goal.returns-in-Satisfied-clause-visit
+returns-in-Satisfied-clause-visit c =
+    let m = c.args.machine.now in
+    let w = c.args.watching.now in
+    let x = c.args.falsified in
+    let place = c.watcher_at-watcher.result.place in
+    let is = c.requires.visiting in
+    let here : slice_get (list_of w.watchers.items x) c.args.at ≡ Some place = place_at (watchers_of w.watchers.items x) c.args.at c.watcher_at-watcher.result (rw (c.deref.ensures.value, to_z-of_z _ _ c.ranges.falsified) at c.watcher_at-watcher.ensures) in
+    let gives = rw (to_z-of_z _ _ c.ranges.falsified) at c.partner-other.ensures in
+    let v = visited_at c.args.formula.now m.learned m.trail.items w x c.args.at place c.partner-other.result c.index.result.now is.reading.watching here c.index.ensures gives in
+    let told = rw v.named at c.in-Satisfied.ensures in
+    let own : is_satisfied m.trail.items v.clause ≡ true = shown c.args.formula.now m (λ set. list_any set v.clause ≡ true) is.searching.at.held told in
+    (visiting_satisfied c.args.formula.now c.args.budget m w x c.args.at place v.clause is here v.named own, refl)

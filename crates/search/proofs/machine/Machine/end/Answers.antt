@@ -1,8 +1,8 @@
 use Rattle.std.proofs.Common.{◌≡◌, []}
 use Rattle.cnf.specs.Checks.{IsRight}
 use Rattle.search.specs.Machine.{EndsAsModel, clauses_of}
-use Rattle.search.specs.Nexts.{state_of}
-use Rattle.search.proofs.TurnLaws.{model_ends, refuted_ends}
+use Rattle.search.specs.Nexts.{IsNext, state_of}
+use Rattle.search.proofs.TurnLaws.{model_ends, refuted_ends, spent_ends}
 use Rattle.search.proofs.machine.Machine.end.Goals as goal
 
 pub returns-in_ok-values-in-Model : goal.returns-in_ok-values-in-Model
@@ -16,3 +16,8 @@ returns-in_ok-refutation-in-Refuted c =
     let is : IsRight (clauses_of c.args.formula.now (state_of c.args.self.trail.items c.args.self.learned)) c.in-Refuted.line × (c.in-Refuted.line.clause ≡ []) =
     rw c.in-Refuted.is at c.in_ok-next.ensures in
     refuted_ends c.args.formula.now c.args.self c.in-Refuted.line c.in_ok-refutation-in-Refuted.field-0 c.requires.at is.0 is.1 c.in_ok-refutation-in-Refuted.ensures
+
+pub returns-in_ok-history-in_default : goal.returns-in_ok-history-in_default
+returns-in_ok-history-in_default c =
+    let is : IsNext c.args.formula.now (state_of c.args.self.trail.items c.args.self.learned) c.in_ok-next.next = rw c.deref.ensures.value at c.in_ok-next.ensures in
+    spent_ends c.args.formula.now c.args.self c.in_ok-next.next c.in_ok-history-in_default.history.moves c.requires.at is c.in_default.not-Model c.in_default.not-Refuted c.in_ok-history-in_default.ensures

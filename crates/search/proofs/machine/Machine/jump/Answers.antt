@@ -64,6 +64,5 @@ returns-clause-at c =
     let keeps = c.in_ok-list_entries.ensures.keeps in
     let again = rw c.deref.ensures.value at c.in_ok-list_entries.ensures.listed in
     let listed = listed_behind n m.trail.items c.args.cut m.order.heap.items c.list_entries.new.order.heap.items c.requires.at.held.sound.kept.distinct keeps again c.requires.at.held.listed in
-    let clone : c.in_ok-try_clone.field-0 ≡ c.args.line = c.in_ok-try_clone.ensures in
     jump_steps c.args.formula.now m c.cut_before.new.self c.put.new.self _ c.list_entries.new.order c.push.new.self c.args.line c.args.cut _ c.args.literal c.requires.at c.requires.over c.requires.allowed counted (omega (arith, c.if-number-ge4294967296.false))
-    c.in_ok-push.ensures.ok c.cut_before.ensures.trail c.cut_before.ensures.values c.cut_before.ensures.places c.cut_before.ensures.order (λ x over free. keeps _ (c.requires.at.held.listed x over free)) listed c.cut_before.ensures.same is.trail is.values is.places is.order is.same refl refl refl refl refl refl (rw clone at c.in_ok-push-2.ensures.items)
+    c.in_ok-push.ensures.ok c.cut_before.ensures.trail c.cut_before.ensures.values c.cut_before.ensures.places c.cut_before.ensures.order (λ x over free. keeps _ (c.requires.at.held.listed x over free)) listed c.cut_before.ensures.same is.trail is.values is.places is.order is.same refl refl refl refl refl refl c.in_ok-push-2.ensures.items

@@ -1,0 +1,56 @@
+// The history of a search, of its steps and the lines that it learned.
+ghost use Rattle.std.specs.Prelude.{◌≡◌, ◌+◌, ◌++◌, ◌∷◌, [], IfNone, IfOk, IfSome, length};
+ghost use Rattle.search.specs.Steps.{jump_count, move_of, moves_of};
+
+use crate::moves::{History, Move, Step};
+use cnf::DerivationLine;
+use containers::Vector;
+use std::alloc::{AllocError, Global};
+
+// The move of a step that isn't a jump.
+fn plain_move(step: &Step) -> Option<Move>
+    ensures { result ≡ move_of step.now }
+{
+    match step {
+        Step::Propagate { clause } => Some(Move::Propagate { clause: *clause }),
+        Step::Decide { literal } => Some(Move::Decide { literal: *literal }),
+        Step::Jump { .. } => None,
+    }
+}
+
+// Takes the last step away, with its line where it is a jump.
+fn last_move(steps: &mut Vec<Step>, lines: &mut Vector<DerivationLine>) -> Option<Move>
+    requires { jump_count steps.old.items ≡ length lines.old }
+    ensures none { IfNone result ((steps.old.items ≡ []) × (lines.new ≡ lines.old)) }
+    ensures some { IfSome result (λ last. (jump_count steps.new.items ≡ length lines.new) × (moves_of steps.old.items lines.old ≡ moves_of steps.new.items lines.new ++ last ∷ []) × (length steps.new.items + 1 ≡ length steps.old.items)) }
+{
+    let step = steps.pop()?;
+    match step {
+        Step::Jump { cut } => match lines.pop() {
+            Some(line) => Some(Move::Jump { line, cut }),
+            None => unreachable!(),
+        },
+        _ => plain_move(&step),
+    }
+}
+
+/// The moves of these steps, whose jumps learned these lines in turn.
+pub(crate) fn history_of(
+    alloc: Global,
+    steps: Vec<Step>,
+    lines: Vector<DerivationLine>,
+) -> Result<History, AllocError>
+    requires { jump_count steps.items ≡ length lines }
+    ensures { IfOk result (λ history. history.moves ≡ moves_of steps.items lines) }
+{
+    let mut steps = steps;
+    let mut lines = lines;
+    let mut moves = Vec::new(alloc);
+    while let Some(last) = last_move(&mut steps, &mut lines) {
+        moves.push(last)?;
+    }
+    moves.reverse();
+    Ok(History {
+        moves: Vector::from_vec(moves),
+    })
+}
