@@ -1,9 +1,9 @@
 -- The values of words: constants, and what a kind has of a word.
-use Rattle.std.proofs.Common.{◌≡◌, ℕ, ◌+◌, ◌-◌, ◌%◌, ◌^◌, ◌<◌, ◌≤◌, Bool, true, false, not, cond, List, [], length, set, pos, refl, sym, subst, ap, ◌∙◌, below_more, ⊎_elim, arith}
+use Rattle.std.proofs.Common.{◌≡◌, ℕ, ◌+◌, ◌-◌, ◌%◌, ◌^◌, ◌<◌, ◌≤◌, Bool, true, false, not, cond, List, [], length, set, take, pos, refl, sym, subst, ap, ◌∙◌, below_more, ⊎_elim, arith}
 use Rattle.std.specs.Prelude.{All}
 use Rattle.std.specs.Int.{bit_at}
 use Rattle.std.proofs.lemmas.Bool.{cases_lt}
-use Rattle.std.proofs.lemmas.List.{length-set}
+use Rattle.std.proofs.lemmas.List.{length-set, take-set-le}
 use Rattle.std.proofs.lemmas.List.Elements.{All-set}
 use Rattle.circuit.specs.Truth.{World}
 use Rattle.circuit.specs.Wires.{IsWire, lit_holds}
@@ -66,6 +66,7 @@ wrapped-value kind v h =
 
 pub record ExtendedSoFar (word : List Lit) (width : ℕ) (top : Lit) (bits : List Lit) (i : ℕ) : Type 0 where
   pub size : length bits ≡ 64
+  pub own : take width bits ≡ take width word
   pub wires : (gates : List Gate) → All (IsWire gates) word → IsWire gates top → All (IsWire gates) bits
   pub low : (gates : List Gate) (w : World) (k : ℕ) → k < width → bit_of gates bits w k ≡ bit_of gates word w k
   pub high : (gates : List Gate) (w : World) (k : ℕ) → k < i → width ≤ k → bit_of gates bits w k ≡ lit_holds gates top w
@@ -73,6 +74,7 @@ pub record ExtendedSoFar (word : List Lit) (width : ℕ) (top : Lit) (bits : Lis
 pub extended_none : (word : List Lit) (width : ℕ) (top : Lit) → length word ≡ 64 → ExtendedSoFar word width top word width
 extended_none word width top s = record {
   size = s;
+  own = refl;
   wires = λ gates h t. h;
   low = λ gates w k lt. refl;
   high = λ gates w k lt le. absurd (omega arith);
@@ -83,6 +85,7 @@ extended_more {word} {width} {top} {bits} {i} r le lt small =
     let size = r.size in
     record {
       size = length-set bits i top ∙ size;
+      own = take-set-le width bits i top le ∙ r.own;
       wires = λ gates h t. All-set (IsWire gates) bits i top t (r.wires gates h t);
       low = λ gates w k h. bit_of-set_other gates bits w i k top (omega arith) (omega arith) ∙ r.low gates w k h;
       high = λ gates w. below_more (λ k. width ≤ k → bit_of gates (set bits i top) w k ≡ lit_holds gates top w) i

@@ -1,4 +1,4 @@
-ghost use Rattle.std.specs.Prelude.{◌≡◌, ℕ, ◌-◌, ◌<◌, All, List, false, if◌then◌else◌, length, pos};
+ghost use Rattle.std.specs.Prelude.{◌≡◌, ℕ, ◌-◌, ◌<◌, All, List, false, if◌then◌else◌, length, pos, take};
 ghost use Rattle.std.specs.Int.{bit_at};
 ghost use Rattle.circuit.specs.Truth.{World};
 ghost use Rattle.circuit.specs.Wires.{IsWire, lit_holds};
@@ -55,10 +55,11 @@ pub fn convert(word: &Word, from: Kind, to: Kind) -> Word
     extended(word, to)
 }
 
-/// What a kind has of a word of any pattern: its lowest bits, with the highest of them above or, in a kind without sign,
-/// no.
+/// What a kind has of a word of any pattern: its lowest bits, the same literals, with the highest of them above or, in a
+/// kind without sign, no.
 pub fn extended(word: &Word, kind: Kind) -> Word
     requires { IsKind kind }
+    ensures own { take kind.width result ≡ take kind.width word.now }
     ensures word { (gates : List Gate) → All (IsWire gates) word.now → IsWord gates kind result }
     ensures value { (gates : List Gate) (w : World) → word_value gates result w ≡ wrapped kind (pos (word_value gates word.now w)) }
 {

@@ -140,6 +140,7 @@ one_way_step parts old new answers s next at e moves traps t there ways_are trap
           (tells w input).only (leads w input agrees);
       keeps = each (λ k way. IsSomeAnd (slice_get parts.edges way.edge) (λ e. (w : World) → IsState parts (state_after new t e.target w))) (given (λ (e : Edge). (w : World) → IsState parts (state_after new t e.target w)) (slice_get parts.edges at) e there keeps);
       frames = each (λ k way. IsSomeAnd (slice_get parts.edges way.edge) (λ e. (w : World) → t.frames ≡ frames_next (state_in old s w) way.edge e.operation)) (given (λ (e : Edge). (w : World) → t.frames ≡ frames_next (state_in old s w) at e.operation) (slice_get parts.edges at) e there frames);
+      few = subst (λ (ws : List Way). length ws ≤ 2) (sym ways_are) (omega arith);
       cells = cells;
       wires = each (λ k way. IsWire new way.taken) wire;
       trap_wire = subst (IsWire new) (sym traps_are) trap_wire;
@@ -439,6 +440,7 @@ ended_step parts gates answers s next t none no_trap wires stops =
       leads = λ w input agrees. stops_leads (next input (state_in gates s w)) t.returns (λ at to. IsSomeAnd (slice_get parts.edges at) (λ e. to ≡ state_after gates t e.target w)) (stops w input);
       keeps = no (λ k way. IsSomeAnd (slice_get parts.edges way.edge) (λ e. (w : World) → IsState parts (state_after gates t e.target w)));
       frames = no (λ k way. IsSomeAnd (slice_get parts.edges way.edge) (λ e. (w : World) → t.frames ≡ frames_next (state_in gates s w) way.edge e.operation));
+      few = subst (λ (ws : List Way). length ws ≤ 2) (sym none) (omega arith);
       cells = wires;
       wires = no (λ k way. IsWire gates way.taken);
       trap_wire = subst (IsWire gates) (sym no_trap) (omega arith);
@@ -668,6 +670,7 @@ module _ (parts : GraphParts) (gates new : List Gate) (s : SymState) (yes_at no_
         frames = each_two (λ k way. IsSomeAnd (slice_get parts.edges way.edge) (λ e. (w : World) → t.frames ≡ frames_next (state_in gates s w) way.edge e.operation)) (way_of yes_at first) (way_of no_at second)
             (given (λ (e : Edge). (w : World) → t.frames ≡ frames_next (state_in gates s w) yes_at e.operation) (slice_get parts.edges yes_at) yes_edge.0 yes_edge.1 (λ w. ap (frames_next (state_in gates s w) yes_at) (sym yes_edge.2.1)))
             (given (λ (e : Edge). (w : World) → t.frames ≡ frames_next (state_in gates s w) no_at e.operation) (slice_get parts.edges no_at) no_edge.0 no_edge.1 (λ w. ap (frames_next (state_in gates s w) no_at) (sym no_edge.2.1)));
+        few = omega arith;
         cells = wires;
         wires = each_two (λ k way. IsWire new way.taken) (way_of yes_at first) (way_of no_at second) yes_wire no_wire;
         trap_wire = trap_wire;
@@ -681,6 +684,7 @@ same_step parts old new answers s n m t e k = record {
   leads = λ w input agrees. subst (LeadsTo parts new t w) (e w input) (k.leads w input agrees);
   keeps = k.keeps;
   frames = k.frames;
+  few = k.few;
   cells = k.cells;
   wires = k.wires;
   trap_wire = k.trap_wire;

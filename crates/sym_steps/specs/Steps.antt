@@ -1,5 +1,5 @@
 -- Symbolic states, and what a step tells in each world of what comes next there.
-use Rattle.std.specs.Prelude.{◌≡◌, ℕ, ◌-◌, ◌==◌, Bool, true, false, List, [], ◌∷◌, ◌++◌, All, length, map, take, None, unwrap_or, slice_get, slice_index}
+use Rattle.std.specs.Prelude.{◌≡◌, ℕ, ◌-◌, ◌≤◌, ◌==◌, Bool, true, false, List, [], ◌∷◌, ◌++◌, All, length, map, take, None, unwrap_or, slice_get, slice_index}
 use Rattle.std.specs.Option.{IsSomeAnd}
 use Rattle.circuit.specs.Truth.{World}
 use Rattle.circuit.specs.Wires.{IsWire, lit_holds}
@@ -103,6 +103,7 @@ pub record IsStep (parts : GraphParts) (old new : List Gate) (answers : List (Li
   -- each way leads to states of the graph, also in the worlds where it isn't taken, with the same frames in all
   pub keeps : Each t.ways (λ k way. IsSomeAnd (slice_get parts.edges way.edge) (λ e. (w : World) → IsState parts (state_after new t e.target w)))
   pub frames : Each t.ways (λ k way. IsSomeAnd (slice_get parts.edges way.edge) (λ e. (w : World) → t.frames ≡ frames_next (state_in old s w) way.edge e.operation))
+  pub few : length t.ways ≤ 2
   pub cells : All (All (IsWire new)) t.store.cells
   pub wires : Each t.ways (λ k way. IsWire new way.taken)
   pub trap_wire : IsWire new t.traps

@@ -1,0 +1,4 @@
+pub mod Worlds
+pub mod Inputs
+pub mod Laws
+pub mod Parts

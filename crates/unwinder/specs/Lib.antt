@@ -1,0 +1,9 @@
+pub mod Frames
+pub mod Lists
+pub mod Agenda
+pub mod Unwinding
+pub mod Meeting
+pub mod Onward
+pub mod Place
+pub mod Putting
+pub mod Progress

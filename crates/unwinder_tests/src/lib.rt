@@ -1,0 +1,5 @@
+//! The tests of `unwinder`, in a crate of their own so that `unwinder` is proved once.
+#![tactic(auto)]
+
+#[cfg(test)]
+mod tests;
