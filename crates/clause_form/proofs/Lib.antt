@@ -1,0 +1,5 @@
+pub mod ClauseLaws
+pub mod ConeLaws
+pub mod NumberLaws
+pub mod TruthLaws
+pub mod WorldLaws

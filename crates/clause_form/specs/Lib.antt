@@ -1,0 +1,4 @@
+pub mod Cone
+pub mod Encoding
+pub mod Worlds
+pub mod Parts

@@ -1,0 +1,5 @@
+//! Tests of `clause_form`.
+#![tactic(auto)]
+
+#[cfg(test)]
+mod tests;
