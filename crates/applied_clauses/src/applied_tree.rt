@@ -4,7 +4,7 @@ use fq_core::Name;
 use patterns::NumberSet;
 
 /// An expression of a clause, with what its letters stand for. An arrow `A -> B` is `A."ID*".B` here.
-#[derive(Debug, Drop)]
+#[derive(Drop)]
 pub enum AppliedTree {
     /// `NODES`: these nodes, told apart by the predicates of these numbers, the innermost of `PRED` first.
     Nodes(NumberSet, Vector<u32>),

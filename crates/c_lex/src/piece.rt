@@ -19,7 +19,7 @@ pub struct Allowed {
 }
 
 /// A piece of a text by the byte at which it begins, from 0, and its length in bytes, or what stops the cutting.
-#[derive(Clone, Copy, Debug)]
+#[derive(Clone, Copy)]
 pub enum Piece {
     /// A blank or a comment.
     Gap(usize, usize),

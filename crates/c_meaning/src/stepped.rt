@@ -2,7 +2,7 @@
 use cfa::{State, Trap};
 
 /// What comes next in a state.
-#[derive(Debug, Drop)]
+#[derive(Drop)]
 pub enum Stepped {
     /// The run takes an edge, by its number, and goes on in a state.
     Moved { edge: u32, state: State },

@@ -15,7 +15,6 @@ pub struct Ident {
 
 /// An expression (ISO/IEC 9899:2011, 6.5). Parentheses leave no trace.
 #[cycle(expr)]
-#[derive(Debug)]
 pub struct ExprTree {
     /// The span of its first token, parentheses round the whole expression left out.
     pub span: Span,
@@ -24,7 +23,7 @@ pub struct ExprTree {
 
 /// What an expression is made of.
 #[cycle(expr)]
-#[derive(Debug, Drop)]
+#[derive(Drop)]
 pub enum ExprForm {
     /// A constant, with its value and its kind (6.4.4).
     Number(u64, Kind),

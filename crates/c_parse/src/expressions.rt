@@ -195,7 +195,7 @@ fn operation(
 }
 
 /// A choice of which the third operand is still to be read.
-#[derive(Debug, Drop)]
+#[derive(Drop)]
 pub struct OpenChoice {
     pub span: Span,
     pub test: Boxed<ExprTree>,

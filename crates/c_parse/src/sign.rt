@@ -9,7 +9,7 @@ use fq_core::{Memory, Name, Span};
 use std::alloc::Global;
 
 /// The special symbols of the grammar: its punctuators (6.4.6) and keywords (6.4.1), `assert` and `assume` among them.
-#[derive(Clone, Copy, Debug, PartialEq, Eq)]
+#[derive(Clone, Copy, PartialEq, Eq)]
 pub enum Symbol {
     Open,
     Close,
@@ -96,7 +96,7 @@ pub enum TypeWord {
 }
 
 /// What the grammar calls a token.
-#[derive(Debug, Drop)]
+#[derive(Drop)]
 pub enum Sign {
     Number(u64, Kind),
     Name(Name),
@@ -109,7 +109,7 @@ pub enum Sign {
 }
 
 /// A terminal of the grammar: what a token is to it, and where it stands.
-#[derive(Debug, Drop)]
+#[derive(Drop)]
 pub struct Terminal {
     pub sign: Sign,
     pub span: Span,

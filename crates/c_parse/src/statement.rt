@@ -5,21 +5,21 @@ use containers::{Boxed, Vector};
 use fq_core::Span;
 
 /// What is assigned to: a variable, or an element of an array by its index.
-#[derive(Debug, Drop)]
+#[derive(Drop)]
 pub struct PlaceTree {
     pub name: Ident,
     pub index: Option<ExprTree>,
 }
 
 /// What a declared variable or array begins as (6.7.9).
-#[derive(Debug, Drop)]
+#[derive(Drop)]
 pub enum Initial {
     One(ExprTree),
     List(Vector<ExprTree>),
 }
 
 /// A declared name, the length of an array, and what it begins as (6.7.6).
-#[derive(Debug, Drop)]
+#[derive(Drop)]
 pub struct Declarator {
     pub name: Ident,
     pub length: Option<ExprTree>,
@@ -27,7 +27,7 @@ pub struct Declarator {
 }
 
 /// A `case` with its value, or `default` where there is none (6.8.1).
-#[derive(Debug, Drop)]
+#[derive(Drop)]
 pub struct CaseLabel {
     /// The span of the word `case` or `default`.
     pub span: Span,
@@ -36,7 +36,7 @@ pub struct CaseLabel {
 
 /// The labels of a `switch` that stand in a row, and the statements after them.
 #[cycle(statement)]
-#[derive(Debug, Drop)]
+#[derive(Drop)]
 pub struct Group {
     pub labels: Vector<CaseLabel>,
     pub body: Vector<Statement>,
@@ -44,7 +44,6 @@ pub struct Group {
 
 /// A statement or a declaration in a block (6.8, 6.7).
 #[cycle(statement)]
-#[derive(Debug)]
 pub struct Statement {
     /// The span of its first token.
     pub span: Span,
@@ -53,7 +52,7 @@ pub struct Statement {
 
 /// What a statement is made of.
 #[cycle(statement)]
-#[derive(Debug, Drop)]
+#[derive(Drop)]
 pub enum Form {
     Block(Vector<Statement>),
     Empty,

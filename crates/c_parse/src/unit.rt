@@ -6,13 +6,13 @@ use containers::Vector;
 use fq_core::Span;
 
 /// A translation unit (6.9).
-#[derive(Debug, Drop)]
+#[derive(Drop)]
 pub struct Unit {
     pub items: Vector<Item>,
 }
 
 /// A function, or a declaration outside of all functions.
-#[derive(Debug, Drop)]
+#[derive(Drop)]
 pub enum Item {
     /// A function that is declared or defined (6.9.1). No result is `void`.
     Function {
@@ -35,7 +35,7 @@ pub enum Item {
 }
 
 /// A parameter of a function; it is an array where it has a length.
-#[derive(Debug, Drop)]
+#[derive(Drop)]
 pub struct Parameter {
     pub span: Span,
     pub kind: Kind,
@@ -44,7 +44,7 @@ pub struct Parameter {
 }
 
 /// The block of a defined function, with the span of its closing brace.
-#[derive(Debug, Drop)]
+#[derive(Drop)]
 pub struct Body {
     pub statements: Vector<Statement>,
     pub close: Span,

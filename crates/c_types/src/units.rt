@@ -13,7 +13,7 @@ use std::alloc::{AllocError, Global};
 use typed_trees::{Global as GlobalVariable, TypedFunction};
 
 /// What the items of a unit are.
-#[derive(Debug, Drop)]
+#[derive(Drop)]
 pub struct Parts {
     pub globals: Vector<GlobalVariable>,
     pub functions: Vector<TypedFunction>,

@@ -2,21 +2,24 @@
 mod tables;
 
 use c_values::*;
+use std::fmt::Debug;
+use std::process::Abort;
 use tables::{
     BITS, COMMON, COMPARISONS, CONVERSIONS, DIFFERENCES, PRODUCTS, PROMOTIONS, QUOTIENTS, SHIFTS,
     SUMS, UNARY,
 };
+
+/// Ends the test where two values differ. It is a function, since an `assert_eq!` in each place takes long to prove.
+fn same<T: PartialEq + Debug + Copy>(rt: &impl Abort, got: T, want: T) {
+    assert_eq!(rt; got, want);
+}
 
 #[test]
 fn sums(rt: HostRuntime) {
     for &(kind, a, b, want) in &SUMS {
         let (a, b) = (a.cast_unsigned(), b.cast_unsigned());
         assert!(rt; is_value(a, kind) && is_value(b, kind));
-        assert_eq!(rt;
-            add(a, b, kind).cast_signed(),
-            want,
-            "{a} + {b} in {kind:?}"
-        );
+        same(&rt, add(a, b, kind).cast_signed(), want);
     }
 }
 
@@ -25,11 +28,7 @@ fn differences(rt: HostRuntime) {
     for &(kind, a, b, want) in &DIFFERENCES {
         let (a, b) = (a.cast_unsigned(), b.cast_unsigned());
         assert!(rt; is_value(a, kind) && is_value(b, kind));
-        assert_eq!(rt;
-            sub(a, b, kind).cast_signed(),
-            want,
-            "{a} - {b} in {kind:?}"
-        );
+        same(&rt, sub(a, b, kind).cast_signed(), want);
     }
 }
 
@@ -38,11 +37,7 @@ fn products(rt: HostRuntime) {
     for &(kind, a, b, want) in &PRODUCTS {
         let (a, b) = (a.cast_unsigned(), b.cast_unsigned());
         assert!(rt; is_value(a, kind) && is_value(b, kind));
-        assert_eq!(rt;
-            mul(a, b, kind).cast_signed(),
-            want,
-            "{a} * {b} in {kind:?}"
-        );
+        same(&rt, mul(a, b, kind).cast_signed(), want);
     }
 }
 
@@ -51,21 +46,9 @@ fn bits(rt: HostRuntime) {
     for &(kind, a, b, want) in &BITS {
         let (a, b) = (a.cast_unsigned(), b.cast_unsigned());
         assert!(rt; is_value(a, kind) && is_value(b, kind));
-        assert_eq!(rt;
-            and(a, b, kind).cast_signed(),
-            want[0],
-            "{a} & {b} in {kind:?}"
-        );
-        assert_eq!(rt;
-            or(a, b, kind).cast_signed(),
-            want[1],
-            "{a} | {b} in {kind:?}"
-        );
-        assert_eq!(rt;
-            xor(a, b, kind).cast_signed(),
-            want[2],
-            "{a} ^ {b} in {kind:?}"
-        );
+        same(&rt, and(a, b, kind).cast_signed(), want[0]);
+        same(&rt, or(a, b, kind).cast_signed(), want[1]);
+        same(&rt, xor(a, b, kind).cast_signed(), want[2]);
     }
 }
 
@@ -74,10 +57,10 @@ fn negatives_and_complements(rt: HostRuntime) {
     for &(kind, a, want) in &UNARY {
         let a = a.cast_unsigned();
         assert!(rt; is_value(a, kind));
-        assert_eq!(rt; neg(a, kind).cast_signed(), want[0], "-{a} in {kind:?}");
-        assert_eq!(rt; not(a, kind).cast_signed(), want[1], "~{a} in {kind:?}");
+        same(&rt, neg(a, kind).cast_signed(), want[0]);
+        same(&rt, not(a, kind).cast_signed(), want[1]);
         let is_zero = unary_value(UnaryOp::Not, a, kind);
-        assert_eq!(rt; is_zero, u64::from(a == 0), "!{a} in {kind:?}");
+        same(&rt, is_zero, u64::from(a == 0));
     }
 }
 
@@ -86,8 +69,8 @@ fn comparisons(rt: HostRuntime) {
     for &(kind, a, b, want) in &COMPARISONS {
         let (a, b) = (a.cast_unsigned(), b.cast_unsigned());
         assert!(rt; is_value(a, kind) && is_value(b, kind));
-        assert_eq!(rt; less(a, b, kind), want[0], "{a} < {b} in {kind:?}");
-        assert_eq!(rt; equal(a, b, kind), want[1], "{a} == {b} in {kind:?}");
+        same(&rt, less(a, b, kind), want[0]);
+        same(&rt, equal(a, b, kind), want[1]);
     }
 }
 
@@ -97,14 +80,10 @@ fn quotients_and_remainders(rt: HostRuntime) {
         let (a, b) = (a.cast_unsigned(), b.cast_unsigned());
         assert!(rt; is_value(a, kind) && is_value(b, kind));
         let quotient = div(a, b, kind).map(|value| value.cast_signed());
-        assert_eq!(rt; quotient, want.map(|both| both.0), "{a} / {b} in {kind:?}");
+        same(&rt, quotient, want.map(|both| both.0));
         let remainder = rem(a, b, kind).map(|value| value.cast_signed());
-        assert_eq!(rt; remainder, want.map(|both| both.1), "{a} % {b} in {kind:?}");
-        assert_eq!(rt;
-            has_quotient(a, b, kind),
-            want.is_some(),
-            "{a} / {b} in {kind:?}"
-        );
+        same(&rt, remainder, want.map(|both| both.1));
+        same(&rt, has_quotient(a, b, kind), want.is_some());
     }
 }
 
@@ -114,17 +93,9 @@ fn shifts(rt: HostRuntime) {
         let (a, amount) = (a.cast_unsigned(), amount.cast_unsigned());
         assert!(rt; is_value(a, kind) && is_value(amount, amount_kind));
         let left = shl(a, kind, amount, amount_kind).map(|value| value.cast_signed());
-        assert_eq!(rt;
-            left,
-            want.map(|both| both.0),
-            "{a} << {amount} in {kind:?}"
-        );
+        same(&rt, left, want.map(|both| both.0));
         let right = shr(a, kind, amount, amount_kind).map(|value| value.cast_signed());
-        assert_eq!(rt;
-            right,
-            want.map(|both| both.1),
-            "{a} >> {amount} in {kind:?}"
-        );
+        same(&rt, right, want.map(|both| both.1));
     }
 }
 
@@ -133,11 +104,7 @@ fn conversions(rt: HostRuntime) {
     for &(from, to, value, want) in &CONVERSIONS {
         let value = value.cast_unsigned();
         assert!(rt; is_value(value, from) && is_kind(to));
-        assert_eq!(rt;
-            convert(value, from, to).cast_signed(),
-            want,
-            "{value} from {from:?} to {to:?}"
-        );
+        same(&rt, convert(value, from, to).cast_signed(), want);
     }
 }
 
@@ -145,11 +112,11 @@ fn conversions(rt: HostRuntime) {
 fn kinds_of_operators(rt: HostRuntime) {
     for &(kind, want) in &PROMOTIONS {
         assert!(rt; is_kind(kind));
-        assert_eq!(rt; promoted(kind), want, "{kind:?}");
+        same(&rt, promoted(kind), want);
     }
     for &(a, b, want) in &COMMON {
         assert!(rt; is_kind(a) && is_kind(b));
-        assert_eq!(rt; common(a, b), want, "{a:?} and {b:?}");
+        same(&rt, common(a, b), want);
     }
 }
 
@@ -188,7 +155,7 @@ fn operators_in_int(rt: HostRuntime) {
         let (a, b) = (a.cast_unsigned(), b.cast_unsigned());
         assert!(rt; is_value(a, int) && is_value(b, int));
         let got = binary_value(op, a, int, b, int).map(|value| value.cast_signed());
-        assert_eq!(rt; got, want, "{op:?} of {a} and {b}");
+        same(&rt, got, want);
     }
 }
 
@@ -208,7 +175,7 @@ static VALUES: [(u64, Kind, bool); 9] = [
 #[test]
 fn values(rt: HostRuntime) {
     for &(pattern, kind, want) in &VALUES {
-        assert_eq!(rt; is_value(pattern, kind), want, "{pattern} in {kind:?}");
+        same(&rt, is_value(pattern, kind), want);
     }
     for width in 0..100 {
         let kind = Kind {
@@ -216,7 +183,7 @@ fn values(rt: HostRuntime) {
             signed: true,
         };
         let want = width == 8 || width == 16 || width == 32 || width == 64;
-        assert_eq!(rt; is_kind(kind), want, "{width} bits");
+        same(&rt, is_kind(kind), want);
         assert!(rt; want || !is_value(0, kind), "{width} bits");
     }
 }

@@ -19,7 +19,7 @@ pub enum ArrayPlace {
 
 /// A cell of the store.
 #[cycle(expr)]
-#[derive(Debug, Drop)]
+#[derive(Drop)]
 pub enum CellPlace {
     /// By its place among the globals, from 0.
     Global(u32),
@@ -35,7 +35,6 @@ pub enum CellPlace {
 
 /// An expression that is evaluated in one state and changes none.
 #[cycle(expr)]
-#[derive(Debug, Drop)]
 pub enum Expr {
     /// A value of a kind, as `c_values` keeps it.
     Constant(u64, Kind),
@@ -48,6 +47,20 @@ pub enum Expr {
     /// An operator on two operands of the kind; the right operand of a shift has a kind of its own. A comparison
     /// gives int, the others the kind (6.5.5 to 6.5.12).
     Binary(BinaryOp, Boxed<Expr>, Boxed<Expr>, Kind),
+}
+
+// A function of its own, so that what holds expressions doesn't drop each form in place.
+impl Drop for Expr {
+    #[cycle(expr_drop)]
+    fn drop(self) {
+        match self {
+            Expr::Constant(_, _) => {}
+            Expr::Load(_place, _) => {}
+            Expr::Convert(_operand, _) => {}
+            Expr::Unary(_, _operand, _) => {}
+            Expr::Binary(_, _left, _right, _) => {}
+        }
+    }
 }
 
 impl Expr {

@@ -24,7 +24,7 @@ use std::marker::Model;
 const MOST_GLOBALS: usize = 16384;
 
 /// A control flow automaton: parts that meet their rules.
-#[derive(Debug, Drop)]
+#[derive(Drop)]
 pub struct Graph {
     parts: GraphParts,
     /// By node, the numbers of the edges that leave it.

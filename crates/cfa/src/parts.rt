@@ -6,7 +6,6 @@ use containers::Vector;
 use fq_core::{Name, Span, StatementKind};
 
 /// What is done along an edge.
-#[derive(Debug, Drop)]
 pub enum Operation {
     Skip,
     /// Puts a value into a cell (ISO/IEC 9899:2011, 6.5.16.1).
@@ -45,6 +44,42 @@ pub enum Operation {
     Assume(Expr),
 }
 
+// A function of its own, so that what holds operations doesn't drop each in place.
+impl Drop for Operation {
+    fn drop(self) {
+        match self {
+            Operation::Skip => {}
+            Operation::Assign {
+                place: _place,
+                value: _value,
+            } => {}
+            Operation::Clear {
+                array: _,
+                length: _,
+            } => {}
+            Operation::Guard {
+                test: _test,
+                truth: _,
+            } => {}
+            Operation::Call {
+                callee: _,
+                words: _words,
+                arrays: _arrays,
+            } => {}
+            Operation::Return {
+                call: _,
+                dest: _dest,
+            } => {}
+            Operation::Answer {
+                input: _,
+                dest: _dest,
+            } => {}
+            Operation::Assert(_test) => {}
+            Operation::Assume(_test) => {}
+        }
+    }
+}
+
 /// A place of control.
 #[derive(Clone, Copy, Debug, PartialEq, Eq)]
 pub struct Node {
@@ -61,7 +96,7 @@ pub struct Node {
 }
 
 /// A step of control from one node to another.
-#[derive(Debug, Drop)]
+#[derive(Drop)]
 pub struct Edge {
     pub source: u32,
     pub target: u32,
@@ -86,7 +121,7 @@ pub struct Edge {
 }
 
 /// A defined function.
-#[derive(Debug, Drop)]
+#[derive(Drop)]
 pub struct Function {
     pub name: Name,
     pub entry: u32,
@@ -134,7 +169,7 @@ pub struct Scope {
 
 /// All that a control flow automaton is made of. Nodes, edges, functions, input functions and scopes are numbered by
 /// their places in the lists, from 0.
-#[derive(Debug, Drop)]
+#[derive(Drop)]
 pub struct GraphParts {
     pub files: Vector<Name>,
     pub nodes: Vector<Node>,

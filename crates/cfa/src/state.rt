@@ -42,7 +42,7 @@ pub enum Trap {
 }
 
 /// The predicates of a query beside a graph.
-#[derive(Debug, Drop)]
+#[derive(Drop)]
 pub struct Predicates {
     /// The text of each.
     pub texts: Vector<Name>,

@@ -6,7 +6,7 @@ ghost use Rattle.command.specs.Runs.{entry_of};
 use cfa::{Function, Graph};
 
 /// A function at which a run can begin, and its number.
-#[derive(Clone, Copy, Debug)]
+#[derive(Clone, Copy)]
 pub struct Entry<'a> {
     pub number: u32,
     pub function: &'a Function,

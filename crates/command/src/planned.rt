@@ -15,7 +15,7 @@ use predicates::resolve;
 use std::alloc::Global;
 
 /// The predicates and the goals of a query over an automaton.
-#[derive(Debug, Drop)]
+#[derive(Drop)]
 pub struct Planned {
     pub predicates: Predicates,
     pub plan: Plan,

@@ -6,7 +6,7 @@ use containers::Vector;
 use typed_trees::TypedExpr;
 
 /// What an expression stands for.
-#[derive(Debug, Drop)]
+#[derive(Drop)]
 pub enum Sort {
     Value(TypedExpr),
     Array(Variable),
@@ -15,7 +15,7 @@ pub enum Sort {
 }
 
 /// What a call is given: words for the parameters that are integers, and arrays for the others.
-#[derive(Debug, Drop)]
+#[derive(Drop)]
 pub struct Given {
     pub words: Vector<TypedExpr>,
     pub arrays: Vector<Variable>,

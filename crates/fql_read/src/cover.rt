@@ -4,7 +4,7 @@ use containers::{Boxed, Vector};
 use fq_core::Name;
 
 /// What `NODES` or `EDGES` is of: a filter, or `PRED` of one, which tells each state apart by whether predicates hold there.
-#[derive(Debug, Drop)]
+#[derive(Drop)]
 pub struct Split {
     pub filter: Filter,
     /// The predicates of `PRED`, by their places in the query's list, the innermost first and each once. There is none
@@ -14,7 +14,7 @@ pub struct Split {
 
 /// An expression of a clause. Parentheses leave no trace, and in a passing clause quotation marks leave none either.
 #[cycle(cover_tree)]
-#[derive(Debug, Drop)]
+#[derive(Drop)]
 pub enum CoverTree {
     /// `NODES`: the nodes that a filter keeps.
     Nodes(Split),

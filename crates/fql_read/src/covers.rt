@@ -190,7 +190,7 @@ fn operand<'a>(
 }
 
 /// What an expression goes on by, and where.
-#[derive(Clone, Copy, Debug)]
+#[derive(Clone, Copy)]
 pub struct Joint {
     pub operator: Operator,
     pub part: Part,

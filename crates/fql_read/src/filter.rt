@@ -4,16 +4,26 @@ use fq_core::{Name, StatementKind};
 
 /// A filter, which makes a target graph out of a target graph.
 #[cycle(filter_tree)]
-#[derive(Debug, Drop)]
 pub struct Filter {
     /// The column of its first token.
     pub column: u32,
     pub form: FilterForm,
 }
 
+// A function of its own, so that what holds filters doesn't drop each form in place.
+impl Drop for Filter {
+    #[cycle(filter_drop)]
+    fn drop(self) {
+        let Filter {
+            column: _column,
+            form: _form,
+        } = self;
+    }
+}
+
 /// What a filter keeps. Each keeps edges by a property of theirs, but for the operators at the end.
 #[cycle(filter_tree)]
-#[derive(Debug, Drop)]
+#[derive(Drop)]
 pub enum FilterForm {
     /// `ID`: all that is there.
     Id,

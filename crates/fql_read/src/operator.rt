@@ -43,7 +43,7 @@ pub enum DoubleFilter {
 }
 
 /// What filter a token begins.
-#[derive(Clone, Copy, Debug, PartialEq, Eq)]
+#[derive(Clone, Copy, PartialEq, Eq)]
 pub enum Head {
     Bare(BareFilter),
     Named(NamedFilter),
@@ -85,7 +85,7 @@ pub enum Count {
 }
 
 /// What goes on an expression.
-#[derive(Clone, Copy, Debug, PartialEq, Eq)]
+#[derive(Clone, Copy, PartialEq, Eq)]
 pub enum Operator {
     Join(Join),
     Star,

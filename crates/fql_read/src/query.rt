@@ -5,7 +5,7 @@ use containers::Vector;
 use fq_core::Name;
 
 /// A clause, and whether `^` stands before it and `$` after it.
-#[derive(Debug, Drop)]
+#[derive(Drop)]
 pub struct Clause {
     pub first: bool,
     pub body: CoverTree,
@@ -13,7 +13,7 @@ pub struct Clause {
 }
 
 /// A query: `in` a base graph `cover` a clause `passing` a clause.
-#[derive(Debug, Drop)]
+#[derive(Drop)]
 pub struct Query {
     pub base: Option<Filter>,
     pub cover: Clause,

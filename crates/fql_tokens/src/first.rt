@@ -24,7 +24,7 @@ pub enum Mode {
 }
 
 /// What begins a text, with its length in bytes.
-#[derive(Debug, Drop)]
+#[derive(Drop)]
 pub enum Beginning {
     /// The text has no more bytes.
     End,

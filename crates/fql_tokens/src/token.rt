@@ -71,7 +71,7 @@ pub enum FilterName {
 }
 
 /// What a token is.
-#[derive(Debug, Drop)]
+#[derive(Drop)]
 pub enum Sign {
     Mark(Mark),
     /// A word, with the word of the query language that it is, and as it is written.
@@ -86,7 +86,7 @@ pub enum Sign {
 }
 
 /// A token, and the column of its first byte: its place among all bytes of the query, from 1.
-#[derive(Debug, Drop)]
+#[derive(Drop)]
 pub struct Token {
     pub sign: Sign,
     pub column: u32,

@@ -14,7 +14,7 @@ use std::rc::Rc;
 
 /// A test goal: a word of the cover clause, which contracts see with its pattern. Goals share the patterns of their quoted
 /// letters, and the rest of a pattern is made when it is asked for.
-#[derive(Debug, Drop)]
+#[derive(Drop)]
 pub struct Goal {
     word: Vector<GoalLetter>,
     quotes: Rc<Vec<Pattern<Letter>>>,

@@ -5,7 +5,7 @@ use fq_core::Name;
 use patterns::{Letter, Pattern};
 
 /// The pattern of a passing clause, and whether `^` stands before it and `$` after it.
-#[derive(Debug, Drop)]
+#[derive(Drop)]
 pub struct PassingPattern {
     pub pattern: Pattern<Letter>,
     pub first: bool,
@@ -13,7 +13,7 @@ pub struct PassingPattern {
 }
 
 /// The goals of a query, and what a run that covers one must also match.
-#[derive(Debug, Drop)]
+#[derive(Drop)]
 pub struct Plan {
     /// The goals, in order.
     pub goals: Vector<Goal>,

@@ -4,7 +4,7 @@ use containers::Vector;
 use fq_core::{Name, Span};
 
 /// Nodes, edges and scopes that are made.
-#[derive(Debug, Drop)]
+#[derive(Drop)]
 pub struct Parts {
     pub nodes: Vector<Node>,
     pub edges: Vector<Edge>,
@@ -12,21 +12,21 @@ pub struct Parts {
 }
 
 /// A value where control is, and the names of the variables that it is read from.
-#[derive(Debug, Drop)]
+#[derive(Drop)]
 pub struct Operand {
     pub value: Expr,
     pub reads: Vector<Name>,
 }
 
 /// A cell, and the names of the variables that its index is read from.
-#[derive(Debug, Drop)]
+#[derive(Drop)]
 pub struct Target {
     pub place: CellPlace,
     pub reads: Vector<Name>,
 }
 
 /// What a statement or an expression stands in.
-#[derive(Debug, Drop)]
+#[derive(Drop)]
 pub struct Around {
     /// The number of its function.
     pub function: u32,

@@ -4,7 +4,7 @@ ghost use Rattle.patterns.specs.Letters.{form, letter_count, times};
 use containers::Boxed;
 
 /// A regular pattern.
-#[derive(Debug, Drop)]
+#[derive(Drop)]
 pub enum Pattern<L> {
     /// Matches no segment.
     Nothing,

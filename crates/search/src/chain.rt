@@ -21,7 +21,7 @@ use literal_marks::{Places, is_marked, mark, unmark};
 use std::alloc::AllocError;
 
 /// A clause that is resolved back along the trail, beside a table of marks of its literals, and the steps so far.
-#[derive(Debug, Drop)]
+#[derive(Drop)]
 pub(crate) struct Chain {
     /// The place of a decided literal.
     pub start: usize,

@@ -4,7 +4,7 @@ use cnf::Derivation;
 use containers::Vector;
 
 /// What a search finds within its budget.
-#[derive(Debug, Drop)]
+#[derive(Drop)]
 pub enum Found {
     /// The value of each variable, from 1, of an assignment that satisfies the formula.
     Model(Vector<bool>),

@@ -34,7 +34,7 @@ use literal_marks::{Places, mark, unmark};
 use std::alloc::{AllocError, Global};
 
 /// The state of a search, and the moves that led to it.
-#[derive(Debug, Drop)]
+#[derive(Drop)]
 pub(crate) struct Machine {
     pub trail: Vec<Entry>,
     // The literals on the trail, as marks by key.

@@ -5,7 +5,7 @@ use std::alloc::{AllocError, Global};
 
 /// A move of the search machine, which keeps a trail of literals, each decided or implied by a clause, and learned
 /// clauses (as in MiniSat). Clauses are numbered from 1, the formula's first, then the learned ones.
-#[derive(Debug, Drop)]
+#[derive(Drop)]
 pub enum Move {
     /// The one open literal of a clause, all others of which are false, is put on the trail as implied by the clause.
     Propagate { clause: u32 },
@@ -17,7 +17,7 @@ pub enum Move {
 }
 
 /// What a search keeps of a move while it runs: the line that a jump learned stands among the learned ones.
-#[derive(Clone, Copy, Debug)]
+#[derive(Clone, Copy)]
 pub(crate) enum Step {
     Propagate { clause: u32 },
     Decide { literal: i32 },
@@ -25,7 +25,7 @@ pub(crate) enum Step {
 }
 
 /// Moves from the empty trail on.
-#[derive(Debug, Drop)]
+#[derive(Drop)]
 pub struct History {
     pub moves: Vector<Move>,
 }

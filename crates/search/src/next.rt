@@ -16,7 +16,7 @@ use fq_core::Memory;
 use std::alloc::Global;
 
 /// What comes next in a state: the search is finished, or a move. A literal is what the move puts on the trail.
-#[derive(Debug, Drop)]
+#[derive(Drop)]
 pub(crate) enum Next {
     Model,
     Refuted(DerivationLine),

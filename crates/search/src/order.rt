@@ -17,7 +17,7 @@ const NONE: Activity = Activity { score: 0, last: 0 };
 
 /// Variables, those first that were active in conflicts, in a heap (as in MiniSat). What contracts say is which ones are in
 /// it; their order is free.
-#[derive(Debug, Drop)]
+#[derive(Drop)]
 pub(crate) struct Order {
     pub heap: Vec<u32>,
     /// By variable, where it came to stand when it was last moved. One that left the heap isn't there any more.

@@ -22,7 +22,7 @@ pub trait Watch {
 }
 
 /// Keeps all that it is shown.
-#[derive(Debug, Drop)]
+#[derive(Drop)]
 pub struct KeepWatch {
     pub list: Vector<(u32, Formula, History)>,
 }

@@ -15,7 +15,7 @@ pub enum Callee {
 
 /// A variable, or an element of an array by its index.
 #[cycle(typed)]
-#[derive(Debug, Drop)]
+#[derive(Drop)]
 pub struct TypedPlace {
     pub variable: Variable,
     pub index: Option<TypedExpr>,
@@ -23,7 +23,7 @@ pub struct TypedPlace {
 
 /// A call of a function (ISO/IEC 9899:2011, 6.5.2.2).
 #[cycle(typed)]
-#[derive(Debug, Drop)]
+#[derive(Drop)]
 pub struct TypedCall {
     pub callee: Callee,
     /// The arguments for the parameters that are integers, in order, each converted to its parameter's kind.
@@ -36,7 +36,6 @@ pub struct TypedCall {
 
 /// An expression, with the place of its first token and the kind of its value.
 #[cycle(typed)]
-#[derive(Debug)]
 pub struct TypedExpr {
     pub span: Span,
     pub kind: Kind,
@@ -45,7 +44,7 @@ pub struct TypedExpr {
 
 /// What a typed expression is made of. A `cell` is the frame's cell, from 0, that its value is put into.
 #[cycle(typed)]
-#[derive(Debug, Drop)]
+#[derive(Drop)]
 pub enum TypedExprForm {
     /// A value of the kind, as `c_values` keeps it.
     Constant(u64),

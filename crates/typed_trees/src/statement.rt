@@ -7,7 +7,7 @@ use fq_core::{Name, Span};
 
 /// The labels of a `switch` that stand in a row, and the statements after them (ISO/IEC 9899:2011, 6.8.1).
 #[cycle(typed_statement)]
-#[derive(Debug, Drop)]
+#[derive(Drop)]
 pub struct TypedGroup {
     /// Each `case` with its value, a value of the kind of the switch's expression, and `default` with none; with the
     /// place of the word.
@@ -18,7 +18,6 @@ pub struct TypedGroup {
 /// A statement, with the place of its first token. A declaration with several declarators is one statement for each,
 /// all with the declaration's place.
 #[cycle(typed_statement)]
-#[derive(Debug)]
 pub struct TypedStatement {
     pub span: Span,
     pub form: TypedForm,
@@ -26,7 +25,7 @@ pub struct TypedStatement {
 
 /// What a typed statement is made of.
 #[cycle(typed_statement)]
-#[derive(Debug, Drop)]
+#[derive(Drop)]
 pub enum TypedForm {
     Block(Vector<TypedStatement>),
     Empty,

@@ -13,7 +13,7 @@ pub struct Global {
 }
 
 /// A defined function (ISO/IEC 9899:2011, 6.9.1).
-#[derive(Debug, Drop)]
+#[derive(Drop)]
 pub struct TypedFunction {
     pub name: Name,
     /// The place of its first token.
@@ -32,7 +32,7 @@ pub struct TypedFunction {
 }
 
 /// A translation unit (6.9).
-#[derive(Debug, Drop)]
+#[derive(Drop)]
 pub struct Typed {
     pub globals: Vector<Global>,
     /// In the order of the source: a call names its function by the place here.
