@@ -13,6 +13,7 @@ NOBODY = 65534
 # It writes down what it was called for, and "builds" a program that names its version and words.
 RT = """#!/bin/sh
 [ "$1" != version ] || exec cat "$TREE/kit"
+[ "$1" != must-fail ] || { echo "$*: $(echo crates/*/*/*.edit)" >>"$TREE/calls"; exit; }
 echo "$*: $(echo crates/*)" >>"$TREE/calls"
 [ ! -e "$TREE/broken" ] || { echo "error: a proof is missing"; exit 1; }
 sed 's/:.*//; s/.*/rt: & proved/' crates.txt
@@ -349,13 +350,28 @@ def gate_runs_all(tree):
     yield status == 1 and "one accepted" not in lines and calls == all_crates
 
 
+def all_edits_are_tried(tree):
+    tree.write("crates/low/must-fail/often.edit", "")
+    tree.write("crates/low/more-edits/seldom.edit", "")
+    tree.write("crates/other/more-edits/seldom.edit", "")
+    for names in (["low"], []):
+        tried = " ".join(f"crates/{name}/must-fail/{edit}.edit"
+                         for name, edit in (("low", "often"), ("low", "seldom"), ("other", "seldom")))
+        yield tree.call(tree.path("bin/edits"), *names).returncode == 0
+        yield tree.calls() == [f"{' '.join(['must-fail', *names])}: {tried}"]
+    yield os.listdir(tree.path("crates/low/must-fail")) == ["often.edit"]
+    tree.write("crates/low/more-edits/often.edit", "")
+    ended = tree.call(tree.path("bin/edits"))
+    yield ended.returncode == 1 and "two edits have one name" in ended.stderr and tree.calls() == []
+
+
 CASES = [first_run_builds, second_run_builds_nothing, newer_source_is_built, other_crates_are_left_alone,
          old_program_is_not_run, links_are_followed, unwritable_tree_is_told, released_program_needs_no_kit,
          released_program_runs_in_unwritable_tree, released_program_is_taken_for_newer_sources,
          changed_sources_are_never_answered_by_the_release, what_is_no_source_leaves_the_release,
          damaged_release_is_never_run, release_that_cannot_start_is_not_run, release_without_its_sum_is_not_run,
          prove_compares_with_the_release, release_is_checked, release_by_another_kit_is_noted, old_program_is_not_released,
-         gate_runs_all]
+         gate_runs_all, all_edits_are_tried]
 
 
 def failures():
