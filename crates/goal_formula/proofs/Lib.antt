@@ -1,0 +1,13 @@
+pub mod StepLaws
+pub mod Paths
+pub mod Told
+pub mod Taken
+pub mod Rooms
+pub mod RunHits
+pub mod Ends
+pub mod InputBits
+pub mod Rooted
+pub mod InputWorlds
+pub mod Exactness
+pub mod Models
+pub mod HitBits

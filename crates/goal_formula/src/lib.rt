@@ -1,0 +1,27 @@
+//! The formula of a goal: its models are the inputs whose runs within the bounds hit the goal.
+//!
+//! Start at [`formula`] in formula.rt. An unwinding of `unwinder` tells of the runs of all inputs at once, entry by entry, over
+//! a circuit. The pattern automata of the goal and of the passing clause (`automata`) are taken along these entries
+//! (`matching.rt`), each entry in the worlds in which its guard holds, and joined with the ends of the runs that count
+//! (`hitting.rt`). So one literal of the circuit holds in the world of an input exactly where its run stays within the bounds
+//! and hits the goal. Its clause form (`clause_form`) is the goal's formula, with the variable of each input bit
+//! (`encoding.rt`); [`input_of`] makes the input of a model. The gates of a goal are cut off again, so that the unwinding
+//! serves the next goal as it served this one.
+//!
+//! The definitions are in specs/: `Exact` (when a formula is exact for a goal), `Bits` (which variable is which input bit, and
+//! the input of an assignment), `Sizes` (how large a goal is, and its refusal), `Hitting` and `Steps` (what the entries of an
+//! unwinding tell of a goal), and for the parts below `Parts`.
+#![tactic(auto)]
+
+mod encoding;
+mod formula;
+mod goal;
+mod hitting;
+mod matching;
+mod model;
+mod size;
+mod step;
+
+pub use formula::formula;
+pub use goal::GoalFormula;
+pub use model::input_of;
