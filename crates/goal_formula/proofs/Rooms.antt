@@ -1,7 +1,7 @@
 -- Room for gates, and how many there are.
-use Rattle.std.proofs.Common.{◌≡◌, ℕ, zero, suc, ◌+◌, ◌*◌, ◌^◌, ◌≤◌, ◌<◌, List, length, Option, Some, None, sym, ap, ◌∙◌, arith}
+use Rattle.std.proofs.Common.{◌≡◌, ℕ, ◌+◌, ◌*◌, ◌^◌, ◌≤◌, ◌<◌, List, length, Some, mul-le-mul, mul-le-mul_left, mul-le-mul_right, arith}
 use Rattle.std.specs.Prelude.{slice_get}
-use Rattle.std.proofs.Math.Nat.{mul-le-mul, mul-le-mul_left, mul-le-mul_right, mul-mul-mul_comm}
+use native.Mathlib.Nat.{mul-mul-mul_comm}
 use Rattle.std.proofs.lemmas.Option.{slice_get_within}
 use Rattle.cfa.specs.Graph.{IsGraph}
 use Rattle.cfa.specs.Predicates.{IsPredicates}

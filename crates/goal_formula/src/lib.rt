@@ -1,6 +1,6 @@
 //! The formula of a goal: its models are the inputs whose runs within the bounds hit the goal.
 //!
-//! Start at [`formula`] in formula.rt. An unwinding of `unwinder` tells of the runs of all inputs at once, entry by entry, over
+//! Start at [`formula`] in exact.rt. An unwinding of `unwinder` tells of the runs of all inputs at once, entry by entry, over
 //! a circuit. The pattern automata of the goal and of the passing clause (`automata`) are taken along these entries
 //! (`matching.rt`), each entry in the worlds in which its guard holds, and joined with the ends of the runs that count
 //! (`hitting.rt`). So one literal of the circuit holds in the world of an input exactly where its run stays within the bounds
@@ -14,7 +14,7 @@
 #![tactic(auto)]
 
 mod encoding;
-mod formula;
+mod exact;
 mod goal;
 mod hitting;
 mod matching;
@@ -22,6 +22,6 @@ mod model;
 mod size;
 mod step;
 
-pub use formula::formula;
+pub use exact::formula;
 pub use goal::GoalFormula;
 pub use model::input_of;
