@@ -35,11 +35,12 @@ ends_at gates w e = lit_holds gates e.guard w && lit_holds gates e.ended w
 -- some entry that holds ends the run
 pub ends_held : (gates : List Gate) (w : World) (entries : List Entry) → list_any (ends_at gates w) entries ≡ list_any (λ (e : Entry). lit_holds gates e.ended w) (entries_in gates entries w)
 ends_held gates w [] = refl
-ends_held gates w (e ∷ es) = by (lit_holds gates e.guard w)
+ends_held gates w (e ∷ es) = by (lit_holds gates e.guard w) (ends_held gates w es)
   where
-    by : (b : Bool) → ((b && lit_holds gates e.ended w) || list_any (ends_at gates w) es) ≡ list_any (λ (x : Entry). lit_holds gates x.ended w) (cond b (e ∷ entries_in gates es w) (entries_in gates es w))
-    by true = ap (λ b. lit_holds gates e.ended w || b) (ends_held gates w es)
-    by false = ends_held gates w es
+    by : (b : Bool) → list_any (ends_at gates w) es ≡ list_any (λ (x : Entry). lit_holds gates x.ended w) (entries_in gates es w)
+        → ((b && lit_holds gates e.ended w) || list_any (ends_at gates w) es) ≡ list_any (λ (x : Entry). lit_holds gates x.ended w) (cond b (e ∷ entries_in gates es w) (entries_in gates es w))
+    by true rest = ap (λ b. lit_holds gates e.ended w || b) rest
+    by false rest = rest
 
 -- a literal that holds where one of the first entries ends the run
 pub record EndsSoFar (old now : List Gate) (entries : List Entry) (l : Lit) (k : ℕ) : Type 0 where

@@ -34,14 +34,11 @@ module _ (old new : List Gate) (w : World) (more : Extends IsWire lit_holds old 
   steps_still [] h = refl
   steps_still (e ∷ es) h =
       ap (λ b. map (entry_step new w) (cond b (e ∷ entries_in new es w) (entries_in new es w))) (more.same e.guard (h 0 e refl).guard w)
-      ∙ by (lit_holds old e.guard w)
+      ∙ by (lit_holds old e.guard w) (steps_still es (λ k x there. h (suc k) x there))
     where
-      rest : steps_in new es w ≡ steps_in old es w
-      rest = steps_still es (λ k x there. h (suc k) x there)
-
-      by : (b : Bool) → map (entry_step new w) (cond b (e ∷ entries_in new es w) (entries_in new es w)) ≡ map (entry_step old w) (cond b (e ∷ entries_in old es w) (entries_in old es w))
-      by true = λ i. step_still old new w e more (h 0 e refl) i ∷ rest i
-      by false = rest
+      by : (b : Bool) → steps_in new es w ≡ steps_in old es w → map (entry_step new w) (cond b (e ∷ entries_in new es w) (entries_in new es w)) ≡ map (entry_step old w) (cond b (e ∷ entries_in old es w) (entries_in old es w))
+      by true rest = λ i. step_still old new w e more (h 0 e refl) i ∷ rest i
+      by false rest = rest
 
   pub ends_still : (entries : List Entry) → Each entries (λ k e. HasWires old e) → list_any (ends_at new w) entries ≡ list_any (ends_at old w) entries
   ends_still [] h = refl

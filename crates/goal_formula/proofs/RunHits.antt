@@ -42,11 +42,11 @@ use Rattle.goal_formula.proofs.Told.{end_told, reached_step, run_same, run_size,
 -- what a filter keeps first passes its test, and is an element
 first_kept : {X : Type 0} (test : X → Bool) (xs : List X) (x : X) → slice_get (filter test xs) 0 ≡ Some x → (k : ℕ) × (slice_get xs k ≡ Some x) × (test x ≡ true)
 first_kept test [] x e = absurd cc
-first_kept {X} test (y ∷ xs) x e = by (test y) refl e
+first_kept {X} test (y ∷ xs) x e = by (test y) refl (first_kept test xs x) e
   where
-    by : (b : Bool) → test y ≡ b → slice_get (cond b (y ∷ filter test xs) (filter test xs)) 0 ≡ Some x → (k : ℕ) × (slice_get (y ∷ xs) k ≡ Some x) × (test x ≡ true)
-    by true is h = let same : y ≡ x = same_Some y x h in (0, h, ap test (sym same) ∙ is)
-    by false is h = let r = first_kept test xs x h in (suc r.0, r.1, r.2)
+    by : (b : Bool) → test y ≡ b → (slice_get (filter test xs) 0 ≡ Some x → (k : ℕ) × (slice_get xs k ≡ Some x) × (test x ≡ true)) → slice_get (cond b (y ∷ filter test xs) (filter test xs)) 0 ≡ Some x → (k : ℕ) × (slice_get (y ∷ xs) k ≡ Some x) × (test x ≡ true)
+    by true is rest h = let same : y ≡ x = same_Some y x h in (0, h, ap test (sym same) ∙ is)
+    by false is rest h = let r = rest h in (suc r.0, r.1, r.2)
 
 module _ (parts : GraphParts) (predicates : Predicates) (f : Function) (bounds : Bounds) (ends : Ends) (plan : Plan) (goal : GoalForm) (gates : List Gate) (entries : List Entry) (input : Input)
     (lists : ListsRuns parts predicates f bounds ends gates entries) (given : IsInputFor f input) where

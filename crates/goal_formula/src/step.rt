@@ -1,6 +1,7 @@
 // What a state of an unwinding tells of letters.
 ghost use Rattle.std.specs.Prelude.{◌≡◌, All, List, slice_index_or};
-ghost use Rattle.circuit.specs.Wires.{IsWire};
+ghost use Rattle.circuit.specs.Truth.{World};
+ghost use Rattle.circuit.specs.Wires.{IsWire, lit_holds};
 ghost use Rattle.circuit.specs.declared.lit.Gate.{Gate as OneGate};
 
 use automata::StepMeaning;
@@ -25,6 +26,15 @@ fn literal_at(literals: &[Lit], number: u32, other: Lit) -> Lit
     literals.get(number as usize).copied().unwrap_or(other)
 }
 
+/// The literal that holds always, or never.
+#[tactic(auto, using(circuit::proofs::Gates::constant_wire))]
+fn constant(value: bool) -> Lit
+    ensures wire { (gates : List OneGate) → IsWire gates result }
+    ensures value { (gates : List OneGate) (w : World) → lit_holds gates result w ≡ value }
+{
+    if value { Lit::YES } else { Lit::NO }
+}
+
 impl<'a> StepMeaning<Circuit> for EntryStep<'a> {
     ghost use Rattle.goal_formula.specs.Steps.{AreWires, tells_edge, tells_state, told_still, wires_stay};
 
@@ -42,15 +52,12 @@ impl<'a> StepMeaning<Circuit> for EntryStep<'a> {
     }
 
     fn state(&self, _truth: &mut Circuit, letter: &Letter) -> Result<Lit, Memory> {
-        match letter {
-            Letter::Predicate(number) => Ok(literal_at(self.held, *number, Lit::NO)),
-            Letter::Absent(number) => Ok(literal_at(self.absent, *number, Lit::YES)),
-            other => Ok(if other.has_state(self.node, 0) {
-                Lit::YES
-            } else {
-                Lit::NO
-            }),
-        }
+        Ok(match letter {
+            Letter::Nodes(nodes) => constant(nodes.contains(self.node)),
+            Letter::Edges(_) => Lit::NO,
+            Letter::Predicate(number) => literal_at(self.held, *number, Lit::NO),
+            Letter::Absent(number) => literal_at(self.absent, *number, Lit::YES),
+        })
     }
 
     ghost fits_still = { λ old new s e h. wires_stay old new s.held.now s.absent.now e h };

@@ -1,0 +1,4 @@
+use Rattle.goal_formula.proofs.encoding.encoded.Goals as goal
+
+pub returns : goal.returns
+returns c = ?
