@@ -1,5 +1,5 @@
 -- The literal of a goal, of the literals of its parts.
-use Rattle.std.proofs.Common.{◌≡◌, ℕ, suc, ◌+◌, ◌≤◌, ◌↔◌, Bool, true, false, ◌&&◌, ◌||◌, cond, List, [], ◌∷◌, map, Some, None, refl, sym, ap, subst, ◌∙◌, arith}
+use Rattle.std.proofs.Common.{◌≡◌, ℕ, suc, ◌+◌, ◌≤◌, ◌↔◌, Bool, true, false, ◌&&◌, ◌||◌, cond, List, [], ◌∷◌, map, Some, None, Result, Ok, Err, IfOk, refl, sym, ap, subst, ◌∙◌, arith}
 use Rattle.std.specs.Prelude.{slice_get}
 use Rattle.std.specs.List.{list_any}
 use Rattle.bit_words.proofs.Steps.{grows_then, same}
@@ -98,6 +98,16 @@ module _ (c0 c1 c2 c3 c4 c5 : List Gate) (n1 n2 n3 n4 n5 : ℕ) (entries : List 
               (passing_is.1 (subst (MeetsPassing plan.passing) (sym steps) h.passing_matches)) h.counted,
         );
   }
+
+-- and where it was made
+module _ (c0 c1 c2 c3 c4 c5 : List Gate) (n1 n2 n3 n4 n5 : ℕ) (entries : List Entry) (plan : Plan) (pattern : Form Letter) (own passing end both : Lit)
+    (wires : Each entries (λ k e. HasWires c0 e)) (g1 : Grows c0 c1 n1) (g2 : Grows c1 c2 n2) (g3 : Grows c2 c3 n3) (g4 : Grows c3 c4 n4) (g5 : Grows c4 c5 n5)
+    (own_bit : IsMatchBit c0 c1 entries pattern plan.first plan.last own) (passing_bit : IsPassingBit c1 c2 entries plan.passing passing)
+    (end_wire : IsWire c3 end) (end_value : (w : World) → lit_holds c3 end w ≡ list_any (ends_at c2 w) entries)
+    (both_wire : IsWire c4 both) (both_value : (w : World) → lit_holds c4 both w ≡ (lit_holds c3 own w && lit_holds c3 passing w)) where
+  pub hit_ok : {E : Type 0} (r : Result Lit E) → IfOk r (IsWire c5) → IfOk r (λ all. (w : World) → lit_holds c5 all w ≡ (lit_holds c4 both w && lit_holds c4 end w)) → IfOk r (IsHitBit c0 c5 entries plan pattern)
+  hit_ok (Ok all) wire value = hit_bit c0 c1 c2 c3 c4 c5 n1 n2 n3 n4 n5 entries plan pattern own passing end both all wires g1 g2 g3 g4 g5 own_bit passing_bit end_wire end_value both_wire both_value wire value
+  hit_ok (Err e) wire value = tt
 
 -- ---- the passing clause
 

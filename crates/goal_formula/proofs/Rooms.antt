@@ -30,6 +30,13 @@ room_next g s at n old used few lt before room =
     let next = times_more g at in
     omega arith
 
+-- the gates of one more entry fit
+pub gates_next : (g s at n : ℕ) → g ≤ 8 * s → at < n → g * at + g ≤ most_match_gates s n
+gates_next g s at n few lt =
+    let most : g * (at + 1) ≤ most_match_gates s n = gates_fit g s (at + 1) n few (omega arith) in
+    let next = times_more g at in
+    omega (arith, most, next)
+
 -- ---- all gates of a goal
 
 some_size : (p : Form Letter) → 1 ≤ pattern_size p

@@ -1,9 +1,11 @@
 -- What entries tell, and after more gates.
-use Rattle.std.proofs.Common.{◌≡◌, ℕ, Bool, not, List, map, refl, sym, subst}
+use Rattle.std.proofs.Common.{◌≡◌, ℕ, ◌+◌, ◌≤◌, Bool, not, List, length, map, refl, sym, ap, subst, ◌∙◌}
 use Rattle.std.specs.Prelude.{All}
 use Rattle.std.proofs.lemmas.List.Elements.{All-map}
 use Rattle.circuit.proofs.Gates.{lit_not}
+use Rattle.bit_words.specs.Words.{Grows}
 use Rattle.circuit.specs.Bits.{bits_stay}
+use Rattle.circuit.specs.Growth.{GrowsTo, same_inputs}
 use Rattle.circuit.specs.Sharing.{inverse}
 use Rattle.circuit.specs.Truth.{World, Extends}
 use Rattle.circuit.specs.Wires.{IsWire, held, lit_holds}
@@ -44,3 +46,12 @@ wires_still old new e more h = record {
 pub told_entry : (gates : List Gate) (w : World) (e : Entry) (held absent : List Lit) → held ≡ e.predicates → absent ≡ map inverse e.predicates
     → let read : Step Letter = record { edge = λ l. tells_edge e.edge l; state = λ l. tells_state gates e.node held absent w l } in read ≡ entry_step gates w e
 told_entry gates w e held absent p q = λ i. record { edge = λ l. tells_edge e.edge l; state = λ l. tells_state gates e.node (p i) (q i) w l }
+
+-- and by literals over a circuit that is the same
+pub read_entry : (old mid : List Gate) (w : World) (e : Entry) (held absent : List Lit) → mid ≡ old → held ≡ e.predicates → absent ≡ map inverse e.predicates
+    → let read : Step Letter = record { edge = λ l. tells_edge e.edge l; state = λ l. tells_state mid e.node held absent w l } in read ≡ entry_step old w e
+read_entry old mid w e held absent same p q = told_entry mid w e held absent p q ∙ ap (λ gates. entry_step gates w e) same
+
+-- a circuit that is the same grows so
+pub grows_from : (old mid new : List Gate) (most : ℕ) → mid ≡ old → GrowsTo mid new → Extends IsWire lit_holds mid new → length new ≤ length mid + most → Grows old new most
+grows_from old mid new most same grown older used = subst (λ gates. Grows gates new most) same (record { grown = grown; older = older; used = used; inputs = same_inputs grown })

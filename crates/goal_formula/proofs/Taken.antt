@@ -106,3 +106,9 @@ module _ (gates : ℕ) (old : List Gate) (nfa : Nfa Letter) (entries : List Entr
         let all : begun_steps old w (take at entries) ≡ steps_in old entries w = ap (begun_steps old w) (take_all at entries end) ∙ begun_all old w entries holds in
         subst (λ (steps : List (Step Letter)). (lit_holds new l w ≡ true) ↔ HasMatch pattern first last steps) all (value (λ v. begun_steps old v (take at entries)) t.stands w);
   }
+
+  pub taken_ok : {E : Type 0} (now new : List Gate) (reach : ReachBits Lit) (at : ℕ) (pattern : Form Letter) (first last : Bool) (r : Result Lit E) → length entries ≤ at → IsTakenTo gates old now nfa reach entries at → new ≡ now → IfOk r (IsWire new)
+      → ((path : World → List (Step Letter)) → Stands {T = List Gate} {B = Lit} lit_holds now nfa reach path → IfOk r (λ l. (w : World) → (lit_holds new l w ≡ true) ↔ HasMatch pattern first last (path w)))
+      → IfOk r (IsMatchBit old new entries pattern first last)
+  taken_ok now new reach at pattern first last (Ok l) end t same wire value = taken_all now new reach at pattern first last l end t same wire value
+  taken_ok now new reach at pattern first last (Err e) end t same wire value = tt

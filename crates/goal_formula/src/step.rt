@@ -54,7 +54,7 @@ impl<'a> StepMeaning<Circuit> for EntryStep<'a> {
     fn state(&self, _truth: &mut Circuit, letter: &Letter) -> Result<Lit, Memory> {
         Ok(match letter {
             Letter::Nodes(nodes) => constant(nodes.contains(self.node)),
-            Letter::Edges(_) => Lit::NO,
+            Letter::Edges(_) => constant(false),
             Letter::Predicate(number) => literal_at(self.held, *number, Lit::NO),
             Letter::Absent(number) => literal_at(self.absent, *number, Lit::YES),
         })

@@ -1,4 +1,19 @@
+use Rattle.std.proofs.Common.{◌≡◌, refl, ◌+◌, ◌-◌, ◌*◌, List, ℕ, Option, length, sym, ap, subst, ◌∙◌}
+use Rattle.input_words.specs.Worlds.{total_width}
+use Rattle.goal_formula.specs.Parts.{AreInputVariables}
+use Rattle.goal_formula.proofs.InputBits.{count_is}
+use Rattle.goal_formula.proofs.Rooted.{all_rows, rooted}
 use Rattle.goal_formula.proofs.encoding.encoded.Goals as goal
 
 pub returns : goal.returns
-returns c = ?
+returns c =
+    let gates = c.args.circuit.now in
+    let parameters = c.args.parameters.now in
+    let form = c.in_ok-form.ensures in
+    let variable = c.in_ok-form.form.variable in
+    let bits = c.in_ok-bits.bits.items in
+    let inputs : AreInputVariables gates variable (length gates) bits = subst (λ vs. AreInputVariables gates vs (length gates) bits) c.deref.ensures c.in_ok-bits.ensures in
+    let long : length bits ≡ total_width parameters + 64 * c.args.answers = count_is gates variable bits inputs ∙ c.requires.inputs in
+    let all = all_rows bits c.in_ok-words.words c.in_ok-answers.answers (total_width parameters) c.args.answers (length bits - 64 * c.args.answers) long refl ? ? in
+    rooted gates c.args.root parameters c.args.answers variable bits (record { formula = c.in_ok-form.form.formula; words = c.in_ok-words.words; answers = c.in_ok-answers.answers })
+    inputs all (record { words = c.in_ok-words.ensures.widths; answers_are = c.in_ok-answers.ensures.widths }) c.requires.inputs form.numbers form.sound form.determined form.assignment form.complete form.few_variables form.over form.few_clauses

@@ -1,4 +1,4 @@
-use Rattle.std.proofs.Common.{arith, get_or}
+use Rattle.std.proofs.Common.{false, arith, get_or}
 use Rattle.std.proofs.lemmas.List.{get_or_default}
 use Rattle.std.proofs.lemmas.List.Sums.{sum_by_more_le}
 use Rattle.c_values.specs.declared.kinds.Kind.{Kind}

@@ -1,4 +1,4 @@
-use Rattle.std.proofs.Common.{sym, subst, ap, ◌<◌, ◌^◌}
+use Rattle.std.proofs.Common.{false, sym, subst, ◌<◌, ◌^◌}
 use Rattle.goal_formula.specs.Bits.{assignment}
 use Rattle.goal_formula.proofs.InputWorlds.{number_few}
 use Rattle.goal_formula.proofs.Models.{long_value, row_few, words_pushed}
