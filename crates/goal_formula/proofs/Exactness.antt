@@ -1,7 +1,6 @@
 -- A formula that says that the entries of an unwinding hit a goal is exact for it.
-use Rattle.std.proofs.Common.{◌≡◌, ℕ, ◌+◌, ◌*◌, ◌≤◌, List, length, map, Some, sym, ap, subst, ◌∙◌, arith}
+use Rattle.std.proofs.Common.{◌≡◌, ◌*◌, List, Some, sym, ap, subst, arith}
 use Rattle.std.specs.Prelude.{All, slice_get}
-use Rattle.c_meaning.specs.declared.input.Input.{Input}
 use Rattle.c_values.specs.Kind.{IsKind}
 use Rattle.cfa.specs.Graph.{IsGraph}
 use Rattle.cfa.specs.declared.parts.Function.{Function}
@@ -17,7 +16,7 @@ use Rattle.patterns.specs.Letters.{form}
 use Rattle.unwinder.proofs.Made.{parameter_kinds}
 use Rattle.unwinder.specs.Unwinding.{IsUnwound}
 use Rattle.unwinder.specs.declared.unwound.Unwound.{Unwound}
-use Rattle.goal_formula.specs.Bits.{Gives, bit_in, input_from, input_variables}
+use Rattle.goal_formula.specs.Bits.{Gives, input_from, input_variables}
 use Rattle.goal_formula.specs.Exact.{IsExact}
 use Rattle.goal_formula.specs.Hitting.{StartsFirst}
 use Rattle.goal_formula.specs.Parts.{SaysHit}

@@ -1,6 +1,5 @@
 -- The literal of a goal, of the literals of its parts.
-use Rattle.std.proofs.Common.{◌≡◌, ℕ, suc, ◌+◌, ◌≤◌, ◌↔◌, Bool, true, false, ◌&&◌, ◌||◌, cond, List, [], ◌∷◌, map, Some, None, Result, Ok, Err, IfOk, refl, sym, ap, subst, ◌∙◌, arith}
-use Rattle.std.specs.Prelude.{slice_get}
+use Rattle.std.proofs.Common.{◌≡◌, ℕ, suc, Bool, true, false, ◌&&◌, ◌||◌, cond, List, [], ◌∷◌, map, Some, None, Result, Ok, Err, IfOk, refl, sym, ap, subst, ◌∙◌, arith}
 use Rattle.std.specs.List.{list_any}
 use Rattle.bit_words.proofs.Steps.{grows_then, same}
 use Rattle.bit_words.proofs.Values.{yes_holds}
@@ -14,11 +13,11 @@ use Rattle.circuit.specs.declared.lit.Lit.{Lit}
 use Rattle.goals.specs.declared.plan.PassingPattern.{PassingPattern}
 use Rattle.goals.specs.declared.plan.Plan.{Plan}
 use Rattle.patterns.specs.Letters.{form}
-use Rattle.patterns.specs.Match.{Form, Step}
+use Rattle.patterns.specs.Match.{Form}
 use Rattle.patterns.specs.declared.letter.Letter.{Letter}
 use Rattle.unwinder.specs.Lists.{entries_in}
 use Rattle.unwinder.specs.declared.unwound.Entry.{Entry}
-use Rattle.goal_formula.specs.Hitting.{EntriesHit, FirstHolds, MeetsPassing}
+use Rattle.goal_formula.specs.Hitting.{FirstHolds, MeetsPassing}
 use Rattle.goal_formula.specs.Parts.{IsHitBit, IsMatchBit, IsPassingBit}
 use Rattle.goal_formula.specs.Steps.{HasWires, entry_step, steps_in}
 use Rattle.goal_formula.proofs.Ends.{ends_at, ends_held}

@@ -1,18 +1,17 @@
 -- The variables of a circuit's inputs.
-use Rattle.std.proofs.Common.{◌≡◌, ◌⊎◌, ℕ, zero, suc, ◌+◌, ◌-◌, ◌≤◌, ◌<◌, Bool, true, false, List, [], ◌∷◌, ◌++◌, length, take, map, get_or, Option, Some, None, refl, sym, ap, subst, ◌∙◌, inl, inr, ⊎_elim, arith, length-append}
+use Rattle.std.proofs.Common.{◌≡◌, ◌⊎◌, ℕ, zero, suc, ◌+◌, ◌≤◌, ◌<◌, Bool, false, List, [], ◌∷◌, ◌++◌, length, take, map, get_or, Option, Some, None, refl, sym, ap, subst, ◌∙◌, inl, inr, ⊎_elim, arith, length-append}
 use Rattle.std.specs.Prelude.{slice_get}
 use Rattle.std.specs.List.{AllZip, Contains, filter_map, range_with_len}
 use Rattle.std.proofs.lemmas.Bool.{cases_lt}
-use Rattle.std.proofs.lemmas.List.{get_or_append_left, length-map, take_all, take_more}
-use Rattle.std.proofs.lemmas.Option.{get_or_from_slice_get, same_Some, slice_get-get_or, slice_get_past, slice_get_within}
+use Rattle.std.proofs.lemmas.List.{length-map, take_all, take_more}
+use Rattle.std.proofs.lemmas.Option.{get_or_from_slice_get, same_Some, slice_get_within}
 use Rattle.circuit.proofs.Gates.{input_count_more, input_count_same}
 use Rattle.circuit.specs.Truth.{World}
-use Rattle.circuit.specs.Wires.{HasNumber, held, input_count}
+use Rattle.circuit.specs.Wires.{input_count}
 use Rattle.circuit.specs.declared.lit.Gate.{Gate}
 use Rattle.circuit.specs.declared.lit.Gate.TheVariants.{Input, And}
 use Rattle.circuit.specs.declared.lit.Lit.{Lit}
 use Rattle.clause_form.proofs.WorldLaws.{held_on}
-use Rattle.clause_form.specs.Cone.{gate_on}
 use Rattle.clause_form.specs.Encoding.{variable_of}
 use Rattle.clause_form.specs.Worlds.{AgreesOnInputs, AgreesOnWires}
 use Rattle.goal_formula.specs.Bits.{Gives, bit_in}

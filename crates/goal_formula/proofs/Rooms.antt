@@ -1,5 +1,5 @@
 -- Room for gates, and how many there are.
-use Rattle.std.proofs.Common.{◌≡◌, ℕ, ◌+◌, ◌*◌, ◌^◌, ◌≤◌, ◌<◌, List, length, Some, mul-le-mul, mul-le-mul_left, mul-le-mul_right, arith}
+use Rattle.std.proofs.Common.{◌≡◌, ℕ, ◌+◌, ◌*◌, ◌^◌, ◌≤◌, ◌<◌, length, Some, mul-le-mul, mul-le-mul_left, mul-le-mul_right, arith}
 use Rattle.std.specs.Prelude.{slice_get}
 use native.Mathlib.Nat.{mul-mul-mul_comm}
 use Rattle.std.proofs.lemmas.Option.{slice_get_within}

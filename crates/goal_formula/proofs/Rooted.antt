@@ -1,7 +1,7 @@
 -- The clause form of a literal, with the variables of the input bits.
-use Rattle.std.proofs.Common.{◌≡◌, ℕ, zero, suc, ◌+◌, ◌-◌, ◌*◌, ◌≤◌, ◌<◌, Bool, true, List, [], ◌∷◌, ◌++◌, length, take, drop, map, get_or, replicate, Option, Some, refl, sym, ap, subst, ◌∙◌, arith, length-append}
+use Rattle.std.proofs.Common.{◌≡◌, ℕ, ◌+◌, ◌-◌, ◌*◌, ◌≤◌, ◌<◌, Bool, true, List, [], ◌∷◌, ◌++◌, length, take, drop, map, get_or, replicate, Option, Some, refl, sym, ap, subst, ◌∙◌, arith}
 use Rattle.std.specs.List.{Contains, filter_map, flat_map, list_all, range_with_len}
-use Rattle.std.proofs.lemmas.List.{append-nil, drop-drop, length-drop, length-map, length-take-le, map-append, replicate_more, take-append-drop, take_all, take_more}
+use Rattle.std.proofs.lemmas.List.{append-nil, drop-drop, length-drop, length-take-le, map-append, replicate_more, take-append-drop, take_all, take_more}
 use Rattle.std.proofs.lemmas.Grind.{flat_map-append}
 use Rattle.std.proofs.lemmas.List.Sums.{sum_by_more}
 use Rattle.std.proofs.Math.Seq.{take-add}

@@ -1,5 +1,5 @@
 -- The entries that hold in the world of an input hit a goal exactly where its run within the bounds does.
-use Rattle.std.proofs.Common.{◌≡◌, ℕ, zero, suc, ◌↔◌, Bool, true, false, cond, List, [], ◌∷◌, length, map, Option, Some, None, refl, sym, ap, subst, ◌∙◌, arith}
+use Rattle.std.proofs.Common.{◌≡◌, ℕ, suc, ◌↔◌, Bool, true, false, cond, List, [], ◌∷◌, map, Option, Some, None, refl, sym, ap, subst, ◌∙◌}
 use Rattle.std.specs.Prelude.{IsTrue, slice_get}
 use Rattle.std.specs.List.{AllZip, filter, list_any}
 use Rattle.std.proofs.lemmas.Option.{same_Some}
@@ -25,18 +25,17 @@ use Rattle.hits.specs.Hits.{Hits, path_in}
 use Rattle.hits.specs.Inputs.{InputHitsWithin}
 use Rattle.input_words.specs.Worlds.{world_of}
 use Rattle.path_runner.proofs.Records.{ends_counted}
-use Rattle.path_runner.specs.Counted.{counts_end}
 use Rattle.path_runner.specs.Paths.{record_of}
 use Rattle.patterns.specs.Letters.{form}
 use Rattle.patterns.specs.Match.{Form, Step}
 use Rattle.patterns.specs.Segments.{HasSegment}
 use Rattle.patterns.specs.declared.letter.Letter.{Letter}
 use Rattle.reached.specs.declared.bounds.Bounds.{Bounds}
-use Rattle.unwinder.specs.Lists.{IsInputFor, ListsRuns, Reached, Tells, entries_in, reached_in}
+use Rattle.unwinder.specs.Lists.{IsInputFor, ListsRuns, Tells, entries_in, reached_in}
 use Rattle.unwinder.specs.declared.unwound.Entry.{Entry}
 use Rattle.goal_formula.specs.Hitting.{EntriesHit, FirstHolds, MeetsPassing, StartsFirst}
-use Rattle.goal_formula.specs.Steps.{entry_step, steps_in}
-use Rattle.goal_formula.proofs.Paths.{AreSame, segments}
+use Rattle.goal_formula.specs.Steps.{steps_in}
+use Rattle.goal_formula.proofs.Paths.{segments}
 use Rattle.goal_formula.proofs.Told.{end_told, reached_step, run_same, run_size, steps_told}
 
 -- what a filter keeps first passes its test, and is an element

@@ -1,5 +1,5 @@
 -- What the entries that hold tell is what is recorded of the run.
-use Rattle.std.proofs.Common.{◌≡◌, ℕ, zero, suc, ◌+◌, ◌-◌, ◌*◌, ◌/◌, ◌%◌, ◌==◌, ◌≤◌, Bool, true, false, not, ◌||◌, List, [], ◌∷◌, map, length, get_or, Option, Some, None, refl, sym, ap, subst, ◌∙◌, arith}
+use Rattle.std.proofs.Common.{◌≡◌, ℕ, zero, suc, ◌+◌, ◌-◌, ◌*◌, ◌/◌, ◌%◌, ◌==◌, ◌≤◌, Bool, true, false, not, ◌||◌, List, [], ◌∷◌, map, length, get_or, Option, Some, None, refl, sym, ap, ◌∙◌, arith}
 use Rattle.std.proofs.lemmas.List.{length-map}
 use Rattle.std.specs.Prelude.{slice_get, slice_index}
 use Rattle.std.specs.Int.{bit_at}
@@ -10,7 +10,6 @@ use Rattle.c_meaning.specs.Runs.{AreMoves, Move, Run, counts, last_state, states
 use Rattle.c_meaning.specs.Steps.{next}
 use Rattle.c_meaning.specs.declared.ends.Ends.{Ends}
 use Rattle.c_meaning.specs.declared.input.Input.{Input}
-use Rattle.cfa.specs.declared.expr.Expr.{Expr}
 use Rattle.cfa.specs.declared.parts.GraphParts.{GraphParts}
 use Rattle.cfa.specs.declared.parts.Node.{Node}
 use Rattle.cfa.specs.declared.state.Predicates.{Predicates}
@@ -21,14 +20,14 @@ use Rattle.circuit.specs.Wires.{lit_holds}
 use Rattle.circuit.specs.declared.lit.Gate.{Gate}
 use Rattle.circuit.specs.declared.lit.Lit.{Lit}
 use Rattle.hits.specs.Hits.{path_in}
-use Rattle.path_runner.specs.Masks.{bit, holds, mask_at, mask_of, number_of_bits}
+use Rattle.path_runner.specs.Masks.{holds, mask_at, mask_of, number_of_bits}
 use Rattle.path_runner.specs.Paths.{record_of}
 use Rattle.patterns.specs.Match.{Step}
 use Rattle.patterns.specs.Paths.{edge_in, state_in, step_of}
 use Rattle.patterns.specs.declared.letter.Letter.{Letter}
 use Rattle.patterns.specs.declared.letter.Letter.TheVariants.{Nodes, Edges, Predicate, Absent}
 use Rattle.automata.specs.Standing.{step_at}
-use Rattle.unwinder.specs.Lists.{Reached, Tells, after_move, reached_in, truths_at, truths_in}
+use Rattle.unwinder.specs.Lists.{Reached, Tells, after_move, reached_in, truths_at}
 use Rattle.unwinder.specs.declared.unwound.Entry.{Entry}
 use Rattle.goal_formula.specs.Steps.{tells_edge, entry_step, tells_state}
 use Rattle.goal_formula.proofs.Paths.{AreSame}

@@ -1,5 +1,5 @@
 -- When the entries that hold in a world hit a goal.
-use Rattle.std.specs.Prelude.{◌≡◌, ℕ, Bool, true, List, Option, None, Some, slice_get}
+use Rattle.std.specs.Prelude.{◌≡◌, ℕ, true, List, Option, None, Some, slice_get}
 use Rattle.std.specs.List.{list_any}
 use Rattle.automata.specs.Standing.{HasMatch}
 use Rattle.circuit.specs.Truth.{World}

@@ -1,6 +1,6 @@
 -- What only the code's parts ask of each other.
 use Rattle.std.specs.Prelude.{◌≡◌, ℕ, ◌+◌, ◌*◌, ◌^◌, ◌<◌, ◌≤◌, ◌↔◌, Bool, true, List, length, take, Option, None, Some, slice_get, slice_index_or}
-use Rattle.std.specs.List.{Contains, list_all}
+use Rattle.std.specs.List.{list_all}
 use Rattle.automata.specs.Standing.{HasMatch}
 use Rattle.bit_words.specs.Words.{Grows}
 use Rattle.c_values.specs.declared.kinds.Kind.{Kind}

@@ -1,7 +1,6 @@
-use Rattle.std.proofs.Common.{◌≡◌, ◌+◌, ◌-◌, ℕ, Some, take, sym, ap, subst, ◌∙◌, refl, arith}
+use Rattle.std.proofs.Common.{◌≡◌, ◌+◌, ◌-◌, ℕ, take, sym, ap, subst, ◌∙◌, refl, arith}
 use Rattle.std.specs.Prelude.{slice_get}
 use Rattle.circuit.specs.Wires.{input_count}
-use Rattle.circuit.specs.declared.lit.Gate.TheVariants.{Input, And}
 use Rattle.goal_formula.specs.Parts.{AreInputVariables}
 use Rattle.goal_formula.proofs.InputBits.{inputs_more, inputs_other}
 use Rattle.goal_formula.proofs.encoding.input_variables.Goals as goal
@@ -19,7 +18,7 @@ loop-place-preserved c =
       in-Input+in_ok-push w ↦
           (let there = ap (slice_get gates) (sym at) ∙ w.in-Input.ensures.value in
           subst (λ items. AreInputVariables gates variable (c.loop-place.place + 1) items) (sym (ap (λ v. v.items) w.bits-is ∙ w.in_ok-push.ensures.items))
-          (inputs_more gates variable c.loop-place.place c.loop-place.bits.items c.loop-place.invariant w.in-Input.number _ there ? refl))
+          (inputs_more gates variable c.loop-place.place c.loop-place.bits.items c.loop-place.invariant w.in-Input.number _ there (w.in-Input.ensures.number ∙ ap (λ n. input_count (take n gates)) at) refl))
     | in_default w ↦
           (let there = ap (slice_get gates) (sym at) ∙ w.in_default.ensures.value in
           subst (λ items. AreInputVariables gates variable (c.loop-place.place + 1) items) (sym (ap (λ v. v.items) w.bits-is))
