@@ -16,7 +16,7 @@ returns c =
     let long : length bits ≡ total_width parameters + 64 * c.args.answers = count_is gates variable bits inputs ∙ c.requires.inputs in
     let count = c.len.ensures ∙ sym c.deref-3.ensures.len ∙ ap length c.deref-3.ensures.value in
     let all = all_rows bits c.in_ok-words.words c.in_ok-answers.answers (total_width parameters) c.args.answers (length bits - 64 * c.args.answers) long refl
-        (c.in_ok-words.ensures.bits ∙ ap (take (total_width parameters)) c.deref-2.ensures.value)
-        (c.in_ok-answers.ensures.bits ∙ (λ i. take (64 * c.args.answers) (drop (count i - 64 * c.args.answers) (c.deref-3.ensures.value i)))) in
+    (c.in_ok-words.ensures.bits ∙ ap (take (total_width parameters)) c.deref-2.ensures.value)
+    (c.in_ok-answers.ensures.bits ∙ (λ i. take (64 * c.args.answers) (drop (count i - 64 * c.args.answers) (c.deref-3.ensures.value i)))) in
     rooted gates c.args.root parameters c.args.answers variable bits (record { formula = c.in_ok-form.form.formula; words = c.in_ok-words.words; answers = c.in_ok-answers.answers })
     inputs all (record { words = c.in_ok-words.ensures.widths; answers_are = c.in_ok-answers.ensures.widths }) c.requires.inputs form.numbers form.sound form.determined form.assignment form.complete form.few_variables form.over form.few_clauses

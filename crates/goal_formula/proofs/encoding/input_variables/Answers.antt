@@ -15,11 +15,11 @@ loop-place-preserved c =
     let variable = c.args.variable.now in
     let at : c.loop-place.place + 1 - 1 ≡ c.loop-place.place = before c.loop-place.place in
     elim c.match-gate.branch [
-      in-Input+in_ok-push w ↦
+      | in-Input+in_ok-push w ↦
           (let there = ap (slice_get gates) (sym at) ∙ w.in-Input.ensures.value in
           subst (λ items. AreInputVariables gates variable (c.loop-place.place + 1) items) (sym (ap (λ v. v.items) w.bits-is ∙ w.in_ok-push.ensures.items))
           (inputs_more gates variable c.loop-place.place c.loop-place.bits.items c.loop-place.invariant w.in-Input.number _ there (w.in-Input.ensures.number ∙ ap (λ n. input_count (take n gates)) at) refl))
-    | in_default w ↦
+      | in_default w ↦
           (let there = ap (slice_get gates) (sym at) ∙ w.in_default.ensures.value in
           subst (λ items. AreInputVariables gates variable (c.loop-place.place + 1) items) (sym (ap (λ v. v.items) w.bits-is))
           (inputs_other gates variable c.loop-place.place c.loop-place.bits.items c.loop-place.invariant w.in_default.field-0 w.in_default.field-1 there))
