@@ -166,6 +166,8 @@ module _ (parts : GraphParts) (predicates : Predicates) (f : Function) (entry : 
     rows = let lt = slice_get_within pairs 0 (first_pair f) reached.first in let long = length-replicate (length pairs - 1) (nil_row) in omega (arith, lt, long);
     arrivals = arrivals_first (length pairs - 1);
     stands = λ x given. inl (waits (length pairs - 1) x given);
+    edged = λ j l row a le e k none. let one = only_first (length pairs - 1) j l row a e k in (refl, one.0);
+    starts = λ i e h none. absurd cc;
     emptied = λ i row lt e. absurd (omega (arith, lt));
     few = λ j row le e. let few = few_first (length pairs - 1) j row e in omega (arith, few);
     wires = let one = waiting_one (length pairs - 1) in omega (arith, one);

@@ -45,6 +45,9 @@ closed_place_is parts predicates entry ends answers old new row p steps node cou
   truth_count = h.truth_count ∙ same_count;
   ended_wire = omega arith;
   long = ap length h.onward ∙ length-map steps closed_step;
+  edges = λ k s a s_is a_is.
+      let own = closed_one k a a_is in
+      ap (λ (b : Arrival). b.edge) (sym own.2) ∙ ap (λ (r : Step). Some r.edge) (same_Some own.0 s (sym own.1 ∙ s_is));
   takes = λ w. record {
     none = λ off k a e. let own = closed_one k a e in ap (λ (q : Arrival). lit_holds new q.guard w) (sym own.2) ∙ no_holds new w;
     truths_are = λ k a s one. absurd (never w k a s one);

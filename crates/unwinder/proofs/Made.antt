@@ -103,6 +103,7 @@ is_unwound parts predicates f entry bounds ends pairs steps words answers first 
         answer_count = made.answer_count;
       };
       entries = λ k e there. h.entries_are k e there;
+      starts = h.starts;
       given_entry = refl;
       given_bounds = refl;
       given_ends = refl;

@@ -277,6 +277,9 @@ open_place_is parts predicates entry ends answers row p ways g0 g1 g2 g3 g4 g5 m
       truth_count = count;
       ended_wire = still f5 ended ended_wire;
       long = zip_long (AlongStep parts g4 g5 m.guard t.ways behind) ways onward along;
+      edges = λ k q a q_is a_is.
+          let own = zip_left (AlongStep parts g4 g5 m.guard t.ways behind) ways onward along k a a_is in
+          own.2.edge ∙ ap (λ (r : Step). Some r.edge) (same_Some own.0 q (sym own.1 ∙ q_is));
       takes = place_takes parts predicates entry ends answers row p ways g0 g1 g2 g3 g4 g5 m truths t ended behind onward all;
       onward = λ k q a e target q_is a_is follows.
           let own = zip_left (AlongStep parts g4 g5 m.guard t.ways behind) ways onward along k a a_is in

@@ -37,7 +37,7 @@ use Rattle.unwinder.specs.Meeting.{cells_at, cells_from}
 use Rattle.unwinder.specs.Place.{most_place_wires}
 use Rattle.unwinder.specs.Putting.{PutFrom}
 use Rattle.unwinder.specs.Progress.{CanTake, CanUnwind, TakesPlace, Unwinds, step_count, waiting}
-use Rattle.unwinder.specs.Unwinding.{IsEntry}
+use Rattle.unwinder.specs.Unwinding.{IsEntry, StartsFirst}
 use Rattle.unwinder.proofs.AgendaLaws.{get_other, get_set, leads_to}
 use Rattle.unwinder.proofs.FewSteps.{few_steps}
 use Rattle.unwinder.proofs.Meetings.{sym_later}
@@ -64,10 +64,10 @@ entry_later predicates old new most e g h = record {
 }
 
 -- an element of two lists is one of the first or of the second
-one_of : {X : Type 0} (xs ys : List X) (i : ℕ) (x : X) → slice_get (xs ++ ys) i ≡ Some x → (slice_get xs i ≡ Some x) ⊎ ((k : ℕ) × (slice_get ys k ≡ Some x))
-one_of [] ys i x e = inr (i, e)
+one_of : {X : Type 0} (xs ys : List X) (i : ℕ) (x : X) → slice_get (xs ++ ys) i ≡ Some x → (slice_get xs i ≡ Some x) ⊎ ((k : ℕ) × (slice_get ys k ≡ Some x) × (i ≡ length xs + k))
+one_of [] ys i x e = inr (i, e, omega arith)
 one_of (y ∷ xs) ys zero x e = inl e
-one_of (y ∷ xs) ys (suc i) x e = one_of xs ys i x e
+one_of (y ∷ xs) ys (suc i) x e = ⊎_elim (λ old. inl old) (λ came. let at = came.2 in inr (came.0, came.1, omega arith)) (one_of xs ys i x e)
 
 made_from : {X Y : Type 0} (f : X → Y) (xs : List X) (i : ℕ) (y : Y) → slice_get (map f xs) i ≡ Some y → (x : X) × (slice_get xs i ≡ Some x) × (f x ≡ y)
 made_from f [] i y e = absurd cc
@@ -208,6 +208,29 @@ module _ (parts : GraphParts) (predicates : Predicates) (f : Function) (entry : 
       let same : entries ++ map (entry_at p.node t.is.truths t.is.ended) t.row ≡ after = ap (λ es. entries ++ es) (sym t.is.entries) ∙ sym t.entries in
       subst (λ es. Stands parts predicates f bounds ends pairs new es left (n + 1) x) same stood
 
+  -- no entry that is made has no edge, but where the first place is taken, into which one way leads
+  starts_now : StartsFirst after
+  starts_now i e there none =
+      ⊎_elim
+      (λ old. u.starts i e old none)
+      (λ came.
+      let from = made_from (entry_at p.node t.is.truths t.is.ended) t.row came.0 e (ap (λ es. slice_get es came.0) (sym t.is.entries) ∙ came.1) in
+      let first = u.edged n came.0 t.row from.0 (omega arith) t.row_is from.1 (ap (λ (x : Entry). x.edge) from.2 ∙ none) in
+      let no_step : step_count (take n steps) ≡ 0 = ap (λ m. step_count (take m steps)) first.0 in
+      let within = slice_get_within t.row came.0 from.0 from.1 in
+      let count = u.count in
+      let removed = emptied_count agenda n t.row t.row_is in
+      let at = came.2 in
+      omega (arith, no_step, within, count, removed, at))
+      (one_of entries t.place.entries i e (ap (λ es. slice_get es i) (sym t.entries) ∙ there))
+
+  edged_now : (j l : ℕ) (row : List Arrival) (a : Arrival) → n + 1 ≤ j → slice_get left j ≡ Some row → slice_get row l ≡ Some a → a.edge ≡ None → (n + 1 ≡ 0) × (j ≡ 0)
+  edged_now j l row a le e k none =
+      ⊎_elim
+      (λ old. let first = u.edged j l old.0 a (omega (arith, le)) old.1 old.2 none in let at = first.1 in absurd (omega (arith, le, at)))
+      (λ came. let edge : Some came.1.edge ≡ None = sym (t.is.edges came.0 came.1 a came.2 came.3) ∙ none in absurd cc)
+      (puts.only j l row a (omega (arith, le)) e k)
+
   -- no way is put where places are taken
   none_put : (i : ℕ) (row : List Arrival) → i < n + 1 → slice_get left i ≡ Some row → (l : ℕ) (a : Arrival) → slice_get row l ≡ Some a → ⊥
   none_put i row lt e l a k =
@@ -261,6 +284,8 @@ module _ (parts : GraphParts) (predicates : Predicates) (f : Function) (entry : 
     rows = t.put.rows ∙ length-set agenda n [] ∙ u.rows;
     arrivals = arrivals_now;
     stands = stands_now;
+    edged = edged_now;
+    starts = starts_now;
     emptied = λ i row lt e. no_element row (none_put i row lt e);
     few = few_now;
     wires = wires_now;

@@ -39,6 +39,7 @@ pub record IsPlace (parts : GraphParts) (predicates : Predicates) (entry : ℕ) 
   pub truth_count : length truths ≡ length predicates.meanings
   pub ended_wire : IsWire new ended
   pub long : length place.onward ≡ length steps
+  pub edges : (m : ℕ) (s : Step) (a : Arrival) → slice_get steps m ≡ Some s → slice_get place.onward m ≡ Some a → a.edge ≡ Some s.edge
   pub takes : (w : World) → TakesIn parts predicates ends old new answers row p truths ended steps place.onward w
   pub onward : (m : ℕ) (s : Step) (a : Arrival) (e : Edge) (q : Pair) → slice_get steps m ≡ Some s → slice_get place.onward m ≡ Some a → Follows parts s.edge e p q → IsArrival parts entry new q a
 

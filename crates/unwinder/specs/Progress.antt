@@ -1,5 +1,5 @@
 -- How far an unwinding is: the places below a number are taken.
-use Rattle.std.specs.Prelude.{◌≡◌, ℕ, ◌+◌, ◌*◌, ◌^◌, ◌<◌, ◌≤◌, ◌==◌, cond, All, List, [], ◌∷◌, ◌++◌, length, replicate, set, take, Some, slice_get, sum_by}
+use Rattle.std.specs.Prelude.{◌≡◌, ℕ, ◌+◌, ◌*◌, ◌^◌, ◌<◌, ◌≤◌, ◌==◌, cond, All, List, [], ◌∷◌, ◌++◌, length, replicate, set, take, Some, None, slice_get, sum_by}
 use Rattle.circuit.specs.Wires.{IsWire}
 use Rattle.circuit.specs.declared.lit.Gate.{Gate}
 use Rattle.circuit.specs.declared.lit.Lit.{Lit}
@@ -25,7 +25,7 @@ use Rattle.unwinder.specs.Agenda.{AreArrivals, IsArrival, Stands}
 use Rattle.unwinder.specs.Lists.{IsInputFor}
 use Rattle.unwinder.specs.Place.{IsPlace, most_place_wires}
 use Rattle.unwinder.specs.Putting.{PutCounts, PutFrom}
-use Rattle.unwinder.specs.Unwinding.{IsEntry}
+use Rattle.unwinder.specs.Unwinding.{IsEntry, StartsFirst}
 
 -- how many ways wait
 abbrev pub waiting : List (List Arrival) → ℕ
@@ -65,6 +65,9 @@ pub record Unwinds (parts : GraphParts) (predicates : Predicates) (f : Function)
   pub rows : length agenda ≡ length pairs
   pub arrivals : AreArrivals parts entry now pairs agenda n
   pub stands : (x : Input) → IsInputFor f x → Stands parts predicates f bounds ends pairs now entries agenda n x
+  -- the way of the start alone has no edge, and the first entry, which it makes
+  pub edged : (j l : ℕ) (row : List Arrival) (a : Arrival) → n ≤ j → slice_get agenda j ≡ Some row → slice_get row l ≡ Some a → a.edge ≡ None → (n ≡ 0) × (j ≡ 0)
+  pub starts : StartsFirst entries
   pub emptied : (i : ℕ) (row : List Arrival) → i < n → slice_get agenda i ≡ Some row → row ≡ []
   -- no more ways wait at a place than lead there from those that are taken, and at the first place that of the start
   pub few : (j : ℕ) (row : List Arrival) → n ≤ j → slice_get agenda j ≡ Some row → length row ≤ steps_into (take n steps) j + cond (j == 0) 1 0

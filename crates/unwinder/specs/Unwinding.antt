@@ -1,5 +1,5 @@
 -- What an unwinding within bounds is: every input's run is listed, over circuits whose inputs are the bits of inputs.
-use Rattle.std.specs.Prelude.{◌≡◌, ◌⊎◌, ℕ, ◌+◌, ◌*◌, ◌<◌, ◌≤◌, All, List, [], length, slice_get, sum_by}
+use Rattle.std.specs.Prelude.{◌≡◌, ◌⊎◌, ℕ, ◌+◌, ◌*◌, ◌<◌, ◌≤◌, All, List, [], length, Some, None, slice_get, sum_by}
 use Rattle.std.specs.Option.{IsSomeAnd}
 use Rattle.circuit.specs.Wires.{IsWire, input_count}
 use Rattle.circuit.specs.declared.lit.Gate.{Gate}
@@ -31,6 +31,10 @@ pub record IsEntry (predicates : Predicates) (gates : List Gate) (e : Entry) : T
   pub truths : All (IsWire gates) e.predicates
   pub count : length e.predicates ≡ length predicates.meanings
 
+-- no entry but the first has no edge: that one is the start's
+abbrev pub StartsFirst : List Entry → Type 0
+StartsFirst entries = (k : ℕ) (e : Entry) → slice_get entries k ≡ Some e → e.edge ≡ None → k ≡ 0
+
 -- the most wires of an unwinding: its inputs, 32 for each unit of the size sum, and 128 for each pair, once for each
 -- predicate and once more
 abbrev pub most_wires : GraphParts → Predicates → Function → Bounds → List Pair → List (List Step) → ℕ
@@ -52,6 +56,7 @@ pub record IsUnwound (parts : GraphParts) (predicates : Predicates) (f : Functio
   pub lists : ListsRuns parts predicates f bounds ends u.circuit u.entries
   pub words : AreWordsOf f bounds u
   pub entries : Each u.entries (λ k e. IsEntry predicates u.circuit e)
+  pub starts : StartsFirst u.entries
   pub given_entry : u.entry ≡ entry
   pub given_bounds : u.bounds ≡ bounds
   pub given_ends : u.ends ≡ ends
