@@ -18,7 +18,6 @@ use Rattle.unwinder.specs.Unwinding.{IsUnwound}
 use Rattle.unwinder.specs.declared.unwound.Unwound.{Unwound}
 use Rattle.goal_formula.specs.Bits.{Gives, input_from, input_variables}
 use Rattle.goal_formula.specs.Exact.{IsExact}
-use Rattle.goal_formula.specs.Hitting.{StartsFirst}
 use Rattle.goal_formula.specs.Parts.{SaysHit}
 use Rattle.goal_formula.specs.Sizes.{size_of}
 use Rattle.goal_formula.specs.declared.goal.GoalFormula.{GoalFormula}
@@ -28,7 +27,7 @@ use Rattle.goal_formula.proofs.Rooms.{few_gates}
 use Rattle.goal_formula.proofs.RunHits.{first_holds, hits_run, run_hits}
 
 module _ (parts : GraphParts) (predicates : Predicates) (f : Function) (u : Unwound) (plan : Plan) (goal : GoalForm) (g : GoalFormula) (new : List Gate)
-    (graph : IsGraph parts) (own : slice_get parts.functions u.entry ≡ Some f) (h : IsUnwound parts predicates f u.entry u.bounds u.ends u) (starts : StartsFirst u.entries)
+    (graph : IsGraph parts) (own : slice_get parts.functions u.entry ≡ Some f) (h : IsUnwound parts predicates f u.entry u.bounds u.ends u)
     (s : SaysHit u.circuit new u.entries plan (form goal.pattern) f.parameters u.bounds.answers g) where
   kinds : All IsKind f.parameters
   kinds = parameter_kinds parts u.entry f graph own
@@ -42,11 +41,11 @@ module _ (parts : GraphParts) (predicates : Predicates) (f : Function) (u : Unwo
         let w : World = world_of f.parameters u.bounds.answers input in
         let gives : Gives value (input_variables g) w = subst (Gives value (input_variables g)) (sym (input_world value f.parameters u.bounds.answers g s.says.shape kinds)) (gives_own value (input_variables g)) in
         let holds = s.says.sound value w satisfies gives in
-        let first = first_holds parts predicates f u.bounds u.ends plan goal u.circuit u.entries input h.lists given starts in
+        let first = first_holds parts predicates f u.bounds u.ends plan goal u.circuit u.entries input h.lists given h.starts in
         hits_run parts predicates f u.bounds u.ends plan goal u.circuit u.entries input h.lists given ((s.hit.value w first).0 holds);
     complete = λ input given hits.
         let w : World = world_of f.parameters u.bounds.answers input in
-        let first = first_holds parts predicates f u.bounds u.ends plan goal u.circuit u.entries input h.lists given starts in
+        let first = first_holds parts predicates f u.bounds u.ends plan goal u.circuit u.entries input h.lists given h.starts in
         let entries = run_hits parts predicates f u.bounds u.ends plan goal u.circuit u.entries input h.lists given hits in
         s.says.complete w (length-world_of f.parameters u.bounds.answers input) ((s.hit.value w first).1 entries);
     determined = s.says.determined;

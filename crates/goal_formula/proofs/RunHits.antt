@@ -33,7 +33,8 @@ use Rattle.patterns.specs.declared.letter.Letter.{Letter}
 use Rattle.reached.specs.declared.bounds.Bounds.{Bounds}
 use Rattle.unwinder.specs.Lists.{IsInputFor, ListsRuns, Tells, entries_in, reached_in}
 use Rattle.unwinder.specs.declared.unwound.Entry.{Entry}
-use Rattle.goal_formula.specs.Hitting.{EntriesHit, FirstHolds, MeetsPassing, StartsFirst}
+use Rattle.unwinder.specs.Unwinding.{StartsFirst}
+use Rattle.goal_formula.specs.Hitting.{EntriesHit, FirstHolds, MeetsPassing}
 use Rattle.goal_formula.specs.Steps.{steps_in}
 use Rattle.goal_formula.proofs.Paths.{segments}
 use Rattle.goal_formula.proofs.Told.{end_told, reached_step, run_same, run_size, steps_told}

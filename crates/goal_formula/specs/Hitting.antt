@@ -1,5 +1,5 @@
 -- When the entries that hold in a world hit a goal.
-use Rattle.std.specs.Prelude.{◌≡◌, ℕ, true, List, Option, None, Some, slice_get}
+use Rattle.std.specs.Prelude.{◌≡◌, true, List, Option, None, Some, slice_get}
 use Rattle.std.specs.List.{list_any}
 use Rattle.automata.specs.Standing.{HasMatch}
 use Rattle.circuit.specs.Truth.{World}
@@ -13,10 +13,6 @@ use Rattle.patterns.specs.declared.letter.Letter.{Letter}
 use Rattle.unwinder.specs.declared.unwound.Entry.{Entry}
 use Rattle.unwinder.specs.Lists.{entries_in}
 use Rattle.goal_formula.specs.Steps.{steps_in}
-
--- no entry but the first has no edge: it is that of the start
-abbrev pub StartsFirst : List Entry → Type 0
-StartsFirst entries = (k : ℕ) (e : Entry) → slice_get entries k ≡ Some e → e.edge ≡ None → k ≡ 0
 
 -- the first entry holds in a world
 abbrev pub FirstHolds : List Gate → List Entry → World → Type 0

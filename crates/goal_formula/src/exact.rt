@@ -12,7 +12,6 @@ ghost use Rattle.input_words.specs.Worlds.{world_length};
 ghost use Rattle.patterns.specs.Letters.{form};
 ghost use Rattle.unwinder.specs.Unwinding.{IsUnwound};
 ghost use Rattle.goal_formula.specs.Exact.{IsExact};
-ghost use Rattle.goal_formula.specs.Hitting.{StartsFirst};
 ghost use Rattle.goal_formula.specs.Parts.{CanSay, SaysHit, most_hit_gates};
 ghost use Rattle.goal_formula.specs.Sizes.{IsFormulaFault, goal_size, size_of};
 ghost use Rattle.goal_formula.specs.Steps.{HasWires};
@@ -98,7 +97,6 @@ pub fn formula(
 ) -> Result<GoalFormula, Fault>
     requires predicates { IsPredicates graph.now predicates.now }
     requires unwound { IsSomeAnd (slice_get graph.now.functions unwound.old.entry) (λ f. IsUnwound graph.now predicates.now f unwound.old.entry unwound.old.bounds unwound.old.ends unwound.old) }
-    requires starts { StartsFirst unwound.old.entries }
     requires some { 0 < goal }
     requires there { goal ≤ length plan.now.goals }
     ensures accepted { IfOk result (λ formula. (f : OneFunction) (g : GoalForm) → slice_get graph.now.functions unwound.old.entry ≡ Some f → slice_get plan.now.goals (goal - 1) ≡ Some g → IsExact graph.now predicates.now f unwound.old.bounds unwound.old.ends plan.now g formula) }

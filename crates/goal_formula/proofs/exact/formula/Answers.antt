@@ -42,7 +42,7 @@ returns-in-Ok-clause-accepted c = λ f g own at.
     let it = taken Own (slice_get c.args.graph.now.functions u.entry) c.requires.unwound in
     let unwound : Own f = subst Own (same_Some it.0 f (sym it.1 ∙ own)) it.2 in
     let says = c.in-Ok.ensures.formula f own in
-    exact c.args.graph.now c.args.predicates.now f u c.args.plan.now g c.in-Ok.formula says.0 c.well_formed-2.ensures own unwound c.requires.starts
+    exact c.args.graph.now c.args.predicates.now f u c.args.plan.now g c.in-Ok.formula says.0 c.well_formed-2.ensures own unwound
     (subst (λ p. SaysHit u.circuit says.0 u.entries c.args.plan.now p f.parameters u.bounds.answers c.in-Ok.formula) pattern says.1)
 
 pub returns-in-Ok-clause-size : goal.returns-in-Ok-clause-size
