@@ -1,5 +1,5 @@
 -- The status and the line of a refusal.
-use Rattle.std.specs.Prelude.{ℕ, ◌==◌, List, [], ◌∷◌, ◌++◌, codes, find, option_map, unwrap_or, slice_get}
+use Rattle.std.specs.Prelude.{ℕ, ◌==◌, List, [], ◌∷◌, ◌++◌, codes, find, option_map, unwrap_or, slice_get, if◌then◌else◌}
 use Rattle.std.specs.Fmt.{decimal}
 use Rattle.fq_core.specs.Code.{name_of_code}
 use Rattle.fq_core.specs.declared.refusal.Place.{Place}
@@ -11,8 +11,7 @@ use Rattle.command.specs.Said.{Said, refused}
 
 -- each code of the table of codes with the status that it ends in
 abbrev pub status_rows : List (ℕ × Status)
-status_rows = (1, status.NotBuilt)
-    ∷ (2, status.Usage)
+status_rows = (2, status.Usage)
     ∷ (7, status.ReadFault)
     ∷ (10, status.SourceRefused)
     ∷ (11, status.SourceRefused)
@@ -41,6 +40,8 @@ status_rows = (1, status.NotBuilt)
     ∷ (52, status.InputRefused)
     ∷ (53, status.Limit)
     ∷ (54, status.Limit)
+    ∷ (55, status.InputRefused)
+    ∷ (56, status.InputRefused)
     ∷ (60, status.QueryRefused)
     ∷ (61, status.QueryRefused)
     ∷ (62, status.QueryRefused)
@@ -78,10 +79,14 @@ place_text sources (place.Limit number) = codes " limit " ++ decimal number
 place_text sources (place.FileName name) = 32 ∷ name
 place_text sources (place.Line number) = codes " line " ++ decimal number
 
+-- The name that is printed of a code. What isn't built is told as code 1, which is none of the table.
+abbrev pub printed_name : ℕ → List ℕ
+printed_name code = if code == 1 then codes "NotBuilt" else name_of_code code
+
 -- `error`, the code, its name and the place
 abbrev pub line_of : List (List ℕ) → Refusal → List ℕ
 line_of sources refusal =
-    codes "error " ++ decimal refusal.code ++ codes " " ++ name_of_code refusal.code ++ place_text sources refusal.place ++ 10 ∷ []
+    codes "error " ++ decimal refusal.code ++ codes " " ++ printed_name refusal.code ++ place_text sources refusal.place ++ 10 ∷ []
 
 -- what a refusal says, where the sources have these names
 unfoldable pub said_by : List (List ℕ) → Refusal → Said

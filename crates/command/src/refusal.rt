@@ -1,7 +1,7 @@
 // The status and the line of a refusal.
 ghost use Rattle.std.specs.Prelude.{◌≡◌, ◌++◌, [], IfOk, OnOk, slice_get, unwrap_or};
 ghost use Rattle.std.specs.Fmt.{decimal};
-ghost use Rattle.command.specs.Refusal.{line_of, place_text, status_of};
+ghost use Rattle.command.specs.Refusal.{line_of, place_text, printed_name, status_of};
 ghost use Rattle.command_words.specs.Request.{texts_at};
 
 use crate::Status;
@@ -18,10 +18,21 @@ pub fn refused_status(code: u16) -> Status
         10 | 11 | 12 | 13 | 14 | 20 | 21 | 29 | 30 | 31 | 32 | 33 | 35 | 36 | 38 | 39 =>
             Status::SourceRefused,
         60 | 61 | 62 | 64 | 65 | 66 | 70 | 72 | 74 => Status::QueryRefused,
-        50 | 51 | 52 => Status::InputRefused,
+        50 | 51 | 52 | 55 | 56 => Status::InputRefused,
         15 | 16 | 22 | 34 | 37 | 41 | 53 | 54 | 63 | 67 | 71 | 73 | 80 | 81 | 82 => Status::Limit,
         90 | 91 | 92 | 93 => Status::CertificateRejected,
         _ => Status::NotBuilt,
+    }
+}
+
+// The name that is printed of a code.
+fn printed_name(code: u16) -> &'static str
+    ensures { result.now ≡ printed_name code }
+{
+    if code == 1 {
+        "NotBuilt"
+    } else {
+        code_name(code)
     }
 }
 
@@ -87,7 +98,7 @@ pub fn refusal_line(
     let mut line = Vec::new(alloc);
     push_number(alloc, &mut line, "error ", refusal.code as u64)?;
     line.push(b' ')?;
-    line.extend_from_slice(code_name(refusal.code).as_bytes())?;
+    line.extend_from_slice(printed_name(refusal.code).as_bytes())?;
     push_place(alloc, &mut line, sources, &refusal.place)?;
     line.push(b'\n')?;
     Ok(line)

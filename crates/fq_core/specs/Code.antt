@@ -3,8 +3,7 @@ use Rattle.std.specs.Prelude.{ℕ, ◌==◌, List, [], ◌∷◌, codes, find, u
 
 -- each code with its name
 abbrev pub code_table : List (ℕ × List ℕ)
-code_table = (1, codes "NotBuilt")
-    ∷ (2, codes "Usage")
+code_table = (2, codes "Usage")
     ∷ (7, codes "ReadFault")
     ∷ (10, codes "UnknownByte")
     ∷ (11, codes "OpenComment")
@@ -33,6 +32,8 @@ code_table = (1, codes "NotBuilt")
     ∷ (52, codes "Range")
     ∷ (53, codes "TooManyInputs")
     ∷ (54, codes "RunsTooLong")
+    ∷ (55, codes "TraceForm")
+    ∷ (56, codes "NotTheRun")
     ∷ (60, codes "Lexical")
     ∷ (61, codes "QuerySyntax")
     ∷ (62, codes "StarOutsideQuotes")

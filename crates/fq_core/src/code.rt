@@ -7,7 +7,6 @@ pub fn code_name(code: u16) -> &'static str
     ensures { result.now ≡ name_of_code code }
 {
     match code {
-        1 => "NotBuilt",
         2 => "Usage",
         7 => "ReadFault",
         10 => "UnknownByte",
@@ -37,6 +36,8 @@ pub fn code_name(code: u16) -> &'static str
         52 => "Range",
         53 => "TooManyInputs",
         54 => "RunsTooLong",
+        55 => "TraceForm",
+        56 => "NotTheRun",
         60 => "Lexical",
         61 => "QuerySyntax",
         62 => "StarOutsideQuotes",

@@ -44,7 +44,6 @@ fn names_and_codes(rt: HostRuntime) -> Result<(), Fail> {
     assert!(rt; copy.same(&name));
     assert!(rt; name.clone()? < Name::new(rt.alloc(), b"b").map_err(|_| "no memory")?);
     for (code, want) in [
-        (1, "NotBuilt"),
         (2, "Usage"),
         (7, "ReadFault"),
         (10, "UnknownByte"),
@@ -74,6 +73,8 @@ fn names_and_codes(rt: HostRuntime) -> Result<(), Fail> {
         (52, "Range"),
         (53, "TooManyInputs"),
         (54, "RunsTooLong"),
+        (55, "TraceForm"),
+        (56, "NotTheRun"),
         (60, "Lexical"),
         (61, "QuerySyntax"),
         (62, "StarOutsideQuotes"),
@@ -95,6 +96,7 @@ fn names_and_codes(rt: HostRuntime) -> Result<(), Fail> {
         (92, "BadStep"),
         (93, "NoEmptyClause"),
         (0, ""),
+        (1, ""),
         (8, ""),
         (65535, ""),
     ] {
