@@ -11,3 +11,4 @@ pub mod InputWorlds
 pub mod Exactness
 pub mod Models
 pub mod HitBits
+pub mod Reading

@@ -1,5 +1,5 @@
 -- Room for gates, and how many there are.
-use Rattle.std.proofs.Common.{◌≡◌, ℕ, ◌+◌, ◌*◌, ◌^◌, ◌≤◌, ◌<◌, length, Some, mul-le-mul, mul-le-mul_left, mul-le-mul_right, arith}
+use Rattle.std.proofs.Common.{◌≡◌, ℕ, ◌+◌, ◌*◌, ◌^◌, ◌≤◌, ◌<◌, List, length, Some, mul-le-mul, mul-le-mul_left, mul-le-mul_right, arith}
 use Rattle.std.specs.Prelude.{slice_get}
 use native.Mathlib.Nat.{mul-mul-mul_comm}
 use Rattle.std.proofs.lemmas.Option.{slice_get_within}
@@ -8,6 +8,7 @@ use Rattle.cfa.specs.Predicates.{IsPredicates}
 use Rattle.cfa.specs.declared.parts.Function.{Function}
 use Rattle.cfa.specs.declared.parts.GraphParts.{GraphParts}
 use Rattle.cfa.specs.declared.state.Predicates.{Predicates}
+use Rattle.circuit.specs.declared.lit.Gate.{Gate}
 use Rattle.goals.specs.declared.plan.Plan.{Plan}
 use Rattle.patterns.specs.Letters.{letter_count}
 use Rattle.patterns.specs.Match.{Form}
@@ -15,7 +16,8 @@ use Rattle.patterns.specs.declared.letter.Letter.{Letter}
 use Rattle.unwinder.proofs.Made.{few_inputs}
 use Rattle.unwinder.specs.Unwinding.{IsUnwound}
 use Rattle.unwinder.specs.declared.unwound.Unwound.{Unwound}
-use Rattle.goal_formula.specs.Parts.{CanSay, most_hit_gates, most_match_gates}
+use Rattle.goal_formula.specs.Parts.{CanSay, SaysHit, most_hit_gates, most_match_gates}
+use Rattle.goal_formula.specs.declared.goal.GoalFormula.{GoalFormula}
 use Rattle.goal_formula.specs.Sizes.{passing_size, pattern_size, size_of}
 use Rattle.goal_formula.proofs.Taken.{times_more}
 
@@ -98,3 +100,7 @@ module _ (parts : GraphParts) (predicates : Predicates) (f : Function) (u : Unwo
     inputs = h.words.inputs;
     most_answers = h.most_answers;
   }
+
+  -- a formula that says that the entries hit a goal has fewer variables than a circuit may have wires
+  pub few_says : (new : List Gate) (g : GoalFormula) → SaysHit u.circuit new u.entries plan pattern f.parameters u.bounds.answers g → CanSay f u plan pattern → g.formula.variables ≤ 2 ^ 30
+  few_says new g s can = omega (arith, s.says.few_variables, s.grows.used, can.room)

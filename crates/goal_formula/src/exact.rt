@@ -1,5 +1,5 @@
 // The formula of a goal.
-ghost use Rattle.std.specs.Prelude.{◌≡◌, ◌+◌, ◌-◌, ◌<◌, ◌≤◌, ◌^◌, IfErr, IfOk, List, Some, length, slice_get};
+ghost use Rattle.std.specs.Prelude.{◌≡◌, ◌+◌, ◌-◌, ◌<◌, ◌≤◌, ◌^◌, ◌↔◌, IfErr, IfOk, IsTrue, List, Some, length, slice_get};
 ghost use Rattle.std.specs.Option.{IsSomeAnd};
 ghost use Rattle.bit_words.specs.Words.{Grows};
 ghost use Rattle.cfa.specs.Each.{Each};
@@ -80,6 +80,22 @@ fn kept(
     made
 }
 
+/// Whether a goal of a plan, by its number from 1, is too large to have a formula over so many pairs of node and context.
+pub fn is_goal_too_large(
+    alloc: Global,
+    plan: &Plan,
+    goal: u32,
+    pairs: u32,
+) -> Result<bool, Memory>
+    requires some { 0 < goal }
+    requires there { goal ≤ length plan.now.goals }
+    ensures { IfOk result (λ large. (g : GoalForm) → slice_get plan.now.goals (goal - 1) ≡ Some g → (IsTrue large ↔ (8388608 < goal_size plan.now g pairs))) }
+{
+    let place = goal as usize - 1;
+    let pattern = plan.goals[place].pattern(alloc)?;
+    Ok(is_too_large(plan, &pattern, pairs))
+}
+
 /// The formula of a goal of a plan, by its number from 1, over an unwinding: exact for the goal, with the variables of the
 /// input bits. The unwinding stays as it was, so that the formula of a goal is the same whatever goals came before.
 ///
@@ -100,6 +116,7 @@ pub fn formula(
     requires some { 0 < goal }
     requires there { goal ≤ length plan.now.goals }
     ensures accepted { IfOk result (λ formula. (f : OneFunction) (g : GoalForm) → slice_get graph.now.functions unwound.old.entry ≡ Some f → slice_get plan.now.goals (goal - 1) ≡ Some g → IsExact graph.now predicates.now f unwound.old.bounds unwound.old.ends plan.now g formula) }
+    ensures small { IfOk result (λ formula. formula.formula.variables ≤ 2 ^ 30) }
     ensures size { IfOk result (λ _. (g : GoalForm) → slice_get plan.now.goals (goal - 1) ≡ Some g → goal_size plan.now g unwound.old.pairs ≤ 8388608) }
     ensures refused { IfErr result (λ fault. (g : GoalForm) → slice_get plan.now.goals (goal - 1) ≡ Some g → IsFormulaFault (goal_size plan.now g unwound.old.pairs) fault) }
     ensures unwound { unwound.new ≡ unwound.old }

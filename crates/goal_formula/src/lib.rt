@@ -22,6 +22,6 @@ mod model;
 mod size;
 mod step;
 
-pub use exact::formula;
+pub use exact::{formula, is_goal_too_large};
 pub use goal::GoalFormula;
 pub use model::input_of;

@@ -83,6 +83,19 @@ impl Measurer {
         self.hits.as_slice()
     }
 
+    /// The goals that each added run hits, in the order in which the runs were added, for good.
+    pub fn into_hits(self) -> Vector<Vector<u32>>
+        ensures { result ≡ hits_of self }
+    {
+        let Measurer {
+            tables: _tables,
+            numbers: _numbers,
+            hits,
+            firsts: _firsts,
+        } = self;
+        hits
+    }
+
     /// The number, from 1, of the first added run that hits the goal of this number. It takes constant time.
     pub fn first(&self, goal: u32) -> Option<u32>
         ensures { result ≡ first_hit (hits_of self.now) goal }

@@ -10,7 +10,8 @@ use Rattle.unwinder.specs.Unwinding.{IsUnwound}
 use Rattle.goal_formula.specs.Parts.{CanSay, SaysHit}
 use Rattle.goal_formula.specs.Sizes.{size_of}
 use Rattle.goal_formula.proofs.Exactness.{exact}
-use Rattle.goal_formula.proofs.Rooms.{can_say}
+use Rattle.goal_formula.proofs.Reading.{read_goal}
+use Rattle.goal_formula.proofs.Rooms.{can_say, few_says}
 use Rattle.goal_formula.proofs.exact.formula.Goals as goal
 
 pub kept-requires : goal.kept-requires
@@ -26,12 +27,6 @@ kept-requires c =
       can = given Can (slice_get c.args.graph.now.functions u.entry) own.0 own.1
           (can_say c.args.graph.now c.args.predicates.now own.0 u c.args.plan.now p own.2 c.well_formed-2.ensures own.1 c.requires.predicates small);
     }
-
--- the goal that was read is the one of its number
-read_goal : (goals read : List GoalForm) (goal : ℕ) (x g : GoalForm) → read ≡ goals → 0 < goal → goal ≤ length goals → x ≡ get_or read (goal - 1) x → slice_get goals (goal - 1) ≡ Some g → x ≡ g
-read_goal goals read goal x g same some there is at =
-    let within : goal - 1 < length read = omega (arith, ap length same) in
-    same_Some x g (sym (slice_get_read read _ (goal - 1) x refl within is) ∙ ap (λ xs. slice_get xs (goal - 1)) same ∙ at)
 
 pub returns-in-Ok-clause-accepted : goal.returns-in-Ok-clause-accepted
 returns-in-Ok-clause-accepted c = λ f g own at.
@@ -53,3 +48,15 @@ returns-in-Ok-clause-size c = λ g at.
     let size = size_of c.args.plan.now (form c.in_ok-pattern.pattern) u.pairs in
     let small : size ≤ 8388608 = ⊎_elim (λ lt. let wrong = c.if-is_too_large.ensures.1 lt in absurd cc) (λ ge. ge) (cases_lt 8388608 size) in
     subst (λ p. size_of c.args.plan.now p u.pairs ≤ 8388608) pattern small
+
+pub returns-in-Ok-clause-small : goal.returns-in-Ok-clause-small
+returns-in-Ok-clause-small c =
+    let u = c.args.unwound.now in
+    let p = form c.in_ok-pattern.pattern in
+    let size = size_of c.args.plan.now p u.pairs in
+    let small : size ≤ 8388608 = ⊎_elim (λ lt. let wrong = c.if-is_too_large.ensures.1 lt in absurd cc) (λ ge. ge) (cases_lt 8388608 size) in
+    let Own : Function → Type 0 = λ f. IsUnwound c.args.graph.now c.args.predicates.now f u.entry u.bounds u.ends u in
+    let it = taken Own (slice_get c.args.graph.now.functions u.entry) c.requires.unwound in
+    let says = c.in-Ok.ensures.formula it.0 it.1 in
+    few_says c.args.graph.now c.args.predicates.now it.0 u c.args.plan.now p it.2 says.0 c.in-Ok.formula says.1
+    (can_say c.args.graph.now c.args.predicates.now it.0 u c.args.plan.now p it.2 c.well_formed-2.ensures it.1 c.requires.predicates small)
