@@ -16,6 +16,8 @@ use circuit::{Memory, Truth};
 use patterns::Letter;
 
 /// Whether some match has been found, where the step is taken, and what was known elsewhere.
+///
+/// Where the path goes on after a match a step at which none ends costs no gate of a truth that folds constants.
 pub fn next_hit<T: Truth>(
     truth: &mut T,
     last: bool,
@@ -37,8 +39,8 @@ pub fn next_hit<T: Truth>(
     if last {
         choose(truth, guard, end, hit)
     } else {
-        let newer = truth.or(hit, end)?;
-        choose(truth, guard, newer, hit)
+        let found = truth.and(guard.taken, end)?;
+        truth.or(hit, found)
     }
 }
 
