@@ -81,12 +81,7 @@ fn kept(
 }
 
 /// Whether a goal of a plan, by its number from 1, is too large to have a formula over so many pairs of node and context.
-pub fn is_goal_too_large(
-    alloc: Global,
-    plan: &Plan,
-    goal: u32,
-    pairs: u32,
-) -> Result<bool, Memory>
+pub fn is_goal_too_large(alloc: Global, plan: &Plan, goal: u32, pairs: u32) -> Result<bool, Memory>
     requires some { 0 < goal }
     requires there { goal ≤ length plan.now.goals }
     ensures { IfOk result (λ large. (g : GoalForm) → slice_get plan.now.goals (goal - 1) ≡ Some g → (IsTrue large ↔ (8388608 < goal_size plan.now g pairs))) }
