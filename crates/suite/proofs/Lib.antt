@@ -1,3 +1,10 @@
+pub mod Answering
+pub mod Firsts
+pub mod Generation
 pub mod Irredundant
 pub mod MarksLaws
+pub mod Models
+pub mod Nexts
+pub mod Refuted
 pub mod SuiteLaws
+pub mod Trimming

@@ -1,3 +1,6 @@
+pub mod Generated
 pub mod Laws
+pub mod Made
 pub mod Marks
+pub mod Progress
 pub mod Suite

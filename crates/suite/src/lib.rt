@@ -1,14 +1,31 @@
-//! Suites of inputs: today the reduced suite.
+//! Suites of inputs: generation, and the reduced suite.
 //!
-//! It stands on `fq_core`. The layers above use the contract of [`reduce`]: the numbers of the inputs that are kept are
-//! exactly those of specs/Suite.antt (`kept_of`). The laws say that the inputs that are kept hit every goal that some
-//! input hits, and that each of them hits a goal that no other of them hits.
+//! Start at [`generate`] in generating.rt: it unwinds the runs of a function within bounds (`unwinder`), and answers each goal
+//! of a plan in order. A goal that no input hits so far is decided ([`decide`] in deciding.rt): its formula (`goal_formula`)
+//! is searched (`search`); a model is made into an input, which is replayed (`path_runner`) and measured (`measurer`); a
+//! derivation is looked at by the checker (`derivation_check`); and who watches is shown a search that spent its budget. The
+//! layers above use the contract of [`generate`]: the answers are true of the goals as specs/Generated.antt says
+//! (`IsGenerated`), by specs/Made.antt for one goal (`IsDecided`).
+//!
+//! [`reduce`] gives the numbers of the inputs that are kept, exactly those of specs/Suite.antt (`kept_of`). The laws say that
+//! the inputs that are kept hit every goal that some input hits, and that each of them hits a goal that no other of them hits.
 #![tactic(auto)]
 
+mod decided;
+mod deciding;
 mod first_hit;
+mod generated;
+mod generating;
 mod laws;
+mod making;
 mod marking;
 mod reduction;
+mod replaying;
 
+pub use decided::Decided;
+pub use deciding::decide;
+pub use generated::Generated;
+pub use generating::generate;
 pub use laws::{kept_are_needed, kept_hit_all};
 pub use reduction::reduce;
+pub use replaying::replay;
