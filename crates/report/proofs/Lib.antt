@@ -1,3 +1,4 @@
+pub mod GeneratedLaws
 pub mod JsonTexts
 pub mod NoFloats
 pub mod ValueLaws

@@ -1,11 +1,10 @@
 -- How the end of a run is written.
-use Rattle.std.specs.Prelude.{ℕ, ℤ, List, [], ◌∷◌, ◌++◌, Option, None, Some, codes, option_and_then, slice_get}
+use Rattle.std.specs.Prelude.{ℕ, ℤ, List, [], ◌++◌, Option, None, Some, codes, option_and_then, slice_get}
 use Rattle.std.specs.Fmt.{signed_decimal}
 use Rattle.c_values.specs.declared.kinds.Kind.{Kind}
 use Rattle.c_values.specs.Kind.{number_of}
 use Rattle.cfa.specs.declared.parts.Function.{Function}
 use Rattle.cfa.specs.declared.parts.GraphParts.{GraphParts}
-use Rattle.cfa.specs.declared.state.Trap.{Trap}
 use Rattle.cfa.specs.declared.state.Trap.TheVariants as trap
 use Rattle.path_runner.specs.declared.path.RunEnd.{RunEnd}
 use Rattle.path_runner.specs.declared.path.RunEnd.TheVariants as ended
@@ -38,6 +37,10 @@ number_in _ _ = None
 
 abbrev pub end_value : Option Kind → RunEnd → Option ℤ
 end_value kind run_end = number_in kind (returned_word run_end)
+
+-- the number that a word stands for in a kind, after a space
+abbrev pub spaced_value : Kind → ℕ → List ℕ
+spaced_value kind word = codes " " ++ signed_decimal (number_of kind word)
 
 -- a number after a space, where there is one
 abbrev pub value_text : Option ℤ → List ℕ

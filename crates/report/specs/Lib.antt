@@ -1,4 +1,7 @@
 pub mod Ends
+pub mod Generated
+pub mod GeneratedJson
 pub mod Json
 pub mod Letters
+pub mod Made
 pub mod Texts

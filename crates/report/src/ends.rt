@@ -2,7 +2,7 @@
 ghost use Rattle.std.specs.Prelude.{◌≡◌, ◌++◌, OnOk, Some, option_map};
 ghost use Rattle.std.specs.Fmt.{signed_decimal};
 ghost use Rattle.c_values.specs.Kind.{number_of};
-ghost use Rattle.report.specs.Ends.{end_name, end_text, end_value, number_in, result_kind, returned_word, value_text};
+ghost use Rattle.report.specs.Ends.{end_name, end_text, end_value, number_in, result_kind, returned_word, spaced_value, value_text};
 
 use crate::numbers::push_number;
 use c_values::Kind;
@@ -63,8 +63,8 @@ pub fn value_with_kind(kind: Option<Kind>, end: &RunEnd) -> Option<(Kind, u64)>
     Some((kind, word))
 }
 
-/// Appends the number that a word stands for in a kind.
-pub fn push_value(text: &mut Vec<u8>, kind: Kind, word: u64) -> Result<(), AllocError>
+// Appends the number that a word stands for in a kind.
+fn push_value(text: &mut Vec<u8>, kind: Kind, word: u64) -> Result<(), AllocError>
     ensures { OnOk result (text.new.items ≡ text.old.items ++ signed_decimal (number_of kind word)) }
 {
     if kind.signed {
@@ -74,16 +74,21 @@ pub fn push_value(text: &mut Vec<u8>, kind: Kind, word: u64) -> Result<(), Alloc
     }
 }
 
+/// Appends a space and the number that a word stands for in a kind.
+pub fn push_spaced_value(text: &mut Vec<u8>, kind: Kind, word: u64) -> Result<(), AllocError>
+    ensures { OnOk result (text.new.items ≡ text.old.items ++ spaced_value kind word) }
+{
+    text.extend_from_slice(b" ")?;
+    push_value(text, kind, word)?;
+    Ok(())
+}
+
 // Appends a space and the number that a word stands for in a kind, where there is one.
 fn push_value_after(text: &mut Vec<u8>, value: Option<(Kind, u64)>) -> Result<(), AllocError>
     ensures { OnOk result (text.new.items ≡ text.old.items ++ value_text (option_map (λ value. number_of value.0 value.1) value)) }
 {
     match value {
-        Some((kind, word)) => {
-            text.extend_from_slice(b" ")?;
-            push_value(text, kind, word)?;
-            Ok(())
-        }
+        Some((kind, word)) => push_spaced_value(text, kind, word),
         None => Ok(()),
     }
 }

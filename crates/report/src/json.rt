@@ -8,9 +8,9 @@ ghost use Rattle.report.specs.Ends.{end_name};
 ghost use Rattle.report.specs.Json.{count_data, end_data, goal_data, goals_data, measured_data, measured_json, text_data};
 ghost use Rattle.report.specs.Letters.{word_text};
 
+use crate::counts::covered_count;
 use crate::ends::{end_name, result_kind, value_with_kind};
 use crate::letters::push_word;
-use crate::measured::covered_count;
 use crate::strings::text_value;
 use c_values::Kind;
 use cfa::Graph;
@@ -81,7 +81,8 @@ fn goal_value(
     answered_value(alloc, answer, &text)
 }
 
-fn goals_value(
+/// Each goal of a plan with its answer.
+pub fn goals_value(
     alloc: Global,
     graph: &Graph,
     plan: &Plan,
@@ -98,7 +99,8 @@ fn goals_value(
     Ok(values)
 }
 
-fn counts_value(alloc: Global, counts: &[u32]) -> Result<Vec<Value>, AllocError>
+/// These numbers.
+pub fn counts_value(alloc: Global, counts: &[u32]) -> Result<Vec<Value>, AllocError>
     ensures { IfOk result (λ values. map view values.items ≡ map count_data counts.now) }
 {
     let mut values = Vec::new(alloc);

@@ -1,19 +1,30 @@
-//! The printed answers: what was measured, as a text and as JSON; the goals of a query; and the runs of inputs.
+//! The printed answers: what was measured and what was found by generation, as a text and as JSON; the goals of a query; the
+//! runs of inputs; and the lines of one goal and of a sample.
 //!
-//! It stands on `goals` for plans and answers, on `path_runner` for how runs end, on `cfa` for places, and on `serde_json`
-//! for JSON. The layers above use that each call answers exactly the text of specs/: [`measured_text`], [`goals_text`] and
-//! [`runs_text`] those of specs/Texts.antt, and [`measured_json`] that of specs/Json.antt.
+//! It stands on `goals` for plans and answers, on `path_runner` for how runs end, on `cfa` for places, on `input_text` for
+//! inputs as JSON, and on `serde_json` for JSON. The layers above use that each call answers exactly the text of specs/:
+//! [`measured_text`], [`goals_text`] and [`runs_text`] those of specs/Texts.antt, and [`measured_json`] that of
+//! specs/Json.antt; [`generated_text`], [`proved_text`], [`undecided_text`], [`refuted_text`] and [`sample_text`] those of
+//! specs/Generated.antt, and [`generated_json`] that of specs/GeneratedJson.antt.
 #![tactic(auto)]
 
+mod counts;
 mod ends;
+mod generated;
+mod generated_values;
 mod json;
 mod letters;
 mod lines;
 mod listed;
+mod made;
 mod measured;
 mod numbers;
+mod one_goal;
 mod strings;
 
+pub use generated::generated_text;
+pub use generated_values::generated_json;
 pub use json::measured_json;
 pub use listed::{goals_text, runs_text};
 pub use measured::measured_text;
+pub use one_goal::{proved_text, refuted_text, sample_text, undecided_text};

@@ -1,6 +1,6 @@
 // The lines of the texts.
 ghost use Rattle.std.specs.Prelude.{◌≡◌, ◌+◌, ◌<◌, ◌^◌, ◌++◌, OnOk, length};
-ghost use Rattle.report.specs.Texts.{answer_text, ends_text, goal_line, goal_lines, head_line, input_line, input_lines, is_covered, suite_line, total_line};
+ghost use Rattle.report.specs.Texts.{answer_text, ends_text, goal_line, goal_lines, head_line, input_line, input_lines, suite_line, total_line};
 
 use crate::ends::push_end;
 use crate::letters::push_word;
@@ -11,8 +11,8 @@ use goals::{Answer, Goal, Plan};
 use path_runner::{Ends, RunEnd};
 use std::alloc::AllocError;
 
-// The ends that count, as the first line tells them.
-fn ends_text(ends: Ends) -> &'static [u8]
+/// The ends that count, as a line tells them.
+pub fn ends_text(ends: Ends) -> &'static [u8]
     ensures { result.now ≡ ends_text ends }
 {
     match ends {
@@ -130,13 +130,6 @@ pub fn push_suite(text: &mut Vec<u8>, kept: &[u32]) -> Result<(), AllocError>
     push_spaced(text, kept)?;
     text.extend_from_slice(b"\n")?;
     Ok(())
-}
-
-/// Whether an input covers the goal.
-pub fn is_covered(answer: Answer) -> bool
-    ensures { result ≡ is_covered answer }
-{
-    matches!(answer, Answer::Covered { .. })
 }
 
 /// Appends the line with the number of goals that are covered.

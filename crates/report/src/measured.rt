@@ -1,21 +1,15 @@
 // The text of what was measured.
 ghost use Rattle.std.specs.Prelude.{◌≡◌, IfOk, length};
-ghost use Rattle.report.specs.Texts.{covered_count, measured_text};
+ghost use Rattle.report.specs.Texts.{measured_text};
 
+use crate::counts::covered_count;
 use crate::ends::result_kind;
-use crate::lines::{is_covered, push_goals, push_head, push_inputs, push_suite, push_total};
+use crate::lines::{push_goals, push_head, push_inputs, push_suite, push_total};
 use cfa::Graph;
 use fq_core::Memory;
 use goals::{Answer, Plan};
 use path_runner::{Ends, RunEnd};
 use std::alloc::Global;
-
-/// How many goals are covered.
-pub fn covered_count(answers: &[Answer]) -> usize
-    ensures { result ≡ covered_count answers.now }
-{
-    answers.iter().filter(|answer| is_covered(**answer)).count()
-}
 
 /// The text of what was measured of the goals of a plan over a graph, with inputs to the function of this number: a line
 /// with how many goals and inputs there are, and the ends that count where others than returns do; for each input how its run ended; for each goal its answer and its text; the
