@@ -1,9 +1,7 @@
 -- One goal more is answered.
-use Rattle.std.proofs.Common.{◌≡◌, ℕ, zero, suc, ◌+◌, ◌-◌, ◌<◌, ◌≤◌, ◌⊎◌, inl, inr, Bool, true, false, List, [], ◌∷◌, ◌++◌, map, take, length, Some, None, Option, refl, sym, ap, subst, ◌∙◌, arith, length-append, append-nil, append_assoc}
+use Rattle.std.proofs.Common.{◌≡◌, ℕ, suc, ◌+◌, ◌-◌, ◌<◌, ◌≤◌, inl, inr, true, false, List, [], ◌∷◌, ◌++◌, map, take, length, Some, None, Option, refl, sym, ap, subst, ◌∙◌, arith, length-append, append-nil, append_assoc}
 use Rattle.std.specs.Prelude.{slice_get}
-use Rattle.std.specs.List.{Contains, list_any}
-use Rattle.std.specs.List.Sorted.{IsStrictlyIncreasing}
-use Rattle.std.specs.Option.{IsSomeAnd}
+use Rattle.std.specs.List.{Contains}
 use Rattle.std.proofs.lemmas.List.{map-append}
 use Rattle.std.proofs.lemmas.Option.{same_Some, slice_get_within}
 use Rattle.c_meaning.proofs.RunLaws.{one_run}
@@ -20,13 +18,12 @@ use Rattle.goals.specs.GoalForm.{GoalForm}
 use Rattle.goals.specs.declared.answer.Answer.{Answer}
 use Rattle.goals.specs.declared.answer.Answer.TheVariants.{Covered, Missed, Refuted, Undecided}
 use Rattle.goals.specs.declared.plan.Plan.{Plan}
-use Rattle.hits.specs.Hits.{AreHits, Hits, HitsNumber}
+use Rattle.hits.specs.Hits.{Hits, HitsNumber}
 use Rattle.hits.specs.Inputs.{InputHits, InputHitsWithin}
 use Rattle.measurer.specs.Firsts.{first_hit, has_number}
 use Rattle.path_runner.specs.Paths.{record_of}
 use Rattle.reached.specs.declared.bounds.Bounds.{Bounds}
 use Rattle.suite.specs.Generated.{AreAnswered, IsAnswer, IsCovered, IsMeasuredInput, IsShown, NoEarlierHits, Shown, seen_also, undecided_from}
-use Rattle.suite.specs.Made.{IsMade, NoneHits}
 use Rattle.suite.specs.Progress.{AddsInput, AllAnswered, AnswersMore, IsNext, Tried}
 use Rattle.suite.specs.declared.generated.Generated.{Generated}
 use Rattle.suite.proofs.Firsts.{any_contains, contains_any, found, missing, none_at, rises_further, there_at}

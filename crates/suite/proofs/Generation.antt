@@ -1,6 +1,5 @@
 -- What a whole generation comes to.
-use Rattle.std.proofs.Common.{◌≡◌, ℕ, ◌<◌, ◌≤◌, ◌⊎◌, inr, Some, Option, List, length, ap, subst, sym}
-use Rattle.std.specs.Prelude.{slice_get}
+use Rattle.std.proofs.Common.{◌≡◌, ℕ, ◌<◌, ◌≤◌, inr, Option, List, length, subst}
 use Rattle.c_meaning.specs.declared.ends.Ends.{Ends}
 use Rattle.cfa.specs.declared.parts.Function.{Function}
 use Rattle.cfa.specs.declared.parts.GraphParts.{GraphParts}
@@ -8,7 +7,6 @@ use Rattle.cfa.specs.declared.state.Predicates.{Predicates}
 use Rattle.fq_core.specs.declared.refusal.Fault.{Fault}
 use Rattle.fq_core.specs.declared.refusal.Fault.TheVariants as fault
 use Rattle.goal_formula.specs.Sizes.{goal_size}
-use Rattle.goals.specs.GoalForm.{GoalForm}
 use Rattle.goals.specs.declared.plan.Plan.{Plan}
 use Rattle.reached.specs.declared.bounds.Bounds.{Bounds}
 use Rattle.unwinder.specs.Unwinding.{IsUnwound}

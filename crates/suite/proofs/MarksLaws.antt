@@ -1,5 +1,5 @@
 -- Laws of the first hits of goals, input by input.
-use Rattle.std.proofs.Common.{◌≡◌, ℕ, zero, suc, ◌+◌, ◌-◌, ◌<◌, ◌≤◌, Bool, true, false, cond, List, [], ◌∷◌, ◌++◌, length, map, take, set, get_or, option_map, slice_get, replicate, Some, None, refl, sym, ap, ◌∙◌, ◌≢◌, arith, add-zero, inl, inr}
+use Rattle.std.proofs.Common.{◌≡◌, ℕ, zero, suc, ◌+◌, ◌<◌, ◌≤◌, Bool, true, false, cond, List, [], ◌∷◌, ◌++◌, length, map, take, set, get_or, option_map, slice_get, replicate, Some, None, refl, sym, ap, ◌∙◌, ◌≢◌, arith, add-zero, inl, inr}
 use Rattle.std.specs.Prelude.{Option, ◌==◌, ◌||◌, nat_lt}
 use Rattle.std.specs.List.{list_all, position_from, range_with_len}
 use Rattle.std.specs.Option.{option_map_or}

@@ -1,5 +1,5 @@
 -- The input of a model of a goal's formula: its run, and the input that has exactly the answers that this run reads.
-use Rattle.std.proofs.Common.{◌≡◌, ℕ, zero, suc, replicate, ◌+◌, ◌-◌, ◌≤◌, ◌<◌, ◌^◌, Bool, true, false, cond, List, [], ◌∷◌, map, length, Some, Option, refl, sym, ap, subst, ◌∙◌, arith, pos, All, get_or}
+use Rattle.std.proofs.Common.{◌≡◌, ℕ, zero, suc, replicate, ◌≤◌, ◌<◌, ◌^◌, Bool, true, false, cond, List, [], ◌∷◌, map, length, Some, Option, sym, ap, subst, ◌∙◌, arith, pos, All, get_or}
 use Rattle.std.specs.Prelude.{slice_get}
 use Rattle.std.specs.List.{AllZip, filter}
 use Rattle.std.specs.Option.{IsSomeAnd}
@@ -12,7 +12,7 @@ use Rattle.c_meaning.proofs.Longest.{one_longest, runs_within}
 use Rattle.c_meaning.proofs.RunLaws.{one_run}
 use Rattle.c_meaning.specs.Pairs.{IsLongestWithin, IsRunWithin}
 use Rattle.c_meaning.specs.Runs.{IsRun, Move, Run, states_of}
-use Rattle.c_meaning.specs.Starts.{fitted, start_of}
+use Rattle.c_meaning.specs.Starts.{start_of}
 use Rattle.c_meaning.specs.declared.ends.Ends.{Ends}
 use Rattle.c_meaning.specs.declared.input.Input.{Input}
 use Rattle.c_values.proofs.Fitting.{IsValue-wrapped, value_parts}

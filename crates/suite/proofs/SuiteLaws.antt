@@ -8,7 +8,7 @@ use Rattle.std.proofs.lemmas.List.{drop_more, length-map, length-reverse, take_m
 use Rattle.std.proofs.lemmas.List.Folds.{list_any-append}
 use Rattle.std.proofs.lemmas.List.FromFn.{get_or-map-range_with_len}
 use Rattle.std.proofs.lemmas.Grind.{reverse_onto}
-use Rattle.std.proofs.lemmas.Bool.{and_parts, lt-ltb, le-ltb, ltb-true, leb-true}
+use Rattle.std.proofs.lemmas.Bool.{and_parts, lt-ltb, le-ltb, ltb-true}
 use Rattle.suite.specs.Marks.{are_goals, first_hit, first_hits, is_before, is_elsewhere, is_found, marked}
 use Rattle.suite.proofs.MarksLaws.{first_hits-push}
 use Rattle.suite.specs.Suite.{is_among, is_hit, kept_from}

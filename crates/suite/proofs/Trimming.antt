@@ -1,9 +1,9 @@
 -- A run is the same for the input that has exactly the answers that it reads.
-use Rattle.std.proofs.Common.{◌≡◌, ℕ, zero, suc, ◌+◌, ◌<◌, ◌≤◌, List, [], ◌∷◌, ◌++◌, map, length, get_or, Some, None, Option, refl, sym, ap, subst, ◌∙◌, arith, pos, All, append_assoc, length-append}
+use Rattle.std.proofs.Common.{◌≡◌, ℕ, ◌+◌, List, [], ◌∷◌, ◌++◌, map, length, get_or, Some, None, Option, refl, sym, ap, subst, ◌∙◌, arith, pos, All, append_assoc, length-append}
 use Rattle.std.specs.Prelude.{IsTrue, slice_get, slice_index, filter_map}
 use Rattle.std.specs.List.{cons_option}
 use Rattle.std.specs.Option.{option_to_list}
-use Rattle.std.proofs.lemmas.List.{length-map, map-append}
+use Rattle.std.proofs.lemmas.List.{length-map}
 use Rattle.std.proofs.lemmas.List.Elements.{All-cons, All-nil}
 use Rattle.std.proofs.lemmas.Option.{same_Some}
 use Rattle.bit_words.proofs.Values.{wrapped-value}
@@ -13,7 +13,6 @@ use Rattle.c_meaning.specs.Starts.{fitted}
 use Rattle.c_meaning.specs.Steps.{answer_of, next}
 use Rattle.c_meaning.specs.declared.ends.Ends.{Ends}
 use Rattle.c_meaning.specs.declared.input.Input.{Input}
-use Rattle.c_meaning.specs.declared.stepped.Stepped.TheVariants.{Moved}
 use Rattle.c_values.proofs.Fitting.{IsValue-wrapped}
 use Rattle.c_values.specs.Kind.{IsValue}
 use Rattle.c_values.specs.declared.kinds.Kind.{Kind}

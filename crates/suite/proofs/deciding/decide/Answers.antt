@@ -1,4 +1,4 @@
-use Rattle.std.proofs.Common.{◌≡◌, ◌-◌, ◌<◌, length, sym, subst, arith}
+use Rattle.std.proofs.Common.{◌-◌, sym, subst, arith}
 use Rattle.std.specs.Prelude.{slice_get}
 use Rattle.std.specs.Option.{IsSomeAnd}
 use Rattle.cfa.proofs.Exits.{given, taken}

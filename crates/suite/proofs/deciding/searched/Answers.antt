@@ -1,4 +1,4 @@
-use Rattle.std.proofs.Common.{◌≡◌, subst}
+use Rattle.std.proofs.Common.{subst}
 use Rattle.search.specs.Nexts.{IsFound, IsRefutation}
 use Rattle.suite.proofs.Refuted.{none_hits}
 use Rattle.suite.proofs.deciding.searched.Goals as goal

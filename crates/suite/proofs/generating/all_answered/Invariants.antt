@@ -1,4 +1,4 @@
-use Rattle.std.proofs.Common.{◌≡◌, ℕ, ◌<◌, ◌≤◌, Some, length}
+use Rattle.std.proofs.Common.{◌≡◌, Some, length}
 use Rattle.std.specs.Prelude.{slice_get}
 use Rattle.cfa.specs.declared.parts.Function.{Function}
 use Rattle.measurer.specs.Measurers.{IsMadeFor}

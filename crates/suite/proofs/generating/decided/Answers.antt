@@ -1,4 +1,4 @@
-use Rattle.std.proofs.Common.{◌≡◌, ◌-◌, ◌<◌, length, sym, subst, arith}
+use Rattle.std.proofs.Common.{◌-◌, subst, arith}
 use Rattle.goal_formula.specs.Sizes.{IsFormulaFault, goal_size}
 use Rattle.suite.proofs.Firsts.{there_at}
 use Rattle.suite.proofs.generating.decided.Goals as goal

@@ -1,4 +1,4 @@
-use Rattle.std.proofs.Common.{◌≡◌, [], sym, ap, ◌∙◌, subst}
+use Rattle.std.proofs.Common.{◌≡◌, [], ap, ◌∙◌}
 use Rattle.std.specs.Prelude.{slice_get}
 use Rattle.cfa.proofs.Exits.{given, taken}
 use Rattle.cfa.specs.declared.parts.Function.{Function}

@@ -1,5 +1,4 @@
-use Rattle.std.proofs.Common.{◌≡◌, true, get_or, [], ◌∙◌}
-use Rattle.suite.specs.Marks.{are_goals}
+use Rattle.std.proofs.Common.{◌∙◌}
 use Rattle.suite.proofs.MarksLaws.{lists_counted}
 use Rattle.suite.proofs.marking.goal_count.Goals as goal
 
