@@ -1,5 +1,5 @@
 -- What is due at each end of the way from the words to the text.
-use Rattle.std.proofs.Common.{◌≡◌, ℕ, ◌≤◌, ◌⊎◌, List, [], length, Some, None, refl, sym, subst, ◌∙◌, inl, inr}
+use Rattle.std.proofs.Common.{◌≡◌, ℕ, ◌-◌, ◌≤◌, ◌⊎◌, List, [], length, slice_get, Some, None, refl, sym, subst, ◌∙◌, inl, inr}
 use Rattle.std.specs.Prelude.{Option, IfErr, IfOk, Result, Ok, Err, MatchOption}
 use Rattle.std.specs.List.{All}
 use Rattle.fq_core.specs.declared.refusal.Fault.{Fault}
@@ -9,9 +9,16 @@ use Rattle.cfa.specs.declared.parts.Function.{Function}
 use Rattle.cfa.specs.declared.parts.GraphParts.{GraphParts}
 use Rattle.c_meaning.specs.declared.input.Input.{Input}
 use Rattle.c_meaning.specs.Starts.{CanStart}
+use Rattle.cnf.specs.declared.derivation.Derivation.{Derivation}
+use Rattle.cnf.specs.declared.formula.Formula.{Formula}
+use Rattle.goals.specs.GoalForm.{GoalForm}
+use Rattle.goals.specs.declared.plan.Plan.{Plan}
 use Rattle.command_words.specs.Reading.{Text}
-use Rattle.command_words.specs.Request.{Measuring, Running}
-use Rattle.command.specs.Due.{IsDueOfMeasure, IsDueOfRuns, OfEntry, OfInputs, OfQuery, OfSources, no_such_entry, nowhere}
+use Rattle.command_words.specs.Request.{Checking, Measuring, Running}
+use Rattle.command.specs.Certificates as certificates
+use Rattle.command.specs.Certificates.{AreCertificateOf}
+use Rattle.command.specs.Checking.{IsChecked, IsDueOfCheck}
+use Rattle.command.specs.Due.{IsDueOfMeasure, IsDueOfRuns}
 use Rattle.command.specs.Inputs.{AreRefused, at_read, at_form}
 use Rattle.command.specs.Inputs as inputs
 use Rattle.command.specs.Measured.{IsMeasured}
@@ -23,6 +30,7 @@ use Rattle.command.specs.Runs.{EntryFunction, entry_of}
 use Rattle.command.specs.Said.{Said}
 use Rattle.command.specs.Sources.{HaveAutomaton, IsReadUpTo}
 use Rattle.command.specs.Sources as sources
+use Rattle.command.specs.Stages.{OfCertificate, OfEntry, OfGoal, OfInputs, OfQuery, OfSources, no_such_entry, no_such_goal, nowhere}
 use Rattle.command.proofs.ReadsLaws.{late, refused_map, unread_since, whole}
 
 -- ---- refusals without a place
@@ -113,6 +121,43 @@ module _ (holds held : List ℕ → Option (List ℕ)) (last : Option (Option (L
       (λ entry. OfInputs since m.sources m.inputs (length entry.function.parameters) (λ given x. x ≡ recorded graph entry m.steps given))
       (λ entry. OfInputs all m.sources m.inputs (length entry.function.parameters) (λ given x. x ≡ recorded graph entry m.steps given))
       said (λ entry. inputs_since m.sources m.inputs (length entry.function.parameters) (λ given x. x ≡ recorded graph entry m.steps given) said) due
+
+  certificate_refused_since : (file : Text) (x : Refusal) → certificates.IsRefused since file x → certificates.IsRefused all file x
+  certificate_refused_since file x (certificates.at_read unread) =
+      certificates.at_read (unread_since holds held last first middle after one two three same no_fault received certificates.most_certificate file x unread)
+  certificate_refused_since file x (certificates.at_form bytes seen short line) = certificates.at_form bytes (sees_since file bytes seen) short line
+
+  certificate_since : (names : List Text) (file : Text) (Then : Formula → Derivation → Said → Type 0) (said : Said)
+      → OfCertificate since names file Then said → OfCertificate all names file Then said
+  certificate_since names file Then said (inl refusal) = inl (refusal.0, certificate_refused_since file refusal.0 refusal.1, refusal.2)
+  certificate_since names file Then said (inr given) =
+      let are = given.1.1 in
+      inr (given.0, (given.1.0, record { bytes = are.bytes; seen = sees_since file are.bytes are.seen; short = are.short; is = are.is }, given.1.2))
+
+  goal_since : (plan : Plan) (number : ℕ) (Before After : GoalForm → Said → Type 0) (said : Said)
+      → ((goal : GoalForm) → Before goal said → After goal said) → OfGoal plan number Before said → OfGoal plan number After said
+  goal_since plan number Before After said tells due = by (slice_get plan.goals (number - 1)) due
+    where
+      by : (found : Option GoalForm) → MatchOption found (said ≡ no_such_goal) (λ goal. Before goal said) → MatchOption found (said ≡ no_such_goal) (λ goal. After goal said)
+      by None due = due
+      by (Some goal) due = tells goal due
+
+  pub check_since : (m : Checking) (graph : GraphParts) (said : Said) → IsDueOfCheck since m graph said → IsDueOfCheck all m graph said
+  check_since m graph said due =
+      entry_since graph m.entry
+      (λ entry. OfQuery m.sources graph m.query (λ p plan. OfGoal plan m.goal (λ goal. OfCertificate since m.sources m.certificate (IsChecked m graph entry p plan goal))))
+      (λ entry. OfQuery m.sources graph m.query (λ p plan. OfGoal plan m.goal (λ goal. OfCertificate all m.sources m.certificate (IsChecked m graph entry p plan goal))))
+      said by_query due
+    where
+      by_query : (entry : EntryFunction)
+          → OfQuery m.sources graph m.query (λ p plan. OfGoal plan m.goal (λ goal. OfCertificate since m.sources m.certificate (IsChecked m graph entry p plan goal))) said
+          → OfQuery m.sources graph m.query (λ p plan. OfGoal plan m.goal (λ goal. OfCertificate all m.sources m.certificate (IsChecked m graph entry p plan goal))) said
+      by_query entry (inl refusal) = inl refusal
+      by_query entry (inr made) =
+          inr (made.0, (made.1.0, made.1.1, goal_since made.1.0 m.goal
+          (λ goal. OfCertificate since m.sources m.certificate (IsChecked m graph entry made.0 made.1.0 goal))
+          (λ goal. OfCertificate all m.sources m.certificate (IsChecked m graph entry made.0 made.1.0 goal))
+          said (λ goal. certificate_since m.sources m.certificate (IsChecked m graph entry made.0 made.1.0 goal) said) made.1.2))
 
 -- ---- a run can start on each of the inputs
 

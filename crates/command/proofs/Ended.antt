@@ -1,17 +1,21 @@
--- How a refusal ends a run.
+-- How a run ends.
 use Rattle.std.proofs.Common.{◌≡◌, ℕ, Bool, List, [], None, Some, inl, inr, refl, sym, subst, append-nil}
 use Rattle.std.specs.Prelude.{Option, MatchOption}
 use Rattle.std.specs.Io.KnownBytes.{Appends, Keeps}
 use Rattle.fq_core.specs.declared.refusal.Refusal.{Refusal}
+use Rattle.suite.specs.Generated.{Shown}
 use Rattle.command.specs.declared.status.Status.{Status}
 use Rattle.command.specs.declared.status.Status.TheVariants as status
 use Rattle.command_words.specs.Reading.{Text}
 use Rattle.command_words.specs.Request.{Asked, request_of}
-use Rattle.command.specs.Due.{IsDue, IsDueOf, usage}
+use Rattle.command.specs.Due.{IsDue, IsDueOf}
 use Rattle.command.specs.Reads.{Reads}
-use Rattle.command.specs.Refusal.{said_by}
+use Rattle.command.specs.Refusal.{line_of, said_by, status_of}
 use Rattle.command.specs.Said.{Said}
-use Rattle.command.specs.Run.{Ends, GainsNone, Refuses, Writes, writes}
+use Rattle.command.specs.Stages.{usage}
+use Rattle.command.specs.Run.{Ends, EndsWriting, GainsNone, Refuses, Writes, writes}
+use Rattle.command.specs.Watched.{IsShown, IsShownNone, Watched}
+use Rattle.command.proofs.GivesLaws.{shown_nothing}
 
 -- known bytes that stay have grown by none
 Appends-nil : (old new : Option (List ℕ)) → Keeps old new → Appends old new []
@@ -23,30 +27,48 @@ Keeps-refl : (known : Option (List ℕ)) → Keeps known known
 Keeps-refl None = tt
 Keeps-refl (Some xs) = refl
 
--- a refusal that is due and is written, or cut short, ends the run
-ends : (due : Said → Type 0) (sources : List (List ℕ)) (refusal : Refusal) (s : Status) (out err : Writes)
-    → due (said_by sources refusal) → GainsNone out → Refuses sources refusal s err → Ends due s out err
-unfolding said_by
-ends due sources refusal status.WriteFault out err is none refuses =
-    (said_by sources refusal, is, inr (none, refuses.0, refuses.1))
-ends due sources refusal status.Memory out err is none refuses =
-    elim refuses [ inl kept ↦ inl (none, kept) | inr part ↦ inr (said_by sources refusal, is, inr (none, part.0, part.1)) ]
-ends due sources refusal s out err is none refuses =
-    (said_by sources refusal, is, sym refuses.0, (Appends-nil out.before out.after none, refuses.1))
+module _ (due : Said → Type 0) (wanted : Status) (bytes : List ℕ) (shown : List Shown) (watch : Watched) (is_shown : IsShown shown watch) where
+  -- what is due is written to `out`, or its writing is cut short
+  ends_out : (s : Status) (out err : Writes) → due (record { status = wanted; out = bytes; err = []; shown = shown }) → EndsWriting wanted bytes s out → GainsNone err
+      → Ends due s out err watch
+  ends_out status.WriteFault out err is written none = (record { status = wanted; out = bytes; err = []; shown = shown }, is, inl (written.0, none, written.1), is_shown)
+  ends_out status.Memory out err is written none =
+      elim written [ inl kept ↦ inl (kept, none) | inr part ↦ inr (record { status = wanted; out = bytes; err = []; shown = shown }, is, inl (part.0, none, part.1)) ]
+  ends_out s out err is written none =
+      (record { status = wanted; out = bytes; err = []; shown = shown }, is, sym written.0, (written.1, Appends-nil err.before err.after none), is_shown)
 
--- the same, where the other sink is as it was
+  -- the same to `err`
+  ends_err : (s : Status) (out err : Writes) → due (record { status = wanted; out = []; err = bytes; shown = shown }) → EndsWriting wanted bytes s err → GainsNone out
+      → Ends due s out err watch
+  ends_err status.WriteFault out err is written none = (record { status = wanted; out = []; err = bytes; shown = shown }, is, inr (none, written.0, written.1), is_shown)
+  ends_err status.Memory out err is written none =
+      elim written [ inl kept ↦ inl (none, kept) | inr part ↦ inr (record { status = wanted; out = []; err = bytes; shown = shown }, is, inr (none, part.0, part.1)) ]
+  ends_err s out err is written none =
+      (record { status = wanted; out = []; err = bytes; shown = shown }, is, sym written.0, (Appends-nil out.before out.after none, written.1), is_shown)
+
+  -- what is due is written to one sink, and the other one is as it was
+  pub ends_answered : {S : Type 0} (taken : S → Option (List ℕ)) (faults : S → ℕ) (may_lack_memory : Bool) (e : S) (s : Status) (out : Writes)
+      → due (record { status = wanted; out = bytes; err = []; shown = shown }) → EndsWriting wanted bytes s out → Ends due s out (writes taken faults may_lack_memory e e) watch
+  ends_answered taken faults may_lack_memory e s out is written = ends_out s out (writes taken faults may_lack_memory e e) is written (Keeps-refl (taken e))
+
+  pub ends_rejected : {S : Type 0} (taken : S → Option (List ℕ)) (faults : S → ℕ) (may_lack_memory : Bool) (o : S) (s : Status) (err : Writes)
+      → due (record { status = wanted; out = []; err = bytes; shown = shown }) → EndsWriting wanted bytes s err → Ends due s (writes taken faults may_lack_memory o o) err watch
+  ends_rejected taken faults may_lack_memory o s err is written = ends_err s (writes taken faults may_lack_memory o o) err is written (Keeps-refl (taken o))
+
+-- a refusal that is due is written, or its writing is cut short, and the watch was shown nothing
 pub ends_refused : {S : Type 0} (taken : S → Option (List ℕ)) (faults : S → ℕ) (may_lack_memory : Bool) (o : S) (due : Said → Type 0) (sources : List (List ℕ))
-    (refusal : Refusal) (s : Status) (err : Writes) → due (said_by sources refusal) → Refuses sources refusal s err
-    → Ends due s (writes taken faults may_lack_memory o o) err
-ends_refused taken faults may_lack_memory o due sources refusal s err is refuses =
-    ends due sources refusal s (writes taken faults may_lack_memory o o) err is (Keeps-refl (taken o)) refuses
+    (refusal : Refusal) (s : Status) (err : Writes) (watch : Watched) → due (said_by sources refusal) → IsShownNone watch → Refuses sources refusal s err
+    → Ends due s (writes taken faults may_lack_memory o o) err watch
+unfolding said_by
+ends_refused taken faults may_lack_memory o due sources refusal s err watch is none refuses =
+    ends_rejected due (status_of refusal.code) (line_of sources refusal) [] watch (shown_nothing watch none) taken faults may_lack_memory o s err is refuses
 
 -- ---- by the words
 
 module _ (r : Reads) (words : List Text) where
-  pub due_asked : (asked : Asked) → request_of words ≡ Some asked → (s : Status) (out err : Writes) → Ends (IsDueOf r asked) s out err → Ends (IsDue r words) s out err
-  due_asked asked some s out err ended =
-      subst (λ (o : Option Asked). Ends (λ said. MatchOption o (said ≡ usage) (λ a. IsDueOf r a said)) s out err) (sym some) ended
+  pub due_asked : (asked : Asked) → request_of words ≡ Some asked → (s : Status) (out err : Writes) (watch : Watched) → Ends (IsDueOf r asked) s out err watch → Ends (IsDue r words) s out err watch
+  due_asked asked some s out err watch ended =
+      subst (λ (o : Option Asked). Ends (λ said. MatchOption o (said ≡ usage) (λ a. IsDueOf r a said)) s out err watch) (sym some) ended
 
   pub due_usage : request_of words ≡ None → IsDue r words usage
   due_usage none = rw none refl

@@ -1,50 +1,12 @@
 -- An answer names the first input that hits its goal.
-use Rattle.std.proofs.Common.{◌≡◌, ℕ, suc, ◌+◌, ◌-◌, ◌<◌, ◌≤◌, Bool, true, false, cond, List, [], ◌∷◌, take, slice_get, Some, None, refl, arith}
+use Rattle.std.proofs.Common.{◌≡◌, ℕ, ◌-◌, ◌<◌, true, false, List, take, slice_get, Some, None, refl}
 use Rattle.std.specs.Prelude.{Option}
-use Rattle.std.specs.List.{list_any, position_from}
+use Rattle.std.specs.List.{list_any}
 use Rattle.std.specs.Option.{option_map_or}
-use Rattle.std.proofs.lemmas.Bool.{or_from}
 use Rattle.goals.specs.declared.answer.Answer.TheVariants as answer
 use Rattle.measurer.specs.Firsts.{has_number}
+use Rattle.suite.proofs.Firsts.{found, missing}
 use Rattle.command.specs.Measured.{answer_of}
-
-record Found (test : List ℕ → Bool) (first place : ℕ) (hits : List (List ℕ)) : Type 0 where
-  goals : List ℕ
-  from : first ≤ place
-  here : slice_get hits (place - first) ≡ Some goals
-  passes : test goals ≡ true
-  none_before : list_any test (take (place - first) hits) ≡ false
-
-found : (test : List ℕ → Bool) (first place : ℕ) (hits : List (List ℕ)) → position_from test first hits ≡ Some place → Found test first place hits
-found test first place [] is = cc
-found test first place (goals ∷ hits) is = by (test goals) refl (found test (first + 1) place hits) is
-  where
-    by : (b : Bool) → test goals ≡ b → (position_from test (first + 1) hits ≡ Some place → Found test (first + 1) place hits)
-        → cond b (Some first) (position_from test (first + 1) hits) ≡ Some place → Found test first place (goals ∷ hits)
-    by true passes rest is =
-        let same : first ≡ place = cc in
-        let zero_after : place - first ≡ 0 = omega (arith, same) in
-        record { goals = goals; from = omega (arith, same); here = rw zero_after refl; passes = passes; none_before = rw zero_after refl }
-    by false fails rest is =
-        let later = rest is in
-        let above = later.from in
-        let next : place - first ≡ suc (place - (first + 1)) = omega (arith, above) in
-        record {
-          goals = later.goals;
-          from = omega (arith, above);
-          here = rw next later.here;
-          passes = later.passes;
-          none_before = rw next (or_from _ _ fails later.none_before);
-        }
-
-missing : (test : List ℕ → Bool) (first : ℕ) (hits : List (List ℕ)) → position_from test first hits ≡ None → list_any test hits ≡ false
-missing test first [] is = refl
-missing test first (goals ∷ hits) is = by (test goals) refl (missing test (first + 1) hits) is
-  where
-    by : (b : Bool) → test goals ≡ b → (position_from test (first + 1) hits ≡ None → list_any test hits ≡ false)
-        → cond b (Some first) (position_from test (first + 1) hits) ≡ None → list_any test (goals ∷ hits) ≡ false
-    by true passes rest is = cc
-    by false fails rest is = or_from _ _ fails (rest is)
 
 is_some : (o : Option ℕ) (input : ℕ) → option_map_or answer.Covered o answer.Missed ≡ answer.Covered input → o ≡ Some input
 is_some None input is = cc

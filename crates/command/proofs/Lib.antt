@@ -1,8 +1,16 @@
+pub mod AtEntry
+pub mod CertificateLaws
+pub mod CertifiedLaws
 pub mod DueLaws
 pub mod Ended
 pub mod EntryLaws
 pub mod FirstCovering
+pub mod GenerationLaws
+pub mod GivesLaws
+pub mod GoalLaws
 pub mod MeasuredLaws
 pub mod PlannedLaws
+pub mod RangeLaws
 pub mod ReadsLaws
 pub mod RecordedLaws
+pub mod StageLaws

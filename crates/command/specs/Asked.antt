@@ -1,7 +1,11 @@
 -- The sources of a request.
-use Rattle.std.specs.Prelude.{List, []}
+use Rattle.std.specs.Prelude.{List, [], ◌∷◌, codes}
 use Rattle.command_words.specs.Reading.{Text}
 use Rattle.command_words.specs.Request.{Asked, measure, generate, goals, runs, prove, check, sample}
+
+-- the file of a program that is made from a number
+abbrev pub sample_file : Text
+sample_file = codes "sample.c"
 
 -- the names of the sources' files
 abbrev pub sources_of : Asked → List Text
@@ -11,4 +15,4 @@ sources_of (goals m) = m.sources
 sources_of (runs m) = m.sources
 sources_of (prove m) = m.sources
 sources_of (check m) = m.sources
-sources_of (sample size) = []
+sources_of (sample number) = sample_file ∷ []

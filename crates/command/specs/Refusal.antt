@@ -1,5 +1,5 @@
 -- The status and the line of a refusal.
-use Rattle.std.specs.Prelude.{ℕ, ◌==◌, List, [], ◌∷◌, ◌++◌, codes, find, option_map, unwrap_or, slice_get, if◌then◌else◌}
+use Rattle.std.specs.Prelude.{ℕ, ◌==◌, List, [], ◌∷◌, ◌++◌, codes, find, option_map, unwrap_or, slice_get}
 use Rattle.std.specs.Fmt.{decimal}
 use Rattle.fq_core.specs.Code.{name_of_code}
 use Rattle.fq_core.specs.declared.refusal.Place.{Place}
@@ -64,9 +64,9 @@ status_rows = (2, status.Usage)
     ∷ (93, status.CertificateRejected)
     ∷ []
 
--- The status that a code ends in, by its row. A number that is no code has none, and ends in the status of what isn't built.
+-- The status that a code ends in, by its row. A number that is no code has none, and nothing is refused with one.
 abbrev pub status_of : ℕ → Status
-status_of code = unwrap_or (option_map (λ row. row.1) (find (λ row. row.0 == code) status_rows)) status.NotBuilt
+status_of code = unwrap_or (option_map (λ row. row.1) (find (λ row. row.0 == code) status_rows)) status.Usage
 
 -- a place, after a space, where the sources have these names
 abbrev pub place_text : List (List ℕ) → Place → List ℕ
@@ -79,14 +79,10 @@ place_text sources (place.Limit number) = codes " limit " ++ decimal number
 place_text sources (place.FileName name) = 32 ∷ name
 place_text sources (place.Line number) = codes " line " ++ decimal number
 
--- The name that is printed of a code. What isn't built is told as code 1, which is none of the table.
-abbrev pub printed_name : ℕ → List ℕ
-printed_name code = if code == 1 then codes "NotBuilt" else name_of_code code
-
 -- `error`, the code, its name and the place
 abbrev pub line_of : List (List ℕ) → Refusal → List ℕ
 line_of sources refusal =
-    codes "error " ++ decimal refusal.code ++ codes " " ++ printed_name refusal.code ++ place_text sources refusal.place ++ 10 ∷ []
+    codes "error " ++ decimal refusal.code ++ codes " " ++ name_of_code refusal.code ++ place_text sources refusal.place ++ 10 ∷ []
 
 -- what a refusal says, where the sources have these names
 unfoldable pub said_by : List (List ℕ) → Refusal → Said

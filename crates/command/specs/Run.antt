@@ -8,6 +8,7 @@ use Rattle.command.specs.declared.status.Status.{Status}
 use Rattle.command.specs.declared.status.Status.TheVariants as status
 use Rattle.command.specs.Refusal.{line_of, status_of}
 use Rattle.command.specs.Said.{Said}
+use Rattle.command.specs.Watched.{IsShown, Watched}
 
 -- ---- what is written
 
@@ -52,18 +53,22 @@ HasFailed w = Rose w.faults_before w.faults_after
 abbrev pub MayLackMemory : Writes → Type 0
 MayLackMemory w = IsTrue w.may_lack_memory
 
+-- Bytes were written, so that the run ends in this status; or their writing was cut short.
+abbrev pub EndsWriting : Status → List ℕ → Status → Writes → Type 0
+EndsWriting wanted bytes status.WriteFault w = GainsPart w bytes × HasFailed w
+EndsWriting wanted bytes status.Memory w = GainsNone w ⊎ (GainsPart w bytes × MayLackMemory w)
+EndsWriting wanted bytes s w = (s ≡ wanted) × Gains w bytes
+
+-- the same of a refusal's line
+abbrev pub Refuses : List (List ℕ) → Refusal → Status → Writes → Type 0
+Refuses sources refusal s err = EndsWriting (status_of refusal.code) (line_of sources refusal) s err
+
 -- ---- how a run ends, by its status
 
 -- After a write fault, a part of what was due stands in the sink that failed. After want of memory, nothing was written,
 -- or a part of what was due to a sink whose writes may find no memory. After each other status, all that was due was
--- written, and that status was due.
-abbrev pub Ends : (Said → Type 0) → Status → Writes → Writes → Type 0
-Ends due status.WriteFault out err = (said : Said) × due said × IsCut HasFailed said out err
-Ends due status.Memory out err = (GainsNone out × GainsNone err) ⊎ ((said : Said) × due said × IsCut MayLackMemory said out err)
-Ends due s out err = (said : Said) × due said × (said.status ≡ s) × IsWritten said out err
-
--- the refusal's line was written, or its writing was cut short
-abbrev pub Refuses : List (List ℕ) → Refusal → Status → Writes → Type 0
-Refuses sources refusal status.WriteFault err = GainsPart err (line_of sources refusal) × HasFailed err
-Refuses sources refusal status.Memory err = GainsNone err ⊎ (GainsPart err (line_of sources refusal) × MayLackMemory err)
-Refuses sources refusal s err = (s ≡ status_of refusal.code) × Gains err (line_of sources refusal)
+-- written, and that status was due. But for want of memory, the watch was shown what was due, and nothing else.
+abbrev pub Ends : (Said → Type 0) → Status → Writes → Writes → Watched → Type 0
+Ends due status.WriteFault out err watch = (said : Said) × due said × IsCut HasFailed said out err × IsShown said.shown watch
+Ends due status.Memory out err watch = (GainsNone out × GainsNone err) ⊎ ((said : Said) × due said × IsCut MayLackMemory said out err)
+Ends due s out err watch = (said : Said) × due said × (said.status ≡ s) × IsWritten said out err × IsShown said.shown watch

@@ -1,7 +1,7 @@
 -- The exit status of each way in which a run ends.
 use Rattle.std.specs.Prelude.{ℕ}
 use Rattle.command.specs.declared.status.Status.{Status}
-use Rattle.command.specs.declared.status.Status.TheVariants.{Done, DoneOpen, Usage, SourceRefused, QueryRefused, InputRefused, Limit, ReadFault, WriteFault, Memory, CertificateRejected, NotBuilt}
+use Rattle.command.specs.declared.status.Status.TheVariants.{Done, DoneOpen, Usage, SourceRefused, QueryRefused, InputRefused, Limit, ReadFault, WriteFault, Memory, CertificateRejected}
 
 abbrev pub exit_status : Status → ℕ
 exit_status Done = 0
@@ -15,4 +15,3 @@ exit_status ReadFault = 7
 exit_status WriteFault = 8
 exit_status Memory = 9
 exit_status CertificateRejected = 10
-exit_status NotBuilt = 11

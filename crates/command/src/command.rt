@@ -3,53 +3,84 @@ ghost use Rattle.std.specs.Prelude.{◌≡◌};
 ghost use Rattle.command_words.specs.Reading.{texts};
 ghost use Rattle.command_words.specs.Request.{asked, texts_at};
 ghost use Rattle.command.specs.Asked.{sources_of};
+ghost use Rattle.command.specs.Certified.{Certifies};
 ghost use Rattle.command.specs.Due.{IsDue, IsDueOf};
+ghost use Rattle.command.specs.Ranges.{IsInRange};
 ghost use Rattle.command.specs.Reads.{reads};
-ghost use Rattle.command.specs.Run.{Ends, Refuses, writes};
+ghost use Rattle.command.specs.Run.{Ends, EndsWriting, Refuses, writes};
+ghost use Rattle.command.specs.Said.{status_with};
+ghost use Rattle.command.specs.Watched.{watched};
 
 use crate::Status;
-use crate::refusal::{refusal_line, refused_status};
-use crate::session::{answer, nowhere};
+use crate::refusal::{nowhere, refusal_line, refused_status};
+use crate::reply::Reply;
+use crate::session::answer;
 use command_words::{Refused, Request, request};
 use fq_core::{Fault, Refusal};
 use fq_io::{Files, Sink, SinkFault, write_all};
+use search::Watch;
 use std::alloc::Global;
 
-/// Does what the words after the program's name ask for. The whole text is made before its first byte is written.
-pub fn run<F: Files, O: Sink, E: Sink>(
+/// The names of the sources of a program that is made from a number.
+static SAMPLE_SOURCES: [&str; 1] = ["sample.c"];
+
+/// Does what the words after the program's name ask for. The whole text is made before its first byte is written. The watch is
+/// shown each goal that stays undecided, with its formula and the history of its search.
+///
+/// Where `check` is done, no input has a run within the bounds that hits the goal, whatever bytes the certificate has.
+pub fn run<F: Files, O: Sink, E: Sink, W: Watch>(
     alloc: Global,
     words: &[String],
     files: &mut F,
     out: &mut O,
     err: &mut E,
+    watch: &mut W,
+) -> Status
+    ensures ends { Ends (IsDue (reads F.holds F.last_failed F.faults F.received files.old files.new) (texts words.now))
+        result (writes O.taken O.faults O.may_lack_memory out.old out.new) (writes E.taken E.faults E.may_lack_memory err.old err.new)
+        (watched W.seen watch.old watch.new) }
+    ensures certificate { Certifies (reads F.holds F.last_failed F.faults F.received files.old files.new) (texts words.now) result }
+{
+    run_words(alloc, words, files, out, err, watch)
+}
+
+// Does what the words ask for.
+fn run_words<F: Files, O: Sink, E: Sink, W: Watch>(
+    alloc: Global,
+    words: &[String],
+    files: &mut F,
+    out: &mut O,
+    err: &mut E,
+    watch: &mut W,
 ) -> Status
     ensures { Ends (IsDue (reads F.holds F.last_failed F.faults F.received files.old files.new) (texts words.now))
-        result (writes O.taken O.faults O.may_lack_memory out.old out.new) (writes E.taken E.faults E.may_lack_memory err.old err.new) }
+        result (writes O.taken O.faults O.may_lack_memory out.old out.new) (writes E.taken E.faults E.may_lack_memory err.old err.new)
+        (watched W.seen watch.old watch.new) }
 {
     match request(alloc, words) {
-        Ok(request) => serve(alloc, &request, files, out, err),
+        Ok(request) => serve(alloc, &request, files, out, err, watch),
         Err(Refused::Usage) => refuse(alloc, &[], &nowhere(2), err),
         Err(Refused::Memory) => Status::Memory,
     }
 }
 
 // Does what a request asks for.
-fn serve<F: Files, O: Sink, E: Sink>(
+fn serve<F: Files, O: Sink, E: Sink, W: Watch>(
     alloc: Global,
     request: &Request,
     files: &mut F,
     out: &mut O,
     err: &mut E,
+    watch: &mut W,
 ) -> Status
+    requires { IsInRange (asked request.now) }
     ensures { Ends (IsDueOf (reads F.holds F.last_failed F.faults F.received files.old files.new) (asked request.now))
-        result (writes O.taken O.faults O.may_lack_memory out.old out.new) (writes E.taken E.faults E.may_lack_memory err.old err.new) }
+        result (writes O.taken O.faults O.may_lack_memory out.old out.new) (writes E.taken E.faults E.may_lack_memory err.old err.new)
+        (watched W.seen watch.old watch.new) }
 {
-    match answer(alloc, request, files) {
-        Ok(text) => match write_all(out, &text) {
-            Ok(()) => Status::Done,
-            Err(SinkFault::Failed) => Status::WriteFault,
-            Err(SinkFault::Memory) => Status::Memory,
-        },
+    match answer(alloc, request, files, watch) {
+        Ok(Reply::Answer { text, left_open }) => conclude(out, &text, left_open),
+        Ok(Reply::OtherFormula { line }) => reject(err, &line),
         Err(Fault::Refused(refusal)) => refuse(alloc, sources_of(request), &refusal, err),
         Err(Fault::Memory) => Status::Memory,
     }
@@ -66,7 +97,30 @@ fn sources_of<'a>(request: &'a Request<'a>) -> &'a [&'a str]
         Request::Runs(request) => &request.sources,
         Request::Prove(request) => &request.sources,
         Request::Check(request) => &request.sources,
-        Request::Sample(_) => &[],
+        Request::Sample(_) => &SAMPLE_SOURCES,
+    }
+}
+
+// Writes the text of an answer.
+fn conclude<O: Sink>(out: &mut O, text: &[u8], left_open: bool) -> Status
+    ensures { EndsWriting (status_with left_open) text.now result (writes O.taken O.faults O.may_lack_memory out.old out.new) }
+{
+    match write_all(out, text) {
+        Ok(()) if left_open => Status::DoneOpen,
+        Ok(()) => Status::Done,
+        Err(SinkFault::Failed) => Status::WriteFault,
+        Err(SinkFault::Memory) => Status::Memory,
+    }
+}
+
+// Writes the line of a certificate whose formula isn't the goal's.
+fn reject<E: Sink>(err: &mut E, line: &[u8]) -> Status
+    ensures { EndsWriting Status.CertificateRejected line.now result (writes E.taken E.faults E.may_lack_memory err.old err.new) }
+{
+    match write_all(err, line) {
+        Ok(()) => Status::CertificateRejected,
+        Err(SinkFault::Failed) => Status::WriteFault,
+        Err(SinkFault::Memory) => Status::Memory,
     }
 }
 

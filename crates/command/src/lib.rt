@@ -3,21 +3,30 @@
 //! `run` does all that the program does, over any files and sinks of `fq_io`. Its one clause says what it wrote by the
 //! words, by the bytes that the files held and by the status (`specs/Due.antt`, `specs/Run.antt`): for `measure` the report
 //! of which goals of the query the inputs cover, for `goals` the list of the goals, for `runs` how the inputs' runs end and
-//! which edges they take, and else the line of the refusal that is due.
+//! which edges they take, for `generate` the report of inputs that were made for the goals, for `prove` a certificate that
+//! no input covers a goal, or what stands in its place, for `check` whether a certificate refutes a goal, for `sample` what is
+//! found of a large program, and else the line of the refusal that is due.
 //!
 //! Each stage has a crate: the words `command_words`, the sources' automaton `c_front`, the query `fql_read`, `predicates`
-//! and `goals`, the inputs `input_text`, the runs `path_runner`, their hits `measurer`, the reduced suite `suite`, the
-//! printed texts `report`. The commands that search inputs are answered by `NotBuilt`.
+//! and `goals`, the inputs `input_text`, the runs `path_runner`, their hits `measurer`, made inputs and reduced suites
+//! `suite`, over `unwinder`, `goal_formula` and `search`, certificates `certificate` and `derivation_check`, the program of
+//! `sample` `sample`, the printed texts `report`.
 #![tactic(auto)]
 
+mod checking;
 mod command;
+mod difference;
 mod entry;
+mod generating;
 mod inputs;
 pub mod laws;
 mod measurement;
 mod planned;
+mod proving;
 mod recorded;
 mod refusal;
+mod reply;
+mod sampling;
 mod session;
 mod sources;
 mod status;

@@ -35,12 +35,22 @@ fn plan_asked(alloc: Global, graph: &Graph, query: &Query) -> Result<Planned, Fa
 }
 
 /// The predicates and the goals that the bytes ask for.
+pub fn plan_bytes(alloc: Global, graph: &Graph, bytes: &[u8]) -> Result<Planned, Fault>
+    ensures planned { IfOk result (λ made. IsPlanned graph.now bytes.now made.predicates made.plan) }
+    ensures predicates { IfOk result (λ made. IsPredicates graph.now made.predicates) }
+    ensures plan { IfOk result (λ made. IsPlanOver graph.now made.plan) }
+    ensures refused { IfErr result (λ fault. IfRefused fault (IsRefused graph.now bytes.now)) }
+{
+    let query = read_query(alloc, bytes)?;
+    plan_asked(alloc, graph, &query)
+}
+
+/// The predicates and the goals that a query asks for.
 pub fn plan_query(alloc: Global, graph: &Graph, query: &str) -> Result<Planned, Fault>
     ensures planned { IfOk result (λ made. IsPlanned graph.now query.now made.predicates made.plan) }
     ensures predicates { IfOk result (λ made. IsPredicates graph.now made.predicates) }
     ensures plan { IfOk result (λ made. IsPlanOver graph.now made.plan) }
     ensures refused { IfErr result (λ fault. IfRefused fault (IsRefused graph.now query.now)) }
 {
-    let query = read_query(alloc, query.as_bytes())?;
-    plan_asked(alloc, graph, &query)
+    plan_bytes(alloc, graph, query.as_bytes())
 }

@@ -1,19 +1,39 @@
 // The status and the line of a refusal.
 ghost use Rattle.std.specs.Prelude.{◌≡◌, ◌++◌, [], IfOk, OnOk, slice_get, unwrap_or};
 ghost use Rattle.std.specs.Fmt.{decimal};
-ghost use Rattle.command.specs.Refusal.{line_of, place_text, printed_name, status_of};
+ghost use Rattle.fq_core.specs.declared.refusal.Place.TheVariants as place;
+ghost use Rattle.command.specs.Refusal.{line_of, place_text, status_of};
 ghost use Rattle.command_words.specs.Request.{texts_at};
 
 use crate::Status;
 use fq_core::{Place, Refusal, code_name};
 use std::alloc::{AllocError, Global};
 
+/// A refusal without a place.
+pub fn nowhere(code: u16) -> Refusal
+    ensures { result ≡ record { code = code; place = place.Nowhere } }
+{
+    Refusal {
+        code,
+        place: Place::Nowhere,
+    }
+}
+
+/// The query has no goal of the number.
+pub fn no_such_goal() -> Refusal
+    ensures { result ≡ record { code = 74; place = place.QueryWhole } }
+{
+    Refusal {
+        code: 74,
+        place: Place::QueryWhole,
+    }
+}
+
 /// The status in which a refusal of this code ends.
 pub fn refused_status(code: u16) -> Status
     ensures { result ≡ status_of code }
 {
     match code {
-        2 => Status::Usage,
         7 => Status::ReadFault,
         10 | 11 | 12 | 13 | 14 | 20 | 21 | 29 | 30 | 31 | 32 | 33 | 35 | 36 | 38 | 39 =>
             Status::SourceRefused,
@@ -21,18 +41,7 @@ pub fn refused_status(code: u16) -> Status
         50 | 51 | 52 | 55 | 56 => Status::InputRefused,
         15 | 16 | 22 | 34 | 37 | 41 | 53 | 54 | 63 | 67 | 71 | 73 | 80 | 81 | 82 => Status::Limit,
         90 | 91 | 92 | 93 => Status::CertificateRejected,
-        _ => Status::NotBuilt,
-    }
-}
-
-// The name that is printed of a code.
-fn printed_name(code: u16) -> &'static str
-    ensures { result.now ≡ printed_name code }
-{
-    if code == 1 {
-        "NotBuilt"
-    } else {
-        code_name(code)
+        _ => Status::Usage,
     }
 }
 
@@ -98,7 +107,7 @@ pub fn refusal_line(
     let mut line = Vec::new(alloc);
     push_number(alloc, &mut line, "error ", refusal.code as u64)?;
     line.push(b' ')?;
-    line.extend_from_slice(printed_name(refusal.code).as_bytes())?;
+    line.extend_from_slice(code_name(refusal.code).as_bytes())?;
     push_place(alloc, &mut line, sources, &refusal.place)?;
     line.push(b'\n')?;
     Ok(line)

@@ -1,36 +1,39 @@
 // From a request to the text that it asks for.
-ghost use Rattle.std.specs.Prelude.{◌≡◌, ◌<◌, Some, IfOk, IfErr, length};
-ghost use Rattle.fq_core.specs.declared.refusal.Place.TheVariants as place;
-ghost use Rattle.command_words.specs.Request.{asked, listing, measuring, running};
+ghost use Rattle.std.specs.Prelude.{◌≡◌, ◌≤◌, ◌<◌, Some, false, IfOk, IfErr, MatchResult, length};
+ghost use Rattle.command_words.specs.Request.{asked, checking, generating, listing, measuring, proving, running};
 ghost use Rattle.command.specs.Asked.{sources_of};
-ghost use Rattle.command.specs.Due.{IsDueOf, IsDueOfGoals, IsDueOfMeasure, IsDueOfRuns, OfSources};
+ghost use Rattle.command.specs.Checking.{IsDueOfCheck};
+ghost use Rattle.command.specs.Due.{IsDueOf, IsDueOfGoals, IsDueOfMeasure, IsDueOfRuns};
+ghost use Rattle.command.specs.Generating.{IsDueOfGenerate};
+ghost use Rattle.command.specs.Proving.{IsDueOfProve};
+ghost use Rattle.command.specs.Ranges.{AreBounds, IsInRange};
 ghost use Rattle.command.specs.Reads.{reads};
 ghost use Rattle.fq_core.specs.Refusals.{IfRefused};
 ghost use Rattle.command.specs.Refusal.{said_by};
+ghost use Rattle.command.specs.Replies.{Gives, Tells};
 ghost use Rattle.command.specs.Said.{answered};
+ghost use Rattle.command.specs.Stages.{OfSources};
+ghost use Rattle.command.specs.Watched.{watched};
 
+use crate::checking::check_graph;
 use crate::entry::{Entry, entry_named};
+use crate::generating::generate_graph;
 use crate::inputs::read_inputs;
 use crate::measurement::report;
 use crate::planned::plan_query;
+use crate::proving::prove_graph;
 use crate::recorded::list;
+use crate::refusal::nowhere;
+use crate::reply::Reply;
+use crate::sampling::sample;
 use crate::sources::automaton;
 use cfa::Graph;
-use command_words::{Goals, Measure, Request, Runs};
-use fq_core::{Fault, Memory, Place, Refusal};
+use command_words::{Check, Generate, Goals, Measure, Prove, Request, Runs};
+use fq_core::{Fault, Memory};
 use fq_io::Files;
 use report::goals_text;
+use search::Watch;
 use std::alloc::Global;
-
-/// A refusal without a place.
-pub fn nowhere(code: u16) -> Refusal
-    ensures { result ≡ record { code = code; place = place.Nowhere } }
-{
-    Refusal {
-        code,
-        place: Place::Nowhere,
-    }
-}
 
 // How many parameters the entry has.
 fn parameters(entry: &Entry) -> Result<u32, Memory>
@@ -133,20 +136,75 @@ fn runs<F: Files>(alloc: Global, request: &Runs, files: &mut F) -> Result<Vec<u8
     runs_of_graph(alloc, request, &graph, files)
 }
 
-/// The text that a request asks for, or why there is none.
-pub fn answer<F: Files>(alloc: Global, request: &Request, files: &mut F) -> Result<Vec<u8>, Fault>
-    ensures ok { IfOk result (λ text. IsDueOf (reads F.holds F.last_failed F.faults F.received files.old files.new)
-        (asked request.now) (answered text.items)) }
-    ensures err { IfErr result (λ fault. IfRefused fault (λ refusal.
-        IsDueOf (reads F.holds F.last_failed F.faults F.received files.old files.new)
-        (asked request.now) (said_by (sources_of (asked request.now)) refusal))) }
+fn generate<F: Files, W: Watch>(
+    alloc: Global,
+    request: &Generate,
+    files: &mut F,
+    watch: &mut W,
+) -> Result<Reply, Fault>
+    requires { AreBounds request.now.bounds }
+    ensures { let m = generating request.now in
+        Gives (OfSources (reads F.holds F.last_failed F.faults F.received files.old files.new) m.sources (IsDueOfGenerate m))
+        m.sources (watched W.seen watch.old watch.new) result }
+{
+    let graph = automaton(alloc, files, &request.sources)?;
+    generate_graph(alloc, request, &graph, watch)
+}
+
+fn prove<F: Files, W: Watch>(
+    alloc: Global,
+    request: &Prove,
+    files: &mut F,
+    watch: &mut W,
+) -> Result<Reply, Fault>
+    requires bounds { AreBounds request.now.bounds }
+    requires some { 1 ≤ request.now.goal }
+    ensures { let m = proving request.now in
+        Gives (OfSources (reads F.holds F.last_failed F.faults F.received files.old files.new) m.sources (IsDueOfProve m))
+        m.sources (watched W.seen watch.old watch.new) result }
+{
+    let graph = automaton(alloc, files, &request.sources)?;
+    prove_graph(alloc, request, &graph, watch)
+}
+
+fn check<F: Files>(alloc: Global, request: &Check, files: &mut F) -> Result<Reply, Fault>
+    requires bounds { AreBounds request.now.bounds }
+    requires some { 1 ≤ request.now.goal }
+    ensures { let m = checking request.now in let r = reads F.holds F.last_failed F.faults F.received files.old files.new in
+        Tells (OfSources r m.sources (IsDueOfCheck r m)) m.sources result }
+{
+    let graph = automaton(alloc, files, &request.sources)?;
+    check_graph(alloc, request, &graph, files)
+}
+
+// A text as a reply, in which nothing is left open.
+fn plain(text: Result<Vec<u8>, Fault>) -> Result<Reply, Fault>
+    ensures { MatchResult text (λ text. result ≡ Ok (Reply.Answer text false)) (λ fault. result ≡ Err fault) }
+{
+    match text {
+        Ok(text) => Ok(Reply::Answer { text, left_open: false }),
+        Err(fault) => Err(fault),
+    }
+}
+
+/// What a request asks for, or why it isn't given.
+pub fn answer<F: Files, W: Watch>(
+    alloc: Global,
+    request: &Request,
+    files: &mut F,
+    watch: &mut W,
+) -> Result<Reply, Fault>
+    requires { IsInRange (asked request.now) }
+    ensures { Gives (IsDueOf (reads F.holds F.last_failed F.faults F.received files.old files.new) (asked request.now))
+        (sources_of (asked request.now)) (watched W.seen watch.old watch.new) result }
 {
     match request {
-        Request::Measure(request) => measure(alloc, request, files),
-        Request::Goals(request) => goals(alloc, request, files),
-        Request::Runs(request) => runs(alloc, request, files),
-        Request::Generate(_) | Request::Prove(_) | Request::Check(_) | Request::Sample(_) => {
-            Err(Fault::Refused(nowhere(1)))
-        }
+        Request::Measure(request) => plain(measure(alloc, request, files)),
+        Request::Generate(request) => generate(alloc, request, files, watch),
+        Request::Goals(request) => plain(goals(alloc, request, files)),
+        Request::Runs(request) => plain(runs(alloc, request, files)),
+        Request::Prove(request) => prove(alloc, request, files, watch),
+        Request::Check(request) => check(alloc, request, files),
+        Request::Sample(number) => sample(alloc, *number, watch),
     }
 }

@@ -1,6 +1,7 @@
 // The files that the words name.
 ghost use Rattle.std.specs.Prelude.{◌≡◌, ◌⊎◌, ◌≤◌, ◌<◌, IfOk, IfErr, OnOk, vec_len};
 ghost use Rattle.fq_core.specs.declared.refusal.Place.TheVariants as place;
+ghost use Rattle.cfa.specs.Contexts.{IsOnce};
 ghost use Rattle.command_words.specs.Request.{texts_at};
 ghost use Rattle.command.specs.Reads.{Sees, reads};
 ghost use Rattle.fq_core.specs.Refusals.{IfRefused};
@@ -90,6 +91,7 @@ fn read_sources<F: Files>(
 /// The automaton of the sources in these files.
 pub fn automaton<F: Files>(alloc: Global, files: &mut F, names: &[&str]) -> Result<Graph, Fault>
     ensures accepted { IfOk result (λ graph. HaveAutomaton (F.holds files.old) (texts_at names.now) graph) }
+    ensures once { IfOk result IsOnce }
     ensures refused { IfErr result (λ fault. IfRefused fault (λ refusal.
         IsReadUpTo (reads F.holds F.last_failed F.faults F.received files.old files.new) (texts_at names.now) refusal
         ⊎ AreRefused (F.holds files.old) (texts_at names.now) refusal)) }

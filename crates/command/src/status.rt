@@ -22,13 +22,12 @@ pub enum Status {
     WriteFault,
     /// An allocation was refused.
     Memory,
+    /// A certificate doesn't refute the goal.
     CertificateRejected,
-    /// The words, the source, the query or the inputs need something that isn't built yet.
-    NotBuilt,
 }
 
 impl Status {
-    /// The program's exit status, from 0 to 11.
+    /// The program's exit status, from 0 to 10.
     pub fn exit_status(self) -> u8
         ensures { result ≡ exit_status self }
     {
@@ -44,7 +43,6 @@ impl Status {
             Status::WriteFault => 8,
             Status::Memory => 9,
             Status::CertificateRejected => 10,
-            Status::NotBuilt => 11,
         }
     }
 }

@@ -2,4 +2,6 @@
 #![tactic(auto)]
 
 #[cfg(test)]
+mod searching;
+#[cfg(test)]
 mod tests;

@@ -1,15 +1,16 @@
 use command::*;
 use fq_core::Name;
 use fq_io::{MemoryFiles, MemorySink, Take, VecSink};
+use search::NoWatch;
 use std::alloc::Global;
 use std::process::Abort;
 use std::test::Fail;
 
-const A_C: &str = "int f(int x) {\n  if (x > 10) {\n    return 1;\n  }\n  return 0;\n}\n";
+pub const A_C: &str = "int f(int x) {\n  if (x > 10) {\n    return 1;\n  }\n  return 0;\n}\n";
 
-const QUERY: &str = "cover EDGES(ID)";
+pub const QUERY: &str = "cover EDGES(ID)";
 
-fn words(alloc: Global, texts: &[&str]) -> Result<Vec<String>, Fail> {
+pub fn words(alloc: Global, texts: &[&str]) -> Result<Vec<String>, Fail> {
     let mut words = Vec::new(alloc);
     for text in texts {
         words.push(String::from_str(alloc, text)?)?;
@@ -17,7 +18,7 @@ fn words(alloc: Global, texts: &[&str]) -> Result<Vec<String>, Fail> {
     Ok(words)
 }
 
-fn files(alloc: Global, entries: &[(&str, &str)], failing: &[u32]) -> Result<MemoryFiles, Fail> {
+pub fn files(alloc: Global, entries: &[(&str, &str)], failing: &[u32]) -> Result<MemoryFiles, Fail> {
     let mut held = Vec::new(alloc);
     for (name, content) in entries {
         let Ok(name) = Name::new(alloc, name.as_bytes()) else {
@@ -29,7 +30,7 @@ fn files(alloc: Global, entries: &[(&str, &str)], failing: &[u32]) -> Result<Mem
 }
 
 // Runs on words, with these files in memory, and compares the status and both texts.
-fn compare(
+pub fn compare(
     rt: &impl Abort,
     alloc: Global,
     texts: &[&str],
@@ -40,7 +41,14 @@ fn compare(
     let words = words(alloc, texts)?;
     let mut out = VecSink::new(alloc);
     let mut err = VecSink::new(alloc);
-    let status = run(alloc, &words, &mut files, &mut out, &mut err);
+    let status = run(
+        alloc,
+        &words,
+        &mut files,
+        &mut out,
+        &mut err,
+        &mut NoWatch,
+    );
     assert_eq!(rt; status, want.0);
     assert_eq!(rt; out.taken(), want.1.as_bytes());
     assert_eq!(rt; err.taken(), want.2.as_bytes());
@@ -151,7 +159,14 @@ fn ends_of_runs(rt: HostRuntime) -> Result<(), Fail> {
         let words = words(alloc, &["measure", "f", QUERY, "in.txt", "a.c"])?;
         let mut out = VecSink::new(alloc);
         let mut err = VecSink::new(alloc);
-        let status = run(alloc, &words, &mut files, &mut out, &mut err);
+        let status = run(
+        alloc,
+        &words,
+        &mut files,
+        &mut out,
+        &mut err,
+        &mut NoWatch,
+    );
         assert_eq!(rt; status, Status::Done, "{source}");
         let text = str::from_utf8(out.taken())?;
         let line = format!(in alloc; "\ninput 1 {end}\n")?;
@@ -433,25 +448,23 @@ fn other_commands(rt: HostRuntime) -> Result<(), Fail> {
     Ok(())
 }
 
-// Words that ask for a command that isn't built, or for nothing.
+// Words that ask for nothing.
 #[test]
 fn words_without_an_answer(rt: HostRuntime) -> Result<(), Fail> {
     let alloc = rt.alloc();
     let usage = (Status::Usage, "", "error 2 Usage\n");
-    let not_built = (Status::NotBuilt, "", "error 1 NotBuilt\n");
-    for (words, want) in [
-        (["generate", "f", QUERY, "a.c"].as_slice(), not_built),
-        (&["prove", "f", QUERY, "1", "a.c"], not_built),
-        (&["check", "f", QUERY, "1", "a.cert", "a.c"], not_built),
-        (&["sample", "1"], not_built),
-        (&["measure", "f"], usage),
-        (&[], usage),
-        (&["Measure", "f", QUERY, "in.txt", "a.c"], usage),
-        (&["measure", "f", QUERY, "in.txt", "a.c", "-b.c"], usage),
-        (&["measure", "f", QUERY, "in.txt", "-"], usage),
-        (&["goals", QUERY, "a.c", "--steps", "1"], usage),
+    for words in [
+        ["measure", "f"].as_slice(),
+        &[],
+        &["Measure", "f", QUERY, "in.txt", "a.c"],
+        &["measure", "f", QUERY, "in.txt", "a.c", "-b.c"],
+        &["measure", "f", QUERY, "in.txt", "-"],
+        &["goals", QUERY, "a.c", "--steps", "1"],
+        &["generate", "f", QUERY, "a.c", "--frames", "0"],
+        &["check", "f", QUERY, "0", "a.cert", "a.c"],
+        &["sample", "201"],
     ] {
-        compare(&rt, alloc, words, &[("a.c", A_C)], want)?;
+        compare(&rt, alloc, words, &[("a.c", A_C)], usage)?;
     }
     Ok(())
 }
@@ -470,7 +483,14 @@ fn a_read_fails(rt: HostRuntime) -> Result<(), Fail> {
         let words = words(alloc, &["measure", "f", QUERY, "in.txt", "p1.c", "p2.c"])?;
         let mut out = VecSink::new(alloc);
         let mut err = VecSink::new(alloc);
-        let status = run(alloc, &words, &mut files, &mut out, &mut err);
+        let status = run(
+        alloc,
+        &words,
+        &mut files,
+        &mut out,
+        &mut err,
+        &mut NoWatch,
+    );
         assert_eq!(rt; status, Status::ReadFault);
         assert_eq!(rt; out.taken(), "".as_bytes());
         assert_eq!(rt; err.taken(), want.as_bytes());
@@ -487,7 +507,14 @@ fn a_write_fails_in_mid_stream(rt: HostRuntime) -> Result<(), Fail> {
         let words = words(alloc, &["measure", "f", query, "in.txt", "a.c"])?;
         let mut out = MemorySink::new(alloc, script.to_vec(alloc)?);
         let mut err = MemorySink::new(alloc, script.to_vec(alloc)?);
-        let status = run(alloc, &words, &mut files, &mut out, &mut err);
+        let status = run(
+        alloc,
+        &words,
+        &mut files,
+        &mut out,
+        &mut err,
+        &mut NoWatch,
+    );
         assert_eq!(rt; status, Status::WriteFault);
         assert_eq!(rt; out.taken(), out_text.as_bytes());
         assert_eq!(rt; err.taken(), err_text.as_bytes());
@@ -522,7 +549,7 @@ fn answer_of(
     let entries = [("p1.c", P1_C), ("p2.c", P2_C), ("in.txt", "9\n2\n")];
     let mut files = files(alloc, &entries, &[])?;
     let words = words(alloc, &["measure", "f", query, "in.txt", "p1.c", "p2.c"])?;
-    let status = run(alloc, &words, &mut files, out, err);
+    let status = run(alloc, &words, &mut files, out, err, &mut NoWatch);
     eprintln!(rt; "answer {status:?}")?;
     Ok(status)
 }

@@ -3,6 +3,7 @@
 
 use command::{Status, run};
 use fq_io::{RealFiles, RealSink};
+use search::NoWatch;
 use std::process::ExitCode;
 use std::{env, io};
 
@@ -22,6 +23,6 @@ fn main(rt: HostRuntime) -> ExitCode {
     let mut files = RealFiles::new(&rt);
     let mut out = RealSink::new(rt.stdout());
     let mut err = RealSink::new(rt.stderr());
-    let status = run(rt.alloc(), &words, &mut files, &mut out, &mut err);
+    let status = run(rt.alloc(), &words, &mut files, &mut out, &mut err, &mut NoWatch);
     ExitCode::from(status.exit_status())
 }
