@@ -154,10 +154,17 @@ module _ (holds held : List ℕ → Option (List ℕ)) (last : Option (Option (L
           → OfQuery m.sources graph m.query (λ p plan. OfGoal plan m.goal (λ goal. OfCertificate all m.sources m.certificate (IsChecked m graph entry p plan goal))) said
       by_query entry (inl refusal) = inl refusal
       by_query entry (inr made) =
-          inr (made.0, (made.1.0, made.1.1, goal_since made.1.0 m.goal
-          (λ goal. OfCertificate since m.sources m.certificate (IsChecked m graph entry made.0 made.1.0 goal))
-          (λ goal. OfCertificate all m.sources m.certificate (IsChecked m graph entry made.0 made.1.0 goal))
-          said (λ goal. certificate_since m.sources m.certificate (IsChecked m graph entry made.0 made.1.0 goal) said) made.1.2))
+          inr (
+            made.0,
+            (
+              made.1.0,
+              made.1.1,
+              goal_since made.1.0 m.goal
+                  (λ goal. OfCertificate since m.sources m.certificate (IsChecked m graph entry made.0 made.1.0 goal))
+                  (λ goal. OfCertificate all m.sources m.certificate (IsChecked m graph entry made.0 made.1.0 goal))
+                  said (λ goal. certificate_since m.sources m.certificate (IsChecked m graph entry made.0 made.1.0 goal) said) made.1.2,
+            ),
+          )
 
 -- ---- a run can start on each of the inputs
 

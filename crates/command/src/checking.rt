@@ -71,7 +71,10 @@ fn verdict(
                 bounds.answers,
                 request.ends,
             )?;
-            Ok(Reply::Answer { text, left_open: false })
+            Ok(Reply::Answer {
+                text,
+                left_open: false,
+            })
         }
         Verdict::BadStep { line } => Err(Fault::Refused(Refusal {
             code: 92,
@@ -164,5 +167,13 @@ pub fn check_graph<F: Files>(
         return Err(Fault::Refused(no_such_goal()));
     }
     let (theirs, derivation) = read_file(alloc, files, request.certificate)?;
-    checked(alloc, request, graph, &entry, &planned, &theirs, &derivation)
+    checked(
+        alloc,
+        request,
+        graph,
+        &entry,
+        &planned,
+        &theirs,
+        &derivation,
+    )
 }

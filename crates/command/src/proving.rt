@@ -78,19 +78,28 @@ fn said_of<W: Watch>(
     match decided {
         Decided::Covered(input) => {
             let text = covered(alloc, graph, entry, planned, unwound, number, &input)?;
-            Ok(Reply::Answer { text, left_open: false })
+            Ok(Reply::Answer {
+                text,
+                left_open: false,
+            })
         }
         Decided::Refuted {
             formula,
             derivation,
         } => {
             let text = write_certificate(alloc, &formula.formula, &derivation)?;
-            Ok(Reply::Answer { text, left_open: false })
+            Ok(Reply::Answer {
+                text,
+                left_open: false,
+            })
         }
         Decided::Undecided { formula, history } => {
             let text = undecided_text(alloc, number)?;
             watch.shown(number, &formula.formula, &history)?;
-            Ok(Reply::Answer { text, left_open: true })
+            Ok(Reply::Answer {
+                text,
+                left_open: true,
+            })
         }
     }
 }

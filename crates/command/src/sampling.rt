@@ -56,10 +56,12 @@ fn sample_automaton(alloc: Global, number: u32) -> Result<Graph, Fault>
         return Err(Fault::Memory);
     }
     let name = Name::new(alloc, b"sample.c")?;
-    let texts = vec![in alloc; SourceText {
-        name,
-        bytes: Vector::from_vec(bytes),
-    }]?;
+    let texts = vec![in alloc;
+        SourceText {
+            name,
+            bytes: Vector::from_vec(bytes),
+        },
+    ]?;
     automaton_of_texts(alloc, &texts)
 }
 

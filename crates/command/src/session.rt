@@ -182,7 +182,10 @@ fn plain(text: Result<Vec<u8>, Fault>) -> Result<Reply, Fault>
     ensures { MatchResult text (λ text. result ≡ Ok (Reply.Answer text false)) (λ fault. result ≡ Err fault) }
 {
     match text {
-        Ok(text) => Ok(Reply::Answer { text, left_open: false }),
+        Ok(text) => Ok(Reply::Answer {
+            text,
+            left_open: false,
+        }),
         Err(fault) => Err(fault),
     }
 }

@@ -7,20 +7,23 @@ use std::alloc::Global;
 use std::process::Abort;
 use std::test::Fail;
 
-const C_C: &str =
-    "int f(int x) {\n  if (x > 10 && x < 5) {\n    return 1;\n  }\n  return 0;\n}\n";
+const C_C: &str = "int f(int x) {\n  if (x > 10 && x < 5) {\n    return 1;\n  }\n  return 0;\n}\n";
 
 const D_C: &str = "int f(int x) {\n  if (x == 7) {\n    return 1;\n  }\n  return 0;\n}\n";
 
-const E_C: &str = "int f(int n) {\n  int i = 0;\n  while (i < n) {\n    i = i + 1;\n  }\n  if (i == 3) {\n    return 1;\n  }\n  return 0;\n}\n";
+const E_C: &str =
+    "int f(int n) {\n  int i = 0;\n  while (i < n) {\n    i = i + 1;\n  }\n  if (i == 3) {\n    return 1;\n  }\n  return 0;\n}\n";
 
-const G_C: &str = "int f(int n) {\n  int c = 0;\n  for (int i = 0; i < 2; i++) {\n    for (int j = 0; j < n; j++) {\n      c = c + 1;\n    }\n  }\n  if (c == 6) {\n    return 1;\n  }\n  return 0;\n}\n";
+const G_C: &str =
+    "int f(int n) {\n  int c = 0;\n  for (int i = 0; i < 2; i++) {\n    for (int j = 0; j < n; j++) {\n      c = c + 1;\n    }\n  }\n  if (c == 6) {\n    return 1;\n  }\n  return 0;\n}\n";
 
 const H_C: &str = "int f(int i) {\n  int a[4];\n  a[i] = 1;\n  return a[0];\n}\n";
 
-const I_C: &str = "int in(void);\nint f(int x) {\n  int s = 0;\n  if (x == 1) {\n    s = in();\n  }\n  int t = in();\n  if (s == 5 && t == 9) {\n    return 1;\n  }\n  return 0;\n}\n";
+const I_C: &str =
+    "int in(void);\nint f(int x) {\n  int s = 0;\n  if (x == 1) {\n    s = in();\n  }\n  int t = in();\n  if (s == 5 && t == 9) {\n    return 1;\n  }\n  return 0;\n}\n";
 
-const R_C: &str = "int f(int n) {\n  if (n <= 0) {\n    return 0;\n  }\n  return 1 + f(n - 1);\n}\nint g(int n) {\n  if (f(n) == 2) {\n    return 1;\n  }\n  return 0;\n}\n";
+const R_C: &str =
+    "int f(int n) {\n  if (n <= 0) {\n    return 0;\n  }\n  return 1 + f(n - 1);\n}\nint g(int n) {\n  if (f(n) == 2) {\n    return 1;\n  }\n  return 0;\n}\n";
 
 const U_C: &str =
     "#include <stdint.h>\nint f(uint8_t x) {\n  if (x + 1 == 256) {\n    return 1;\n  }\n  return 0;\n}\n";
@@ -134,19 +137,11 @@ covered 0 refuted 0 undecided 1 of 1\n",
         ),
         (
             &["generate", "--turns", "1000", "f", "cover @LINE(9)", "g.c"],
-            (
-                Status::Limit,
-                "",
-                "error 80 TooManyInstances limit 50000\n",
-            ),
+            (Status::Limit, "", "error 80 TooManyInstances limit 50000\n"),
         ),
         (
             &["generate", "f", "cover \"(ID==40)==40\"", "a.c"],
-            (
-                Status::Limit,
-                "",
-                "error 82 GoalTooLarge limit 8388608\n",
-            ),
+            (Status::Limit, "", "error 82 GoalTooLarge limit 8388608\n"),
         ),
         (
             &["generate", "zz", "cover", "a.c"],
@@ -235,14 +230,7 @@ fn text_of(
     let words = words(alloc, texts)?;
     let mut out = VecSink::new(alloc);
     let mut err = VecSink::new(alloc);
-    let status = run(
-        alloc,
-        &words,
-        &mut files,
-        &mut out,
-        &mut err,
-        &mut NoWatch,
-    );
+    let status = run(alloc, &words, &mut files, &mut out, &mut err, &mut NoWatch);
     assert_eq!(rt; status, Status::Done);
     assert_eq!(rt; err.taken(), "".as_bytes());
     Ok(String::from_str(alloc, str::from_utf8(out.taken())?)?)
@@ -269,9 +257,11 @@ fn chosen_inputs(rt: HostRuntime) -> Result<(), Fail> {
     let below = number_after(text.as_str(), "input 2 args ")?;
     assert!(rt; above > 10);
     assert!(rt; below <= 10);
-    let want = format!(in alloc; "goals 4 turns 4 frames 8 answers 16 budget 5000000\ninput 1 args {above}\ninput 2 args {below}\n\
+    let want = format!(in alloc;
+        "goals 4 turns 4 frames 8 answers 16 budget 5000000\ninput 1 args {above}\ninput 2 args {below}\n\
 goal 1 covered 1 e0@c.c:2\ngoal 2 covered 2 e1@c.c:2\ngoal 3 refuted e2@c.c:2\ngoal 4 covered 1 e3@c.c:2\n\
-suite 1 2\ncovered 3 refuted 1 undecided 0 of 4\n")?;
+suite 1 2\ncovered 3 refuted 1 undecided 0 of 4\n"
+    )?;
     assert_eq!(rt; text.as_str(), want.as_str());
     let proved = text_of(&rt, alloc, &["prove", "f", query, "1", "c.c"], &SOURCES)?;
     let value = number_after(proved.as_str(), "goal 1 covered args ")?;
@@ -281,8 +271,10 @@ suite 1 2\ncovered 3 refuted 1 undecided 0 of 4\n")?;
     let trapped = text_of(&rt, alloc, &words, &SOURCES)?;
     let value = number_after(trapped.as_str(), "input 1 args ")?;
     assert!(rt; value < 0 || value > 3);
-    let want = format!(in alloc; "goals 2 turns 4 frames 8 answers 16 budget 5000000 ends trapped\ninput 1 args {value}\n\
-goal 1 covered 1 n2@h.c:3\ngoal 2 refuted n3@h.c:4\nsuite 1\ncovered 1 refuted 1 undecided 0 of 2\n")?;
+    let want = format!(in alloc;
+        "goals 2 turns 4 frames 8 answers 16 budget 5000000 ends trapped\ninput 1 args {value}\n\
+goal 1 covered 1 n2@h.c:3\ngoal 2 refuted n3@h.c:4\nsuite 1\ncovered 1 refuted 1 undecided 0 of 2\n"
+    )?;
     assert_eq!(rt; trapped.as_str(), want.as_str());
     Ok(())
 }
@@ -301,14 +293,7 @@ fn compare_check(
     let words = words(alloc, &["check", "f", query, goal, "c.cert", "c.c"])?;
     let mut out = VecSink::new(alloc);
     let mut err = VecSink::new(alloc);
-    let status = run(
-        alloc,
-        &words,
-        &mut files,
-        &mut out,
-        &mut err,
-        &mut NoWatch,
-    );
+    let status = run(alloc, &words, &mut files, &mut out, &mut err, &mut NoWatch);
     assert_eq!(rt; status, want.0);
     assert_eq!(rt; out.taken(), want.1.as_bytes());
     let line = str::from_utf8(err.taken())?;
@@ -385,14 +370,7 @@ covered 0 refuted 0 undecided 1 of 1\n",
         let mut out = VecSink::new(alloc);
         let mut err = VecSink::new(alloc);
         let mut watch = KeepWatch::new(alloc);
-        let status = run(
-            alloc,
-            &words,
-            &mut files,
-            &mut out,
-            &mut err,
-            &mut watch,
-        );
+        let status = run(alloc, &words, &mut files, &mut out, &mut err, &mut watch);
         assert_eq!(rt; status, Status::DoneOpen);
         assert_eq!(rt; out.taken(), want.as_bytes());
         assert_eq!(rt; watch.list.len(), 1);
@@ -414,14 +392,7 @@ fn a_report_is_cut(rt: HostRuntime) -> Result<(), Fail> {
     let script = [Take::AtMost(10), Take::Fail];
     let mut out = MemorySink::new(alloc, script.to_vec(alloc)?);
     let mut err = VecSink::new(alloc);
-    let status = run(
-        alloc,
-        &words,
-        &mut files,
-        &mut out,
-        &mut err,
-        &mut NoWatch,
-    );
+    let status = run(alloc, &words, &mut files, &mut out, &mut err, &mut NoWatch);
     assert_eq!(rt; status, Status::WriteFault);
     assert_eq!(rt; out.taken(), "goals 1 tu".as_bytes());
     assert_eq!(rt; err.taken(), "".as_bytes());

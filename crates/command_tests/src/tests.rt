@@ -18,7 +18,11 @@ pub fn words(alloc: Global, texts: &[&str]) -> Result<Vec<String>, Fail> {
     Ok(words)
 }
 
-pub fn files(alloc: Global, entries: &[(&str, &str)], failing: &[u32]) -> Result<MemoryFiles, Fail> {
+pub fn files(
+    alloc: Global,
+    entries: &[(&str, &str)],
+    failing: &[u32],
+) -> Result<MemoryFiles, Fail> {
     let mut held = Vec::new(alloc);
     for (name, content) in entries {
         let Ok(name) = Name::new(alloc, name.as_bytes()) else {
@@ -41,14 +45,7 @@ pub fn compare(
     let words = words(alloc, texts)?;
     let mut out = VecSink::new(alloc);
     let mut err = VecSink::new(alloc);
-    let status = run(
-        alloc,
-        &words,
-        &mut files,
-        &mut out,
-        &mut err,
-        &mut NoWatch,
-    );
+    let status = run(alloc, &words, &mut files, &mut out, &mut err, &mut NoWatch);
     assert_eq!(rt; status, want.0);
     assert_eq!(rt; out.taken(), want.1.as_bytes());
     assert_eq!(rt; err.taken(), want.2.as_bytes());
@@ -159,14 +156,7 @@ fn ends_of_runs(rt: HostRuntime) -> Result<(), Fail> {
         let words = words(alloc, &["measure", "f", QUERY, "in.txt", "a.c"])?;
         let mut out = VecSink::new(alloc);
         let mut err = VecSink::new(alloc);
-        let status = run(
-        alloc,
-        &words,
-        &mut files,
-        &mut out,
-        &mut err,
-        &mut NoWatch,
-    );
+        let status = run(alloc, &words, &mut files, &mut out, &mut err, &mut NoWatch);
         assert_eq!(rt; status, Status::Done, "{source}");
         let text = str::from_utf8(out.taken())?;
         let line = format!(in alloc; "\ninput 1 {end}\n")?;
@@ -483,14 +473,7 @@ fn a_read_fails(rt: HostRuntime) -> Result<(), Fail> {
         let words = words(alloc, &["measure", "f", QUERY, "in.txt", "p1.c", "p2.c"])?;
         let mut out = VecSink::new(alloc);
         let mut err = VecSink::new(alloc);
-        let status = run(
-        alloc,
-        &words,
-        &mut files,
-        &mut out,
-        &mut err,
-        &mut NoWatch,
-    );
+        let status = run(alloc, &words, &mut files, &mut out, &mut err, &mut NoWatch);
         assert_eq!(rt; status, Status::ReadFault);
         assert_eq!(rt; out.taken(), "".as_bytes());
         assert_eq!(rt; err.taken(), want.as_bytes());
@@ -507,14 +490,7 @@ fn a_write_fails_in_mid_stream(rt: HostRuntime) -> Result<(), Fail> {
         let words = words(alloc, &["measure", "f", query, "in.txt", "a.c"])?;
         let mut out = MemorySink::new(alloc, script.to_vec(alloc)?);
         let mut err = MemorySink::new(alloc, script.to_vec(alloc)?);
-        let status = run(
-        alloc,
-        &words,
-        &mut files,
-        &mut out,
-        &mut err,
-        &mut NoWatch,
-    );
+        let status = run(alloc, &words, &mut files, &mut out, &mut err, &mut NoWatch);
         assert_eq!(rt; status, Status::WriteFault);
         assert_eq!(rt; out.taken(), out_text.as_bytes());
         assert_eq!(rt; err.taken(), err_text.as_bytes());

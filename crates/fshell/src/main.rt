@@ -23,6 +23,13 @@ fn main(rt: HostRuntime) -> ExitCode {
     let mut files = RealFiles::new(&rt);
     let mut out = RealSink::new(rt.stdout());
     let mut err = RealSink::new(rt.stderr());
-    let status = run(rt.alloc(), &words, &mut files, &mut out, &mut err, &mut NoWatch);
+    let status = run(
+        rt.alloc(),
+        &words,
+        &mut files,
+        &mut out,
+        &mut err,
+        &mut NoWatch,
+    );
     ExitCode::from(status.exit_status())
 }

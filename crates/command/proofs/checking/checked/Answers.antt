@@ -48,6 +48,8 @@ returns c = λ one is.
     let exact = c.in_ok-ours.ensures.accepted c.args.entry.now.function.now one (there_still _ _ _ _ _ _ _ unwound c.requires.number) is in
     tells_map (IsCompared m c.args.theirs.now c.in_ok-ours.ours.formula c.args.derivation.now)
     (IsChecked m c.args.graph.now (seen c.args.entry.now) c.args.planned.now.predicates c.args.planned.now.plan one c.args.theirs.now c.args.derivation.now) m.sources c.compared.result
-    (λ said due. inr (goal_is_within _ _ _ _ _ _ _ unwound c.args.planned.now.plan one (c.in_ok-ours.ensures.size one is),
-    (c.in_ok-ours.ours, exact_at _ _ _ _ _ _ _ unwound c.args.planned.now.plan one _ exact, due)))
+    (λ said due. inr (
+      goal_is_within _ _ _ _ _ _ _ unwound c.args.planned.now.plan one (c.in_ok-ours.ensures.size one is),
+      (c.in_ok-ours.ours, exact_at _ _ _ _ _ _ _ unwound c.args.planned.now.plan one _ exact, due),
+    ))
     c.compared.ensures

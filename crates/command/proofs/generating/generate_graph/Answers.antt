@@ -10,9 +10,11 @@ use Rattle.command.proofs.generating.generate_graph.Goals as goal
 
 pub returns-in_default : goal.returns-in_default
 returns-in_default g c =
-    let none = rw (c.in_default.is, c.as_bytes.ensures.value) at c.entry_named.ensures.entry in
-    (due_nowhere _ 36 _ (IsDueOfGenerate (generating c.args.request.now) c.args.graph.now) c.nowhere.ensures
-    (generate_no_entry (generating c.args.request.now) c.args.graph.now (sym none)), refl)
+    let none = rw (c.in_default.is, c.as_bytes.ensures.value) at c.entry_named.ensures.entry in (
+      due_nowhere _ 36 _ (IsDueOfGenerate (generating c.args.request.now) c.args.graph.now) c.nowhere.ensures
+          (generate_no_entry (generating c.args.request.now) c.args.graph.now (sym none)),
+      refl,
+    )
 
 pub returns-in_err-planned : goal.returns-in_err-planned
 returns-in_err-planned g c =

@@ -49,9 +49,14 @@ said_of-requires-clause-unwound g c =
 pub said_of-requires-clause-decided : goal.said_of-requires-clause-decided
 said_of-requires-clause-decided g c =
     let unwound = c.in_ok-unwound.ensures.accepted c.args.entry.now.function.now c.requires.number in
-    let found = goal_found c.args.planned.now.plan c.args.request.now.goal (λ _ _. ⊥) c.requires.some c.requires.there in
-    (found.0, (c.args.request.now.budget, rw c.in_ok-decided.ensures.unwound
-    (c.in_ok-decided.ensures.decided c.args.entry.now.function.now found.0 (there_still _ _ _ _ _ _ _ unwound c.requires.number) found.1)))
+    let found = goal_found c.args.planned.now.plan c.args.request.now.goal (λ _ _. ⊥) c.requires.some c.requires.there in (
+      found.0,
+      (
+        c.args.request.now.budget,
+        rw c.in_ok-decided.ensures.unwound
+            (c.in_ok-decided.ensures.decided c.args.entry.now.function.now found.0 (there_still _ _ _ _ _ _ _ unwound c.requires.number) found.1),
+      ),
+    )
 
 pub returns : goal.returns
 returns g c = λ one is.
@@ -59,7 +64,15 @@ returns g c = λ one is.
     let there = there_still _ _ _ _ _ _ _ unwound c.requires.number in
     let decided = c.in_ok-decided.ensures.decided c.args.entry.now.function.now one there is in
     let said = rw c.in_ok-decided.ensures.unwound at (c.in_ok-reply.ensures one c.args.request.now.budget) in
-    let given = said decided in
-    (given.0, inr (goal_is_within _ _ _ _ _ _ _ unwound c.args.planned.now.plan one (c.in_ok-decided.ensures.size one is),
-    (c.in_ok-decided.decided, decided_at _ _ _ _ _ _ _ unwound c.args.planned.now.plan one _ _ decided,
-    said_at _ _ _ _ _ _ _ unwound c.args.planned.now.plan one (seen c.args.entry.now) c.args.request.now.goal _ _ given.1)), given.2)
+    let given = said decided in (
+      given.0,
+      inr (
+        goal_is_within _ _ _ _ _ _ _ unwound c.args.planned.now.plan one (c.in_ok-decided.ensures.size one is),
+        (
+          c.in_ok-decided.decided,
+          decided_at _ _ _ _ _ _ _ unwound c.args.planned.now.plan one _ _ decided,
+          said_at _ _ _ _ _ _ _ unwound c.args.planned.now.plan one (seen c.args.entry.now) c.args.request.now.goal _ _ given.1,
+        ),
+      ),
+      given.2,
+    )

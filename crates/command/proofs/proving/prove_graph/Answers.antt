@@ -11,9 +11,11 @@ use Rattle.command.proofs.proving.prove_graph.Goals as goal
 
 pub returns-in_default : goal.returns-in_default
 returns-in_default g c =
-    let none = rw (c.in_default.is, c.as_bytes.ensures.value) at c.entry_named.ensures.entry in
-    (due_nowhere _ 36 _ (IsDueOfProve (proving c.args.request.now) c.args.graph.now) c.nowhere.ensures
-    (prove_no_entry (proving c.args.request.now) c.args.graph.now (sym none)), refl)
+    let none = rw (c.in_default.is, c.as_bytes.ensures.value) at c.entry_named.ensures.entry in (
+      due_nowhere _ 36 _ (IsDueOfProve (proving c.args.request.now) c.args.graph.now) c.nowhere.ensures
+          (prove_no_entry (proving c.args.request.now) c.args.graph.now (sym none)),
+      refl,
+    )
 
 pub returns-in_err-planned : goal.returns-in_err-planned
 returns-in_err-planned g c =
@@ -24,10 +26,12 @@ returns-in_err-planned g c =
 
 pub returns-then-goal-gt-len : goal.returns-then-goal-gt-len
 returns-then-goal-gt-len g c =
-    let some = rw (c.in-Some.is, c.as_bytes.ensures.value) at c.entry_named.ensures.entry in
-    (due_no_goal _ _ (IsDueOfProve (proving c.args.request.now) c.args.graph.now) c.no_such_goal.ensures
-    (prove_no_goal (proving c.args.request.now) c.args.graph.now (seen c.in-Some.entry) (sym some) c.in_ok-planned.planned.predicates c.in_ok-planned.planned.plan
-    c.in_ok-planned.ensures.planned (omega arith)), refl)
+    let some = rw (c.in-Some.is, c.as_bytes.ensures.value) at c.entry_named.ensures.entry in (
+      due_no_goal _ _ (IsDueOfProve (proving c.args.request.now) c.args.graph.now) c.no_such_goal.ensures
+          (prove_no_goal (proving c.args.request.now) c.args.graph.now (seen c.in-Some.entry) (sym some) c.in_ok-planned.planned.predicates c.in_ok-planned.planned.plan
+          c.in_ok-planned.ensures.planned (omega arith)),
+      refl,
+    )
 
 pub returns : goal.returns
 returns g c =
