@@ -11,9 +11,12 @@ use Rattle.command_words.specs.Request.{Asked, request_of}
 use Rattle.command.specs.Due.{IsDue, IsDueOf}
 use Rattle.command.specs.Reads.{Reads}
 use Rattle.command.specs.Refusal.{line_of, said_by, status_of}
-use Rattle.command.specs.Said.{Said}
+use Rattle.command.specs.Replies.{said_in}
+use Rattle.command.specs.Said.{Said, status_with}
+use Rattle.command.specs.declared.reply.Reply.{Reply}
+use Rattle.command.specs.declared.reply.Reply.TheVariants.{Answer, OtherFormula}
 use Rattle.command.specs.Stages.{usage}
-use Rattle.command.specs.Run.{Ends, EndsWriting, GainsNone, Refuses, Writes, writes}
+use Rattle.command.specs.Run.{Ends, EndsWriting, GainsNone, Refuses, Writes, WritesReply, writes}
 use Rattle.command.specs.Watched.{IsShown, IsShownNone, Watched}
 use Rattle.command.proofs.GivesLaws.{shown_nothing}
 
@@ -23,7 +26,7 @@ Appends-nil None new keeps = tt
 Appends-nil (Some xs) None keeps = keeps
 Appends-nil (Some xs) (Some ys) keeps = rw append-nil keeps
 
-Keeps-refl : (known : Option (List ℕ)) → Keeps known known
+pub Keeps-refl : (known : Option (List ℕ)) → Keeps known known
 Keeps-refl None = tt
 Keeps-refl (Some xs) = refl
 
@@ -62,6 +65,14 @@ pub ends_refused : {S : Type 0} (taken : S → Option (List ℕ)) (faults : S �
 unfolding said_by
 ends_refused taken faults may_lack_memory o due sources refusal s err watch is none refuses =
     ends_rejected due (status_of refusal.code) (line_of sources refusal) [] watch (shown_nothing watch none) taken faults may_lack_memory o s err is refuses
+
+-- a reply that is due is written, or its writing is cut short
+pub ends_reply : (due : Said → Type 0) (r : Reply) (s : Status) (out err : Writes) (watch : Watched) (shown : List Shown) → due (said_in r shown) → IsShown shown watch
+    → WritesReply r s out err → Ends due s out err watch
+ends_reply due (Answer text left_open) s out err watch shown is is_shown written =
+    ends_out due (status_with left_open) text.items shown watch is_shown s out err is written.0 written.1
+ends_reply due (OtherFormula line) s out err watch shown is is_shown written =
+    ends_err due status.CertificateRejected line.items shown watch is_shown s out err is written.0 written.1
 
 -- ---- by the words
 

@@ -1,5 +1,5 @@
 -- What is due of making inputs.
-use Rattle.std.proofs.Common.{◌≡◌, ℕ, ◌+◌, ◌-◌, ◌<◌, ◌≤◌, ◌^◌, zero, suc, List, [], length, get_or, Some, slice_get, refl, sym, ap, subst, ◌∙◌, inl, inr, arith}
+use Rattle.std.proofs.Common.{◌≡◌, ℕ, ◌+◌, ◌-◌, ◌<◌, ◌≤◌, ◌^◌, zero, suc, add-one, List, [], length, get_or, Some, slice_get, refl, sym, ap, subst, ◌∙◌, inl, inr, arith}
 use Rattle.std.specs.Prelude.{Bool, Option, Result, Ok, Err}
 use Rattle.std.specs.List.{All}
 use Rattle.std.specs.Option.{option_map_or}
@@ -38,8 +38,8 @@ module _ (names : List Text) (graph : GraphParts) (entry : EntryFunction) (p : P
   generation_refused fault.Memory why unseen = tt
 
   same_said : (one other : Bool) (a b : List ℕ) (shown : List Shown) → one ≡ other → a ≡ b
-      → record { status = status_with one; out = a; err = []; shown = shown } ≡ record { status = status_with other; out = b; err = []; shown = shown }
-  same_said one other a b shown is_open is_text = rw (is_open, is_text) refl
+      → ◌≡◌ {A = Said} (record { status = status_with one; out = a; err = []; shown = shown }) (record { status = status_with other; out = b; err = []; shown = shown })
+  same_said one other a b shown opened is_text = rw (opened, is_text) refl
 
   -- the text of what was made is given, and the watch was shown this
   pub generation_made : (made : Generated) (given : Vec ℕ) (open_answer : Bool)
@@ -63,7 +63,7 @@ module _ (graph : GraphParts) (f : Function) (p : Predicates) (plan : Plan) (bou
   above zero within = let covered = is.answered.covers 0 (get_or is.made_for 0 0) (slice_get-get_or is.made_for 0 0 within) in covered.0
   above (suc k) within =
       let before = above k (omega (arith, within)) in
-      let rises = is.answered.rise k (omega (arith, within)) in
+      let rises = subst (λ (m : ℕ). get_or is.made_for k 0 < get_or is.made_for m 0) (add-one k) (is.answered.rise k (omega (arith, within))) in
       omega (arith, before, rises)
 
   most : (n : ℕ) → length is.made_for ≡ suc n → length is.made_for ≤ length made.answers

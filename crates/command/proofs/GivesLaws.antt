@@ -10,6 +10,7 @@ use Rattle.command_words.specs.Reading.{Text}
 use Rattle.suite.specs.Generated.{Shown, seen_also}
 use Rattle.command.specs.declared.reply.Reply.{Reply}
 use Rattle.command.specs.declared.reply.Reply.TheVariants as reply
+use Rattle.command.specs.declared.status.Status.TheVariants as status
 use Rattle.command.specs.Refusal.{said_by}
 use Rattle.command.specs.Replies.{Gives, Tells, said_in}
 use Rattle.command.specs.Said.{Said, answered}
@@ -60,3 +61,8 @@ module _ (due : Said → Type 0) (names : List Text) where
 pub ok_tells : {T E : Type 0} (r : Result T E) (P Q : T → Type 0) → IfOk r P → ((x : T) → P x → Q x) → IfOk r Q
 ok_tells (Ok x) P Q p tells = tells x p
 ok_tells (Err e) P Q p tells = tt
+
+-- what is said of an answer that is left open, by its text
+pub same_open : (a b : List ℕ) (shown : List Shown) → a ≡ b
+    → ◌≡◌ {A = Said} (record { status = status.DoneOpen; out = a; err = []; shown = shown }) (record { status = status.DoneOpen; out = b; err = []; shown = shown })
+same_open a b shown is = rw is refl

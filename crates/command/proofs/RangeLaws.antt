@@ -8,9 +8,10 @@ use Rattle.std.specs.Str.Parse.{digits_value}
 use Rattle.std.proofs.lemmas.Bool.{leb-true}
 use Rattle.c_meaning.specs.declared.ends.Ends.{Ends}
 use Rattle.command_words.specs.declared.command_option.CommandOption.{CommandOption}
+use Rattle.command_words.specs.declared.command_option.CommandOption.TheVariants.{Steps, Turns, Frames, Answers, Ends as ends_option, Budget, Json}
 use Rattle.command_words.specs.declared.requests.Bounds.{Bounds}
-use Rattle.command_words.specs.Reading.{Text, Use, reading}
-use Rattle.command_words.specs.Request.{Asked, asked_by, bounds_of, bounds_with, check_of, checked, generate_of, generated, goal_in, goals_of, listed, measure_of, measured, number_in, number_of, prove_of, proved, request_of, run_with, runs_of, sample_of, sampled}
+use Rattle.command_words.specs.Reading.{Text, Use, reading, values}
+use Rattle.command_words.specs.Request.{Asked, asked_by, bounds_of, bounds_with, check_of, checked, generate_of, generated, goal_in, goals_of, listed, measure_of, measured, number_in, number_of, positionals_of, prove_of, proved, request_of, run_with, runs_of, sample_of, sampled}
 use Rattle.command.specs.Ranges.{AreBounds, IsInRange}
 
 -- ---- numbers
@@ -95,7 +96,7 @@ module _ (a : Asked) where
   -- ---- by the name of the command
 
   bounds_ok : (uses : List Use) → IfSome (bounds_of uses) AreBounds
-  bounds_ok uses = bounds_within _ _ _ (option_within 1 64 8 _ (omega arith, omega arith)) (option_within 0 256 16 _ (omega arith, omega arith))
+  bounds_ok uses = bounds_within _ _ _ (option_within 1 64 8 (values (codes "frames") uses) (omega arith, omega arith)) (option_within 0 256 16 (values (codes "answers") uses) (omega arith, omega arith))
 
   read_uses : (f : List Use → Option Asked) → ((uses : List Use) → f uses ≡ Some a → IsInRange a) → (uses : Option (List Use)) → option_and_then f uses ≡ Some a → IsInRange a
   read_uses f each None is = none_asked is
@@ -113,10 +114,10 @@ module _ (a : Asked) where
   pub in_range : (words : List Text) → request_of words ≡ Some a → IsInRange a
   in_range [] is = none_asked is
   in_range (name ∷ words) is =
-      choose (bytes_eq name (codes "measure")) _ _ (asked_within measure_of _ words (λ uses. measured_within _ _ _ _))
-      (choose (bytes_eq name (codes "generate")) _ _ (asked_within generate_of _ words (λ uses. generated_within _ _ _ _ _ (bounds_ok uses)))
-      (choose (bytes_eq name (codes "goals")) _ _ (asked_within goals_of _ words (λ uses. listed_within _))
-      (choose (bytes_eq name (codes "runs")) _ _ (asked_within runs_of _ words (λ uses. run_within _ _))
-      (choose (bytes_eq name (codes "prove")) _ _ (asked_within prove_of _ words (λ uses. proved_within _ _ _ _ (bounds_ok uses)))
-      (choose (bytes_eq name (codes "check")) _ _ (asked_within check_of _ words (λ uses. checked_within _ _ _ (bounds_ok uses)))
-      (choose (bytes_eq name (codes "sample")) _ _ (asked_within sample_of _ words (λ uses. sampled_within _)) none_asked)))))) is
+      choose (bytes_eq name (codes "measure")) _ _ (asked_within measure_of (Steps ∷ ends_option ∷ Json ∷ []) words (λ uses. measured_within _ _ _ _))
+      (choose (bytes_eq name (codes "generate")) _ _ (asked_within generate_of (Turns ∷ Frames ∷ Answers ∷ ends_option ∷ Budget ∷ Json ∷ []) words (λ uses. generated_within _ _ _ _ _ (bounds_ok uses)))
+      (choose (bytes_eq name (codes "goals")) _ _ (asked_within goals_of [] words (λ uses. listed_within (positionals_of uses)))
+      (choose (bytes_eq name (codes "runs")) _ _ (asked_within runs_of (Steps ∷ []) words (λ uses. run_within _ _))
+      (choose (bytes_eq name (codes "prove")) _ _ (asked_within prove_of (Turns ∷ Frames ∷ Answers ∷ ends_option ∷ Budget ∷ []) words (λ uses. proved_within _ _ _ _ (bounds_ok uses)))
+      (choose (bytes_eq name (codes "check")) _ _ (asked_within check_of (Turns ∷ Frames ∷ Answers ∷ ends_option ∷ []) words (λ uses. checked_within _ _ _ (bounds_ok uses)))
+      (choose (bytes_eq name (codes "sample")) _ _ (asked_within sample_of [] words (λ uses. sampled_within (positionals_of uses))) none_asked)))))) is

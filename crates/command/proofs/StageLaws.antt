@@ -24,6 +24,10 @@ module _ (graph : GraphParts) (name : Text) (Then : EntryFunction → Said → T
   pub entry_some : (entry : EntryFunction) → entry_of graph name ≡ Some entry → (said : Said) → Then entry said → OfEntry graph name Then said
   entry_some entry some said due = rw some due
 
+pub said_line : (names : List Text) (line : ℕ) → said_by names (record { code = 92; place = place.Line line }) ≡ said_by [] (record { code = 92; place = place.Line line })
+unfolding said_by
+said_line names line = refl
+
 said_no_goal : (names : List Text) → said_by names (record { code = 74; place = place.QueryWhole }) ≡ no_such_goal
 unfolding said_by
 said_no_goal names = refl

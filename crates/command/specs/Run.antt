@@ -7,7 +7,9 @@ use Rattle.fq_io.specs.Counts.{Rose}
 use Rattle.command.specs.declared.status.Status.{Status}
 use Rattle.command.specs.declared.status.Status.TheVariants as status
 use Rattle.command.specs.Refusal.{line_of, status_of}
-use Rattle.command.specs.Said.{Said}
+use Rattle.command.specs.Said.{Said, status_with}
+use Rattle.command.specs.declared.reply.Reply.{Reply}
+use Rattle.command.specs.declared.reply.Reply.TheVariants.{Answer, OtherFormula}
 use Rattle.command.specs.Watched.{IsShown, Watched}
 
 -- ---- what is written
@@ -58,6 +60,11 @@ abbrev pub EndsWriting : Status → List ℕ → Status → Writes → Type 0
 EndsWriting wanted bytes status.WriteFault w = GainsPart w bytes × HasFailed w
 EndsWriting wanted bytes status.Memory w = GainsNone w ⊎ (GainsPart w bytes × MayLackMemory w)
 EndsWriting wanted bytes s w = (s ≡ wanted) × Gains w bytes
+
+-- the same of a reply, and nothing was written to the other sink
+abbrev pub WritesReply : Reply → Status → Writes → Writes → Type 0
+WritesReply (Answer text left_open) s out err = EndsWriting (status_with left_open) text.items s out × GainsNone err
+WritesReply (OtherFormula line) s out err = EndsWriting status.CertificateRejected line.items s err × GainsNone out
 
 -- the same of a refusal's line
 abbrev pub Refuses : List (List ℕ) → Refusal → Status → Writes → Type 0

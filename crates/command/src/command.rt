@@ -7,7 +7,7 @@ ghost use Rattle.command.specs.Certified.{Certifies};
 ghost use Rattle.command.specs.Due.{IsDue, IsDueOf};
 ghost use Rattle.command.specs.Ranges.{IsInRange};
 ghost use Rattle.command.specs.Reads.{reads};
-ghost use Rattle.command.specs.Run.{Ends, EndsWriting, Refuses, writes};
+ghost use Rattle.command.specs.Run.{Ends, EndsWriting, Refuses, WritesReply, writes};
 ghost use Rattle.command.specs.Said.{status_with};
 ghost use Rattle.command.specs.Watched.{watched};
 
@@ -79,8 +79,7 @@ fn serve<F: Files, O: Sink, E: Sink, W: Watch>(
         (watched W.seen watch.old watch.new) }
 {
     match answer(alloc, request, files, watch) {
-        Ok(Reply::Answer { text, left_open }) => conclude(out, &text, left_open),
-        Ok(Reply::OtherFormula { line }) => reject(err, &line),
+        Ok(reply) => write_reply(reply, out, err),
         Err(Fault::Refused(refusal)) => refuse(alloc, sources_of(request), &refusal, err),
         Err(Fault::Memory) => Status::Memory,
     }
@@ -98,6 +97,16 @@ fn sources_of<'a>(request: &'a Request<'a>) -> &'a [&'a str]
         Request::Prove(request) => &request.sources,
         Request::Check(request) => &request.sources,
         Request::Sample(_) => &SAMPLE_SOURCES,
+    }
+}
+
+// Writes what there is of an answer.
+fn write_reply<O: Sink, E: Sink>(reply: Reply, out: &mut O, err: &mut E) -> Status
+    ensures { WritesReply reply result (writes O.taken O.faults O.may_lack_memory out.old out.new) (writes E.taken E.faults E.may_lack_memory err.old err.new) }
+{
+    match reply {
+        Reply::Answer { text, left_open } => conclude(out, &text, left_open),
+        Reply::OtherFormula { line } => reject(err, &line),
     }
 }
 

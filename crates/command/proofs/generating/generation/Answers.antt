@@ -11,7 +11,7 @@ use Rattle.command.proofs.generating.generation.Goals as goal
 pub returns-in_err-made : goal.returns-in_err-made
 returns-in_err-made g c =
     let m = generating c.args.request.now in
-    let why = rw c.within.ensures at (c.in_err-made.ensures.refused c.args.entry.now.function.now c.requires.number) in
+    let why = rw c.within-bounds.ensures at (c.in_err-made.ensures.refused c.args.entry.now.function.now c.requires.number) in
     let p = err_from_is_err_and c.from_residual.result c.from_residual.ensures.1 in
     rw (p.1, p.2) (generation_refused m.sources c.args.graph.now (seen c.args.entry.now) c.args.planned.now.predicates c.args.planned.now.plan (within m.bounds) m.ends m.budget
     (generated_report c.args.graph.now c.args.entry.now.number c.args.planned.now.plan (within m.bounds) m.ends m.budget m.json) _ c.in_err-made.field-0.0 why c.in_err-made.ensures.unseen)
@@ -41,7 +41,7 @@ report-requires-clause-few g c =
 pub returns : goal.returns
 returns g c =
     let m = generating c.args.request.now in
-    let made = rw c.within.ensures at (c.in_ok-made.ensures.generated c.args.entry.now.function.now c.requires.number) in
-    let text = rw c.within.ensures at c.in_ok-text.ensures in
+    let made = rw c.within-bounds.ensures at (c.in_ok-made.ensures.generated c.args.entry.now.function.now c.requires.number) in
+    let text = rw c.within-bounds.ensures at c.in_ok-text.ensures in
     generation_made m.sources c.args.graph.now (seen c.args.entry.now) c.args.planned.now.predicates c.args.planned.now.plan (within m.bounds) m.ends m.budget
-    (generated_report c.args.graph.now c.args.entry.now.number c.args.planned.now.plan (within m.bounds) m.ends m.budget m.json) _ c.in_ok-made.made _ _ made text c.is_open.ensures
+    (generated_report c.args.graph.now c.args.entry.now.number c.args.planned.now.plan (within m.bounds) m.ends m.budget m.json) _ c.in_ok-made.made c.in_ok-text.text c.is_open.result made text (rw c.deref.ensures at c.is_open.ensures)

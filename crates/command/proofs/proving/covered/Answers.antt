@@ -12,6 +12,7 @@ proved_text-requires c = has_words _ _ _ _ _ _ _ _ c.requires.made.1 _ c.require
 
 pub returns : goal.returns
 returns c =
-    ok_tells c.proved_text.result _ _ c.proved_text.ensures (λ text is. λ one made.
-    covered_said _ _ _ _ _ _ _ _ made _ _ _ _ is
+    ok_tells c.proved_text.result _ _ (rw c.deref.ensures at c.proved_text.ensures) (λ text is. λ one made.
+    covered_said c.args.graph.now c.args.entry.now.function.now c.args.planned.now.predicates c.args.planned.now.plan c.args.unwound.now.bounds c.args.unwound.now.ends one c.args.input.now made
+    c.args.entry.now.number c.args.number _ text.items is
     (λ r. c.in_ok-run.ensures c.args.entry.now.function.now r (ap (slice_get c.args.graph.now.functions) c.requires.entry ∙ c.requires.number)))

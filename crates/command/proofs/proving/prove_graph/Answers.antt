@@ -24,8 +24,8 @@ returns-in_err-planned g c =
     rw (p.1, p.2) (gives_refused (IsDueOfProve (proving c.args.request.now) c.args.graph.now) (proving c.args.request.now).sources _ c.in_err-planned.field-0.0
     (prove_no_query (proving c.args.request.now) c.args.graph.now (seen c.in-Some.entry) (sym some) c.in_err-planned.field-0.0 c.in_err-planned.ensures.refused) refl)
 
-pub returns-then-goal-gt-len : goal.returns-then-goal-gt-len
-returns-then-goal-gt-len g c =
+pub returns-then-request-len : goal.returns-then-request-len
+returns-then-request-len g c =
     let some = rw (c.in-Some.is, c.as_bytes.ensures.value) at c.entry_named.ensures.entry in (
       due_no_goal _ _ (IsDueOfProve (proving c.args.request.now) c.args.graph.now) c.no_such_goal.ensures
           (prove_no_goal (proving c.args.request.now) c.args.graph.now (seen c.in-Some.entry) (sym some) c.in_ok-planned.planned.predicates c.in_ok-planned.planned.plan

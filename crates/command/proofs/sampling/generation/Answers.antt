@@ -20,4 +20,4 @@ pub returns : goal.returns
 returns g c =
     let made = c.in_ok-made.ensures.generated c.args.entry.now.function.now c.requires.number in
     generation_made (sample_file ∷ []) c.args.graph.now (seen c.args.entry.now) c.args.planned.now.predicates c.args.planned.now.plan default_bounds counted.Returned default_budget
-    (λ (one : Generated). sample_text c.args.number c.args.graph.now c.args.planned.now.plan one.answers) _ c.in_ok-made.made _ _ made c.in_ok-text.ensures c.is_open.ensures
+    (λ (one : Generated). sample_text c.args.number c.args.graph.now c.args.planned.now.plan one.answers) _ c.in_ok-made.made c.in_ok-text.text c.is_open.result made (rw c.deref.ensures at c.in_ok-text.ensures) (rw c.deref-2.ensures at c.is_open.ensures)
