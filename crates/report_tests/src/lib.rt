@@ -2,4 +2,6 @@
 #![tactic(auto)]
 
 #[cfg(test)]
+mod generation;
+#[cfg(test)]
 mod tests;

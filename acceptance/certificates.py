@@ -1,0 +1,122 @@
+"""Certificates beside a checker of their own, which is written here from docs/CERTIFICATES.md.
+
+Each goal below is refuted within its bounds. What `prove` writes for it must be a certificate that the checker here accepts,
+and that `check` accepts for its goal. With that of the goal before it `check` must answer 91, and of each changed certificate,
+one of some bytes being another one, it must accept none that the checker here rejects.
+"""
+
+import os
+import re
+import subprocess
+import tempfile
+
+import programs
+
+SECONDS = 60
+
+NEVER = "int f(int x) {\n  if (x > 10 && x < 5) {\n    return 1;\n  }\n  return 0;\n}\n"
+COUNT = "int f(int n) {\n  int i = 0;\n  while (i < n) {\n    i = i + 1;\n  }\n  if (i == 3) {\n    return 1;\n  }\n  return 0;\n}\n"
+TWICE = "#include <stdint.h>\nint f(uint8_t x) {\n  if (x + x == 3) {\n    return 1;\n  }\n  return 0;\n}\n"
+
+# a source, a query, the number of its goal, and bounds
+GOALS = [
+    (NEVER, "cover EDGES(@CONDITIONEDGE)", "3", []),
+    (COUNT, "cover @LINE(7)", "1", ["--turns", "2"]),
+    (NEVER, "cover @LINE(3)", "1", []),
+    (TWICE, "cover @LINE(4)", "1", []),
+    (COUNT, "cover {i == 2}.\"ID*\".{i == 1}", "1", ["--turns", "2"]),
+]
+
+NUMBER = r"(?:0|[1-9][0-9]*)"
+
+
+def parsed(text):
+    """The variables, the clauses and the derivation's lines of a certificate, or None where it is none."""
+    lines = text.split("\n")
+    head = re.fullmatch(rf"p cnf ({NUMBER}) ({NUMBER})", lines[1]) if len(lines) > 1 else None
+    if lines[0] != "fshell certificate 1" or not head or lines[-1] != "":
+        return None
+    variables, count = int(head.group(1)), int(head.group(2))
+    middle = re.fullmatch(rf"derivation ({NUMBER})", lines[2 + count]) if len(lines) > 2 + count else None
+    if not middle or len(lines) != 2 + count + 1 + int(middle.group(1)) + 1:
+        return None
+    parts = [[int(word) for word in line.split(" ")] if re.fullmatch(rf"(?:-?{NUMBER} )*0", line) else None
+             for line in lines[2:2 + count] + lines[3 + count:-1]]
+    if None in parts or any(0 in part[:-1] for part in parts[:count]) or any(part.count(0) != 2 for part in parts[count:]):
+        return None
+    steps = [(part[:part.index(0)], part[part.index(0) + 1:-1]) for part in parts[count:]]
+    clauses = [part[:-1] for part in parts[:count]]
+    if any(abs(literal) > variables for clause in clauses + [clause for clause, _ in steps] for literal in clause):
+        return None
+    return clauses, steps
+
+
+def is_refutation(clauses, steps):
+    """Whether each line is what its resolutions make of earlier clauses, and the last one is empty."""
+    known = [frozenset(clause) for clause in clauses]
+    for clause, step in steps:
+        numbers, pivots = [step[0], *step[1::2]], step[2::2]
+        if len(numbers) != len(pivots) + 1 or not all(0 < number <= len(known) for number in numbers):
+            return False
+        made = known[numbers[0] - 1]
+        for number, pivot in zip(numbers[1:], pivots):
+            other = known[number - 1]
+            if pivot not in made or -pivot not in other:
+                return False
+            made = (made - {pivot}) | (other - {-pivot})
+        if made != frozenset(clause):
+            return False
+        known.append(made)
+    return bool(steps) and not known[-1]
+
+
+def is_right(text):
+    """Whether a text is a certificate whose formula has no model."""
+    found = parsed(text)
+    return found is not None and is_refutation(*found)
+
+
+def run(program, folder, words):
+    done = subprocess.run([program, *words], cwd=folder, stdin=subprocess.DEVNULL, capture_output=True, text=True, timeout=SECONDS)
+    return done.returncode, done.stdout, done.stderr
+
+
+def changes(text):
+    """The text with one digit or sign being another one, at some sixty places."""
+    places = [place for place, letter in enumerate(text) if letter.isdigit() or letter == "-"]
+    for place in places[::max(1, len(places) // 60)]:
+        yield text[:place] + ("7" if text[place] != "7" else "2") + text[place + 1:]
+
+
+def failures():
+    """How many certificates were checked, and a line for each answer that is wrong."""
+    program, count, wrong, texts = programs.program(), 0, [], []
+    with tempfile.TemporaryDirectory() as folder:
+        def write(name, text):
+            with open(os.path.join(folder, name), "w", encoding="ascii") as file:
+                file.write(text)
+
+        def checked(source, query, goal, bounds, text):
+            write("s.c", source)
+            write("goal.cert", text)
+            return run(program, folder, ["check", *bounds, "f", query, goal, "goal.cert", "s.c"])
+
+        for source, query, goal, bounds in GOALS:
+            write("s.c", source)
+            status, text, _ = run(program, folder, ["prove", *bounds, "f", query, goal, "s.c"])
+            texts.append(text)
+            count += 2
+            if status != 0 or not is_right(text):
+                wrong.append(f"{query}: what prove wrote isn't right")
+            if checked(source, query, goal, bounds, text)[0] != 0:
+                wrong.append(f"{query}: check rejects what prove wrote")
+            for changed in changes(text):
+                count += 1
+                if checked(source, query, goal, bounds, changed)[0] == 0 and not is_right(changed):
+                    wrong.append(f"{query}: check accepts a certificate that isn't right")
+        for place, (source, query, goal, bounds) in enumerate(GOALS):
+            count += 1
+            status, out, err = checked(source, query, goal, bounds, texts[place - 1])
+            if status != 10 or out or not err.startswith("error 91 OtherFormula "):
+                wrong.append(f"{query}: {status} {out!r} {err!r} for the certificate of the goal before")
+    return count, wrong
