@@ -1,9 +1,8 @@
 -- What is due of the commands that search inputs, where the entry, the query and the goal are known.
-use Rattle.std.proofs.Common.{◌≡◌, ℕ, ◌-◌, ◌<◌, ◌≤◌, List, [], ◌∷◌, codes, length, slice_get, Some, None, refl, inl, inr}
-use Rattle.std.specs.Prelude.{Option, Result}
+use Rattle.std.proofs.Common.{◌≡◌, ℕ, ◌-◌, ◌<◌, ◌≤◌, [], ◌∷◌, codes, length, slice_get, Some, None, refl, inl, inr}
+use Rattle.std.specs.Prelude.{Result}
 use Rattle.fq_core.specs.Refusals.{IfRefused}
 use Rattle.fq_core.specs.declared.refusal.Fault.{Fault}
-use Rattle.fq_core.specs.declared.refusal.Refusal.{Refusal}
 use Rattle.cfa.specs.declared.parts.GraphParts.{GraphParts}
 use Rattle.cfa.specs.declared.state.Predicates.{Predicates}
 use Rattle.c_meaning.specs.declared.ends.Ends.TheVariants as counted

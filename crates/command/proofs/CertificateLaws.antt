@@ -1,5 +1,5 @@
 -- What is read of a certificate's file.
-use Rattle.std.proofs.Common.{◌≡◌, ◌≤◌, ℕ, List, length}
+use Rattle.std.proofs.Common.{◌≤◌, ℕ, List, length}
 use Rattle.std.specs.Prelude.{IfErr, IfOk, Result, Ok, Err, MatchResult}
 use Rattle.certificate.specs.Certificates.{IsCertificate}
 use Rattle.certificate.specs.Refusals.{IsRefusal}

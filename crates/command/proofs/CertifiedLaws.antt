@@ -1,5 +1,5 @@
 -- An accepted certificate refutes its goal.
-use Rattle.std.proofs.Common.{◌≡◌, ℕ, ◌-◌, ◌⊎◌, List, [], ◌∷◌, Some, None, slice_get, refl, sym, ap, subst, ◌∙◌, inl, inr}
+use Rattle.std.proofs.Common.{◌≡◌, ℕ, ◌-◌, List, [], ◌∷◌, Some, None, slice_get, refl, sym, ap, subst, ◌∙◌, inl, inr}
 use Rattle.std.specs.Prelude.{Bool, true, false, ◌==◌, ◌&&◌, Option, MatchOption, find, option_map, unwrap_or}
 use Rattle.std.specs.List.{list_all}
 use Rattle.fq_core.specs.declared.refusal.Place.TheVariants as place
@@ -17,7 +17,7 @@ use Rattle.goals.specs.GoalForm.{GoalForm}
 use Rattle.goals.specs.declared.plan.Plan.{Plan}
 use Rattle.suite.specs.Made.{NoneHits}
 use Rattle.command_words.specs.Reading.{Text}
-use Rattle.command_words.specs.Request.{Asked, Checking, check, request_of}
+use Rattle.command_words.specs.Request.{Asked, Checking}
 use Rattle.command.specs.declared.status.Status.{Status}
 use Rattle.command.specs.declared.status.Status.TheVariants as status
 use Rattle.command.specs.Certified.{Certifies, IsRefutedGoal}
@@ -31,7 +31,7 @@ use Rattle.command.specs.Run.{Ends, Writes}
 use Rattle.command.specs.Runs.{EntryFunction, entry_of}
 use Rattle.command.specs.Said.{Said}
 use Rattle.command.specs.Sources.{HaveAutomaton}
-use Rattle.command.specs.Stages.{OfCertificate, OfEntry, OfGoal, OfQuery, OfSources, Says, usage}
+use Rattle.command.specs.Stages.{OfCertificate, OfGoal, OfQuery, OfSources, Says, usage}
 use Rattle.command.specs.Watched.{Watched}
 use Rattle.command.proofs.GoalLaws.{none_hits}
 

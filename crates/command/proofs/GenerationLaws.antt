@@ -1,6 +1,6 @@
 -- What is due of making inputs.
-use Rattle.std.proofs.Common.{◌≡◌, ℕ, ◌+◌, ◌-◌, ◌<◌, ◌≤◌, ◌^◌, zero, suc, add-one, List, [], length, get_or, Some, slice_get, refl, sym, ap, subst, ◌∙◌, inl, inr, arith}
-use Rattle.std.specs.Prelude.{Bool, Option, Result, Ok, Err}
+use Rattle.std.proofs.Common.{◌≡◌, ℕ, ◌-◌, ◌<◌, ◌≤◌, zero, suc, add-one, List, [], length, get_or, Some, slice_get, refl, sym, ap, subst, ◌∙◌, inl, inr, arith}
+use Rattle.std.specs.Prelude.{Bool, Option, Ok, Err}
 use Rattle.std.specs.List.{All}
 use Rattle.std.specs.Option.{option_map_or}
 use Rattle.std.specs.Global.{Vec}
@@ -10,7 +10,6 @@ use Rattle.cfa.specs.declared.parts.Function.{Function}
 use Rattle.cfa.specs.declared.parts.GraphParts.{GraphParts}
 use Rattle.cfa.specs.declared.state.Predicates.{Predicates}
 use Rattle.c_meaning.specs.declared.ends.Ends.{Ends}
-use Rattle.c_meaning.specs.declared.input.Input.{Input}
 use Rattle.c_values.specs.Kind.{IsValue}
 use Rattle.fq_core.specs.Refusals.{IfRefused}
 use Rattle.fq_core.specs.declared.refusal.Fault.{Fault}
@@ -19,10 +18,9 @@ use Rattle.goals.specs.declared.plan.Plan.{Plan}
 use Rattle.input_text.specs.Laws.{HasWords}
 use Rattle.reached.specs.declared.bounds.Bounds.{Bounds}
 use Rattle.report.specs.Made.{parameter_kinds}
-use Rattle.suite.specs.Generated.{AreAnswered, IsGenerateFault, IsGenerated, Shown}
+use Rattle.suite.specs.Generated.{IsGenerateFault, IsGenerated, Shown}
 use Rattle.suite.specs.declared.generated.Generated.{Generated}
 use Rattle.command_words.specs.Reading.{Text}
-use Rattle.command.specs.declared.reply.Reply.{Reply}
 use Rattle.command.specs.declared.reply.Reply.TheVariants as reply
 use Rattle.command.specs.Generating.{IsGeneration, is_open}
 use Rattle.command.specs.Replies.{Gives}

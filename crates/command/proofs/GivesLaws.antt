@@ -1,11 +1,10 @@
 -- What a call answers of what is due.
-use Rattle.std.proofs.Common.{◌≡◌, ℕ, List, [], ◌∷◌, ◌++◌, Some, None, refl, sym, subst, ◌∙◌, append-nil}
-use Rattle.std.specs.Prelude.{Bool, false, Option, IfErr, IfOk, Result, Ok, Err, MatchResult}
+use Rattle.std.proofs.Common.{◌≡◌, ℕ, List, [], Some, None, refl, sym, subst, ◌∙◌, append-nil}
+use Rattle.std.specs.Prelude.{false, Option, IfErr, IfOk, Result, Ok, Err, MatchResult}
 use Rattle.std.specs.Global.{Vec}
 use Rattle.fq_core.specs.Refusals.{IfRefused}
 use Rattle.fq_core.specs.declared.refusal.Fault.{Fault}
 use Rattle.fq_core.specs.declared.refusal.Fault.TheVariants as fault
-use Rattle.fq_core.specs.declared.refusal.Refusal.{Refusal}
 use Rattle.command_words.specs.Reading.{Text}
 use Rattle.suite.specs.Generated.{Shown, seen_also}
 use Rattle.command.specs.declared.reply.Reply.{Reply}

@@ -1,21 +1,16 @@
 -- The stages of a command: what leads to what is due.
-use Rattle.std.proofs.Common.{◌≡◌, ℕ, ◌-◌, ◌<◌, ◌≤◌, ◌⊎◌, List, [], length, Some, None, slice_get, refl, sym, subst, inl, inr, arith}
-use Rattle.std.specs.Prelude.{Option, MatchOption, Result}
+use Rattle.std.proofs.Common.{◌≡◌, ℕ, ◌-◌, ◌<◌, ◌≤◌, List, [], length, Some, None, slice_get, refl, sym, subst, inl, inr, arith}
 use Rattle.std.proofs.lemmas.Option.{slice_get_cases, slice_get_past}
-use Rattle.fq_core.specs.declared.refusal.Fault.{Fault}
 use Rattle.fq_core.specs.declared.refusal.Place.TheVariants as place
 use Rattle.fq_core.specs.declared.refusal.Refusal.{Refusal}
 use Rattle.cfa.specs.declared.parts.GraphParts.{GraphParts}
 use Rattle.goals.specs.GoalForm.{GoalForm}
 use Rattle.goals.specs.declared.plan.Plan.{Plan}
 use Rattle.command_words.specs.Reading.{Text}
-use Rattle.command.specs.declared.reply.Reply.{Reply}
 use Rattle.command.specs.Refusal.{said_by}
-use Rattle.command.specs.Replies.{Gives, Tells}
 use Rattle.command.specs.Runs.{EntryFunction, entry_of}
 use Rattle.command.specs.Said.{Said}
 use Rattle.command.specs.Stages.{OfEntry, OfGoal, no_such_entry, no_such_goal}
-use Rattle.command.specs.Watched.{Watched}
 
 module _ (graph : GraphParts) (name : Text) (Then : EntryFunction → Said → Type 0) where
   pub entry_none : entry_of graph name ≡ None → OfEntry graph name Then no_such_entry

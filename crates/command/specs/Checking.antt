@@ -1,10 +1,9 @@
 -- What is due of checking a certificate.
-use Rattle.std.specs.Prelude.{◌≡◌, ◌⊎◌, ◌-◌, ℕ, ℤ, List, [], ◌∷◌, ◌++◌, codes, slice_get, Option, None, Some}
+use Rattle.std.specs.Prelude.{◌≡◌, ◌⊎◌, ◌-◌, ℕ, ℤ, List, [], ◌++◌, codes, slice_get, Option, None, Some}
 use Rattle.std.specs.Fmt.{decimal}
 use Rattle.fq_core.specs.declared.refusal.Place.TheVariants as place
 use Rattle.cfa.specs.declared.parts.GraphParts.{GraphParts}
 use Rattle.cfa.specs.declared.state.Predicates.{Predicates}
-use Rattle.c_meaning.specs.declared.ends.Ends.{Ends}
 use Rattle.certificate.specs.Differences.{IsFirstDifference}
 use Rattle.certificate.specs.declared.difference.Difference.{Difference}
 use Rattle.certificate.specs.declared.difference.Difference.TheVariants.{Variables, ClauseAt}
@@ -19,7 +18,6 @@ use Rattle.goal_formula.specs.declared.goal.GoalFormula.{GoalFormula}
 use Rattle.goals.specs.GoalForm.{GoalForm}
 use Rattle.goals.specs.declared.plan.Plan.{Plan}
 use Rattle.report.specs.Generated.{refuted_text}
-use Rattle.command_words.specs.Reading.{Text}
 use Rattle.command_words.specs.Request.{Checking}
 use Rattle.command.specs.declared.status.Status.TheVariants as status
 use Rattle.command.specs.OneGoal.{IsGoalRefused, IsGoalWithin}

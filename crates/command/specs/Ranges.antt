@@ -1,5 +1,5 @@
 -- The ranges of the numbers in the words.
-use Rattle.std.specs.Prelude.{ℕ, ◌≤◌}
+use Rattle.std.specs.Prelude.{◌≤◌}
 use Rattle.command_words.specs.declared.requests.Bounds.{Bounds as AskedBounds}
 use Rattle.command_words.specs.Request.{Asked, measure, generate, goals, runs, prove, check, sample}
 use Rattle.reached.specs.declared.bounds.Bounds.{Bounds}

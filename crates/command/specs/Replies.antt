@@ -1,5 +1,5 @@
 -- What a call answers of what is due.
-use Rattle.std.specs.Prelude.{ℕ, List, [], Result, Ok, Err}
+use Rattle.std.specs.Prelude.{List, [], Result, Ok, Err}
 use Rattle.fq_core.specs.declared.refusal.Fault.{Fault}
 use Rattle.fq_core.specs.declared.refusal.Fault.TheVariants as fault
 use Rattle.command_words.specs.Reading.{Text}

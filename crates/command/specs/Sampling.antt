@@ -1,5 +1,5 @@
 -- What is due of a program that is made from a number.
-use Rattle.std.specs.Prelude.{ℕ, List, [], ◌∷◌, codes}
+use Rattle.std.specs.Prelude.{ℕ, [], ◌∷◌, codes}
 use Rattle.c_lex.specs.declared.token.SourceText.{SourceText}
 use Rattle.c_meaning.specs.declared.ends.Ends.TheVariants as counted
 use Rattle.cfa.specs.declared.parts.GraphParts.{GraphParts}

@@ -1,6 +1,6 @@
-use Rattle.std.proofs.Common.{◌≤◌, length, ap, arith}
+use Rattle.std.proofs.Common.{length, ap, arith}
 use Rattle.std.proofs.lemmas.Result.{err_from_is_err_and}
-use Rattle.command.specs.Certificates.{at_read, most_certificate}
+use Rattle.command.specs.Certificates.{at_read}
 use Rattle.command.proofs.ReadsLaws.{refused_map}
 use Rattle.command.proofs.CertificateLaws.{certificate_given, certificate_refused}
 use Rattle.command.proofs.checking.read_file.Goals as goal

@@ -1,10 +1,9 @@
-use Rattle.std.proofs.Common.{length, ap, ◌∙◌, arith}
+use Rattle.std.proofs.Common.{arith}
 use Rattle.std.proofs.lemmas.Result.{err_from_is_err_and}
 use Rattle.command_words.specs.Request.{generating}
 use Rattle.command.specs.Entries.{seen}
 use Rattle.command.specs.Generating.{generated_report}
 use Rattle.command.specs.Ranges.{within}
-use Rattle.command.specs.Watched.{watched}
 use Rattle.command.proofs.GenerationLaws.{few_inputs, generation_made, generation_refused, inputs_have_words}
 use Rattle.command.proofs.generating.generation.Goals as goal
 
