@@ -1,8 +1,8 @@
 """What the documents show: each example is run as it stands there, and each path that they name must be there.
 
 An example is an indented block that begins with a line `FOLDER$ fshell WORD..`, FOLDER being one of examples/, or with
-`$ bin/fshell WORD..`, which is run at the top of the repository. The rest of the block is what standard output gets; the
-status is 0, and standard error gets nothing.
+`$ bin/fshell WORD..`, which is run at the top of the repository. What follows, up to the next such line, is what standard
+output gets, or it goes to a file where the line ends with `> NAME`; the status is 0, and standard error gets nothing.
 
 A path is a text between backquotes that begins as one from the top of the repository does, or the target of a link. In
 docs/PROVED.md those that begin with specs/ or src/ are of the crate whose section it is. The sections there and the table
@@ -14,6 +14,7 @@ import os
 import re
 import shlex
 import subprocess
+import tempfile
 
 import programs
 
@@ -30,23 +31,39 @@ def texts():
                 yield os.path.relpath(path, programs.ROOT), file.read()
 
 
+def begun(line):
+    """The folder and the words of a line that begins an example, if it does."""
+    found = re.fullmatch(r"(examples/\S+)\$ fshell (.*)", line) or re.fullmatch(r"()\$ bin/fshell (.*)", line)
+    return found and (found.group(1), shlex.split(found.group(2)))
+
+
 def examples(text):
-    """The folder, the words and the expected text of each example of a document."""
+    """Each block of a document that begins an example: its runs, each with its folder, its words and the expected text."""
     for block in re.findall(r"(?:^ {4}.*\n)+", text, re.MULTILINE):
         lines = [line[4:] for line in block.splitlines()]
-        begun = re.fullmatch(r"(examples/\S+)\$ fshell (.*)", lines[0]) or re.fullmatch(r"()\$ bin/fshell (.*)", lines[0])
-        if begun:
-            yield begun.group(1), shlex.split(begun.group(2)), "".join(line + "\n" for line in lines[1:])
+        runs = []
+        for line in lines if begun(lines[0]) else []:
+            if begun(line):
+                runs.append((*begun(line), []))
+            else:
+                runs[-1][2].append(line + "\n")
+        if runs:
+            yield [(folder, words, "".join(expected)) for folder, words, expected in runs]
 
 
-def outcome(folder, words):
-    """What the program answers to an example's words."""
+def outcome(folder, words, kept):
+    """What the program answers to an example's words, where the files of earlier runs are kept in a folder."""
+    target = os.path.join(kept, words[-1]) if words[-2:-1] == [">"] else None
+    words = [os.path.join(kept, word) if word in os.listdir(kept) else word for word in (words[:-2] if target else words)]
     try:
         ended = subprocess.run([programs.LAUNCHER] + words, cwd=os.path.join(programs.ROOT, folder), stdin=subprocess.DEVNULL,
                                capture_output=True, text=True, timeout=SECONDS)
-        return ended.returncode, ended.stdout, ended.stderr
     except subprocess.TimeoutExpired:
         return f"no end within {SECONDS} seconds"
+    if target:
+        with open(target, "w", encoding="ascii") as file:
+            file.write(ended.stdout)
+    return ended.returncode, "" if target else ended.stdout, ended.stderr
 
 
 def paths(document, text):
@@ -105,11 +122,13 @@ def failures():
     """How many examples and paths there are, and a line for each that is wrong."""
     count, wrong = 0, []
     for document, text in texts():
-        for folder, words, expected in examples(text):
-            count += 1
-            got = outcome(folder, words)
-            if got != (0, expected, ""):
-                wrong.append(f"{document}: {folder}: {' '.join(words)}: {got!r}"[:600])
+        for runs in examples(text):
+            with tempfile.TemporaryDirectory() as kept:
+                for folder, words, expected in runs:
+                    count += 1
+                    got = outcome(folder, words, kept)
+                    if got != (0, expected, ""):
+                        wrong.append(f"{document}: {folder}: {' '.join(words)}: {got!r}"[:600])
         named = set(paths(document, text)) | (set(paths_of_crates(text)) if document == "docs/PROVED.md" else set())
         for path in sorted(named):
             count += 1
