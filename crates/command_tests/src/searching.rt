@@ -51,55 +51,55 @@ fn made_inputs(rt: HostRuntime) -> Result<(), Fail> {
     let alloc = rt.alloc();
     for (words, first, goal, covered) in [
         (
-            ["generate", "--turns", "3", "f", "cover @LINE(7)", "e.c"],
+            ["generate", "--turns", "3", "f", "cover @LINE(7)", "e.c"].as_slice(),
             "goals 1 turns 3 frames 8 answers 16 budget 5000000\ninput 1 args 3\n",
             "goal 1 covered 1 e8@e.c:7\n",
             true,
         ),
         (
-            ["generate", "--turns", "2", "f", "cover @LINE(7)", "e.c"],
+            &["generate", "--turns", "2", "f", "cover @LINE(7)", "e.c"],
             "goals 1 turns 2 frames 8 answers 16 budget 5000000\n",
             "goal 1 refuted e8@e.c:7\n",
             false,
         ),
         (
-            ["generate", "--turns", "3", "f", "cover @LINE(9)", "g.c"],
+            &["generate", "--turns", "3", "f", "cover @LINE(9)", "g.c"],
             "goals 1 turns 3 frames 8 answers 16 budget 5000000\ninput 1 args 3\n",
             "goal 1 covered 1 e16@g.c:9\n",
             true,
         ),
         (
-            ["generate", "--turns", "2", "f", "cover @LINE(9)", "g.c"],
+            &["generate", "--turns", "2", "f", "cover @LINE(9)", "g.c"],
             "goals 1 turns 2 frames 8 answers 16 budget 5000000\n",
             "goal 1 refuted e16@g.c:9\n",
             false,
         ),
         (
-            ["generate", "--turns", "4", "f", "cover @LINE(4)", "u.c"],
+            &["generate", "--turns", "4", "f", "cover @LINE(4)", "u.c"],
             "goals 1 turns 4 frames 8 answers 16 budget 5000000\ninput 1 args 255\n",
             "goal 1 covered 1 e2@u.c:4\n",
             true,
         ),
         (
-            ["generate", "--frames", "4", "g", "cover @LINE(9)", "r.c"],
+            &["generate", "--frames", "4", "g", "cover @LINE(9)", "r.c"],
             "goals 1 turns 4 frames 4 answers 16 budget 5000000\ninput 1 args 2\n",
             "goal 1 covered 1 e10@r.c:9\n",
             true,
         ),
         (
-            ["generate", "--frames", "3", "g", "cover @LINE(9)", "r.c"],
+            &["generate", "--frames", "3", "g", "cover @LINE(9)", "r.c"],
             "goals 1 turns 4 frames 3 answers 16 budget 5000000\n",
             "goal 1 refuted e10@r.c:9\n",
             false,
         ),
         (
-            ["generate", "--answers", "2", "f", "cover @LINE(9)", "i.c"],
+            &["generate", "--answers", "2", "f", "cover @LINE(9)", "i.c"],
             "goals 1 turns 4 frames 8 answers 2 budget 5000000\ninput 1 args 1 answers 5 9\n",
             "goal 1 covered 1 e11@i.c:9\n",
             true,
         ),
         (
-            ["generate", "--answers", "1", "f", "cover @LINE(9)", "i.c"],
+            &["generate", "--answers", "1", "f", "cover @LINE(9)", "i.c"],
             "goals 1 turns 4 frames 8 answers 1 budget 5000000\n",
             "goal 1 refuted e11@i.c:9\n",
             false,
@@ -108,7 +108,7 @@ fn made_inputs(rt: HostRuntime) -> Result<(), Fail> {
         let last = if covered { ONE_COVERED } else { ONE_REFUTED };
         let out = format!(in alloc; "{first}{goal}{last}")?;
         let want = (Status::Done, out.as_str(), "");
-        compare(&rt, alloc, &words, &SOURCES, want)?;
+        compare(&rt, alloc, words, &SOURCES, want)?;
     }
     Ok(())
 }
