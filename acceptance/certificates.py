@@ -1,8 +1,9 @@
 """Certificates beside a checker of their own, which is written here from docs/CERTIFICATES.md.
 
 Each goal below is refuted within its bounds. What `prove` writes for it must be a certificate that the checker here accepts,
-and that `check` accepts for its goal. With that of the goal before it `check` must answer 91, and of each changed certificate,
-one of some bytes being another one, it must accept none that the checker here rejects.
+and that `check` accepts for its goal; each line of its DRAT form, as bin/drat writes it, must follow by unit propagation. With
+the certificate of the goal before it `check` must answer 91, and of each changed certificate, one of some bytes being another
+one, it must accept none that the checker here rejects.
 """
 
 import os
@@ -76,6 +77,43 @@ def is_right(text):
     return found is not None and is_refutation(*found)
 
 
+def follows(clauses, clause):
+    """Whether unit propagation over clauses refutes the negation of a clause (reverse unit propagation)."""
+    true = {-literal for literal in clause}
+    while True:
+        found = set()
+        for known in clauses:
+            if not any(literal in true for literal in known):
+                left = [literal for literal in known if -literal not in true]
+                if not left:
+                    return True
+                if len(left) == 1:
+                    found.add(left[0])
+        if any(-literal in found for literal in found):
+            return True
+        if not found:
+            return False
+        true |= found
+
+
+def is_drat(folder, text):
+    """Whether bin/drat writes the certificate's formula, and lines that follow one by one and end with the empty clause."""
+    path = os.path.join(folder, "drat.cert")
+    with open(path, "w", encoding="ascii") as file:
+        file.write(text)
+    subprocess.run([os.path.join(programs.ROOT, "bin", "drat"), path, os.path.join(folder, "written")], check=True)
+    with open(os.path.join(folder, "written.cnf"), encoding="ascii") as file:
+        dimacs = file.read()
+    with open(os.path.join(folder, "written.drat"), encoding="ascii") as file:
+        lines = [[int(word) for word in line.split()[:-1]] for line in file]
+    known = [[int(word) for word in line.split()[:-1]] for line in dimacs.splitlines()[1:]]
+    for line in lines:
+        if not follows(known, line):
+            return False
+        known.append(line)
+    return bool(lines) and not lines[-1] and dimacs in text
+
+
 def run(program, folder, words):
     done = subprocess.run([program, *words], cwd=folder, stdin=subprocess.DEVNULL, capture_output=True, text=True, timeout=SECONDS)
     return done.returncode, done.stdout, done.stderr
@@ -108,6 +146,8 @@ def failures():
             count += 2
             if status != 0 or not is_right(text):
                 wrong.append(f"{query}: what prove wrote isn't right")
+            if status == 0 and not is_drat(folder, text):
+                wrong.append(f"{query}: a line of the DRAT form doesn't follow")
             if checked(source, query, goal, bounds, text)[0] != 0:
                 wrong.append(f"{query}: check rejects what prove wrote")
             for changed in changes(text):
