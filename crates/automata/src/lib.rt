@@ -9,7 +9,8 @@
 //! The crate stands on `patterns`, whose `Match` it meets, on `circuit`, whose law of `Truth` it uses, and on
 //! `containers`. The definitions are in specs/: `Standing` (what a reach says of a path), `Still` (a reach after other
 //! gates) and those of the unrolled tree and of one step. The layers above use the contracts of these calls: what
-//! `accepted` answers, and that a call uses at most 8 times the square of the pattern's letters plus 2 wires.
+//! `accepted` answers, and that a call uses at most 8 times the square of the pattern's letters plus 2 wires. Start at
+//! [`build`] in construction.rt and the other three calls in reach.rt.
 #![tactic(auto)]
 
 mod construction;

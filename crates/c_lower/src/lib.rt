@@ -6,7 +6,7 @@
 //! automaton's parts, of any typed unit.
 //!
 //! A function here has the name of the row that it makes. Its contract says that the row is made behind the parts that
-//! are there, and that too many edges are told of only where the row would have them.
+//! are there, and that too many edges are told of only where the row would have them. Start at unit_graph.rt.
 #![tactic(auto)]
 
 mod around;

@@ -5,7 +5,7 @@
 //! next, exactly; a step leads from states of the graph to states of the graph. `value_in` and `answer_of` give the
 //! value of an expression in a state and that of an answer, as a step uses them. `specs/Runs.antt` says what a run is,
 //! with no limit, and which ends count, `specs/Pairs.antt` what its contexts are and when it is within bounds; `laws` has
-//! what follows from them.
+//! what follows from them. Start at starting.rt and stepping.rt.
 #![tactic(auto)]
 
 mod cells;

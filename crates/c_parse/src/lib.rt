@@ -3,7 +3,7 @@
 //!
 //! It stands on `containers`, `fq_core`, `c_values` and `c_lex`. The layers above use the contracts of `parse` and
 //! `expression`, which answer the tree that the tokens spell or refuse exactly what the grammar and its limits don't
-//! allow, and the laws of [`laws`]: tokens have one outcome.
+//! allow, and the laws of [`laws`]: tokens have one outcome. Start at calls.rt.
 #![tactic(auto)]
 
 mod calls;

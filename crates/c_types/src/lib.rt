@@ -3,7 +3,8 @@
 //!
 //! It stands on `c_parse`'s trees and on the rules and the state of `expression_types`. The layers above use the
 //! contracts of [`check`], which answers the typed tree of a unit exactly where nothing is wrong in it and otherwise
-//! refuses the first fault, and of [`type_expression`], which types one expression in a scope by the same rules.
+//! refuses the first fault, and of [`type_expression`], which types one expression in a scope by the same rules. Start
+//! at typed_unit.rt.
 #![tactic(auto)]
 
 mod around;

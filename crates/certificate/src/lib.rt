@@ -2,7 +2,7 @@
 //!
 //! It stands on `cnf`. `write_certificate` gives the one text of a formula and a derivation, and `read_certificate`
 //! answers Ok exactly where the bytes are such a text, and else names the first line that isn't allowed. `compare`
-//! tells what differs first in two formulas.
+//! tells what differs first in two formulas. Start at read.rt and write.rt.
 #![tactic(auto)]
 
 mod clause_row;

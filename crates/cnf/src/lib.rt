@@ -2,7 +2,8 @@
 //!
 //! It stands on `containers` and `fq_core`. A clause is to contracts the rising list of its literals, and a
 //! formula and a derivation are plain data. The layers above use that `resolve` answers exactly the resolvent,
-//! what `Checks` says of a derivation, and the law that no assignment satisfies a formula over which one checks.
+//! what `Checks` says of a derivation, and the law that no assignment satisfies a formula over which one checks. Start
+//! at resolution.rt.
 #![tactic(auto)]
 
 mod clause;

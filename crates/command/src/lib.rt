@@ -10,7 +10,7 @@
 //! Each stage has a crate: the words `command_words`, the sources' automaton `c_front`, the query `fql_read`, `predicates`
 //! and `goals`, the inputs `input_text`, the runs `path_runner`, their hits `measurer`, made inputs and reduced suites
 //! `suite`, over `unwinder`, `goal_formula` and `search`, certificates `certificate` and `derivation_check`, the program of
-//! `sample` `sample`, the printed texts `report`.
+//! `sample` `sample`, the printed texts `report`. Start at [`run`] in command.rt.
 #![tactic(auto)]
 
 mod checking;

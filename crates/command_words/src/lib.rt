@@ -5,7 +5,8 @@
 //! refused exactly where they are no command; want of memory is the one free answer.
 //!
 //! `clap` reads the words after the command's name: each is an option, an option's value or a positional, up to the first
-//! `--`, and after it each is a positional. That an option is used at most once, and what numbers may be, is tested here.
+//! `--`, and after it each is a positional. That an option is used at most once, and what numbers may be, is tested
+//! here. Start at command_line.rt.
 #![tactic(auto)]
 
 mod command_line;

@@ -6,7 +6,7 @@
 //!
 //! The clause so far of a chain is kept as marks on a table of literals, so that a step costs as much as reading its
 //! antecedent. Each literal stands at its key in the table, or, where variables are numbered with great gaps, where a
-//! binary search finds it among those that occur.
+//! binary search finds it among those that occur. Start at checker.rt.
 #![tactic(auto)]
 
 mod chain;

@@ -2,7 +2,7 @@
 //! rules that say what a form becomes and all that is wrong in it, the names in scope, and the state that follows them.
 //!
 //! It stands on `c_parse`'s trees, `typed_trees`, `cfa`'s variables and the arithmetic of `c_values`. `c_types` stands on
-//! [`Typer`]: each of its calls makes what its rule makes, and goes to the state behind that rule.
+//! [`Typer`]: each of its calls makes what its rule makes, and goes to the state behind that rule. Start at typer.rt.
 #![tactic(auto)]
 
 mod cells;

@@ -2,7 +2,7 @@
 //! spell (Holzer, Schallhart, Tautschnig, Veith: VMCAI 2009 and ASE 2010; the language is this project's profile).
 //!
 //! It stands on `containers`, `fq_core` and `fql_tokens`. The layers above use the contract of `read_query`, which answers
-//! the one query that the bytes ask for or refuses them for their cause, and the law `one_query`.
+//! the one query that the bytes ask for or refuses them for their cause, and the law `one_query`. Start at calls.rt.
 #![tactic(auto)]
 
 mod calls;

@@ -3,7 +3,7 @@
 //!
 //! It stands on `applied_clauses`. The layers above use the contract of [`plan_of`]: the plan of a query is exactly that of
 //! specs/ (`plan_with`), or the refusal is the first of the query's causes (`causes`). A goal is seen by contracts as its
-//! word and its pattern, and in memory goals share the patterns of their quoted letters.
+//! word and its pattern, and in memory goals share the patterns of their quoted letters. Start at planning.rt.
 #![tactic(auto)]
 
 mod answer;

@@ -4,7 +4,7 @@
 //! graphs. It has no code but the types of what is made. `specs/GraphOf.antt` has the definition, whose rows are those
 //! of docs/GRAPH.md: `Builder` for lists of nodes, edges and scopes that are made one after another, `Edges`,
 //! `Expressions`, `Statements` and `Switch` for the rows, `Table` for the forms of statements. `laws` says that such a
-//! graph is once.
+//! graph is once. Start at specs/GraphOf.antt.
 #![tactic(auto)]
 
 pub mod laws;

@@ -3,7 +3,8 @@
 //! docs/QUERY.md).
 //!
 //! It stands on `filters` (target graphs), `cfa` and `containers`. The definitions are in specs/: `Paths` says what a
-//! path is and which list of them is meant, and `Outcome` what the limits make of that list.
+//! path is and which list of them is meant, and `Outcome` what the limits make of that list. Start at [`paths`] in
+//! listing.rt.
 #![tactic(auto)]
 
 mod borders;

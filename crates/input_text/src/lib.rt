@@ -2,7 +2,7 @@
 //!
 //! It stands on `serde_json` for JSON, on `fq_core` for words and refusals and on `c_meaning` for what an input is. The
 //! layers above use that [`inputs`] answers `inputs_of` (specs/Inputs.antt), the inputs of a text or the refusal of it, and
-//! that [`input_json`] makes `input_data` (specs/Printed.antt).
+//! that [`input_json`] makes `input_data` (specs/Printed.antt). Start at reading.rt.
 #![tactic(auto)]
 
 mod json;

@@ -2,7 +2,7 @@
 //!
 //! It stands on `cnf`. The layers above use that each call reads or changes the set that a table marks (`marked`,
 //! specs/Marks.antt) as its name says. A literal's place is its key, or, where that table would be large beside what is
-//! marked, where a binary search finds it among those that occur ([`Places`]). No call takes memory.
+//! marked, where a binary search finds it among those that occur ([`Places`]). No call takes memory. Start at marks.rt.
 #![tactic(auto)]
 
 mod marks;

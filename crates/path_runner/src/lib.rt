@@ -4,6 +4,7 @@
 //! for automata, states and predicates. The layers above use the contract of `trace_run`: the path that
 //! `specs/Paths.antt` says, exactly, which records the states of its input up to a limit; want of memory is the one free
 //! answer. `laws` says that a path that isn't cut is the whole run, and `RunEnd::is_counted` whether a run counts.
+//! Start at running.rt.
 #![tactic(auto)]
 
 mod answers;

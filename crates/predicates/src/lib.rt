@@ -4,7 +4,7 @@
 //! It stands on `c_lex`, `c_parse` and `c_types` for the way from a text to its expressions, and on `fql_read` and `cfa`
 //! for queries and automata. The layers above use the contract of `resolve`, which answers the predicates of a query or
 //! refuses them for the first cause that stands, and what it answers meets `IsPredicates` of `cfa`; the law
-//! `one_outcome` says that a query has one answer.
+//! `one_outcome` says that a query has one answer. Start at resolving.rt.
 #![tactic(auto)]
 
 pub mod laws;

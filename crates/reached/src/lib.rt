@@ -7,7 +7,7 @@
 //!
 //! Frames share their callers, so a step costs one cell. A table gives each row of frames a number, from the words of the
 //! running frame and the number of its callers, and the key by which a pair is found again has that number alone. A
-//! context is compared with the bounds frame by frame.
+//! context is compared with the bounds frame by frame. Start at walks.rt.
 #![tactic(auto)]
 
 mod bounds;

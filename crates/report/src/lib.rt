@@ -5,7 +5,8 @@
 //! inputs as JSON, and on `serde_json` for JSON. The layers above use that each call answers exactly the text of specs/:
 //! [`measured_text`], [`goals_text`] and [`runs_text`] those of specs/Texts.antt, and [`measured_json`] that of
 //! specs/Json.antt; [`generated_text`], [`proved_text`], [`undecided_text`], [`refuted_text`] and [`sample_text`] those of
-//! specs/Generated.antt, and [`generated_json`] that of specs/GeneratedJson.antt.
+//! specs/Generated.antt, and [`generated_json`] that of specs/GeneratedJson.antt. Start at measured.rt and
+//! generated.rt.
 #![tactic(auto)]
 
 mod counts;

@@ -3,7 +3,7 @@
 //! The definition is in specs/: `Segments` says when some segment of a path that the anchors allow matches a pattern, by
 //! `patterns`' `Match` alone. [`has_match`] takes a path through an automaton of `automata`, over `circuit`'s `Plain`, and
 //! stops as soon as no step can change the answer. The layers above use its contract, and [`RunPath`], a path that is
-//! borrowed from where it was recorded.
+//! borrowed from where it was recorded. Start at matching.rt.
 #![tactic(auto)]
 
 mod matching;

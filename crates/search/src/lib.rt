@@ -9,7 +9,8 @@
 //! (specs/Chains.antt), without a pass over the variables. The variable that was most active in conflicts is decided next, to
 //! be as it last was; that each open one is listed is kept (specs/Orders.antt), their order is free. A learned line is kept
 //! once, and the history is made of it where the budget is spent (specs/Steps.antt). The layers above use what `search`
-//! answers (specs/Nexts.antt), and that `shown` appends what it is given, and after want of memory nothing.
+//! answers (specs/Nexts.antt), and that `shown` appends what it is given, and after want of memory nothing. Start at
+//! searching.rt.
 #![tactic(auto)]
 
 mod chain;

@@ -5,7 +5,7 @@
 //! are in that world. [`put`] puts a word into the store at a place, and answers a literal that says whether the place
 //! names a cell; in every world the cells are then what an assignment makes of them. The wires used are at most 31 per
 //! unit of the weight of the expression or the place, which specs/Weights.antt defines. It stands on `bit_words` for the operations on words, on `cfa` for expressions and their values, and on
-//! `circuit`.
+//! `circuit`. Start at translation.rt.
 #![tactic(auto)]
 
 mod conditions;

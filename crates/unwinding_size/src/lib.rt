@@ -3,7 +3,7 @@
 //!
 //! It stands on `reached` for the pairs and their steps, on `cfa` for automata and predicates, and on `sym_expr` for what
 //! expressions weigh. [`size_of_unwinding`] answers the sum, or refuses with code 81 where it passes 4,194,304. The
-//! definition is in specs/Sizes.
+//! definition is in specs/Sizes. Start at size.rt.
 #![tactic(auto)]
 
 mod capped;

@@ -4,7 +4,7 @@
 //! walks along the path as far as some word goes on, with the range of the words that have come so far. The definitions are
 //! in specs/: `Walks` (when a word goes along a path) and `Numbers` (sets of numbers). The layer above uses the contract of
 //! [`WordIndex::add_walks`]: it adds exactly the goals whose words go along the path. The crate stands on `goals` for goals
-//! and on `run_match` for paths.
+//! and on `run_match` for paths. Start at index.rt.
 #![tactic(auto)]
 
 mod group;
