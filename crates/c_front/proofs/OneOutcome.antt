@@ -2,7 +2,6 @@
 use Rattle.std.proofs.Common.{◌≡◌, ℕ, ◌≤◌, ◌<◌, Bool, true, false, List, [], length, map, Some, None, refl, sym, subst, ◌∙◌, ap, arith, inl, inr}
 use Rattle.std.specs.Prelude.{◌⊎◌, Option, nat_lt}
 use Rattle.std.proofs.lemmas.Bool.{ltb-false, ltb-true}
-use Rattle.std.proofs.lemmas.Bool.Decides.{nat_tests}
 use Rattle.fq_core.specs.declared.refusal.Place.{Place}
 use Rattle.fq_core.specs.declared.refusal.Place.TheVariants as place
 use Rattle.c_lex.specs.declared.token.SourceText.{SourceText}
@@ -16,20 +15,15 @@ use Rattle.c_parse.specs.Laws as parse
 use Rattle.c_parse.specs.Signs.{terminal_of}
 use Rattle.c_parse.specs.UnitForm.{IsUnit, IsRefusedUnit}
 use Rattle.expression_types.specs.declared.faults.Found.{Found}
-use Rattle.expression_types.specs.Faults.{Among, FirstOfFaults, IsFirst, first_of, is_before}
+use Rattle.expression_types.specs.Faults.{Among, FirstOfFaults, first_of}
 use Rattle.c_types.specs.Refusal as types
 use Rattle.c_types.specs.Units.{faults_of}
+use Rattle.typing_faults.specs.Laws.{OneRefusal}
 use Rattle.cfa.specs.declared.parts.GraphParts.{GraphParts}
 use Rattle.c_front.specs.Automata.{IsAutomatonOf, IsRefused, IsUnitOf, at_edges, at_tokens, at_types, at_unit, automaton_of, most_edges}
 use Rattle.c_front.specs.Laws.{HasOneOutcome}
 
--- ---- two faults of which neither is before the other
-
-same_code : (f g : Found) → is_before f g ≡ false → is_before g f ≡ false → f.code ≡ g.code
-same_code f g p q = grind (arith, nat_tests)
-
-one_first : (f g : Found) (fs : List Found) → IsFirst f fs → IsFirst g fs → f.code ≡ g.code
-one_first f g fs a b = same_code f g (b.1 f a.0) (a.1 g b.0)
+-- ---- the first fault of a list
 
 not_among : (f : Found) (fs : List Found) → fs ≡ [] → Among f fs → ⊥
 not_among f fs none among = let at : Among f [] = subst (Among f) none among in at
@@ -39,7 +33,10 @@ not_among f fs none among = let at : Among f [] = subst (Among f) none among in 
 abbrev UnitLaw : Type 0
 UnitLaw = (ts : List Terminal) → parse.HasOneOutcome (IsUnit ts) (IsRefusedUnit ts)
 
-module _ (one : OneReading) (unit : UnitLaw) (texts : List SourceText) where
+module _ (one : OneReading) (unit : UnitLaw) (typed : OneRefusal) (texts : List SourceText) where
+  abbrev Same : ℕ → ℕ → Place → Place → Type 0
+  Same code other p q = (code ≡ other) × (p ≡ q)
+
   one_list : (ts us : List Token) → Lexed texts ts → Lexed texts us → ts ≡ us
   one_list ts us a b =
       let same : accepted ts a.0 a.1 ≡ accepted us b.0 b.1 = one texts 0 0 0 _ _ a.2 b.2 in
@@ -50,10 +47,10 @@ module _ (one : OneReading) (unit : UnitLaw) (texts : List SourceText) where
       let same : accepted ts a.0 a.1 ≡ refused code p = one texts 0 0 0 _ _ a.2 r in
       cc
 
-  one_token_code : (code other : ℕ) (p q : Place) → tokens.Refused texts code p → tokens.Refused texts other q → code ≡ other
-  one_token_code code other p q r s =
+  one_token_refusal : (code other : ℕ) (p q : Place) → tokens.Refused texts code p → tokens.Refused texts other q → Same code other p q
+  one_token_refusal code other p q r s =
       let same : refused code p ≡ refused other q = one texts 0 0 0 _ _ r s in
-      cc
+      (cc, cc)
 
   one_unit : (items others : List Item) → IsUnitOf texts items → IsUnitOf texts others → items ≡ others
   one_unit items others a b =
@@ -67,19 +64,18 @@ module _ (one : OneReading) (unit : UnitLaw) (texts : List SourceText) where
       let here : IsUnit (map terminal_of ts) items = subst (λ (us : List Token). IsUnit (map terminal_of us) items) same a.unit in
       (unit (map terminal_of ts)).not_both items code p here r
 
-  one_unit_code : (ts us : List Token) (code other : ℕ) (p q : Place) → Lexed texts ts → Lexed texts us → IsRefusedUnit (map terminal_of ts) code p
-      → IsRefusedUnit (map terminal_of us) other q → code ≡ other
-  one_unit_code ts us code other p q a b r s =
+  one_unit_refusal : (ts us : List Token) (code other : ℕ) (p q : Place) → Lexed texts ts → Lexed texts us → IsRefusedUnit (map terminal_of ts) code p
+      → IsRefusedUnit (map terminal_of us) other q → Same code other p q
+  one_unit_refusal ts us code other p q a b r s =
       let same = one_list ts us a b in
       let here : IsRefusedUnit (map terminal_of us) code p = subst (λ (vs : List Token). IsRefusedUnit (map terminal_of vs) code p) same r in
-      ((unit (map terminal_of us)).one_refusal code other p q here s).0
+      (unit (map terminal_of us)).one_refusal code other p q here s
 
-  one_type_code : (items others : List Item) (code other : ℕ) (p q : Place) → IsUnitOf texts items → IsUnitOf texts others → types.IsRefused items code p
-      → types.IsRefused others other q → code ≡ other
-  one_type_code items others code other p q a b r s =
-      let same = one_unit items others a b in
-      let here : IsFirst r.found (faults_of others) = subst (λ (is : List Item). IsFirst r.found (faults_of is)) same r.first in
-      r.code_is ∙ one_first r.found s.found (faults_of others) here s.first ∙ sym s.code_is
+  one_type_refusal : (items others : List Item) (code other : ℕ) (p q : Place) → IsUnitOf texts items → IsUnitOf texts others → types.IsRefused items code p
+      → types.IsRefused others other q → Same code other p q
+  one_type_refusal items others code other p q a b r s =
+      let here : types.IsRefused others code p = subst (λ (is : List Item). types.IsRefused is code p) (one_unit items others a b) r in
+      typed texts b.tokens others b.cut b.unit.spelled code other p q here s
 
   faultless : (items others : List Item) (code : ℕ) (p : Place) → IsUnitOf texts items → IsUnitOf texts others → faults_of items ≡ [] → types.IsRefused others code p → ⊥
   faultless items others code p a b none r =
@@ -102,23 +98,23 @@ module _ (one : OneReading) (unit : UnitLaw) (texts : List SourceText) where
   not_both graph code p a (at_types items u r) = faultless a.items items code p a.unit u a.faultless r
   not_both graph code p a (at_edges items u none many) = few_and_many a.items items a.unit u a.few many
 
-  one_code : (code other : ℕ) (p q : Place) → IsRefused texts code p → IsRefused texts other q → code ≡ other
-  one_code code other p q (at_tokens r) (at_tokens s) = one_token_code code other p q r s
-  one_code code other p q (at_tokens r) (at_unit ts cut s) = absurd (no_list ts code p cut r)
-  one_code code other p q (at_tokens r) (at_types items u s) = absurd (no_list u.tokens code p u.cut r)
-  one_code code other p q (at_tokens r) (at_edges items u none many) = absurd (no_list u.tokens code p u.cut r)
-  one_code code other p q (at_unit ts cut r) (at_tokens s) = absurd (no_list ts other q cut s)
-  one_code code other p q (at_unit ts cut r) (at_unit us others s) = one_unit_code ts us code other p q cut others r s
-  one_code code other p q (at_unit ts cut r) (at_types items u s) = absurd (no_unit items ts code p u cut r)
-  one_code code other p q (at_unit ts cut r) (at_edges items u none many) = absurd (no_unit items ts code p u cut r)
-  one_code code other p q (at_types items u r) (at_tokens s) = absurd (no_list u.tokens other q u.cut s)
-  one_code code other p q (at_types items u r) (at_unit ts cut s) = absurd (no_unit items ts other q u cut s)
-  one_code code other p q (at_types items u r) (at_types others v s) = one_type_code items others code other p q u v r s
-  one_code code other p q (at_types items u r) (at_edges others v none many) = absurd (faultless others items code p v u none r)
-  one_code code other p q (at_edges items u none many) (at_tokens s) = absurd (no_list u.tokens other q u.cut s)
-  one_code code other p q (at_edges items u none many) (at_unit ts cut s) = absurd (no_unit items ts other q u cut s)
-  one_code code other p q (at_edges items u none many) (at_types others v s) = absurd (faultless items others other q u v none s)
-  one_code code other p q (at_edges items u none many) (at_edges others v clean large) = refl
+  one_refusal : (code other : ℕ) (p q : Place) → IsRefused texts code p → IsRefused texts other q → Same code other p q
+  one_refusal code other p q (at_tokens r) (at_tokens s) = one_token_refusal code other p q r s
+  one_refusal code other p q (at_tokens r) (at_unit ts cut s) = absurd (no_list ts code p cut r)
+  one_refusal code other p q (at_tokens r) (at_types items u s) = absurd (no_list u.tokens code p u.cut r)
+  one_refusal code other p q (at_tokens r) (at_edges items u none many) = absurd (no_list u.tokens code p u.cut r)
+  one_refusal code other p q (at_unit ts cut r) (at_tokens s) = absurd (no_list ts other q cut s)
+  one_refusal code other p q (at_unit ts cut r) (at_unit us others s) = one_unit_refusal ts us code other p q cut others r s
+  one_refusal code other p q (at_unit ts cut r) (at_types items u s) = absurd (no_unit items ts code p u cut r)
+  one_refusal code other p q (at_unit ts cut r) (at_edges items u none many) = absurd (no_unit items ts code p u cut r)
+  one_refusal code other p q (at_types items u r) (at_tokens s) = absurd (no_list u.tokens other q u.cut s)
+  one_refusal code other p q (at_types items u r) (at_unit ts cut s) = absurd (no_unit items ts other q u cut s)
+  one_refusal code other p q (at_types items u r) (at_types others v s) = one_type_refusal items others code other p q u v r s
+  one_refusal code other p q (at_types items u r) (at_edges others v none many) = absurd (faultless others items code p v u none r)
+  one_refusal code other p q (at_edges items u none many) (at_tokens s) = absurd (no_list u.tokens other q u.cut s)
+  one_refusal code other p q (at_edges items u none many) (at_unit ts cut s) = absurd (no_unit items ts other q u cut s)
+  one_refusal code other p q (at_edges items u none many) (at_types others v s) = absurd (faultless items others other q u v none s)
+  one_refusal code other p q (at_edges items u none many) (at_edges others v clean large) = (refl, refl)
 
 -- ---- some outcome
 
@@ -162,10 +158,10 @@ module _ (texts : List SourceText) where
         | inr cause ↦ inr (cause.0, (cause.1.0, at_tokens cause.1.1))
       ]
 
-pub one_outcome : OneReading → SomeReading → UnitLaw → FirstOfFaults → (texts : List SourceText) → HasOneOutcome texts
-one_outcome one some unit first texts = record {
+pub one_outcome : OneReading → SomeReading → UnitLaw → FirstOfFaults → OneRefusal → (texts : List SourceText) → HasOneOutcome texts
+one_outcome one some unit first typed texts = record {
   some = some_outcome texts some unit first;
-  one_automaton = one_automaton one unit texts;
-  one_code = one_code one unit texts;
-  not_both = not_both one unit texts;
+  one_answer = one_automaton one unit typed texts;
+  one_refusal = one_refusal one unit typed texts;
+  not_both = not_both one unit typed texts;
 }

@@ -15,22 +15,24 @@ use Rattle.typed_trees.specs.declared.unit.Typed.{Typed}
 use Rattle.c_types.specs.Refusal as types
 use Rattle.graph_of.specs.GraphOf.{graph_of}
 use Rattle.c_lower.specs.Refusal.{IsRefusalOf}
-use Rattle.c_front.specs.Automata.{HasCode, IsAutomatonOf, IsRefused, IsUnitOf, at_edges, at_tokens, names_of}
+use Rattle.c_front.specs.Automata.{IsAutomatonOf, IsRefused, IsUnitOf, at_edges, at_tokens, names_of}
 use Rattle.c_front.specs.Laws.{HasOneOutcome}
 
 module _ (texts : List SourceText) (law : HasOneOutcome texts) where
   pub accepts : (result : Result GraphParts Fault) → IfOk result (IsAutomatonOf texts)
       → ((code : ℕ) (p : Place) → IsErrOf result (refusal code p) → IsRefused texts code p)
       → (graph : GraphParts) → IsAutomatonOf texts graph → IsUnlessMemory result (Ok graph)
-  accepts (Ok made) is refused graph its = ap Ok (law.one_automaton graph made its is)
+  accepts (Ok made) is refused graph its = ap Ok (law.one_answer graph made its is)
   accepts (Err (fault.Refused r)) is refused graph its = absurd (law.not_both graph r.code r.place its (refused r.code r.place refl))
   accepts (Err fault.Memory) is refused graph its = tt
 
   pub refuses : (result : Result GraphParts Fault) → IfOk result (IsAutomatonOf texts)
       → ((code : ℕ) (p : Place) → IsErrOf result (refusal code p) → IsRefused texts code p)
-      → (code : ℕ) (p : Place) → IsRefused texts code p → HasCode code result
-  refuses (Ok made) is refused code p its = law.not_both made code p is its
-  refuses (Err (fault.Refused r)) is refused code p its = law.one_code r.code code r.place p (refused r.code r.place refl) its
+      → (code : ℕ) (p : Place) → IsRefused texts code p → IsUnlessMemory result (Err (refusal code p))
+  refuses (Ok made) is refused code p its = absurd (law.not_both made code p is its)
+  refuses (Err (fault.Refused r)) is refused code p its =
+      let same = law.one_refusal code r.code p r.place its (refused r.code r.place refl) in
+      λ i. Err (refusal (same.0 i) (same.1 i))
   refuses (Err fault.Memory) is refused code p its = tt
 
 -- ---- by stages

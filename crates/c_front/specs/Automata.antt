@@ -1,7 +1,5 @@
 -- The automaton of source texts, or why they have none.
-use Rattle.std.specs.Prelude.{◌≡◌, ◌<◌, ◌≤◌, ℕ, List, [], length, map, Result, Ok, Err}
-use Rattle.fq_core.specs.declared.refusal.Fault.{Fault}
-use Rattle.fq_core.specs.declared.refusal.Fault.TheVariants as fault
+use Rattle.std.specs.Prelude.{◌≡◌, ◌<◌, ◌≤◌, ℕ, List, [], length, map}
 use Rattle.fq_core.specs.declared.refusal.Place.{Place}
 use Rattle.fq_core.specs.declared.refusal.Place.TheVariants as place
 use Rattle.c_lex.specs.declared.token.SourceText.{SourceText}
@@ -49,9 +47,3 @@ pub data IsRefused (texts : List SourceText) : ℕ → Place → Type 0 where
   at_types : {code : ℕ} {p : Place} (items : List Item) → IsUnitOf texts items → types.IsRefused items code p → IsRefused texts code p
   at_edges : (items : List Item) → IsUnitOf texts items → faults_of items ≡ [] → most_edges < length (automaton_of texts items).edges
       → IsRefused texts 41 (place.Limit most_edges)
-
--- a refusal has this code; want of memory is any
-abbrev pub HasCode : {X : Type 0} → ℕ → Result X Fault → Type 0
-HasCode code (Ok x) = ⊥
-HasCode code (Err (fault.Refused r)) = r.code ≡ code
-HasCode code (Err fault.Memory) = Unit {0}

@@ -1,11 +1,11 @@
 // From texts to their automaton.
-ghost use Rattle.std.specs.Prelude.{◌≡◌, ◌<◌, ◌^◌, ℕ, Ok, IfOk, IsErrOf, length};
+ghost use Rattle.std.specs.Prelude.{◌≡◌, ◌<◌, ◌^◌, ℕ, Err, Ok, IfOk, IsErrOf, length};
 ghost use Rattle.fq_core.specs.declared.refusal.Place.{Place};
 ghost use Rattle.c_lex.specs.Lexed.{AreSmall};
 ghost use Rattle.fq_core.specs.Refusals.{IsUnlessMemory, refusal};
 ghost use Rattle.cfa.specs.Contexts.{IsOnce};
 ghost use Rattle.cfa.specs.declared.parts.GraphParts.{GraphParts};
-ghost use Rattle.c_front.specs.Automata.{HasCode, IsAutomatonOf, IsRefused, IsUnitOf, names_of};
+ghost use Rattle.c_front.specs.Automata.{IsAutomatonOf, IsRefused, IsUnitOf, names_of};
 
 use crate::laws::one_outcome;
 use c_lex::{SourceText, tokens};
@@ -70,8 +70,8 @@ pub fn automaton_of_texts(alloc: Global, texts: &[SourceText]) -> Result<Graph, 
     ensures accepts { (graph : GraphParts) → IsAutomatonOf texts.now graph → IsUnlessMemory result (Ok graph) }
     // A refusal has its cause.
     ensures refused { (code : ℕ) (p : Place) → IsErrOf result (refusal code p) → IsRefused texts.now code p }
-    // Where there is a cause, it is refused, with its code.
-    ensures refuses { (code : ℕ) (p : Place) → IsRefused texts.now code p → HasCode code result }
+    // Where there is a cause, it is refused.
+    ensures refuses { (code : ℕ) (p : Place) → IsRefused texts.now code p → IsUnlessMemory result (Err (refusal code p)) }
 {
     one_outcome();
     automaton(alloc, texts)
