@@ -4,7 +4,8 @@ use Rattle.std.specs.Prelude.{◌||◌}
 use Rattle.std.specs.List.{list_all}
 use Rattle.std.proofs.lemmas.Bool.{and_cases, and_parts, eq-eqb, eqb-true, or_cases, or_from, or_left, or_parts, or_right, true≢false}
 use Rattle.std.proofs.lemmas.List.Folds.{list_any-append}
-use Rattle.suite.specs.Suite.{is_among, is_hit, kept_from}
+use Rattle.measurer.specs.Firsts.{has_number}
+use Rattle.suite.specs.Suite.{is_hit, kept_from}
 
 abbrev lists : List (ℕ × List ℕ) → List (List ℕ)
 lists = map (λ input. input.1)
@@ -13,7 +14,7 @@ lists = map (λ input. input.1)
 abbrev Elsewhere : List (List ℕ) → List (ℕ × List ℕ) → ℕ → Bool
 Elsewhere earlier later goal = is_hit earlier goal || is_hit (lists later) goal
 
-all_at : (test : ℕ → Bool) (goals : List ℕ) (goal : ℕ) → list_all test goals ≡ true → is_among goal goals ≡ true → test goal ≡ true
+all_at : (test : ℕ → Bool) (goals : List ℕ) (goal : ℕ) → list_all test goals ≡ true → has_number goal goals ≡ true → test goal ≡ true
 all_at test [] goal all among = absurd (true≢false (sym among))
 all_at test (first ∷ goals) goal all among =
     elim (or_cases _ _ among) [
@@ -24,7 +25,7 @@ all_at test (first ∷ goals) goal all among =
 -- a goal at which the test fails, where it doesn't hold of all
 record Fails (test : ℕ → Bool) (goals : List ℕ) : Type 0 where
   goal : ℕ
-  among : is_among goal goals ≡ true
+  among : has_number goal goals ≡ true
   fails : test goal ≡ false
 
 some_fails : (test : ℕ → Bool) (goals : List ℕ) → list_all test goals ≡ false → Fails test goals
@@ -45,7 +46,7 @@ cons_tail x y xs ys is = cc
 -- ---- all is hit
 
 is_hit-append : (xs ys : List (List ℕ)) (goal : ℕ) → is_hit (xs ++ ys) goal ≡ (is_hit xs goal || is_hit ys goal)
-is_hit-append xs ys goal = list_any-append (is_among goal) xs ys
+is_hit-append xs ys goal = list_any-append (has_number goal) xs ys
 
 drop_or_keep : (earlier : List (List ℕ)) (n : ℕ) (goals : List ℕ) (later : List (ℕ × List ℕ)) (goal : ℕ) (redundant : Bool)
     → list_all (Elsewhere earlier later) goals ≡ redundant
@@ -56,10 +57,10 @@ drop_or_keep earlier n goals later goal true test hit =
     let parts = rw (is_hit-append (earlier ++ goals ∷ []) (lists later) goal, is_hit-append earlier (goals ∷ []) goal) at hit in
     let there = is_hit earlier goal in
     let after = is_hit (lists later) goal in
-    rw (is_hit-append earlier (lists later) goal) (elim (or_cases (there || (is_among goal goals || false)) after parts) [
-      | inl front ↦ elim (or_cases there (is_among goal goals || false) front) [
+    rw (is_hit-append earlier (lists later) goal) (elim (or_cases (there || (has_number goal goals || false)) after parts) [
+      | inl front ↦ elim (or_cases there (has_number goal goals || false) front) [
         | inl hit_there ↦ or_left there after hit_there
-        | inr here ↦ elim (or_cases (is_among goal goals) false here) [
+        | inr here ↦ elim (or_cases (has_number goal goals) false here) [
           | inl among ↦ all_at (Elsewhere earlier later) goals goal test among
           | inr none ↦ absurd (true≢false (sym none))
         ]
@@ -83,7 +84,7 @@ kept_hit_all hits goal hit = kept_hit [] 1 hits goal hit
 
 record Needed (earlier front back : List (List ℕ)) (goals : List ℕ) : Type 0 where
   goal : ℕ
-  among : is_among goal goals ≡ true
+  among : has_number goal goals ≡ true
   not_earlier : is_hit earlier goal ≡ false
   not_front : is_hit front goal ≡ false
   not_back : is_hit back goal ≡ false
@@ -101,7 +102,7 @@ without_it : (earlier front back : List (List ℕ)) (first goals : List ℕ) →
 without_it earlier front back first goals need =
     let missed = need.not_earlier in
     let parts = or_parts (is_hit earlier need.goal) _ (rw (is_hit-append earlier (first ∷ []) need.goal) at missed) in
-    let not_first = (or_parts (is_among need.goal first) false parts.1).0 in (
+    let not_first = (or_parts (has_number need.goal first) false parts.1).0 in (
       record { goal = need.goal; among = need.among; not_earlier = parts.0; not_front = need.not_front; not_back = need.not_back },
       record { goal = need.goal; among = need.among; not_earlier = parts.0; not_front = or_from _ _ not_first need.not_front; not_back = need.not_back },
     )
@@ -130,5 +131,5 @@ needed earlier n (first ∷ rest) front back input is =
     (λ front' there. needed (earlier ++ first ∷ []) (n + 1) rest front' back input there) is
 
 pub kept_are_needed : (hits : List (List ℕ)) (front back : List (ℕ × List ℕ)) (input : ℕ × List ℕ) → kept_from [] 1 hits ≡ front ++ input ∷ back
-    → (goal : ℕ) × (is_among goal input.1 ≡ true) × (is_hit (map (λ kept. kept.1) front) goal ≡ false) × (is_hit (map (λ kept. kept.1) back) goal ≡ false)
+    → (goal : ℕ) × (has_number goal input.1 ≡ true) × (is_hit (map (λ kept. kept.1) front) goal ≡ false) × (is_hit (map (λ kept. kept.1) back) goal ≡ false)
 kept_are_needed hits front back input is = let need = needed [] 1 hits front back input is in (need.goal, need.among, need.not_front, need.not_back)

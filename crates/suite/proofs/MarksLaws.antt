@@ -8,7 +8,7 @@ use Rattle.std.proofs.lemmas.List.Folds.{list_all_at, list_all_more, list_any_mo
 use Rattle.std.proofs.lemmas.Bool.Decides.{eqb_tells}
 use Rattle.std.proofs.lemmas.Bool.{and_parts, eq-eqb, false≢true, lt-ltb, ltb-true, ne_eqb, true_from_ne_false}
 use Rattle.suite.specs.Marks.{are_goals, first_by, first_hit, first_hits, marked}
-use Rattle.suite.specs.Suite.{is_among}
+use Rattle.measurer.specs.Firsts.{has_number}
 use Rattle.suite.specs.declared.first_hit.FirstHit.{FirstHit}
 use Rattle.suite.specs.declared.first_hit.FirstHit.TheVariants as earliest
 
@@ -74,8 +74,8 @@ first_step None false m n same = refl
 pub first_hit-push : (hits : List (List ℕ)) (goals : List ℕ) (goal : ℕ)
     → first_hit (hits ++ goals ∷ []) goal ≡ marked (length hits + 1) goals goal (first_hit hits goal)
 first_hit-push hits goals goal =
-    rw (position_from-push (is_among goal) 1 hits goals)
-    (first_step (position_from (is_among goal) 1 hits) (is_among goal goals) (1 + length hits) (length hits + 1) (omega arith))
+    rw (position_from-push (has_number goal) 1 hits goals)
+    (first_step (position_from (has_number goal) 1 hits) (has_number goal goals) (1 + length hits) (length hits + 1) (omega arith))
 
 firsts_from-push : (hits : List (List ℕ)) (goals : List ℕ) (first count : ℕ) (new : List FirstHit)
     → ((k : ℕ) → slice_get new k ≡ option_map (marked (length hits + 1) goals (first + k)) (slice_get (map (first_hit hits) (range_with_len first count)) k))
@@ -134,7 +134,7 @@ first_twice input (earliest.By earlier) = refl
 first_marked : (input : ℕ) (goals : List ℕ) (goal : ℕ) (before : FirstHit)
     → first_by input (marked input goals goal before) ≡ first_by input before
 first_marked input goals goal before =
-    elim (is_among goal goals) as (λ b. first_by input (cond b (first_by input before) before) ≡ first_by input before) [
+    elim (has_number goal goals) as (λ b. first_by input (cond b (first_by input before) before) ≡ first_by input before) [
       | true ↦ first_twice input before
       | false ↦ refl
     ]
@@ -147,14 +147,14 @@ marked_here goals i input before within =
       eq-eqb (get_or goals i 0) _ refl,
       first_marked input (take i goals) (get_or goals i 0) before,
     )
-    (elim (is_among (get_or goals i 0) (take i goals))
+    (elim (has_number (get_or goals i 0) (take i goals))
     as (λ b. cond (b || true) (first_by input before) before ≡ first_by input before) [ true ↦ refl | false ↦ refl ])
 
 marked_elsewhere : (goals : List ℕ) (i input goal : ℕ) (before : FirstHit) → i < length goals → get_or goals i 0 ≢ goal
     → marked input (take (i + 1) goals) goal before ≡ marked input (take i goals) goal before
 marked_elsewhere goals i input goal before within other =
     rw (list_any_more (λ other. other == goal) goals i 0 within, ne_eqb (get_or goals i 0) goal other)
-    (elim (is_among goal (take i goals))
+    (elim (has_number goal (take i goals))
     as (λ b. cond (b || false) (first_by input before) before ≡ cond b (first_by input before) before) [ true ↦ refl | false ↦ refl ])
 
 -- a place that was marked, from what the goal's place held

@@ -11,7 +11,8 @@ use Rattle.std.proofs.lemmas.Grind.{reverse_onto}
 use Rattle.std.proofs.lemmas.Bool.{and_parts, lt-ltb, le-ltb, ltb-true}
 use Rattle.suite.specs.Marks.{are_goals, first_hit, first_hits, is_before, is_elsewhere, is_found, marked}
 use Rattle.suite.proofs.MarksLaws.{first_hits-push}
-use Rattle.suite.specs.Suite.{is_among, is_hit, kept_from}
+use Rattle.measurer.specs.Firsts.{has_number}
+use Rattle.suite.specs.Suite.{is_hit, kept_from}
 use Rattle.suite.specs.declared.first_hit.FirstHit.{FirstHit}
 use Rattle.suite.specs.declared.first_hit.FirstHit.TheVariants as earliest
 
@@ -48,7 +49,7 @@ before_from test n (suc p) (h ∷ hits) =
 
 -- the first hit has a lower number where one of those hits the goal
 first_before : (hits : List (List ℕ)) (p goal : ℕ) → is_before (p + 1) (first_hit hits goal) ≡ is_hit (take p hits) goal
-first_before hits p goal = let shift : 1 + p ≡ p + 1 = omega arith in let h = before_from (is_among goal) 1 p hits in rw shift at h
+first_before hits p goal = let shift : 1 + p ≡ p + 1 = omega arith in let h = before_from (has_number goal) 1 p hits in rw shift at h
 
 found_from : (test : List ℕ → Bool) (n : ℕ) (hits : List (List ℕ))
     → is_found (option_map_or earliest.By (position_from test n hits) earliest.Never) ≡ list_any test hits
@@ -79,8 +80,8 @@ elsewhere_is hits lists count p goal within =
       get_or-first_hits hits count goal earliest.Never within,
       get_or-first_hits (reverse lists) count goal earliest.Never within,
       first_before hits p goal,
-      found_from (is_among goal) 1 (reverse lists),
-      list_any-reverse (is_among goal) lists,
+      found_from (has_number goal) 1 (reverse lists),
+      list_any-reverse (has_number goal) lists,
     ) refl
 
 each_elsewhere : (hits lists : List (List ℕ)) (count p : ℕ) (goals : List ℕ) → are_goals count goals ≡ true

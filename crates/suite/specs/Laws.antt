@@ -1,6 +1,7 @@
 -- What follows from the definition of the reduced suite.
 use Rattle.std.specs.Prelude.{◌≡◌, ℕ, true, false, List, [], ◌∷◌, ◌++◌, map}
-use Rattle.suite.specs.Suite.{is_among, is_hit, kept_from}
+use Rattle.measurer.specs.Firsts.{has_number}
+use Rattle.suite.specs.Suite.{is_hit, kept_from}
 
 -- each goal that some input hits is hit by one that is kept
 abbrev pub KeptHitAll : Type 0
@@ -11,5 +12,5 @@ KeptHitAll =
 abbrev pub KeptAreNeeded : Type 0
 KeptAreNeeded =
     (hits : List (List ℕ)) (front back : List (ℕ × List ℕ)) (input : ℕ × List ℕ) → kept_from [] 1 hits ≡ front ++ input ∷ back →
-    (goal : ℕ) × (is_among goal input.1 ≡ true)
+    (goal : ℕ) × (has_number goal input.1 ≡ true)
     × (is_hit (map (λ kept. kept.1) front) goal ≡ false) × (is_hit (map (λ kept. kept.1) back) goal ≡ false)

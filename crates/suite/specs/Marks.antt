@@ -2,13 +2,13 @@
 use Rattle.std.specs.Prelude.{ℕ, ◌||◌, Bool, true, false, List, map, nat_lt, if◌then◌else◌, slice_index_or as get_or}
 use Rattle.std.specs.List.{list_all, position_from, range_with_len}
 use Rattle.std.specs.Option.{option_map_or}
-use Rattle.suite.specs.Suite.{is_among}
+use Rattle.measurer.specs.Firsts.{has_number}
 use Rattle.suite.specs.declared.first_hit.FirstHit.{FirstHit}
 use Rattle.suite.specs.declared.first_hit.FirstHit.TheVariants as earliest
 
 -- the first of these inputs that hits a goal; they are numbered from 1
 abbrev pub first_hit : List (List ℕ) → ℕ → FirstHit
-first_hit hits goal = option_map_or earliest.By (position_from (is_among goal) 1 hits) earliest.Never
+first_hit hits goal = option_map_or earliest.By (position_from (has_number goal) 1 hits) earliest.Never
 
 -- the first hits of so many goals, numbered from 0
 abbrev pub first_hits : List (List ℕ) → ℕ → List FirstHit
@@ -29,7 +29,7 @@ first_by input (earliest.By earlier) = earliest.By earlier
 
 -- the first hit of a goal, from the one before an input that hits these
 abbrev pub marked : ℕ → List ℕ → ℕ → FirstHit → FirstHit
-marked input goals goal before = if is_among goal goals then first_by input before else before
+marked input goals goal before = if has_number goal goals then first_by input before else before
 
 -- an input with a lower number hits the goal first
 abbrev pub is_before : ℕ → FirstHit → Bool

@@ -1,14 +1,11 @@
 -- A reduced suite: an irredundant part of the inputs that hits every goal that some input hits.
-use Rattle.std.specs.Prelude.{ℕ, ◌+◌, ◌==◌, ◌||◌, Bool, List, [], ◌∷◌, ◌++◌, map, if◌then◌else◌}
+use Rattle.std.specs.Prelude.{ℕ, ◌+◌, ◌||◌, Bool, List, [], ◌∷◌, ◌++◌, map, if◌then◌else◌}
 use Rattle.std.specs.List.{list_all, list_any}
-
--- the goal is one of these
-abbrev pub is_among : ℕ → List ℕ → Bool
-is_among goal goals = list_any (λ other. other == goal) goals
+use Rattle.measurer.specs.Firsts.{has_number}
 
 -- the goal is in one of the lists
 abbrev pub is_hit : List (List ℕ) → ℕ → Bool
-is_hit lists goal = list_any (is_among goal) lists
+is_hit lists goal = list_any (has_number goal) lists
 
 -- The inputs are tried from the last to the first, and one is dropped where each of its goals is also hit by another
 -- that is still kept: by an earlier one, which is tried later, or by a later one that was kept.
