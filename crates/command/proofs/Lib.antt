@@ -1,6 +1,7 @@
 pub mod AtEntry
 pub mod CertificateLaws
 pub mod CertifiedLaws
+pub mod CodeLaws
 pub mod DueLaws
 pub mod Ended
 pub mod EntryLaws
@@ -9,6 +10,7 @@ pub mod GenerationLaws
 pub mod GivesLaws
 pub mod GoalLaws
 pub mod MeasuredLaws
+pub mod OneDue
 pub mod PlannedLaws
 pub mod RangeLaws
 pub mod ReadsLaws

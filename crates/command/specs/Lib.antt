@@ -2,7 +2,9 @@ pub mod Asked
 pub mod Certificates
 pub mod Certified
 pub mod Checking
+pub mod Codes
 pub mod Due
+pub mod Determined
 pub mod Entries
 pub mod Generating
 pub mod Inputs
