@@ -1,5 +1,5 @@
 -- The automata of the goals that no index takes.
-use Rattle.std.proofs.Common.{◌≡◌, ℕ, zero, suc, ◌+◌, ◌≤◌, ◌<◌, ◌⊎◌, ◌↔◌, inl, inr, Bool, true, false, List, [], ◌∷◌, ◌++◌, Option, Some, None, length, get_or, refl, sym, ◌∙◌, ap, subst, arith}
+use Rattle.std.proofs.Common.{◌≡◌, ℕ, zero, suc, ◌+◌, ◌≤◌, ◌<◌, ◌⊎◌, ◌↔◌, inl, inr, Bool, true, false, List, [], ◌∷◌, ◌++◌, Option, Some, None, Result, Ok, Err, IfOk, length, get_or, refl, sym, ◌∙◌, ap, subst, arith}
 use Rattle.std.specs.Prelude.{slice_get}
 use Rattle.std.specs.List.{Contains}
 use Rattle.std.specs.Option.{IsSomeAnd}
@@ -14,7 +14,7 @@ use Rattle.patterns.specs.Segments.{HasSegment}
 use Rattle.word_index.specs.Numbers.{Adds}
 use Rattle.word_index.specs.Walks.{is_plain}
 use Rattle.word_index.proofs.Steps.{adds_none, adds_same, adds_both}
-use Rattle.measurer.specs.Measured.{IsMadeOf, IsAutomatonOf, AreAutomata, HasOtherMatch}
+use Rattle.measurer.specs.Measured.{IsMadeOf, IsAutomatonOf, AreAutomata, HasOtherMatch, Tells}
 use Rattle.measurer.specs.Openings.{IsOpening}
 use Rattle.measurer.specs.declared.tables.GoalAutomaton.{GoalAutomaton}
 
@@ -103,14 +103,17 @@ module _ (goals : List GoalForm) (first last : Bool) where
 
 -- ---- matches of the others
 
+-- what an automaton answers for each pattern that it is of
+pub automaton_tells : {E : Type 0} (r : Result Bool E) (first last : Bool) (path : PathView) (own : GoalAutomaton)
+    → ((pattern : Form Letter) (first last : Bool) → IsOf own.automaton pattern first last → IsOpening own.opening first pattern → IfOk r (λ b. (b ≡ true) ↔ HasSegment first last pattern path))
+    → IfOk r (λ b. Tells first last path own b)
+automaton_tells (Ok b) first last path own h = λ pattern of opens gaps. h pattern first last of opens
+automaton_tells (Err e) first last path own h = tt
+
 -- a number of one of the first automata, of whose goal's pattern the path has a match
 abbrev pub MatchedBefore : List GoalForm → Bool → Bool → PathView → List GoalAutomaton → ℕ → ℕ → Type 0
 MatchedBefore goals first last path all count n =
     (k : ℕ) × ((own : GoalAutomaton) × ((k < count) × ((slice_get all k ≡ Some own) × ((n ≡ own.number) × HasOtherMatch goals first last path n))))
-
--- the answer for an automaton: whether the path has a match
-abbrev pub Says : PathView → GoalAutomaton → Bool → Type 0
-Says path own b = (pattern : Form Letter) (first last : Bool) → IsOf own.automaton pattern first last → IsOpening own.opening first pattern → (b ≡ true) ↔ HasSegment first last pattern path
 
 module _ (goals : List GoalForm) (first last : Bool) (path : PathView) (all : List GoalAutomaton) (made : AreAutomata goals first last (length goals) all) where
   pub none_matched : (xs : List ℕ) → Adds (MatchedBefore goals first last path all 0) xs xs
@@ -118,14 +121,14 @@ module _ (goals : List GoalForm) (first last : Bool) (path : PathView) (all : Li
 
   -- what the automaton of a goal says
   pub automaton_says : (own : GoalAutomaton) (k : ℕ) (b : Bool) → slice_get all k ≡ Some own
-      → Says path own b → (b ≡ true) ↔ HasOtherMatch goals first last path own.number
+      → Tells first last path own b → (b ≡ true) ↔ HasOtherMatch goals first last path own.number
   automaton_says own k b e says = let r = made.each k own e in by_goal r.0 r.1.is (slice_get goals r.0) refl r.1.goal
     where
       by_goal : (place : ℕ) → own.number ≡ suc place → (o : Option GoalForm) → slice_get goals place ≡ o → IsSomeAnd o (λ goal. IsMadeOf goal first last own)
           → (b ≡ true) ↔ HasOtherMatch goals first last path own.number
       by_goal place is None f h = absurd h
       by_goal place is (Some goal) f h =
-          let s = says (form goal.pattern) first last h.automaton h.opening in (
+          let s = says (form goal.pattern) h.automaton h.opening h.gaps in (
             λ t.
                 let at : IsSomeAnd (Some goal) (λ goal. (is_plain goal.word ≡ false) × HasSegment first last (form goal.pattern) path) = (h.other, s.0 t) in
                 record { place = place; is = is; goal = subst (λ o. IsSomeAnd o (λ goal. (is_plain goal.word ≡ false) × HasSegment first last (form goal.pattern) path)) (sym f) at },
@@ -152,12 +155,12 @@ module _ (goals : List GoalForm) (first last : Bool) (path : PathView) (all : Li
       ]
 
   -- one more automaton that accepts
-  pub accepted_more : (count : ℕ) (own : GoalAutomaton) (b : Bool) → slice_get all count ≡ Some own → Says path own b → b ≡ true
+  pub accepted_more : (count : ℕ) (own : GoalAutomaton) (b : Bool) → slice_get all count ≡ Some own → Tells first last path own b → b ≡ true
       → (xs ys zs : List ℕ) → Adds (MatchedBefore goals first last path all count) xs ys → Adds (λ n. n ≡ own.number) ys zs → Adds (MatchedBefore goals first last path all (count + 1)) xs zs
   accepted_more count own b e says t xs ys zs = more_matched count own e ((automaton_says own count b e says).0 t) xs ys zs
 
   -- one more that doesn't
-  pub refused_more : (count : ℕ) (own : GoalAutomaton) (b : Bool) → slice_get all count ≡ Some own → Says path own b → b ≡ false
+  pub refused_more : (count : ℕ) (own : GoalAutomaton) (b : Bool) → slice_get all count ≡ Some own → Tells first last path own b → b ≡ false
       → (xs ys : List ℕ) → Adds (MatchedBefore goals first last path all count) xs ys → Adds (MatchedBefore goals first last path all (count + 1)) xs ys
   refused_more count own b e says t xs ys a = adds_same _ (MatchedBefore goals first last path all (count + 1)) xs ys to from a
     where
@@ -188,3 +191,7 @@ module _ (goals : List GoalForm) (first last : Bool) (path : PathView) (all : Li
               let within = get_within all r.1.0 r.0 r.1.1.0 in
               let is : n ≡ r.1.0.number = h.is ∙ sym r.1.1.1 in
               (r.0, (r.1.0, (omega arith, (r.1.1.0, (is, h)))))
+
+  -- there are none
+  pub no_others : (xs : List ℕ) → length all ≡ 0 → Adds (HasOtherMatch goals first last path) xs xs
+  no_others xs none = all_matched 0 xs xs (sym none) (none_matched xs)

@@ -1,11 +1,13 @@
 -- What a measurer is made of.
-use Rattle.std.specs.Prelude.{◌≡◌, ℕ, suc, ◌<◌, Bool, true, false, List, length, Option, Some, None, slice_get}
+use Rattle.std.specs.Prelude.{◌≡◌, ℕ, suc, ◌<◌, ◌↔◌, Bool, true, false, List, length, Option, Some, None, IfSome, slice_get}
 use Rattle.std.specs.Option.{IsSomeAnd}
 use Rattle.patterns.specs.Letters.{form}
+use Rattle.patterns.specs.Match.{Form}
 use Rattle.patterns.specs.declared.letter.Letter.{Letter}
 use Rattle.patterns.specs.declared.path_view.PathView.{PathView}
 use Rattle.automata.specs.Standing.{IsOf}
 use Rattle.automata.specs.declared.nfa.Nfa.{Nfa}
+use Rattle.gap_words.specs.GapWords.{IsGapWordOf}
 use Rattle.goals.specs.GoalForm.{GoalForm, HasItsPattern}
 use Rattle.goals.specs.declared.plan.PassingPattern.{PassingPattern}
 use Rattle.goals.specs.declared.plan.Plan.{Plan}
@@ -16,11 +18,18 @@ use Rattle.measurer.specs.Openings.{IsOpening}
 use Rattle.measurer.specs.declared.tables.GoalAutomaton.{GoalAutomaton}
 use Rattle.measurer.specs.declared.tables.Tables.{Tables}
 
--- the automaton of this goal, which isn't one of the index, and the edge that its matches take first
+-- The automaton of this goal, which isn't one of the index, the edge that its matches take first, and the row of letters and
+-- gaps that its pattern is.
 pub record IsMadeOf (goal : GoalForm) (first last : Bool) (own : GoalAutomaton) : Type 0 where
   pub other : is_plain goal.word ≡ false
   pub automaton : IsOf own.automaton (form goal.pattern) first last
   pub opening : IsOpening own.opening first (form goal.pattern)
+  pub gaps : IfSome own.gaps (λ word. IsGapWordOf (form goal.pattern) word)
+
+-- the answer for a goal's pattern: whether the path has a match of it
+abbrev pub Tells : Bool → Bool → PathView → GoalAutomaton → Bool → Type 0
+Tells first last path own b =
+    (pattern : Form Letter) → IsOf own.automaton pattern first last → IsOpening own.opening first pattern → IfSome own.gaps (λ word. IsGapWordOf pattern word) → (b ≡ true) ↔ HasSegment first last pattern path
 
 -- the automaton of the goal at a place
 pub record IsAutomatonOf (goals : List GoalForm) (first last : Bool) (place : ℕ) (own : GoalAutomaton) : Type 0 where

@@ -133,7 +133,7 @@ fn add_found(
     let index = &tables.index;
     index.add_walks(goals, path, plan.first, plan.last, numbers)?;
     let automata = tables.automata.as_slice();
-    add_others(alloc, automata, path, numbers)
+    add_others(alloc, automata, path, plan.first, plan.last, numbers)
 }
 
 /// Gathers the numbers of the goals that a run hits.

@@ -1,7 +1,8 @@
 // What is made of a plan once.
-ghost use Rattle.std.specs.Prelude.{◌≡◌, ◌+◌, ℕ, Some, Option, IfOk, length, slice_get};
+ghost use Rattle.std.specs.Prelude.{◌≡◌, ◌+◌, ℕ, Some, Option, IfOk, IfSome, length, slice_get};
 ghost use Rattle.patterns.specs.Letters.{form};
 ghost use Rattle.automata.specs.Standing.{IsOf};
+ghost use Rattle.gap_words.specs.GapWords.{IsGapWordOf};
 ghost use Rattle.goals.specs.GoalForm.{GoalForm, HasItsPattern};
 ghost use Rattle.measurer.specs.Measured.{AreAutomata, IsFor, IsPassingAutomaton};
 ghost use Rattle.measurer.specs.Openings.{IsOpening};
@@ -10,17 +11,19 @@ use crate::openings::opening_of;
 use automata::{Nfa, build};
 use containers::Vector;
 use fq_core::Memory;
+use gap_words::GapWord;
 use goals::{Goal, PassingPattern, Plan};
 use patterns::{Letter, Pattern};
 use std::alloc::Global;
 use word_index::{WordIndex, is_plain};
 
-/// The automaton of a goal, with the goal's number, from 1, and the edge that each match takes first, where that is known and
-/// matches may begin anywhere.
+/// The automaton of a goal, with the goal's number, from 1, the edge that each match takes first, where that is known and
+/// matches may begin anywhere, and the goal's pattern as a row of letters and gaps, where it is one.
 #[derive(Debug, Drop)]
 pub struct GoalAutomaton {
     pub(crate) number: u32,
     pub(crate) opening: Option<u32>,
+    pub(crate) gaps: Option<GapWord>,
     pub(crate) automaton: Nfa<Letter>,
 }
 
@@ -95,6 +98,7 @@ fn goal_automaton(
     ensures number { IfOk result (λ own. own.number ≡ place + 1) }
     ensures automaton { IfOk result (λ own. IsOf own.automaton (form goal.now.pattern) first last) }
     ensures opening { IfOk result (λ own. IsOpening own.opening first (form goal.now.pattern)) }
+    ensures gaps { IfOk result (λ own. IfSome own.gaps (λ word. IsGapWordOf (form goal.now.pattern) word)) }
 {
     if place >= u32::MAX as usize {
         return Err(Memory);
@@ -105,6 +109,7 @@ fn goal_automaton(
     Ok(GoalAutomaton {
         number: place as u32 + 1,
         opening,
+        gaps: GapWord::of(alloc, &pattern)?,
         automaton: automaton_of(alloc, &pattern, first, last)?,
     })
 }

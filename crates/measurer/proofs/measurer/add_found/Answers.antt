@@ -12,6 +12,6 @@ add_walks-requires c = subst (λ g. IsIndexOf g c.args.tables.now.index.order c.
 pub returns : goal.returns
 returns c =
     let walks = subst (λ g. Adds (HasGoalWalk g c.args.plan.now.first c.args.plan.now.last c.args.path.now) c.args.numbers.now c.add_walks.new.numbers) c.as_slice-goals.ensures c.in_ok-add_walks.ensures in
-    let others = c.add_others.ensures c.args.plan.now.goals c.args.plan.now.first c.args.plan.now.last
+    let others = c.add_others.ensures c.args.plan.now.goals
     (subst (λ a. AreAutomata c.args.plan.now.goals c.args.plan.now.first c.args.plan.now.last (length c.args.plan.now.goals) a) (sym c.as_slice-automata.ensures) c.requires.automata) in
     on_ok c.add_others.result _ _ (λ h. adds_both _ _ _ _ _ walks h) others

@@ -1,4 +1,4 @@
-use Rattle.std.proofs.Common.{Bool, List, length}
+use Rattle.std.proofs.Common.{List, length}
 use Rattle.goals.specs.GoalForm.{GoalForm}
 use Rattle.word_index.specs.Numbers.{Adds}
 use Rattle.measurer.specs.Measured.{AreAutomata}
@@ -7,4 +7,4 @@ use Rattle.measurer.proofs.others.add_matched.Given as goal
 
 abbrev pub invariant-loop-own : goal.invariant-loop-own
 invariant-loop-own l =
-    (goals : List GoalForm) (first last : Bool) → AreAutomata goals first last (length goals) l.automata → Adds (MatchedBefore goals first last l.path l.automata l.own-index) l.initial.numbers l.numbers
+    (goals : List GoalForm) → AreAutomata goals l.first l.last (length goals) l.automata → Adds (MatchedBefore goals l.first l.last l.path l.automata l.own-index) l.initial.numbers l.numbers

@@ -12,7 +12,7 @@ loop-place-preserved c =
     elim c.if-not-is_plain.branch [
       | then-not-is_plain+in_ok-own+in_ok-push w ↦ subst (AreAutomata c.args.goals.now c.args.first c.args.last (c.loop-place.place + 1)) (sym (w.automata-is ∙ w.in_ok-push.ensures.ok))
           (goal_added c.args.goals.now c.args.first c.args.last c.loop-place.place c.index-goals-place.result c.loop-place.automata w.in_ok-own.own e w.in_ok-own.ensures.number
-          (record { other = plain ∙ w.if-not-is_plain.true; automaton = w.in_ok-own.ensures.automaton; opening = w.in_ok-own.ensures.opening }) c.loop-place.invariant)
+          (record { other = plain ∙ w.if-not-is_plain.true; automaton = w.in_ok-own.ensures.automaton; opening = w.in_ok-own.ensures.opening; gaps = w.in_ok-own.ensures.gaps }) c.loop-place.invariant)
       | else-not-is_plain w ↦ subst (AreAutomata c.args.goals.now c.args.first c.args.last (c.loop-place.place + 1)) (sym w.automata-is)
           (goal_skipped c.args.goals.now c.args.first c.args.last c.loop-place.place c.index-goals-place.result c.loop-place.automata e (plain ∙ w.if-not-is_plain.false) c.loop-place.invariant)
     ]

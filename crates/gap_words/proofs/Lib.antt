@@ -1,0 +1,4 @@
+pub mod Going
+pub mod Ends
+pub mod Gaps
+pub mod Spelled
