@@ -4,7 +4,7 @@ use Rattle.std.specs.Prelude.{slice_get, nat_lt}
 use Rattle.std.proofs.lemmas.Bool.{and_parts, and_from, or_cases, cases_eq, cases_lt, eqb-true, ltb-true, lt-ltb, both_ways, false_from_ne_true}
 use Rattle.std.proofs.Math.ListN.{length-set, get_or-eq_default}
 use Rattle.std.proofs.lemmas.List.{get_or_append_left, get_or_push, get_or-take, length-take, length_push, get_or_default}
-use Rattle.std.proofs.lemmas.List.Elements.{Contains-push_cases, Contains-append_left, Contains-push, All-contains}
+use Rattle.std.proofs.lemmas.List.Elements.{Contains-get_or, Contains-push_cases, Contains-append_left, Contains-push, All-contains}
 use Rattle.std.proofs.lemmas.Option.{same_Some}
 use Rattle.std.specs.Option.{IsSomeAnd}
 use Rattle.cfa.proofs.Exits.{taken, given}
@@ -19,8 +19,11 @@ use Rattle.graph_paths.proofs.BorderLaws.{within_by}
 use Rattle.graph_paths.proofs.Prefixes.{edge_with}
 
 -- an edge that leaves a node is one of the graph
-pub row_below : (parts : GraphParts) (node k : ℕ) → Contains (outgoing_of parts node) k → k < length parts.edges
+row_below : (parts : GraphParts) (node k : ℕ) → Contains (outgoing_of parts node) k → k < length parts.edges
 row_below parts node k h = within_by parts.edges (λ (e : Edge). e.source ≡ node) k ((outgoing_tells parts node k).0 h)
+
+pub row_within : (parts : GraphParts) (node i : ℕ) (row : List ℕ) → row ≡ outgoing_of parts node → i < length row → get_or row i 0 < length parts.edges
+row_within parts node i row is lt = let P : List ℕ → Type 0 = λ xs. Contains xs (get_or row i 0) in row_below parts node (get_or row i 0) (subst P is (Contains-get_or row i 0 lt))
 
 -- one more edge of a row, from its end, which waits from now on
 pub waits_too : (row waiting left : List ℕ) (i : ℕ) → i < length row
@@ -200,15 +203,15 @@ reopened parts ends left more s t k source target h by from to fewer =
             (same e.target ∙ dead_still levels layers met by.count e.target (omega arith) it.0, omega arith)
       ];
     }
-    where
-      layers_low : (s t : Search) (i count : ℕ) → ((i : ℕ) → get_or s.layers.items i 0 ≤ s.round) → t.layers.items ≡ take count s.layers.items → t.round ≡ s.round → get_or t.layers.items i 0 ≤ t.round
-      layers_low s t i count low is round = elim (cases_lt i count) [
-        | inl lt ↦ let e = ap (λ xs. get_or xs i 0) is ∙ get_or-take count s.layers.items i 0 lt in let b = low i in omega arith
-        | inr ge ↦
-            let long = ap length is ∙ length-take count s.layers.items in
-            let e = get_or-eq_default t.layers.items 0 {n = i} (omega arith) in
-            omega arith
-      ]
+  where
+    layers_low : (s t : Search) (i count : ℕ) → ((i : ℕ) → get_or s.layers.items i 0 ≤ s.round) → t.layers.items ≡ take count s.layers.items → t.round ≡ s.round → get_or t.layers.items i 0 ≤ t.round
+    layers_low s t i count low is round = elim (cases_lt i count) [
+      | inl lt ↦ let e = ap (λ xs. get_or xs i 0) is ∙ get_or-take count s.layers.items i 0 lt in let b = low i in omega arith
+      | inr ge ↦
+          let long = ap length is ∙ length-take count s.layers.items in
+          let e = get_or-eq_default t.layers.items 0 {n = i} (omega arith) in
+          omega arith
+    ]
 
 -- ---- marks of nodes
 

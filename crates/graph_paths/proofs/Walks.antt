@@ -81,7 +81,7 @@ module _ (g : Ground) (ground : IsGround g) where
       ∙ ap (remaining (paths_behind parts a g.bound) (row_of parts a) t.steps.items) (sym place)
 
   -- the nodes whose marks say so are ends
-  end_marks : (n : ℕ) → is_end_node parts a n ≡ true → is_marked g.ends.items n ≡ true
+  pub end_marks : (n : ℕ) → is_end_node parts a n ≡ true → is_marked g.ends.items n ≡ true
   end_marks n h = ground.ends n (ground.within.nodes n (and_parts (a.node n) _ h).0) ∙ h
 
   -- an edge with no uses left is passed over
