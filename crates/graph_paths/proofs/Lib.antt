@@ -1,7 +1,8 @@
-pub mod Lists
 pub mod BorderLaws
+pub mod CountLaws
 pub mod Extensions
 pub mod ListingLaws
+pub mod Lists
 pub mod Members
 pub mod Ordered
 pub mod Pending

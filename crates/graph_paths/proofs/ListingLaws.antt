@@ -1,9 +1,9 @@
 -- A list of paths that grows.
-use Rattle.std.proofs.Common.{◌≡◌, ℕ, ◌+◌, ◌-◌, ◌<◌, Bool, true, List, [], ◌∷◌, ◌++◌, Option, Some, None, length, refl, sym, ◌∙◌, ap, subst, inl, inr, arith, append_assoc, zero-add}
+use Rattle.std.proofs.Common.{◌≡◌, ℕ, ◌+◌, ◌-◌, ◌<◌, ◌≤◌, Bool, true, List, [], ◌∷◌, ◌++◌, Option, Some, None, length, refl, sym, ◌∙◌, ap, subst, inl, inr, arith, append_assoc, zero-add}
 use Rattle.std.specs.Prelude.{nat_le, if◌then◌else◌}
 use Rattle.std.proofs.lemmas.Bool.{cases_Bool, leb-true, leb-false}
 use Rattle.std.proofs.lemmas.List.{length_push}
-use Rattle.std.proofs.lemmas.List.Sums.{sum_by_push}
+use Rattle.std.proofs.lemmas.List.Sums.{sum_by-append, sum_by_push}
 use Rattle.cfa.specs.declared.parts.GraphParts.{GraphParts}
 use Rattle.filters.specs.declared.target_graph.TargetGraph.{TargetGraph}
 use Rattle.graph_paths.specs.declared.ground.Ground.{Ground}
@@ -51,6 +51,22 @@ under_way_more g all edge_limit count w t l m h walk next paths room =
       size = length_push h.done p ∙ ap (λ n. n + 1) h.size;
       kept = subst R (sym room) (subst P (sym paths) (listed_more edge_limit h.done p l.room l.paths h.kept));
     }
+
+-- the edges of the paths that are done are too many, whatever is ahead
+pub told_early : (g : Ground) (all : List (List ℕ)) (edge_limit count : ℕ) (w : Walk) (l : Listing) → IsUnderWay g all edge_limit count w l → l.room ≡ None → edge_limit < edge_count all
+told_early g all edge_limit count w l h none =
+    let K : Option ℕ → Type 0 = λ r. AreListed edge_limit h.done r l.paths in
+    let over : edge_limit < edge_count h.done = subst K none h.kept in
+    let whole = ap edge_count h.whole in
+    let parted = sum_by-append length h.done (ahead g w) in
+    omega arith
+
+-- of so few paths, those of the arguments
+pub few_of : (g : Ground) (parts : GraphParts) (target : TargetGraph) (k limit : ℕ) → parts_of g ≡ parts → g.target.now ≡ target → g.bound ≡ k → length (paths_of (parts_of g) g.target.now g.bound) ≤ limit → length (paths_of parts target k) ≤ limit
+few_of g parts target k limit graph part bound low =
+    let same : paths_of (parts_of g) g.target.now g.bound ≡ paths_of parts target k = (λ i. paths_of (graph i) (part i) (bound i)) in
+    let long = ap length same in
+    omega arith
 
 -- the walk begins with all paths ahead
 pub begun : (g : Ground) (parts : GraphParts) (target : TargetGraph) (k edge_limit : ℕ) (w : Walk) (l : Listing) → IsGround g → parts_of g ≡ parts → g.target.now ≡ target → g.bound ≡ k → IsWalk g w → w.steps.items ≡ [] → w.place ≡ 0

@@ -22,7 +22,7 @@ use Rattle.graph_paths.proofs.Lists.{flat_map-filter}
 use Rattle.graph_paths.proofs.Prefixes.{edge_with, has_by, last_or-append, chained, chained-append, joined_is, ends_by, occurrences-append, occurs_first, occurs_later, PathParts, path_parts, path_from, short_path}
 use Rattle.graph_paths.proofs.Rows.{passes_at}
 
-last_push : (o : Option ℕ) (p : List ℕ) (e : ℕ) → last_or o (p ++ e ∷ []) ≡ Some e
+pub last_push : (o : Option ℕ) (p : List ℕ) (e : ℕ) → last_or o (p ++ e ∷ []) ≡ Some e
 last_push o p e = last_or-append o p (e ∷ [])
 
 module _ (parts : GraphParts) (a : Part) (most : ℕ) where
@@ -189,6 +189,19 @@ module _ (parts : GraphParts) (a : Part) (most : ℕ) where
         let way = way_on left (p ++ e ∷ []) uses e there.0 [] rest there.1 joined edges (λ j. let b = it.bounded j in let s = occurrences-append j (p ++ e ∷ []) rest in omega arith) at_end in
         both_ways (is_way parts ends left node rest) (none rest) (ap (λ n. is_way parts ends left n rest) (sym there.2) ∙ way))
 
+    -- an edge that may not be taken at all
+    pub never_taken : (uses p : List ℕ) (e : ℕ) (x : Edge) → AreUses parts a living most uses → slice_get parts.edges e ≡ Some x → get_or uses e 0 ≡ 0 → paths_behind parts a most (p ++ e ∷ []) ≡ []
+    never_taken uses p e x caps is none = none_by (p ++ e ∷ []) (λ rest h.
+        let it = goes_on p e rest h in
+        let edges = (and_parts (list_all a.edge p) (list_all a.edge (e ∷ rest)) (sym (list_all-append a.edge p (e ∷ rest)) ∙ it.edges)).1 in
+        let inside : a.edge e ≡ true = (and_parts (a.edge e) (list_all a.edge rest) edges).0 in
+        let living_target = alive_behind p e x rest is it in
+        let whole : get_or uses e 0 ≡ most = caps.each e x is ∙ ap (λ b. if b then most else 0) (and_from (a.edge e) (is_marked living x.target) inside living_target) in
+        let all = it.bounded e in
+        let both = occurrences-append e p (e ∷ rest) in
+        let own_use = occurs_first e rest in
+        omega arith)
+
     -- an edge that has no uses left
     pub used_up : (uses left p : List ℕ) (e : ℕ) (x : Edge) → AreUses parts a living most uses → AreLeft parts uses left p → slice_get parts.edges e ≡ Some x → get_or left e 0 ≡ 0 → paths_behind parts a most (p ++ e ∷ []) ≡ []
     used_up uses left p e x caps table is none = none_by (p ++ e ∷ []) (λ rest h.
@@ -209,7 +222,7 @@ module _ (parts : GraphParts) (a : Part) (most : ℕ) where
   unfolding extensions
   all_behind = ap (filter (is_path parts a most)) (map-id (ordered_lists (length parts.edges) (most * length parts.edges)))
 
-  whole_behind : paths_behind parts a most [] ≡ filter (is_path parts a most) (ordered_lists (length parts.edges) (most * length parts.edges))
+  pub whole_behind : paths_behind parts a most [] ≡ filter (is_path parts a most) (ordered_lists (length parts.edges) (most * length parts.edges))
   unfolding behind
   whole_behind = (let e : most * length parts.edges - length {A = ℕ} [] ≡ most * length parts.edges = omega arith in ap (λ n. extensions (length parts.edges) (is_path parts a most) n []) e) ∙ all_behind
 

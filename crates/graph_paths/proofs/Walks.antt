@@ -1,9 +1,9 @@
 -- The steps of a walk.
-use Rattle.std.proofs.Common.{inl, inr, ◌&&◌, ◌≡◌, ℕ, zero, suc, ◌+◌, ◌-◌, ◌≤◌, ◌<◌, Bool, true, false, List, [], ◌∷◌, ◌++◌, Option, Some, None, length, get_or, set, All, refl, sym, ◌∙◌, ap, subst, arith}
+use Rattle.std.proofs.Common.{inl, inr, ◌&&◌, ◌≡◌, ℕ, zero, suc, ◌+◌, ◌-◌, ◌≤◌, ◌<◌, Bool, true, false, List, [], ◌∷◌, ◌++◌, Option, Some, None, length, get_or, set, All, refl, sym, ◌∙◌, ap, subst, arith, get_or-set_other}
 use Rattle.std.specs.Prelude.{slice_get, ◌==◌, if◌then◌else◌}
 use Rattle.std.specs.Option.{IsSomeAnd}
 use Rattle.std.specs.List.{filter, last_or, range_with_len}
-use Rattle.std.proofs.lemmas.Bool.{and_parts, and_from, cases_Bool}
+use Rattle.std.proofs.lemmas.Bool.{and_parts, and_from, cases_Bool, cases_eq}
 use Rattle.std.proofs.lemmas.List.{map_push, set-set, set-get_or, length_push, get_or_push, get_or_append_left}
 use Rattle.std.proofs.lemmas.List.Elements.{All-push}
 use Rattle.std.proofs.lemmas.List.Sums.{length-filter, count_by-le-length}
@@ -14,6 +14,7 @@ use Rattle.cfa.specs.declared.parts.Edge.{Edge}
 use Rattle.cfa.specs.declared.parts.GraphParts.{GraphParts}
 use Rattle.filters.specs.Parts.{Part, IsWithin, edge_has, is_marked}
 use Rattle.graph_paths.specs.declared.ground.Ground.{Ground}
+use Rattle.graph_paths.specs.declared.search.Search.{Search}
 use Rattle.graph_paths.specs.declared.walk.Step.{Step}
 use Rattle.graph_paths.specs.declared.walk.Walk.{Walk}
 use Rattle.graph_paths.specs.Ground.{IsGround, parts_of, part_in, is_first}
@@ -24,6 +25,7 @@ use Rattle.graph_paths.specs.Uses.{AreLeft}
 use Rattle.graph_paths.proofs.Extensions.{own}
 use Rattle.graph_paths.proofs.Pending.{passed_over, forward, backward, nothing_left}
 use Rattle.graph_paths.proofs.Prefixes.{edge_with, has_by, occurrences-append, occurs_first}
+use Rattle.graph_paths.proofs.SearchLaws.{fewer_uses}
 use Rattle.graph_paths.proofs.WalkLaws.{follows, in_row, prefix_push, prefix_pop, last_in_part, used_up, behind_row, own_path, own_none, barren, left_push, left_pop}
 
 range_length : (a n : ℕ) → length (range_with_len a n) ≡ n
@@ -49,6 +51,13 @@ row_length : (parts : GraphParts) (a : Part) (o : Option ℕ) → length (row_af
 row_length parts a None = row_short (is_first parts a) (length parts.edges)
 row_length parts a (Some k) = row_short (leads_to parts k) (length parts.edges)
 
+-- a search goes on where the lists are the same
+pub at_lists : (parts : GraphParts) (ends others : List Bool) (left more : List ℕ) (s : Search) → others ≡ ends → more ≡ left → IsSearch parts ends left s → IsSearch parts others more s
+at_lists parts ends others left more s a b h =
+    let E : List Bool → Type 0 = λ xs. IsSearch parts xs more s in
+    let L : List ℕ → Type 0 = λ xs. IsSearch parts ends xs s in
+    subst E (sym a) (subst L (sym b) h)
+
 module _ (g : Ground) (ground : IsGround g) where
   abbrev parts : GraphParts
   parts = parts_of g
@@ -72,7 +81,7 @@ module _ (g : Ground) (ground : IsGround g) where
       ∙ ap (remaining (paths_behind parts a g.bound) (row_of parts a) t.steps.items) (sym place)
 
   -- the nodes whose marks say so are ends
-  end_marks : (n : ℕ) → is_end_node parts a n ≡ true → is_marked g.ends.items n ≡ true
+  pub end_marks : (n : ℕ) → is_end_node parts a n ≡ true → is_marked g.ends.items n ≡ true
   end_marks n h = ground.ends n (ground.within.nodes n (and_parts (a.node n) _ h).0) ∙ h
 
   -- an edge with no uses left is passed over
@@ -98,6 +107,19 @@ module _ (g : Ground) (ground : IsGround g) where
   pub use_fits : (w : Walk) (e : ℕ) → IsWalk g w → NextEdge w e → get_or w.left.items e 0 ≤ g.bound
   use_fits w e walk at = let sum = walk.uses.each e (edge_within w e at) in let low = whole_most e (edge_within w e at) in omega arith
 
+  -- a walk that hasn't begun
+  pub unbegun : (w : Walk) → w.steps.items ≡ [] → w.left.items ≡ g.uses.items → IsSearch parts g.ends.items w.left.items w.search → IsWalk g w
+  unbegun w none left search =
+      let P : List Step → Type 0 = λ xs. IsPrefix parts a g.bound (edges_of xs) in
+      let U : List Step → Type 0 = λ xs. AreLeft parts g.uses.items w.left.items (edges_of xs) in
+      let A : List Step → Type 0 = λ xs. All (λ (s : Step). s.place < length parts.edges) xs in
+      record {
+        «prefix» = subst P (sym none) (record { begins = λ lt. absurd (omega arith); edges = refl; joined = refl; bounded = λ k. let e : occurrences k [] ≡ 0 = refl in omega arith });
+        uses = subst U (sym none) (record { size = ap length left ∙ ground.uses.size; each = λ k low. let e : occurrences k [] ≡ 0 = refl in let same = ap (λ xs. get_or xs k 0) left in omega arith });
+        places = subst A (sym none) (λ i d lt. absurd (omega arith));
+        search = search;
+      }
+
   -- ---- a step forward
 
   abbrev pub Taken : Walk → Walk → ℕ → Type 0
@@ -118,11 +140,19 @@ module _ (g : Ground) (ground : IsGround g) where
       let r = room w e walk at some in
       prefix_push parts a g.bound (prefix_of w) e walk.«prefix» (in_row parts a g.bound (last_or None (prefix_of w)) w.place e at) r.0 r.1
 
-  fewer_uses : (w : Walk) (e v : ℕ) → IsWalk g w → NextEdge w e → 0 < get_or w.left.items e 0 → v ≡ get_or w.left.items e 0 - 1 → AreLeft parts g.uses.items (set w.left.items e v) (prefix_of w ++ e ∷ [])
-  fewer_uses w e v walk at some is = left_push parts g.uses.items w.left.items (prefix_of w) e v walk.uses (edge_within w e at) some is
+  taken_uses : (w : Walk) (e v : ℕ) → IsWalk g w → NextEdge w e → 0 < get_or w.left.items e 0 → v ≡ get_or w.left.items e 0 - 1 → AreLeft parts g.uses.items (set w.left.items e v) (prefix_of w ++ e ∷ [])
+  taken_uses w e v walk at some is = left_push parts g.uses.items w.left.items (prefix_of w) e v walk.uses (edge_within w e at) some is
 
-  pub stepped : (w t : Walk) (e v : ℕ) → IsWalk g w → NextEdge w e → 0 < get_or w.left.items e 0 → v ≡ get_or w.left.items e 0 - 1 → Taken w t e → t.left.items ≡ set w.left.items e v → IsSearch parts t.search → IsWalk g t
-  stepped w t e v walk at some is steps left search =
+  -- a search goes on where an edge has a use less
+  pub lessened : (w : Walk) (e v : ℕ) → IsWalk g w → NextEdge w e → 0 < get_or w.left.items e 0 → IsSearch parts g.ends.items (set w.left.items e v) w.search
+  lessened w e v walk at some = fewer_uses parts g.ends.items w.left.items (set w.left.items e v) w.search walk.search (λ k more. elim (cases_eq k e) [
+    | inl same ↦ let was = ap (λ m. get_or w.left.items m 0) same in omega arith
+    | inr other ↦ let is = get_or-set_other w.left.items e k v 0 other in omega arith
+  ])
+
+  pub stepped : (w t : Walk) (e v : ℕ) (s : Search) → IsWalk g w → NextEdge w e → 0 < get_or w.left.items e 0 → v ≡ get_or w.left.items e 0 - 1 → Taken w t e → t.left.items ≡ set w.left.items e v → t.search ≡ s
+      → IsSearch parts g.ends.items (set w.left.items e v) s → IsWalk g t
+  stepped w t e v s walk at some is steps left same search =
       let P : List ℕ → Type 0 = λ p. IsPrefix parts a g.bound p in
       let U : List ℕ → Type 0 = λ p. AreLeft parts g.uses.items t.left.items p in
       let L : List ℕ → Type 0 = λ xs. AreLeft parts g.uses.items xs (prefix_of w ++ e ∷ []) in
@@ -130,9 +160,9 @@ module _ (g : Ground) (ground : IsGround g) where
       let low = place_within w e at in
       record {
         «prefix» = subst P (sym (longer w t e steps)) (longer_prefix w e walk at some);
-        uses = subst U (sym (longer w t e steps)) (subst L (sym left) (fewer_uses w e v walk at some is));
+        uses = subst U (sym (longer w t e steps)) (subst L (sym left) (taken_uses w e v walk at some is));
         places = subst A (sym steps) (All-push (λ (s : Step). s.place < length parts.edges) w.steps.items (record { edge = e; place = w.place }) walk.places low);
-        search = search;
+        search = at_lists parts g.ends.items g.ends.items (set w.left.items e v) t.left.items t.search refl left (let S : Search → Type 0 = λ u. IsSearch parts g.ends.items (set w.left.items e v) u in subst S (sym same) search);
       }
 
   -- what is ahead before and after a step forward
@@ -166,7 +196,7 @@ module _ (g : Ground) (ground : IsGround g) where
       → IsSomeAnd (slice_get parts.edges e) (λ x. x.target ≡ node) → ((way : List ℕ) → is_way parts g.ends.items left node way ≡ false) → t.steps.items ≡ w.steps.items → t.place ≡ w.place + 1 → ahead g w ≡ ahead g t
   passed_barren w t e v node left walk at some is after to none =
       let U : List ℕ → Type 0 = λ xs. AreLeft parts g.uses.items xs (prefix_of w ++ e ∷ []) in
-      let uses = subst U (sym after) (fewer_uses w e v walk at some is) in
+      let uses = subst U (sym after) (taken_uses w e v walk at some is) in
       let left_some : (k : ℕ) (x : Edge) → slice_get parts.edges k ≡ Some x → a.edge k ≡ true → is_marked ground.living x.target ≡ true → occurrences k (prefix_of w ++ e ∷ []) < g.bound → 0 < get_or left k 0 = λ k x there inside alive low.
       let sum = uses.each k (ground.within.edges k inside) in
       let whole : get_or g.uses.items k 0 ≡ g.bound = ground.uses.each k x there ∙ ap (λ b. if b then g.bound else 0) (and_from (a.edge k) (is_marked ground.living x.target) inside alive) in
@@ -174,7 +204,7 @@ module _ (g : Ground) (ground : IsGround g) where
       passed w t e at (barren parts a g.bound g.ends.items ground.living end_marks ground.lives left (prefix_of w) e node left_some to none)
 
   -- the table of uses as it was
-  pub restored : (w t : Walk) (e u v : ℕ) → IsWalk g w → NextEdge w e → v ≡ get_or w.left.items e 0 → t.left.items ≡ set (set w.left.items e u) e v → t.steps.items ≡ w.steps.items → IsSearch parts t.search → IsWalk g t
+  pub restored : (w t : Walk) (e u v : ℕ) → IsWalk g w → NextEdge w e → v ≡ get_or w.left.items e 0 → t.left.items ≡ set (set w.left.items e u) e v → t.steps.items ≡ w.steps.items → IsSearch parts g.ends.items t.left.items t.search → IsWalk g t
   restored w t e u v walk at is left steps search =
       let same : t.left.items ≡ w.left.items = left ∙ set-set w.left.items e u v ∙ ap (set w.left.items e) is ∙ set-get_or w.left.items e 0 in
       let P : List Step → Type 0 = λ xs. IsPrefix parts a g.bound (edges_of xs) in
@@ -221,7 +251,7 @@ module _ (g : Ground) (ground : IsGround g) where
         let one = occurs_first s.edge [] in
         omega arith
 
-    pub walk_back : (v : ℕ) → v ≡ get_or w.left.items s.edge 0 + 1 → t.left.items ≡ set w.left.items s.edge v → IsSearch parts t.search → IsWalk g t
+    pub walk_back : (v : ℕ) → v ≡ get_or w.left.items s.edge 0 + 1 → t.left.items ≡ set w.left.items s.edge v → IsSearch parts g.ends.items t.left.items t.search → IsWalk g t
     walk_back v is left search =
         let L : List ℕ → Type 0 = λ xs. AreLeft parts g.uses.items xs (prefix_of t) in
         record {

@@ -26,6 +26,7 @@ part_in g = part_of g.target.now
 pub record IsGround (g : Ground) : Type 0 where
   pub within : IsWithin (parts_of g) (part_in g)
   pub few : length (parts_of g).edges < 2 ^ 32
+  pub few_nodes : length (parts_of g).nodes < 2 ^ 32
   pub bound : g.bound < 2 ^ 32
   pub ends_size : length g.ends.items ≡ length (parts_of g).nodes
   pub ends : (n : ℕ) → n < length (parts_of g).nodes → is_marked g.ends.items n ≡ is_end_node (parts_of g) (part_in g) n

@@ -6,5 +6,6 @@ pub mod Outcome
 pub mod Paths
 pub mod Searching
 pub mod Spreading
+pub mod Totals
 pub mod Uses
 pub mod Walking

@@ -69,7 +69,7 @@ pub record IsWalk (g : Ground) (w : Walk) : Type 0 where
   pub «prefix» : IsPrefix (parts_of g) (part_in g) g.bound (prefix_of w)
   pub uses : AreLeft (parts_of g) g.uses.items w.left.items (prefix_of w)
   pub places : All (λ (s : Step). s.place < length (parts_of g).edges) w.steps.items
-  pub search : IsSearch (parts_of g) w.search
+  pub search : IsSearch (parts_of g) g.ends.items w.left.items w.search
 
 -- the paths that a walk has still to list
 abbrev pub ahead : Ground → Walk → List (List ℕ)

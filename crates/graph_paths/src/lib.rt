@@ -15,6 +15,7 @@ pub mod laws;
 mod listing;
 mod living;
 mod search;
+mod totals;
 mod walk;
 
 pub use fault::PathFault;

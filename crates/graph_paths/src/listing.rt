@@ -1,5 +1,5 @@
 // The list of all paths.
-ghost use Rattle.std.specs.Prelude.{◌≡◌, OnOk};
+ghost use Rattle.std.specs.Prelude.{◌≡◌, None, IfOk, OnOk, true};
 ghost use Rattle.filters.specs.Parts.{IsWithin, part_of};
 ghost use Rattle.graph_paths.specs.Listing.{paths_with, room_with, listed};
 ghost use Rattle.graph_paths.specs.Outcome.{IsPathsOutcome};
@@ -8,6 +8,7 @@ ghost use Rattle.graph_paths.specs.Walking.{prefix_of};
 
 use crate::fault::PathFault;
 use crate::ground::Ground;
+use crate::totals::are_few;
 use crate::walk::Walk;
 use cfa::Graph;
 use containers::Vector;
@@ -24,24 +25,26 @@ pub(crate) struct Listing {
 }
 
 impl Listing {
-    // One more path, if its edges fit.
-    fn add(&mut self, alloc: Global, walk: &Walk) -> Result<(), Memory>
+    // One more path, if its edges fit. Whether it is the first whose edges don't.
+    fn add(&mut self, alloc: Global, walk: &Walk) -> Result<bool, Memory>
         ensures paths { OnOk result (self.new.paths ≡ paths_with self.old.room self.old.paths (prefix_of walk.now)) }
         ensures room { OnOk result (self.new.room ≡ room_with self.old.room (prefix_of walk.now)) }
+        ensures over { IfOk result (λ over. over ≡ true → self.new.room ≡ None) }
     {
         match self.room {
-            None => {}
+            None => Ok(false),
             Some(room) => {
                 let length = walk.steps.len();
                 if length <= room as usize {
                     self.paths.push(walk.path(alloc)?)?;
                     self.room = Some(room - length as u32);
+                    Ok(false)
                 } else {
                     self.room = None;
+                    Ok(true)
                 }
             }
         }
-        Ok(())
     }
 
     fn finish(self) -> Result<Vector<Vector<u32>>, PathFault>
@@ -83,7 +86,11 @@ pub fn paths(
         if !walk.advance(&ground)? {
             return listing.finish();
         }
-        listing.add(alloc, &walk)?;
+        if listing.add(alloc, &walk)? {
+            if are_few(alloc, &ground, limit)? {
+                return Err(PathFault::TooManyEdges);
+            }
+        }
     }
     if walk.advance(&ground)? {
         return Err(PathFault::TooManyPaths);

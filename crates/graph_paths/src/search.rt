@@ -1,8 +1,7 @@
 // Searches for a way to the end of a path.
-ghost use Rattle.std.specs.Prelude.{◌≡◌, ◌<◌, ◌≤◌, ◌⊎◌, ℕ, All, Contains, IfOk, OnOk, false, true, length, slice_index};
+ghost use Rattle.std.specs.Prelude.{◌≡◌, ◌<◌, ◌-◌, ◌^◌, ℕ, Bool, List, All, Contains, IfOk, IsTrue, OnOk, false, true, length, slice_index};
 ghost use Rattle.cfa.specs.Table.{outgoing_of};
-ghost use Rattle.graph_paths.specs.Searching.{is_way, IsSearch, is_met, IsSearching, KeepsMet, KeepsMarks, HaveTables};
-ghost use Rattle.filters.specs.Parts.{is_marked};
+ghost use Rattle.graph_paths.specs.Searching.{is_way, IsSearch, is_dead, IsBelow, is_past, IsSearching, KeepsPast, KeepsMarks, IsReopened, IsSealed, HaveTables};
 
 use crate::edge_ends::target_of;
 use cfa::Graph;
@@ -10,10 +9,18 @@ use fq_core::Memory;
 use std::alloc::Global;
 
 /// The memory of searches, of which each begins where the one before left it.
+///
+/// A search that finds no end leaves a layer: the nodes that it met are dead from then on, since all edges with uses left
+/// that leave them lead to one another or to nodes of earlier layers. Later searches pass by dead nodes. Where an edge may
+/// be taken once more, the layer of its source and the later ones are given up, unless it leads to a dead node too.
 #[derive(Drop)]
 pub(crate) struct Search {
     /// By node, the number of the search that met it last.
     pub(crate) met: Vec<u64>,
+    /// By node, how many layers there were when it was met last.
+    pub(crate) levels: Vec<usize>,
+    /// The numbers of the searches whose nodes are dead.
+    pub(crate) layers: Vec<u64>,
     /// The number of the search, from 1.
     pub(crate) round: u64,
     /// The edges that wait to be followed, the next one last.
@@ -45,12 +52,15 @@ fn wait(waiting: &mut Vec<u32>, graph: &Graph, left: &[u32], node: u32) -> Resul
 
 impl Search {
     pub(crate) fn new(alloc: Global, graph: &Graph) -> Result<Search, Memory>
-        ensures { IfOk result (λ s. IsSearch graph.now s) }
+        ensures { IfOk result (λ s. (ends : List Bool) → (left : List ℕ) → IsSearch graph.now ends left s) }
     {
         let met = vec![in alloc; 0; graph.nodes().len()]?;
+        let levels = vec![in alloc; 0; graph.nodes().len()]?;
         let via = vec![in alloc; 0; graph.nodes().len()]?;
         Ok(Search {
             met,
+            levels,
+            layers: Vec::new(alloc),
             round: 0,
             waiting: Vec::new(alloc),
             via,
@@ -58,17 +68,15 @@ impl Search {
         })
     }
 
-    // Whether the way that was found last goes on by this edge. It is forgotten if it doesn't.
+    // Whether the way that was found last goes on by this edge, which is taken off it then.
     fn goes_on_by(&mut self, edge: u32) -> bool
         ensures { KeepsMarks self.old self.new }
     {
-        match self.route.pop() {
-            Some(next) if next == edge => true,
-            _ => {
-                self.route.clear();
-                false
-            }
+        if self.route.last() == Some(&edge) {
+            let _edge = self.route.pop();
+            return true;
         }
+        false
     }
 
     /// Forgets the way that was found last.
@@ -76,6 +84,56 @@ impl Search {
         ensures { KeepsMarks self.old self.new }
     {
         self.route.clear();
+    }
+
+    // Whether a search that found no end met a node, and its layer is still there.
+    fn is_dead(&self, node: u32) -> bool
+        requires met { node < length self.now.met.items }
+        requires levels { node < length self.now.levels.items }
+        ensures { result ≡ is_dead self.now node }
+    {
+        let level = self.levels[node as usize];
+        level < self.layers.len() && self.layers[level] == self.met[node as usize]
+    }
+
+    // Whether the search needn't go to a node: it has met it, or it is dead.
+    fn is_past(&self, node: u32) -> bool
+        requires met { node < length self.now.met.items }
+        requires levels { node < length self.now.levels.items }
+        ensures { result ≡ is_past self.now node }
+    {
+        self.met[node as usize] == self.round || self.is_dead(node)
+    }
+
+    // Whether a node is dead in the layer of another one or in an earlier one.
+    fn is_below(&self, node: u32, other: u32) -> bool
+        requires node { node < length self.now.levels.items }
+        requires met { other < length self.now.met.items }
+        requires levels { other < length self.now.levels.items }
+        ensures { IsTrue result → IsBelow self.now node other }
+    {
+        self.is_dead(other) && self.levels[other as usize] <= self.levels[node as usize]
+    }
+
+    /// An edge from one node to another may be taken once more. What is dead for want of it isn't from now on.
+    pub(crate) fn reopen(&mut self, source: u32, target: u32)
+        requires met { (source < length self.old.met.items) × (target < length self.old.met.items) }
+        requires levels { length self.old.levels.items ≡ length self.old.met.items }
+        ensures { IsReopened self.old source target self.new }
+    {
+        if self.is_dead(source) && !self.is_below(source, target) {
+            let level = self.levels[source as usize];
+            self.layers.truncate(level);
+        }
+    }
+
+    // The nodes that the search met are a layer from now on.
+    fn seal(&mut self) -> Result<(), Memory>
+        ensures { OnOk result (IsSealed self.old self.new) }
+    {
+        let round = self.round;
+        self.layers.push(round)?;
+        Ok(())
     }
 
     // An edge is followed to a node. The edge is kept with it, if the node wasn't met yet.
@@ -114,7 +172,7 @@ impl Search {
         Ok(())
     }
 
-    // Whether a node is an end. If it isn't, it is met, and its edges wait.
+    // Whether a node is an end. If it isn't, it is met, and its edges wait, unless it was met before or is dead.
     fn arrive(
         &mut self,
         graph: &Graph,
@@ -125,18 +183,19 @@ impl Search {
         requires node { node < length graph.now.nodes }
         requires tables { HaveTables graph.now ends.now left.now }
         requires open { IsSearching graph.now ends.now left.now (λ n. n ≡ node) self.old }
-        ensures search { OnOk result (IsSearch graph.now self.new) }
-        ensures kept { OnOk result (KeepsMet self.old self.new) }
-        ensures inner { IfOk result (λ at_end. at_end ≡ false → IsSearching graph.now ends.now left.now (λ n. ⊥) self.new × (is_met self.new node ≡ true)) }
+        ensures search { OnOk result (IsSearch graph.now ends.now left.now self.new) }
+        ensures kept { OnOk result (KeepsPast self.old self.new) }
+        ensures inner { IfOk result (λ at_end. at_end ≡ false → IsSearching graph.now ends.now left.now (λ n. ⊥) self.new × (is_past self.new node ≡ true)) }
     {
         let at = node as usize;
-        if self.met[at] == self.round {
+        if self.is_past(node) {
             return Ok(false);
         }
         if ends[at] {
             return Ok(true);
         }
         self.met[at] = self.round;
+        self.levels[at] = self.layers.len();
         wait(&mut self.waiting, graph, left, node)?;
         Ok(false)
     }
@@ -153,13 +212,34 @@ impl Search {
     ) -> Result<bool, Memory>
         requires node { from < length graph.now.nodes }
         requires tables { HaveTables graph.now ends.now left.now }
-        requires search { IsSearch graph.now self.old }
-        ensures search { OnOk result (IsSearch graph.now self.new) }
+        requires search { IsSearch graph.now ends.now left.now self.old }
+        ensures search { OnOk result (IsSearch graph.now ends.now left.now self.new) }
         ensures none { IfOk result (λ found. found ≡ false → (way : _) → is_way graph.now ends.now left.now from way ≡ false) }
     {
         if self.goes_on_by(by) || self.round == u64::MAX {
             return Ok(true);
         }
+        if self.is_dead(from) {
+            return Ok(false);
+        }
+        self.finds_end(graph, ends, left, from)
+    }
+
+    // Goes along edges with uses left from a node, until an end is found or none is left. The way there is kept.
+    fn finds_end(
+        &mut self,
+        graph: &Graph,
+        ends: &[bool],
+        left: &[u32],
+        from: u32,
+    ) -> Result<bool, Memory>
+        requires node { from < length graph.now.nodes }
+        requires tables { HaveTables graph.now ends.now left.now }
+        requires search { IsSearch graph.now ends.now left.now self.old }
+        requires more { self.old.round < 2 ^ 64 - 1 }
+        ensures search { OnOk result (IsSearch graph.now ends.now left.now self.new) }
+        ensures none { IfOk result (λ found. found ≡ false → (way : _) → is_way graph.now ends.now left.now from way ≡ false) }
+    {
         self.round += 1;
         self.waiting.clear();
         if self.arrive(graph, ends, left, from)? {
@@ -167,7 +247,10 @@ impl Search {
         }
         for _ in 0..u64::MAX {
             match self.waiting.pop() {
-                None => return Ok(false),
+                None => {
+                    self.seal()?;
+                    return Ok(false);
+                }
                 Some(edge) => {
                     let node = target_of(graph, edge);
                     self.come_by(node, edge);

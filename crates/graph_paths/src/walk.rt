@@ -4,7 +4,7 @@ ghost use Rattle.filters.specs.Parts.{part_of};
 ghost use Rattle.graph_paths.specs.Ground.{IsGround, parts_of, part_in};
 ghost use Rattle.graph_paths.specs.Walking.{IsWalk, IsAdvanced, ahead, prefix_of, row_of};
 
-use crate::edge_ends::target_of;
+use crate::edge_ends::{source_of, target_of};
 use crate::ground::Ground;
 use crate::search::Search;
 use containers::Vector;
@@ -105,6 +105,7 @@ impl Walk {
             self.push(edge)?;
         } else {
             self.left[at] += 1;
+            self.search.reopen(source_of(ground.graph, edge), node);
             self.place += 1;
         }
         Ok(false)
@@ -121,9 +122,12 @@ impl Walk {
         match self.steps.pop() {
             None => false,
             Some(step) => {
+                let source = source_of(ground.graph, step.edge);
+                let target = target_of(ground.graph, step.edge);
                 self.left[step.edge as usize] += 1;
                 self.place = step.place + 1;
                 self.search.forget_route();
+                self.search.reopen(source, target);
                 true
             }
         }

@@ -33,6 +33,19 @@ fn turns(alloc: Global) -> Result<Drawing, Memory> {
     Ok(drawing)
 }
 
+// `for (;;) { if (!x) { return; } }`: edge 0 leads to the head, 1 to the branch, 2 behind it, 3 to the exit and 4 back.
+fn way_back(alloc: Global) -> Result<Drawing, Memory> {
+    let mut drawing = Drawing::new(alloc);
+    let head = drawing.node();
+    let branch = drawing.node();
+    let behind = drawing.node();
+    drawing.skip(0, head)?;
+    drawing.skip(head, branch)?;
+    drawing.branch(branch, behind, 1)?;
+    drawing.skip(behind, head)?;
+    Ok(drawing)
+}
+
 // A ladder of branches that ends in a loop for ever.
 fn no_way_out(alloc: Global, count: u32) -> Result<Drawing, Memory> {
     let mut drawing = Drawing::new(alloc);
@@ -204,6 +217,19 @@ fn paths_in_order(rt: HostRuntime) -> Result<(), Fail> {
     assert!(rt; has_kept_paths(alloc, &turns, "cover SETMINUS(@EXIT(f),ID)", 1, &[]));
     laws::paths_rise();
     laws::one_list();
+    Ok(())
+}
+
+// Behind the branch only an edge goes on that is used up, until it may be taken once more.
+#[test]
+fn ways_that_are_used_up(rt: HostRuntime) -> Result<(), Fail> {
+    let alloc = rt.alloc();
+    let Ok(way_back) = drawn(way_back(alloc)) else {
+        assert!(rt; false, "the loop is no automaton");
+        return Ok(());
+    };
+    assert!(rt; has_paths(alloc, &way_back, 1, &[&[0, 1, 3]]));
+    assert!(rt; has_paths(alloc, &way_back, 2, &[&[0, 1, 2, 4, 1, 3], &[0, 1, 3]]));
     Ok(())
 }
 

@@ -1,14 +1,8 @@
 use Rattle.std.proofs.Common.{◌≡◌, ℕ, ◌+◌, ◌-◌, ◌<◌, ◌≤◌, ◌++◌, ◌∷◌, [], List, All, Contains, length, get_or, sym, subst, ap, ◌∙◌, arith}
-use Rattle.std.proofs.lemmas.List.Elements.{All-push, Contains-append_left, Contains-get_or}
-use Rattle.cfa.specs.declared.parts.GraphParts.{GraphParts}
-use Rattle.cfa.specs.Table.{outgoing_of}
-use Rattle.graph_paths.proofs.SearchLaws.{row_below, waits_too, waits_not, all_wait}
+use Rattle.std.proofs.lemmas.List.Elements.{All-push, Contains-append_left}
+use Rattle.graph_paths.proofs.SearchLaws.{row_within, waits_too, waits_not, all_wait}
 use Rattle.graph_paths.proofs.search.wait.Goals as goal
 use Rattle.graph_paths.proofs.search.wait.Goals.{then-left-edge-gt0+in_ok-push, else-left-edge-gt0}
-
--- an edge of a row is one of the graph
-row_within : (parts : GraphParts) (node i : ℕ) (row : List ℕ) → row ≡ outgoing_of parts node → i < length row → get_or row i 0 < length parts.edges
-row_within parts node i row is lt = let P : List ℕ → Type 0 = λ xs. Contains xs (get_or row i 0) in row_below parts node (get_or row i 0) (subst P is (Contains-get_or row i 0 lt))
 
 pub bounds-left-edge : goal.bounds-left-edge
 bounds-left-edge c =

@@ -1,14 +1,8 @@
-use Rattle.std.proofs.Common.{◌++◌, ◌∷◌, [], sym, ◌∙◌, ap, arith}
-use Rattle.std.proofs.lemmas.List.{nil_from_length}
-use Rattle.graph_paths.proofs.SearchLaws.{no_way, followed, waiting_within}
+use Rattle.std.proofs.Common.{sym, ◌∙◌}
+use Rattle.graph_paths.proofs.SearchLaws.{keeps_search, no_way}
 use Rattle.graph_paths.proofs.search.Search.reaches_end.Goals as goal
 
-pub returns-in-None-clause-none : goal.returns-in-None-clause-none
-returns-in-None-clause-none c = λ never. no_way c.args.graph.now c.args.ends.now c.args.left.now c.loop.self c.loop.invariant.state (nil_from_length c.loop.self.waiting.items (omega (arith, c.in-None.ensures.cases.0, c.loop.self.waiting.ok.0))) c.args.from c.loop.invariant.from
-
-pub target_of-node-requires : goal.target_of-node-requires
-target_of-node-requires c = waiting_within c.args.graph.now c.args.ends.now c.args.left.now c.loop.self c.pop.new.self.items c.in-Some.edge c.loop.invariant.state c.in-Some.ensures.items
-
-pub arrive-requires-in-Some-clause-open : goal.arrive-requires-in-Some-clause-open
-arrive-requires-in-Some-clause-open c = followed c.args.graph.now c.args.ends.now c.args.left.now c.loop.self c.come_by.new.self c.in-Some.edge c.target_of-node.result c.loop.invariant.state
-    (c.in-Some.ensures.items ∙ ap (λ v. v.items ++ c.in-Some.edge ∷ []) (sym c.come_by.ensures.waiting)) c.come_by.ensures.marks.0 c.come_by.ensures.marks.1 c.target_of-node.ensures.target
+pub returns-then-is_dead-clause-none : goal.returns-then-is_dead-clause-none
+returns-then-is_dead-clause-none c = λ never.
+    let search = keeps_search c.args.graph.now c.args.ends.now c.args.left.now c.args.self.now c.goes_on_by.new.self c.requires.search c.goes_on_by.ensures in
+    no_way c.args.graph.now c.args.ends.now c.args.left.now c.goes_on_by.new.self search c.args.from (sym c.is_dead.ensures ∙ c.if-is_dead.true)
