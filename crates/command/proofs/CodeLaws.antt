@@ -108,11 +108,11 @@ numbered_told : (number : ℕ) (parts : List (Result Input Misfit)) → FormTold
 numbered_told number [] = tt
 numbered_told number (Err misfit.Shape ∷ parts) = refl
 numbered_told number (Err misfit.Range ∷ parts) = refl
-numbered_told number (Ok input ∷ parts) = by (nat_le number most_inputs)
+numbered_told number (Ok input ∷ parts) = by (nat_le number most_inputs) (numbered_told (number + 1) parts)
   where
-    by : (b : Bool) → FormTold (cond b (after (input ∷ []) (numbered (number + 1) parts)) (refused_at 53 (place.Limit most_inputs)))
-    by true = after_told (input ∷ []) (numbered (number + 1) parts) (numbered_told (number + 1) parts)
-    by false = refl
+    by : (b : Bool) → FormTold (numbered (number + 1) parts) → FormTold (cond b (after (input ∷ []) (numbered (number + 1) parts)) (refused_at 53 (place.Limit most_inputs)))
+    by true h = after_told (input ∷ []) (numbered (number + 1) parts) h
+    by false h = refl
 
 array_told : (parameters : ℕ) (o : Option Items) → FormTold (inputs_of_array parameters o)
 array_told parameters None = refl
