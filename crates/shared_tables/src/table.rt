@@ -1,6 +1,6 @@
 // Tables that share their chunks.
-ghost use Rattle.std.specs.Prelude.{◌≡◌, ◌∷◌, ◌++◌, ◌+◌, ◌≤◌, ◌<◌, [], IfOk, OnOk, OnErr, Some, length, take, drop, slice_get, slice_set};
-ghost use Rattle.shared_tables.specs.Chunks.{IsStored};
+ghost use Rattle.std.specs.Prelude.{◌≡◌, ◌∷◌, ◌++◌, ◌+◌, ◌≤◌, ◌<◌, [], IfOk, OnOk, OnErr, Some, length, replicate, take, slice_get, slice_range, slice_set};
+ghost use Rattle.std.specs.Option.{option_copied};
 
 use crate::chunk::Chunk;
 use std::alloc::{AllocError, Global};
@@ -57,6 +57,17 @@ impl<T: Copy + Drop> Table<T> {
         &self.chunks[place / CHUNK].as_slice()[place % CHUNK]
     }
 
+    /// The item at a place, from 0, or `None` past the end.
+    pub fn get(&self, place: usize) -> Option<&T>
+        ensures { option_copied result ≡ slice_get self.now place }
+    {
+        if place < self.len() {
+            Some(self.at(place))
+        } else {
+            None
+        }
+    }
+
     /// The allocator from which more room is taken.
     pub fn allocator(&self) -> Global {
         *self.chunks.allocator()
@@ -93,6 +104,26 @@ impl<T: Copy + Drop> Table<T> {
         Ok(())
     }
 
+    /// Adds items at the end, in order.
+    pub fn extend_from_slice(&mut self, items: &[T]) -> Result<(), AllocError>
+        ensures { OnOk result (self.new ≡ self.old ++ items.now) }
+    {
+        for k in 0..items.len() {
+            self.push(items[k])?;
+        }
+        Ok(())
+    }
+
+    /// Adds one item at the end, so many times.
+    pub fn extend_with(&mut self, item: T, count: usize) -> Result<(), AllocError>
+        ensures { OnOk result (self.new ≡ self.old ++ replicate count item) }
+    {
+        for k in 0..count {
+            self.push(item)?;
+        }
+        Ok(())
+    }
+
     /// Drops the items from a place on.
     pub fn truncate(&mut self, count: usize)
         ensures { self.new ≡ take count self.old }
@@ -117,14 +148,15 @@ impl<T: Copy + Drop> Table<T> {
         })
     }
 
-    /// Copies of so many items from a place on.
-    pub fn range(&self, first: usize, count: usize) -> Result<Vec<T>, AllocError>
-        requires { first + count ≤ length self.now }
-        ensures { IfOk result (λ items. items.items ≡ take count (drop first self.now)) }
+    /// Copies of the items from one place to before another.
+    pub fn range(&self, first: usize, end: usize) -> Result<Vec<T>, AllocError>
+        requires order { first ≤ end }
+        requires within { end ≤ length self.now }
+        ensures { IfOk result (λ items. items.items ≡ slice_range self.now first end) }
     {
         let _all = self.len();
         let mut items = Vec::new(self.allocator());
-        for k in 0..count {
+        for k in 0..end - first {
             items.push(*self.at(first + k))?;
         }
         Ok(items)
