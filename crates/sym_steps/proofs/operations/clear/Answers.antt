@@ -9,8 +9,8 @@ use Rattle.sym_steps.proofs.operations.clear.Goals as goal
 pub running-requires : goal.running-requires
 running-requires c = rw c.deref.ensures (some_frames c.args.graph.now c.args.circuit.now c.args.state c.well_formed-2.ensures c.requires.states)
 
-pub with_zeros-store-requires : goal.with_zeros-store-requires
-with_zeros-store-requires c =
+pub with_zeros-requires : goal.with_zeros-requires
+with_zeros-requires c =
     let within = clear_within c.args.graph.now c.args.circuit.now c.args.state c.args.at c.args.edge.now c.well_formed-2.ensures c.requires.states c.requires.leaves c.args.array c.args.count c.requires.clears in
     let first = rw (c.running.ensures, c.deref.ensures) at (c.array_start-first.ensures.place []) in
     omega arith
