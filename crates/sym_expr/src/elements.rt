@@ -11,6 +11,7 @@ ghost use Rattle.sym_expr.specs.Stores.{cells_in, outcome_in};
 ghost use Rattle.sym_expr.specs.Weights.{element_weight, most_expression_wires};
 
 use crate::patterns::is_pattern;
+use crate::store::SymStore;
 use bit_words::gates::{both, either};
 use bit_words::{Word, choose, constant, extended};
 use c_values::Kind;
@@ -18,15 +19,15 @@ use cfa::{ArrayPlace, Frame};
 use circuit::{Circuit, Lit, Memory};
 
 /// What a cell holds, as a value of a kind, beside the literal that always holds.
-pub(crate) fn held(cells: &[Word], cell: usize, kind: Kind) -> (Word, Lit)
-    requires cell { cell < length cells.now }
+pub(crate) fn held(store: &SymStore, cell: usize, kind: Kind) -> (Word, Lit)
+    requires cell { cell < length store.now.cells }
     requires kind { IsKind kind }
-    ensures word { (gates : List Gate) → All (All (IsWire gates)) cells.now → IsWord gates kind result.0 }
+    ensures word { (gates : List Gate) → All (All (IsWire gates)) store.now.cells → IsWord gates kind result.0 }
     ensures wire { (gates : List Gate) → IsWire gates result.1 }
     ensures sure { result.1.wire ≡ 0 }
-    ensures value { (gates : List Gate) → All (All (IsWire gates)) cells.now → (w : World) → outcome_in gates result w ≡ Some (wrapped kind (pos (slice_index (cells_in gates cells.now w) cell))) }
+    ensures value { (gates : List Gate) → All (All (IsWire gates)) store.now.cells → (w : World) → outcome_in gates result w ≡ Some (wrapped kind (pos (slice_index (cells_in gates store.now.cells w) cell))) }
 {
-    (extended(&cells[cell], kind), Lit::YES)
+    (extended(store.cells.at(cell), kind), Lit::YES)
 }
 
 /// The place of an array's first cell among all cells.

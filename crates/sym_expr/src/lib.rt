@@ -18,6 +18,6 @@ mod writes;
 
 pub use conditions::condition;
 pub use elements::array_start;
-pub use store::SymStore;
+pub use store::{SymStore, is_same_word};
 pub use translation::translate;
 pub use writes::put;

@@ -79,12 +79,11 @@ fn loaded(
     ensures sure { place_weight place.now kind.width ≡ 0 → IfOk result (λ r. r.1.wire ≡ 0) }
     ensures value { IfOk result (λ r. (w : World) → outcome_in circuit.new r w ≡ result_ok (value_of (cells_in circuit.old store.now.cells w) frame.now (Expr.Load place.now kind))) }
 {
-    let cells = store.cells.as_slice();
     match place {
-        CellPlace::Global(cell) => Ok(held(cells, *cell as usize, kind)),
+        CellPlace::Global(cell) => Ok(held(store, *cell as usize, kind)),
         CellPlace::Local(cell) => {
             let at = frame.base as usize + *cell as usize;
-            Ok(held(cells, at, kind))
+            Ok(held(store, at, kind))
         }
         CellPlace::Element {
             array,
@@ -92,10 +91,11 @@ fn loaded(
             length,
         } => {
             let named = translate(circuit, index, store, frame)?;
+            let _count = store.cells.len();
             let start = array_start(*array, frame);
             let end = start + *length as usize;
-            let elements = &cells[start..end];
-            element(circuit, elements, &named, kind)
+            let elements = store.cells.range(start, end)?;
+            element(circuit, elements.as_slice(), &named, kind)
         }
     }
 }

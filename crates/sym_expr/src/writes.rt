@@ -17,15 +17,13 @@ use bit_words::gates::both;
 use c_values::Kind;
 use cfa::{CellPlace, Frame};
 use circuit::{Circuit, Lit, Memory};
-use containers::Vector;
-use std::mem;
 
 /// Puts a word into the cell that a place names, where this frame runs, and answers a literal that holds where the place's
 /// index doesn't trap and names an element. The kind is the one at which the cell is written.
 ///
 /// In every world, let the cells be what their words are there, before and after. Where the place names a cell, the cells
 /// after are those before with the word's value in that one (ISO/IEC 9899:2011, 6.5.16p3). Each element of an array
-/// chooses between the word and its own, by whether the index is its place. After [`Memory`] the store has no cells.
+/// chooses between the word and its own, by whether the index is its place. After [`Memory`] some of them may have chosen.
 pub fn put(
     circuit: &mut Circuit,
     store: &mut SymStore,
@@ -49,11 +47,11 @@ pub fn put(
 {
     match place {
         CellPlace::Global(cell) => {
-            put_cell(store, *cell as usize, word);
+            store.set(*cell as usize, word)?;
             Ok(Lit::YES)
         }
         CellPlace::Local(cell) => {
-            put_cell(store, frame.base as usize + *cell as usize, word);
+            store.set(frame.base as usize + *cell as usize, word)?;
             Ok(Lit::YES)
         }
         CellPlace::Element {
@@ -66,24 +64,6 @@ pub fn put(
             put_element(circuit, store, start, *length as usize, &named, word)
         }
     }
-}
-
-/// The cells of a store, which is left without any.
-fn taken(store: &mut SymStore) -> Vec<Word>
-    ensures { result.items ≡ store.old.cells }
-{
-    let alloc = store.cells.allocator();
-    mem::replace(&mut store.cells, Vector::new(alloc)).into_vec()
-}
-
-/// Puts a word into a cell.
-fn put_cell(store: &mut SymStore, cell: usize, word: &Word)
-    requires { cell < length store.old.cells }
-    ensures { store.new.cells ≡ slice_set store.old.cells cell word.now }
-{
-    let mut cells = taken(store);
-    cells[cell] = *word;
-    store.cells = Vector::from_vec(cells);
 }
 
 /// Puts a word into the cell that an index names among so many from a place on, and answers whether it names one, where the
@@ -139,14 +119,13 @@ fn put_among(
     ensures value { OnOk result ((w : World) → let i = word_value circuit.old index.now w in let cells = cells_in circuit.old store.old.cells w in
         cells_in circuit.new store.new.cells w ≡ (if nat_lt i count then slice_set cells (start + i) (word_value circuit.old word.now w) else cells)) }
 {
-    let mut cells = taken(store);
+    let _cells = store.cells.len();
     let mut inside = Lit::NO;
     for k in 0..count {
-        let before = (cells[start + k], inside);
+        let before = (*store.cells.at(start + k), inside);
         let (chosen, named) = with_element(circuit, index, k as u64, word, &before)?;
-        cells[start + k] = chosen;
+        store.set(start + k, &chosen)?;
         inside = named;
     }
-    store.cells = Vector::from_vec(cells);
     Ok(inside)
 }

@@ -168,7 +168,8 @@ fn written(alloc: Global, patterns: &[u64]) -> Result<Option<(Vec<u64>, bool)>, 
         return Ok(None);
     };
     let world = world_of(alloc, patterns)?;
-    let cells = patterns_in(alloc, &circuit, store.cells.as_slice(), &world)?;
+    let words = store.cells.range(0, store.cells.len())?;
+    let cells = patterns_in(alloc, &circuit, words.as_slice(), &world)?;
     Ok(Some((cells, circuit.value(inside, &world)?)))
 }
 

@@ -115,7 +115,7 @@ pub(crate) fn clear(
         taken,
     } = state;
     let first = array_start(array, running(&frames));
-    let store = with_zeros(store, first, count as usize);
+    let store = with_zeros(store, first, count as usize)?;
     one_way(alloc, at, Lit::YES, Lit::NO, frames, store, taken)
 }
 

@@ -17,15 +17,16 @@ use bit_words::{Word, constant};
 use cfa::{Frame, Graph};
 use circuit::Memory;
 use containers::Vector;
+use shared_tables::Table;
 use std::alloc::{AllocError, Global};
 use sym_expr::SymStore;
 
 /// The words of values, the same in all worlds.
-fn constants(alloc: Global, values: &[u64]) -> Result<Vector<Word>, AllocError>
+fn constants(alloc: Global, values: &[u64]) -> Result<Table<Word>, AllocError>
     ensures cells { IfOk result (λ words. (gates : List Gate) (w : World) → cells_in gates words w ≡ values.now) }
     ensures wires { IfOk result (λ words. (gates : List Gate) → All (All (IsWire gates)) words) }
 {
-    let mut words = Vector::new(alloc);
+    let mut words = Table::new(alloc);
     for value in values {
         words.push(constant(*value))?;
     }

@@ -258,7 +258,8 @@ fn ends(alloc: Global, source: &str, patterns: &[u64], most: u32) -> Result<(u32
     };
     let mut circuit = Circuit::new(alloc);
     let store = free_store(alloc, &mut circuit, patterns.len() as u32)?;
-    let Some(words) = fitted(alloc, &circuit, &store.cells, &function.parameters)? else {
+    let inputs = store.cells.range(0, store.cells.len())?;
+    let Some(words) = fitted(alloc, &circuit, &inputs, &function.parameters)? else {
         return Ok(refused);
     };
     if !can_start(&graph, entry, &words) {
@@ -269,7 +270,7 @@ fn ends(alloc: Global, source: &str, patterns: &[u64], most: u32) -> Result<(u32
     };
     let first = start(alloc, &graph, entry, &words)?;
     let world = world_of(alloc, patterns)?;
-    let answers = rest(alloc, &circuit, &store.cells, words.len())?;
+    let answers = rest(alloc, &circuit, &inputs, words.len())?;
     run_in(
         &mut circuit,
         &graph,

@@ -9,6 +9,7 @@ use bit_words::{Word, extended};
 use cfa::{Expr, Frame, FunctionRoom, checked_kind};
 use circuit::{Circuit, Lit, Memory};
 use containers::Vector;
+use shared_tables::Table;
 use std::alloc::Global;
 use sym_expr::{SymStore, put, translate};
 use test_words::free_word;
@@ -31,7 +32,7 @@ pub struct Places {
 pub fn free_store(alloc: Global, circuit: &mut Circuit, cells: u32) -> Result<SymStore, Memory>
     ensures { IfOk result (λ r. All (All (IsWire circuit.new)) r.cells) }
 {
-    let mut words = Vector::new(alloc);
+    let mut words = Table::new(alloc);
     for _ in 0..cells {
         if circuit.wires() > 1 << 29 {
             return Err(Memory);

@@ -1,9 +1,8 @@
--- Words that are chosen one by one.
-use Rattle.std.proofs.Common.{◌≡◌, ℕ, ◌+◌, ◌*◌, ◌≤◌, Bool, true, false, cond, List, [], ◌∷◌, ◌++◌, length, length-append, take, Some, refl, sym, ap, subst, ◌∙◌, arith}
-use Rattle.std.specs.Prelude.{All, slice_get}
-use Rattle.std.proofs.lemmas.List.{get_or-map, length-map, map_push, take_all, take_more}
-use Rattle.std.proofs.lemmas.List.Elements.{All-push}
-use Rattle.std.proofs.lemmas.Option.{get_or_from_slice_get, slice_get_within}
+-- Cells that are chosen one by one.
+use Rattle.std.proofs.Common.{◌≡◌, ℕ, ◌+◌, ◌*◌, ◌<◌, Bool, true, false, cond, List, [], ◌∷◌, ◌++◌, length, take, drop, set, get_or, refl, sym, ap, ◌∙◌, append_assoc, add-one, length-take, length-set, arith}
+use Rattle.std.specs.Prelude.{All}
+use Rattle.std.proofs.lemmas.List.{append-nil, drop_all, drop_more, get_or-map, length-map, length-take-le, map-set, set-get_or, set_at, take_all, take_more}
+use Rattle.std.proofs.lemmas.List.Elements.{All-set}
 use Rattle.circuit.specs.Truth.{World}
 use Rattle.circuit.specs.Wires.{IsWire, lit_holds}
 use Rattle.circuit.specs.declared.lit.Lit.{Lit}
@@ -14,62 +13,94 @@ use Rattle.bit_words.proofs.Values.{word_value-later}
 use Rattle.sym_expr.specs.Stores.{cells_in}
 use Rattle.sym_expr.proofs.ElementLemmas.{cells_later, cells_still}
 
--- so many words were chosen
-pub record ChosenSoFar (old new : List Gate) (test : Lit) (first second words : List (List Lit)) (i : ℕ) : Type 0 where
-  pub grows : Grows old new (256 * i)
-  pub count : length words ≡ i
-  pub wires : All (All (IsWire new)) words
-  pub value : (w : World) → cells_in new words w ≡ cond (lit_holds old test w) (take i (cells_in old first w)) (take i (cells_in old second w))
+-- ---- one cell
 
-pub chosen_none : (gates : List Gate) (test : Lit) (first second : List (List Lit)) → ChosenSoFar gates gates test first second [] 0
-chosen_none gates test first second = record {
+-- a cell whose word is the one to be chosen
+pub chosen_same : (p : Bool) (values : List ℕ) (cell v : ℕ) → cell < length values → get_or values cell 0 ≡ v → values ≡ cond p (set values cell v) values
+chosen_same true values cell v lt is = sym (ap (λ x. set values cell x) (sym is) ∙ set-get_or values cell 0)
+chosen_same false values cell v lt is = refl
+
+-- a cell into which the choice was put
+pub chosen_put : (p : Bool) (values : List ℕ) (cell v x : ℕ) → x ≡ cond p v (get_or values cell 0) → set values cell x ≡ cond p (set values cell v) values
+chosen_put true values cell v x is = ap (λ y. set values cell y) is
+chosen_put false values cell v x is = ap (λ y. set values cell y) is ∙ set-get_or values cell 0
+
+module _ {old new : List Gate} {most : ℕ} (cells : List (List Lit)) (test : Lit) (yes : List Lit) (cell : ℕ) (grown : Grows old new most) (wires : All (All (IsWire old)) cells) (within : cell < length cells) where
+  pub cell_same : (no : List Lit) (w : World) → get_or cells cell no ≡ no → yes ≡ no → cells_in old cells w ≡ cond (lit_holds old test w) (set (cells_in old cells w) cell (word_value old yes w)) (cells_in old cells w)
+  cell_same no w there is =
+      chosen_same (lit_holds old test w) (cells_in old cells w) cell (word_value old yes w) (omega (arith, length-map cells (λ word. word_value old word w)))
+      (get_or-map (λ word. word_value old word w) cells cell no 0 within ∙ ap (λ word. word_value old word w) (there ∙ sym is))
+
+  pub cell_chosen : (no word : List Lit) (w : World) → get_or cells cell no ≡ no → word_value new word w ≡ cond (lit_holds old test w) (word_value old yes w) (word_value old no w)
+      → cells_in new (set cells cell word) w ≡ cond (lit_holds old test w) (set (cells_in old cells w) cell (word_value old yes w)) (cells_in old cells w)
+  cell_chosen no word w there is =
+      let one : word_value new word w ≡ cond (lit_holds old test w) (word_value old yes w) (get_or (cells_in old cells w) cell 0) =
+      is ∙ ap (λ v. cond (lit_holds old test w) (word_value old yes w) v) (sym (get_or-map (λ q. word_value old q w) cells cell no 0 within ∙ ap (λ q. word_value old q w) there)) in
+      map-set (λ q. word_value new q w) cells cell word
+      ∙ ap (λ xs. set xs cell (word_value new word w)) (cells_later grown cells wires w)
+      ∙ chosen_put (lit_holds old test w) (cells_in old cells w) cell (word_value old yes w) (word_value new word w) one
+
+-- ---- all cells
+
+-- the first cells were chosen, so many
+pub record ChosenSoFar (old new : List Gate) (test : Lit) (yes no cells : List (List Lit)) (i : ℕ) : Type 0 where
+  pub grows : Grows old new (256 * i)
+  pub count : length cells ≡ length no
+  pub wires : All (All (IsWire new)) cells
+  pub value : (w : World) → cells_in new cells w ≡ cond (lit_holds old test w) (take i (cells_in old yes w) ++ drop i (cells_in old no w)) (cells_in old no w)
+
+pub chosen_none : (gates : List Gate) (test : Lit) (yes no : List (List Lit)) → All (All (IsWire gates)) no → ChosenSoFar gates gates test yes no no 0
+chosen_none gates test yes no wires = record {
   grows = grows_none gates 0;
   count = refl;
-  wires = λ k d lt. absurd (omega arith);
-  value = λ w. either (lit_holds gates test w) w;
+  wires = wires;
+  value = λ w. either (lit_holds gates test w) (cells_in gates no w);
 }
   where
-    either : (b : Bool) (w : World) → [] ≡ cond b (take 0 (cells_in gates first w)) (take 0 (cells_in gates second w))
-    either true w = refl
-    either false w = refl
+    either : (b : Bool) (xs : List ℕ) → xs ≡ cond b xs xs
+    either true xs = refl
+    either false xs = refl
 
-take_value : (gates : List Gate) (cells : List (List Lit)) (w : World) (i : ℕ) (a : List Lit) → slice_get cells i ≡ Some a → take (i + 1) (cells_in gates cells w) ≡ take i (cells_in gates cells w) ++ word_value gates a w ∷ []
-take_value gates cells w i a e =
-    let lt = slice_get_within cells i a e in
-    let long = length-map cells (λ word. word_value gates word w) in
-    take_more (cells_in gates cells w) i 0 (omega arith)
-    ∙ ap (λ v. take i (cells_in gates cells w) ++ v ∷ []) (get_or-map (λ word. word_value gates word w) cells i a 0 lt ∙ ap (λ word. word_value gates word w) (get_or_from_slice_get cells i a a e))
+-- the next of two lists' places
+next_place : (xs ys : List ℕ) (i : ℕ) → length xs ≡ length ys → i < length ys → set (take i xs ++ drop i ys) i (get_or xs i 0) ≡ take (i + 1) xs ++ drop (i + 1) ys
+next_place xs ys i long lt =
+    let front : length (take i xs) ≡ i = length-take-le i xs (omega arith) in
+    ap (λ zs. set (take i xs ++ zs) i (get_or xs i 0)) (drop_more ys i 0 lt)
+    ∙ set_at (take i xs) (get_or ys i 0) (drop (i + 1) ys) (get_or xs i 0) i front
+    ∙ sym (append_assoc (take i xs) (get_or xs i 0 ∷ []) (drop (i + 1) ys))
+    ∙ ap (λ zs. zs ++ drop (i + 1) ys) (sym (take_more xs i 0 (omega arith)))
 
-pub chosen_more : {old mid new : List Gate} {test : Lit} {first second words : List (List Lit)} {i : ℕ} (a b word : List Lit) → ChosenSoFar old mid test first second words i → slice_get first i ≡ Some a → slice_get second i ≡ Some b
-    → IsWire old test → All (All (IsWire old)) first → All (All (IsWire old)) second → Grows mid new 256 → All (IsWire new) word
-    → ((w : World) → word_value new word w ≡ cond (lit_holds mid test w) (word_value mid a w) (word_value mid b w)) → ChosenSoFar old new test first second (words ++ word ∷ []) (i + 1)
-chosen_more {old} {mid} {new} {test} {first} {second} {words} {i} a b word r fa fb t ha hb g wires is =
-    let count = r.count in
-    record {
-      grows = grows_within (256 * (i + 1)) (grows_then r.grows g) (omega arith);
-      count = omega (arith, length-append words (word ∷ []));
-      wires = All-push (All (IsWire new)) words word (cells_still g words r.wires) wires;
-      value = λ w.
-          let same_test = same r.grows test t w in
-          let first_value = word_value-later r.grows a (member first ha i a fa) w in
-          let second_value = word_value-later r.grows b (member second hb i b fb) w in
-          map_push (λ q. word_value new q w) words word
-          ∙ ap (λ vs. vs ++ word_value new word w ∷ []) (cells_later g words r.wires w ∙ r.value w)
-          ∙ ap (λ v. cond (lit_holds old test w) (take i (cells_in old first w)) (take i (cells_in old second w)) ++ v ∷ []) (is w ∙ ap (λ p. cond p (word_value mid a w) (word_value mid b w)) same_test ∙ ap (λ v. cond (lit_holds old test w) v (word_value mid b w)) first_value ∙ ap (λ v. cond (lit_holds old test w) (word_value old a w) v) second_value)
-          ∙ both (lit_holds old test w) w;
-    }
+pub chosen_more : {old mid new : List Gate} {test : Lit} {yes no cells : List (List Lit)} {i : ℕ} (after : List (List Lit)) (word : List Lit) → ChosenSoFar old mid test yes no cells i → length yes ≡ length no → i < length no → get_or yes i word ≡ word
+    → IsWire old test → All (All (IsWire old)) yes → Grows mid new 256 → All (All (IsWire new)) after → length after ≡ length cells
+    → ((w : World) → cells_in new after w ≡ cond (lit_holds mid test w) (set (cells_in mid cells w) i (word_value mid word w)) (cells_in mid cells w))
+    → ChosenSoFar old new test yes no after (i + 1)
+chosen_more {old} {mid} {new} {test} {yes} {no} {cells} {i} after word r long lt there t wires g still count is = record {
+  grows = grows_within (256 * (i + 1)) (grows_then r.grows g) (omega arith);
+  count = count ∙ r.count;
+  wires = still;
+  value = λ w.
+      let p = lit_holds old test w in
+      let xs = cells_in old yes w in
+      let ys = cells_in old no w in
+      let v : word_value mid word w ≡ get_or xs i 0 =
+      ap (λ q. word_value mid q w) (sym there) ∙ word_value-later r.grows (get_or yes i word) (wires i word (omega arith)) w ∙ sym (get_or-map (λ q. word_value old q w) yes i word 0 (omega arith)) in
+      let many : length xs ≡ length ys = length-map yes (λ q. word_value old q w) ∙ long ∙ sym (length-map no (λ q. word_value old q w)) in
+      is w
+      ∙ ap (λ b. cond b (set (cells_in mid cells w) i (word_value mid word w)) (cells_in mid cells w)) (same r.grows test t w)
+      ∙ ap (λ x. cond p (set (cells_in mid cells w) i x) (cells_in mid cells w)) v
+      ∙ ap (λ zs. cond p (set zs i (get_or xs i 0)) zs) (r.value w)
+      ∙ by p xs ys many (omega (arith, length-map no (λ q. word_value old q w)));
+}
   where
-    member : (cells : List (List Lit)) → All (All (IsWire old)) cells → (k : ℕ) (q : List Lit) → slice_get cells k ≡ Some q → All (IsWire old) q
-    member cells h k q e = subst (All (IsWire old)) (get_or_from_slice_get cells k q q e) (h k q (slice_get_within cells k q e))
+    by : (p : Bool) (xs ys : List ℕ) → length xs ≡ length ys → i < length ys → cond p (set (cond p (take i xs ++ drop i ys) ys) i (get_or xs i 0)) (cond p (take i xs ++ drop i ys) ys) ≡ cond p (take (i + 1) xs ++ drop (i + 1) ys) ys
+    by true xs ys many lt = next_place xs ys i many lt
+    by false xs ys many lt = refl
 
-    both : (p : Bool) (w : World) → cond p (take i (cells_in old first w)) (take i (cells_in old second w)) ++ cond p (word_value old a w) (word_value old b w) ∷ [] ≡ cond p (take (i + 1) (cells_in old first w)) (take (i + 1) (cells_in old second w))
-    both true w = sym (take_value old first w i a fa)
-    both false w = sym (take_value old second w i b fb)
-
--- all were chosen
-pub chosen_all : {old new : List Gate} {test : Lit} {first second words : List (List Lit)} {i : ℕ} → ChosenSoFar old new test first second words i → length first ≤ i → length first ≡ length second → (w : World) → cells_in new words w ≡ cond (lit_holds old test w) (cells_in old first w) (cells_in old second w)
-chosen_all {old} {new} {test} {first} {second} {words} {i} r all long w =
-    let one = length-map first (λ word. word_value old word w) in
-    let other = length-map second (λ word. word_value old word w) in
-    r.value w ∙ ap (λ vs. cond (lit_holds old test w) vs (take i (cells_in old second w))) (take_all i (cells_in old first w) (omega arith))
-    ∙ ap (λ vs. cond (lit_holds old test w) (cells_in old first w) vs) (take_all i (cells_in old second w) (omega arith))
+pub chosen_all : {old new : List Gate} {test : Lit} {yes no cells : List (List Lit)} (i : ℕ) → ChosenSoFar old new test yes no cells i → length yes ≡ length no → i ≡ length no → (w : World) → cells_in new cells w ≡ cond (lit_holds old test w) (cells_in old yes w) (cells_in old no w)
+chosen_all {old} {new} {test} {yes} {no} {cells} i r long end w =
+    let m = length-map yes (λ q. word_value old q w) in
+    let n = length-map no (λ q. word_value old q w) in
+    r.value w ∙ ap (λ zs. cond (lit_holds old test w) zs (cells_in old no w)) (all_of (cells_in old yes w) (cells_in old no w) (omega arith) (omega arith))
+  where
+    all_of : (xs ys : List ℕ) → i ≡ length xs → i ≡ length ys → take i xs ++ drop i ys ≡ xs
+    all_of xs ys same end = ap (λ zs. zs ++ drop i ys) (take_all i xs (omega arith)) ∙ ap (λ zs. xs ++ zs) (drop_all i ys (omega arith)) ∙ append-nil xs

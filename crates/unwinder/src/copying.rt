@@ -1,7 +1,6 @@
 // Copies of symbolic states.
 ghost use Rattle.std.specs.Prelude.{◌≡◌, IfOk};
 
-use bit_words::Word;
 use cfa::Frame;
 use containers::{TryClone, Vector};
 use std::alloc::{AllocError, Global};
@@ -23,28 +22,16 @@ fn copied_frames(alloc: Global, frames: &[Frame]) -> Result<Vector<Frame>, Alloc
     Ok(copy)
 }
 
-fn copied_words(alloc: Global, words: &[Word]) -> Result<Vec<Word>, AllocError>
-    ensures { IfOk result (λ copy. copy.items ≡ words.now) }
-{
-    let mut copy = Vec::new(alloc);
-    for i in 0..words.len() {
-        copy.push(words[i])?;
-    }
-    Ok(copy)
-}
-
-/// The same state.
+/// The same state, which shares the words of its cells.
 pub(crate) fn copied(alloc: Global, state: &SymState) -> Result<SymState, AllocError>
     ensures { IfOk result (λ copy. copy ≡ state.now) }
 {
     let frames = copied_frames(alloc, &state.frames)?;
-    let cells = copied_words(alloc, &state.store.cells)?;
+    let cells = state.store.cells.share()?;
     Ok(SymState {
         node: state.node,
         frames,
-        store: SymStore {
-            cells: Vector::from_vec(cells),
-        },
+        store: SymStore { cells },
         taken: state.taken,
     })
 }

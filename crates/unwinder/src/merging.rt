@@ -1,16 +1,14 @@
 // States in which runs come to a place by several ways, as one.
-ghost use Rattle.std.specs.Prelude.{◌≡◌, ◌+◌, ◌*◌, ◌≤◌, ◌^◌, ◌||◌, All, IfOk, if◌then◌else◌, length};
+ghost use Rattle.std.specs.Prelude.{◌≡◌, ◌+◌, ◌*◌, ◌<◌, ◌≤◌, ◌^◌, ◌||◌, All, IfOk, OnOk, if◌then◌else◌, length, slice_set};
 ghost use Rattle.circuit.specs.Truth.{World};
 ghost use Rattle.circuit.specs.Wires.{IsWire, lit_holds};
-ghost use Rattle.bit_words.specs.Words.{Grows};
+ghost use Rattle.bit_words.specs.Words.{Grows, word_value};
 ghost use Rattle.sym_expr.specs.Stores.{cells_in};
 
 use bit_words::gates::either;
 use bit_words::{Word, choose};
 use circuit::{Circuit, Lit, Memory};
-use containers::Vector;
-use std::alloc::Global;
-use sym_expr::SymStore;
+use sym_expr::{SymStore, is_same_word};
 use sym_steps::SymState;
 
 /// A symbolic state, and a literal that holds in the worlds in which runs come to it.
@@ -20,30 +18,56 @@ pub(crate) struct Met {
     pub(crate) state: SymState,
 }
 
-/// The first words where a test holds, and the second where not.
-fn chosen(
-    alloc: Global,
+/// Puts the choice between a word and that of a cell into the cell: the word where a test holds. Equal words are left, so
+/// that other stores share them still.
+fn choose_cell(
     circuit: &mut Circuit,
     test: Lit,
-    yes: &[Word],
-    no: &[Word],
-) -> Result<Vec<Word>, Memory>
+    yes: &Word,
+    store: &mut SymStore,
+    cell: usize,
+) -> Result<(), Memory>
     requires test { IsWire circuit.old test }
-    requires left { All (All (IsWire circuit.old)) yes.now }
-    requires right { All (All (IsWire circuit.old)) no.now }
-    requires same { length yes.now ≡ length no.now }
-    requires room { length circuit.old + 256 * length yes.now ≤ 2 ^ 30 }
-    ensures grows { Grows circuit.old circuit.new (256 * length yes.now) }
-    ensures wires { IfOk result (λ words. All (All (IsWire circuit.new)) words.items) }
-    ensures count { IfOk result (λ words. length words.items ≡ length yes.now) }
-    ensures value { IfOk result (λ words. (w : World) → cells_in circuit.new words.items w ≡ (if lit_holds circuit.old test w then cells_in circuit.old yes.now w else cells_in circuit.old no.now w)) }
+    requires word { All (IsWire circuit.old) yes.now }
+    requires cells { All (All (IsWire circuit.old)) store.old.cells }
+    requires cell { cell < length store.old.cells }
+    requires room { length circuit.old + 256 ≤ 2 ^ 30 }
+    ensures grows { Grows circuit.old circuit.new 256 }
+    ensures wires { OnOk result (All (All (IsWire circuit.new)) store.new.cells) }
+    ensures count { OnOk result (length store.new.cells ≡ length store.old.cells) }
+    ensures value { OnOk result ((w : World) → let cells = cells_in circuit.old store.old.cells w in
+        cells_in circuit.new store.new.cells w ≡ (if lit_holds circuit.old test w then slice_set cells cell (word_value circuit.old yes.now w) else cells)) }
 {
-    let mut words = Vec::new(alloc);
-    for i in 0..yes.len() {
-        let word = choose(circuit, test, &yes[i], &no[i])?;
-        words.push(word)?;
+    let no = *store.cells.at(cell);
+    if is_same_word(yes, &no) {
+        return Ok(());
     }
-    Ok(words)
+    let word = choose(circuit, test, yes, &no)?;
+    store.cells.set(cell, word)?;
+    Ok(())
+}
+
+/// The cells of the first store where a test holds, and those of the second where not.
+fn chosen(
+    circuit: &mut Circuit,
+    test: Lit,
+    yes: &SymStore,
+    mut no: SymStore,
+) -> Result<SymStore, Memory>
+    requires test { IsWire circuit.old test }
+    requires left { All (All (IsWire circuit.old)) yes.now.cells }
+    requires right { All (All (IsWire circuit.old)) no.cells }
+    requires same { length yes.now.cells ≡ length no.cells }
+    requires room { length circuit.old + 256 * length no.cells ≤ 2 ^ 30 }
+    ensures grows { Grows circuit.old circuit.new (256 * length no.cells) }
+    ensures wires { IfOk result (λ store. All (All (IsWire circuit.new)) store.cells) }
+    ensures count { IfOk result (λ store. length store.cells ≡ length no.cells) }
+    ensures value { IfOk result (λ store. (w : World) → cells_in circuit.new store.cells w ≡ (if lit_holds circuit.old test w then cells_in circuit.old yes.now.cells w else cells_in circuit.old no.cells w)) }
+{
+    for i in 0..yes.cells.len() {
+        choose_cell(circuit, test, yes.cells.at(i), &mut no, i)?;
+    }
+    Ok(no)
 }
 
 /// One state for two at one pair of node and context: where the second one's guard holds it is that one, and else the first.
@@ -66,33 +90,24 @@ pub(crate) fn joined(
     ensures value { IfOk result (λ m. (w : World) → cells_in circuit.new m.state.store.cells w ≡ (if lit_holds circuit.old guard w then cells_in circuit.old state.now.store.cells w else cells_in circuit.old met.state.store.cells w)) }
     ensures kept { IfOk result (λ m. (m.state.node ≡ met.state.node) × (m.state.frames ≡ met.state.frames)) }
 {
-    let alloc = state.frames.allocator();
-    let cells = chosen(
-        alloc,
-        circuit,
-        guard,
-        &state.store.cells,
-        &met.state.store.cells,
-    )?;
-    let either_guard = either(circuit, met.guard, guard)?;
     let Met {
-        guard: _first,
+        guard: first_guard,
         state: first,
     } = met;
     let SymState {
         node,
         frames,
-        store: _cells,
+        store,
         taken,
     } = first;
+    let store = chosen(circuit, guard, &state.store, store)?;
+    let guard = either(circuit, first_guard, guard)?;
     Ok(Met {
-        guard: either_guard,
+        guard,
         state: SymState {
             node,
             frames,
-            store: SymStore {
-                cells: Vector::from_vec(cells),
-            },
+            store,
             taken,
         },
     })

@@ -227,12 +227,12 @@ loaded-translate-requires t c =
 pub loaded-held-requires-clause-cell : goal.loaded-held-requires-clause-cell
 loaded-held-requires-clause-cell t c =
     let e = c.in-Global in
-    rw c.as_slice-cells.ensures (fits_global (length c.args.store.now.cells) c.args.frame.now e.cell (rw e.is at c.requires.fits))
+    fits_global (length c.args.store.now.cells) c.args.frame.now e.cell (rw e.is at c.requires.fits)
 
 pub loaded-held-requires-in-Local-clause-cell : goal.loaded-held-requires-in-Local-clause-cell
 loaded-held-requires-in-Local-clause-cell t c =
     let e = c.in-Local in
-    rw c.as_slice-cells.ensures (fits_local (length c.args.store.now.cells) c.args.frame.now e.cell (rw e.is at c.requires.fits))
+    fits_local (length c.args.store.now.cells) c.args.frame.now e.cell (rw e.is at c.requires.fits)
 
 pub loaded-returns-in-Global-clause-grows : goal.loaded-returns-in-Global-clause-grows
 loaded-returns-in-Global-clause-grows t c = grows_none c.args.circuit.now _
@@ -241,92 +241,29 @@ pub loaded-returns-in-Local-clause-grows : goal.loaded-returns-in-Local-clause-g
 loaded-returns-in-Local-clause-grows t c = grows_none c.args.circuit.now _
 
 pub loaded-returns-in-Global-clause-word : goal.loaded-returns-in-Global-clause-word
-loaded-returns-in-Global-clause-word t c = c.held.ensures.word c.args.circuit.now (rw c.as_slice-cells.ensures c.requires.cells)
+loaded-returns-in-Global-clause-word t c = c.held.ensures.word c.args.circuit.now c.requires.cells
 
 pub loaded-returns-in-Local-clause-word : goal.loaded-returns-in-Local-clause-word
-loaded-returns-in-Local-clause-word t c = c.held-in-Local.ensures.word c.args.circuit.now (rw c.as_slice-cells.ensures c.requires.cells)
+loaded-returns-in-Local-clause-word t c = c.held-in-Local.ensures.word c.args.circuit.now c.requires.cells
 
 pub loaded-returns-in-Global-clause-value : goal.loaded-returns-in-Global-clause-value
 loaded-returns-in-Global-clause-value t c = λ w.
     let e = c.in-Global in
     let g = c.args.circuit.now in
-    let made = rw c.as_slice-cells.ensures at (c.held.ensures.value g (rw c.as_slice-cells.ensures c.requires.cells) w) in
+    let made = c.held.ensures.value g c.requires.cells w in
     rw e.is (made ∙ sym (global_outcome c.requires.fits.room (cells_in g c.args.store.now.cells w) c.args.frame.now e.cell c.args.kind))
 
 pub loaded-returns-in-Local-clause-value : goal.loaded-returns-in-Local-clause-value
 loaded-returns-in-Local-clause-value t c = λ w.
     let e = c.in-Local in
     let g = c.args.circuit.now in
-    let made = rw c.as_slice-cells.ensures at (c.held-in-Local.ensures.value g (rw c.as_slice-cells.ensures c.requires.cells) w) in
+    let made = c.held-in-Local.ensures.value g c.requires.cells w in
     rw e.is (made ∙ sym (local_outcome c.requires.fits.room (cells_in g c.args.store.now.cells w) c.args.frame.now e.cell c.args.kind))
 
 pub loaded-returns-in_err-named-in-Element-clause-grows : goal.loaded-returns-in_err-named-in-Element-clause-grows
 loaded-returns-in_err-named-in-Element-clause-grows t c =
     let e = c.in-Element in
     rw (e.is, weight_element e.array e.index e.length c.args.kind.width) (grows_within _ (rw c.deref.ensures at c.translate.ensures.grows) (omega arith))
-
-pub loaded-overflow_add-end : goal.loaded-overflow_add-end
-loaded-overflow_add-end t c =
-    let e = c.in-Element in
-    let within = fits_array (length c.args.store.now.cells) c.args.frame.now [] e.array e.index e.length (rw e.is at c.requires.fits) in
-    let from = c.array_start-start.ensures.place [] in
-    let whole = ap length c.as_slice-cells.ensures in
-    omega arith
-
-pub loaded-offset_bounds-cells-start : goal.loaded-offset_bounds-cells-start
-loaded-offset_bounds-cells-start t c =
-    let e = c.in-Element in
-    let within = fits_array (length c.args.store.now.cells) c.args.frame.now [] e.array e.index e.length (rw e.is at c.requires.fits) in
-    let from = c.array_start-start.ensures.place [] in
-    let whole = ap length c.as_slice-cells.ensures in
-    omega arith
-
-pub loaded-slice_bounds-elements-end : goal.loaded-slice_bounds-elements-end
-loaded-slice_bounds-elements-end t c =
-    let e = c.in-Element in
-    let within = fits_array (length c.args.store.now.cells) c.args.frame.now [] e.array e.index e.length (rw e.is at c.requires.fits) in
-    let from = c.array_start-start.ensures.place [] in
-    let whole = ap length c.as_slice-cells.ensures in
-    omega arith
-
-pub loaded-element-requires-clause-elements : goal.loaded-element-requires-clause-elements
-loaded-element-requires-clause-elements t c =
-    rw c.as_slice-cells.ensures (elements_among (All (IsWire c.translate.new.circuit)) c.args.store.now.cells _ _ (cells_still c.translate.ensures.grows c.args.store.now.cells c.requires.cells))
-
-pub loaded-element-requires-clause-room : goal.loaded-element-requires-clause-room
-loaded-element-requires-clause-room t c =
-    let e = c.in-Element in
-    let cells = c.args.store.now.cells in
-    let within = fits_array (length cells) c.args.frame.now [] e.array e.index e.length (rw e.is at c.requires.fits) in
-    let from = c.array_start-start.ensures.place [] in
-    let whole = count_among cells c.array_start-start.result e.length (omega arith) in
-    let room = rw (e.is, weight_element e.array e.index e.length c.args.kind.width) at c.requires.room in
-    let grown = rw c.deref.ensures at c.translate.ensures.grows in
-    rw (c.as_slice-cells.ensures, whole) (omega arith)
-
-pub loaded-returns-in_ok-named-in-Element-clause-grows : goal.loaded-returns-in_ok-named-in-Element-clause-grows
-loaded-returns-in_ok-named-in-Element-clause-grows t c =
-    let e = c.in-Element in
-    let cells = c.args.store.now.cells in
-    let within = fits_array (length cells) c.args.frame.now [] e.array e.index e.length (rw e.is at c.requires.fits) in
-    let from = c.array_start-start.ensures.place [] in
-    let whole = count_among cells c.array_start-start.result e.length (omega arith) in
-    let index = rw c.deref.ensures at c.translate.ensures.grows in
-    let grown = rw (c.as_slice-cells.ensures, whole) at c.element.ensures.grows in
-    rw (e.is, weight_element e.array e.index e.length c.args.kind.width) (grows_within _ (grows_then index grown) (omega arith))
-
-pub loaded-returns-in_ok-named-in-Element-clause-value : goal.loaded-returns-in_ok-named-in-Element-clause-value
-loaded-returns-in_ok-named-in-Element-clause-value t c =
-    let e = c.in-Element in
-    let g = c.args.circuit.now in
-    let cells = c.args.store.now.cells in
-    let index = rw c.deref.ensures at c.in_ok-named-in-Element.ensures.value in
-    let made = rw c.as_slice-cells.ensures at c.element.ensures.value in
-    rw e.is (IfOk-weaker c.element.result _ _ (λ r is w.
-    element_loaded c.element.new.circuit c.args.frame.now cells e.array e.index e.length c.array_start-start.result c.args.kind w c.in_ok-named-in-Element.named r c.translate.ensures.grows
-    c.requires.cells (omega arith) (rw e.is at c.requires.fits) (c.array_start-start.ensures.place (cells_in g cells w)) (index w) (is w)) made)
-
--- ---- literals of what weighs nothing
 
 pub translate-returns-in-Load-clause-sure : goal.translate-returns-in-Load-clause-sure
 translate-returns-in-Load-clause-sure t c = let e = c.in-Load in rw (e.is, weight_load e.place e.kind) c.loaded.ensures.sure
@@ -350,8 +287,62 @@ translate-returns-in_ok-second-in-Binary-clause-sure t c = λ none.
     let more = binary_weighs e.op e.kind.width (least_width word) in
     absurd (omega (arith, rw (e.is, weight_binary e.op e.left e.right e.kind) at none))
 
-pub loaded-returns-in_ok-named-in-Element-clause-sure : goal.loaded-returns-in_ok-named-in-Element-clause-sure
-loaded-returns-in_ok-named-in-Element-clause-sure t c = λ none.
+pub loaded-overflow_add-end : goal.loaded-overflow_add-end
+loaded-overflow_add-end t c =
+    let e = c.in-Element in
+    let within = fits_array (length c.args.store.now.cells) c.args.frame.now [] e.array e.index e.length (rw e.is at c.requires.fits) in
+    let from = c.array_start-start.ensures.place [] in
+    omega arith
+
+pub loaded-range-requires-clause-within : goal.loaded-range-requires-clause-within
+loaded-range-requires-clause-within t c =
+    let e = c.in-Element in
+    let within = fits_array (length c.args.store.now.cells) c.args.frame.now [] e.array e.index e.length (rw e.is at c.requires.fits) in
+    let from = c.array_start-start.ensures.place [] in
+    omega arith
+
+pub loaded-returns-in_err-elements-in-Element-clause-grows : goal.loaded-returns-in_err-elements-in-Element-clause-grows
+loaded-returns-in_err-elements-in-Element-clause-grows t c =
+    let e = c.in-Element in
+    rw (e.is, weight_element e.array e.index e.length c.args.kind.width) (grows_within _ (rw c.deref.ensures at c.translate.ensures.grows) (omega arith))
+
+pub loaded-element-requires-clause-room : goal.loaded-element-requires-clause-room
+loaded-element-requires-clause-room t c =
+    let e = c.in-Element in
+    let cells = c.args.store.now.cells in
+    let within = fits_array (length cells) c.args.frame.now [] e.array e.index e.length (rw e.is at c.requires.fits) in
+    let from = c.array_start-start.ensures.place [] in
+    let whole = count_among cells c.array_start-start.result e.length (omega arith) in
+    let room = rw (e.is, weight_element e.array e.index e.length c.args.kind.width) at c.requires.room in
+    let grown = rw c.deref.ensures at c.translate.ensures.grows in
+    rw (c.as_slice.ensures.value, c.in_ok-elements-in-Element.ensures, whole) (omega arith)
+
+pub loaded-returns-in_ok-elements-in-Element-clause-grows : goal.loaded-returns-in_ok-elements-in-Element-clause-grows
+loaded-returns-in_ok-elements-in-Element-clause-grows t c =
+    let e = c.in-Element in
+    let cells = c.args.store.now.cells in
+    let within = fits_array (length cells) c.args.frame.now [] e.array e.index e.length (rw e.is at c.requires.fits) in
+    let from = c.array_start-start.ensures.place [] in
+    let whole = count_among cells c.array_start-start.result e.length (omega arith) in
+    let index = rw c.deref.ensures at c.translate.ensures.grows in
+    let grown = rw (c.as_slice.ensures.value, c.in_ok-elements-in-Element.ensures, whole) at c.element.ensures.grows in
+    rw (e.is, weight_element e.array e.index e.length c.args.kind.width) (grows_within _ (grows_then index grown) (omega arith))
+
+pub loaded-returns-in_ok-elements-in-Element-clause-value : goal.loaded-returns-in_ok-elements-in-Element-clause-value
+loaded-returns-in_ok-elements-in-Element-clause-value t c =
+    let e = c.in-Element in
+    let g = c.args.circuit.now in
+    let cells = c.args.store.now.cells in
+    let index = rw c.deref.ensures at c.in_ok-named-in-Element.ensures.value in
+    let made = rw (c.as_slice.ensures.value, c.in_ok-elements-in-Element.ensures) at c.element.ensures.value in
+    rw e.is (IfOk-weaker c.element.result _ _ (λ r is w.
+    element_loaded c.element.new.circuit c.args.frame.now cells e.array e.index e.length c.array_start-start.result c.args.kind w c.in_ok-named-in-Element.named r c.translate.ensures.grows
+    c.requires.cells (omega arith) (rw e.is at c.requires.fits) (c.array_start-start.ensures.place (cells_in g cells w)) (index w) (is w)) made)
+
+-- ---- literals of what weighs nothing
+
+pub loaded-returns-in_ok-elements-in-Element-clause-sure : goal.loaded-returns-in_ok-elements-in-Element-clause-sure
+loaded-returns-in_ok-elements-in-Element-clause-sure t c = λ none.
     let e = c.in-Element in
     let cells = c.args.store.now.cells in
     let within = fits_array (length cells) c.args.frame.now [] e.array e.index e.length (rw e.is at c.requires.fits) in
@@ -359,4 +350,4 @@ loaded-returns-in_ok-named-in-Element-clause-sure t c = λ none.
     let whole = count_among cells c.array_start-start.result e.length (omega arith) in
     let weight = rw (e.is, weight_element e.array e.index e.length c.args.kind.width) at none in
     let no_length = no_elements e.length c.args.kind.width (kind_width c.args.kind c.requires.kind) (omega arith) in
-    c.element.ensures.sure (rw (c.as_slice-cells.ensures, whole) no_length)
+    c.element.ensures.sure (rw (c.as_slice.ensures.value, c.in_ok-elements-in-Element.ensures, whole) no_length)

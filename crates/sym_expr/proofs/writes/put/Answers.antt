@@ -10,12 +10,6 @@ use Rattle.sym_expr.proofs.ExprRules.{weight_element, fits_index, fits_array, fi
 use Rattle.sym_expr.proofs.WriteLemmas.{place_inside, place_put, sure_inside, sure_put, write_room}
 use Rattle.sym_expr.proofs.writes.put.Goals as goal
 
-pub put_cell-requires : goal.put_cell-requires
-put_cell-requires c = let e = c.in-Global in fits_global (length c.args.store.now.cells) c.args.frame.now e.cell (rw e.is at c.requires.fits)
-
-pub put_cell-requires-in-Local : goal.put_cell-requires-in-Local
-put_cell-requires-in-Local c = let e = c.in-Local in fits_local (length c.args.store.now.cells) c.args.frame.now e.cell (rw e.is at c.requires.fits)
-
 pub translate-requires-clause-fits : goal.translate-requires-clause-fits
 translate-requires-clause-fits c =
     let e = c.in-Element in
@@ -60,32 +54,6 @@ returns-in_ok-named-in-Element-clause-grows c =
     let most = write_room c.args.kind e.length c.requires.kind in
     rw (e.is, weight_element e.array e.index e.length c.args.kind.width) (grows_within _ (grows_then index c.put_element.ensures.grows) (omega arith))
 
-pub returns-in-Global-clause-inside : goal.returns-in-Global-clause-inside
-returns-in-Global-clause-inside c = λ w.
-    let e = c.in-Global in
-    let cells = cells_in c.args.circuit.now c.args.store.now.cells w in
-    sure_inside c.args.circuit.now w e.cell _ (ap (cell_of cells c.args.frame.now) e.is ∙ global_cell c.requires.fits.room cells c.args.frame.now e.cell)
-
-pub returns-in-Global-clause-value : goal.returns-in-Global-clause-value
-returns-in-Global-clause-value c = λ w cell at.
-    let e = c.in-Global in
-    let cells = cells_in c.args.circuit.now c.args.store.now.cells w in
-    sure_put c.args.circuit.now c.args.store.now.cells c.put_cell.new.store.cells c.args.word.now e.cell cell _ w c.put_cell.ensures
-    (ap (cell_of cells c.args.frame.now) e.is ∙ global_cell c.requires.fits.room cells c.args.frame.now e.cell) at
-
-pub returns-in-Local-clause-inside : goal.returns-in-Local-clause-inside
-returns-in-Local-clause-inside c = λ w.
-    let e = c.in-Local in
-    let cells = cells_in c.args.circuit.now c.args.store.now.cells w in
-    sure_inside c.args.circuit.now w (c.args.frame.now.base + e.cell) _ (ap (cell_of cells c.args.frame.now) e.is ∙ local_cell c.requires.fits.room cells c.args.frame.now e.cell)
-
-pub returns-in-Local-clause-value : goal.returns-in-Local-clause-value
-returns-in-Local-clause-value c = λ w cell at.
-    let e = c.in-Local in
-    let cells = cells_in c.args.circuit.now c.args.store.now.cells w in
-    sure_put c.args.circuit.now c.args.store.now.cells c.put_cell-in-Local.new.store.cells c.args.word.now (c.args.frame.now.base + e.cell) cell _ w c.put_cell-in-Local.ensures
-    (ap (cell_of cells c.args.frame.now) e.is ∙ local_cell c.requires.fits.room cells c.args.frame.now e.cell) at
-
 pub returns-in_ok-named-in-Element-clause-inside : goal.returns-in_ok-named-in-Element-clause-inside
 returns-in_ok-named-in-Element-clause-inside c =
     let e = c.in-Element in
@@ -104,3 +72,35 @@ returns-in_ok-named-in-Element-clause-value c =
     place_put c.put_element.new.circuit c.args.frame.now cells e.array e.index e.length c.array_start-start.result w c.in_ok-named-in-Element.named c.translate.ensures.grows c.requires.cells
     (omega arith) (rw e.is at c.requires.fits) (c.array_start-start.ensures.place (cells_in c.args.circuit.now cells w)) (index w)
     c.put_element.new.store.cells c.args.word.now cell c.requires.word (is w) at) c.put_element.ensures.value)
+
+pub set-requires : goal.set-requires
+set-requires c = let e = c.in-Global in fits_global (length c.args.store.now.cells) c.args.frame.now e.cell (rw e.is at c.requires.fits)
+
+pub set-requires-in-Local : goal.set-requires-in-Local
+set-requires-in-Local c = let e = c.in-Local in fits_local (length c.args.store.now.cells) c.args.frame.now e.cell (rw e.is at c.requires.fits)
+
+pub returns-in_ok-set-in-Global-clause-inside : goal.returns-in_ok-set-in-Global-clause-inside
+returns-in_ok-set-in-Global-clause-inside c = λ w.
+    let e = c.in-Global in
+    let cells = cells_in c.args.circuit.now c.args.store.now.cells w in
+    sure_inside c.args.circuit.now w e.cell _ (ap (cell_of cells c.args.frame.now) e.is ∙ global_cell c.requires.fits.room cells c.args.frame.now e.cell)
+
+pub returns-in_ok-set-in-Global-clause-value : goal.returns-in_ok-set-in-Global-clause-value
+returns-in_ok-set-in-Global-clause-value c = λ w cell at.
+    let e = c.in-Global in
+    let cells = cells_in c.args.circuit.now c.args.store.now.cells w in
+    sure_put c.args.circuit.now c.args.store.now.cells c.set.new.self.cells c.args.word.now e.cell cell _ w c.in_ok-set-in-Global.ensures
+    (ap (cell_of cells c.args.frame.now) e.is ∙ global_cell c.requires.fits.room cells c.args.frame.now e.cell) at
+
+pub returns-in_ok-set-in-Local-clause-inside : goal.returns-in_ok-set-in-Local-clause-inside
+returns-in_ok-set-in-Local-clause-inside c = λ w.
+    let e = c.in-Local in
+    let cells = cells_in c.args.circuit.now c.args.store.now.cells w in
+    sure_inside c.args.circuit.now w (c.args.frame.now.base + e.cell) _ (ap (cell_of cells c.args.frame.now) e.is ∙ local_cell c.requires.fits.room cells c.args.frame.now e.cell)
+
+pub returns-in_ok-set-in-Local-clause-value : goal.returns-in_ok-set-in-Local-clause-value
+returns-in_ok-set-in-Local-clause-value c = λ w cell at.
+    let e = c.in-Local in
+    let cells = cells_in c.args.circuit.now c.args.store.now.cells w in
+    sure_put c.args.circuit.now c.args.store.now.cells c.set-in-Local.new.self.cells c.args.word.now (c.args.frame.now.base + e.cell) cell _ w c.in_ok-set-in-Local.ensures
+    (ap (cell_of cells c.args.frame.now) e.is ∙ local_cell c.requires.fits.room cells c.args.frame.now e.cell) at

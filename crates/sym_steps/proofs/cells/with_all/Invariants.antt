@@ -3,4 +3,4 @@ use Rattle.std.specs.Prelude.{replicate}
 use Rattle.sym_steps.proofs.cells.with_all.Given as goal
 
 abbrev pub invariant-loop-k : goal.invariant-loop-k
-invariant-loop-k l = l.cells.items ≡ take l.first l.initial.cells.items ++ (replicate l.k l.word ++ drop (l.first + l.k) l.initial.cells.items)
+invariant-loop-k l = l.store.cells ≡ take l.first l.initial.store.cells ++ (replicate l.k l.word ++ drop (l.first + l.k) l.initial.store.cells)

@@ -9,8 +9,8 @@ use Rattle.sym_steps.proofs.operations.clear.Goals as goal
 pub running-requires : goal.running-requires
 running-requires c = rw c.deref.ensures (some_frames c.args.graph.now c.args.circuit.now c.args.state c.well_formed-2.ensures c.requires.states)
 
-pub with_zeros-store-requires : goal.with_zeros-store-requires
-with_zeros-store-requires c =
+pub with_zeros-requires : goal.with_zeros-requires
+with_zeros-requires c =
     let within = clear_within c.args.graph.now c.args.circuit.now c.args.state c.args.at c.args.edge.now c.well_formed-2.ensures c.requires.states c.requires.leaves c.args.array c.args.count c.requires.clears in
     let first = rw (c.running.ensures, c.deref.ensures) at (c.array_start-first.ensures.place []) in
     omega arith
@@ -20,6 +20,6 @@ returns c =
     let g = c.args.circuit.now in
     let first = λ (cells : List ℕ). rw (c.running.ensures, c.deref.ensures) at (c.array_start-first.ensures.place cells) in
     IfOk-weaker c.one_way.result _ _ (λ t is. subst (IsOperated c.args.graph.now g g c.args.answers.now c.args.state c.args.at c.args.edge.now) (sym is)
-    (clear_step c.args.graph.now g c.args.state c.args.at c.args.edge.now c.well_formed-2.ensures c.requires.states c.requires.leaves c.args.answers.now c.with_zeros-store.result.cells c.args.array c.args.count
-    (c.with_zeros-store.ensures.wires g c.requires.cells) c.requires.clears
-    (λ w. let cells = cells_in g c.args.state.store.cells w in c.with_zeros-store.ensures.cells g w ∙ ap (λ n. cleared cells n c.args.count) (first cells)))) c.one_way.ensures
+    (clear_step c.args.graph.now g c.args.state c.args.at c.args.edge.now c.well_formed-2.ensures c.requires.states c.requires.leaves c.args.answers.now c.in_ok-store.store.cells c.args.array c.args.count
+    (c.in_ok-store.ensures.wires g c.requires.cells) c.requires.clears
+    (λ w. let cells = cells_in g c.args.state.store.cells w in c.in_ok-store.ensures.cells g w ∙ ap (λ n. cleared cells n c.args.count) (first cells)))) c.one_way.ensures
