@@ -24,3 +24,4 @@ pub mod UnwindLaws
 pub mod Beginning
 pub mod Finishing
 pub mod Made
+pub mod GuardLaws

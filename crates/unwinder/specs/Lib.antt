@@ -7,3 +7,4 @@ pub mod Onward
 pub mod Place
 pub mod Putting
 pub mod Progress
+pub mod Guards

@@ -5,7 +5,7 @@ ghost use Rattle.circuit.specs.Wires.{IsWire, lit_holds};
 ghost use Rattle.bit_words.specs.Words.{Grows, word_value};
 ghost use Rattle.sym_expr.specs.Stores.{cells_in};
 
-use bit_words::gates::either;
+use crate::guards::either_guard;
 use bit_words::{Word, choose};
 use circuit::{Circuit, Lit, Memory};
 use sym_expr::{SymStore, is_same_word};
@@ -101,7 +101,7 @@ pub(crate) fn joined(
         taken,
     } = first;
     let store = chosen(circuit, guard, &state.store, store)?;
-    let guard = either(circuit, first_guard, guard)?;
+    let guard = either_guard(circuit, first_guard, guard)?;
     Ok(Met {
         guard,
         state: SymState {

@@ -11,9 +11,9 @@ use Rattle.unwinder.proofs.merging.choose_cell.Goals as goal
 pub returns-then-is_same_word-clause-value : goal.returns-then-is_same_word-clause-value
 returns-then-is_same_word-clause-value c = λ w.
     let cells = c.args.store.now.cells in
-    let no = c.at.result.now in
-    cell_same cells c.args.test c.args.yes.now c.args.cell (grows_none c.args.circuit.now 0) c.requires.cells c.requires.cell no w
-    (get_or_from_slice_get cells c.args.cell no no c.at.ensures) (c.is_same_word.ensures c.if-is_same_word.true)
+    let those = c.at.result.now in
+    cell_same cells c.args.test c.args.yes.now c.args.cell (grows_none c.args.circuit.now 0) c.requires.cells c.requires.cell those w
+    (get_or_from_slice_get cells c.args.cell those those c.at.ensures) (c.is_same_word.ensures c.if-is_same_word.true)
 
 pub returns-clause-wires : goal.returns-clause-wires
 returns-clause-wires c =
@@ -26,6 +26,6 @@ returns-clause-count c = ap length c.in_ok-set.ensures.ok ∙ length-set c.args.
 pub returns-clause-value : goal.returns-clause-value
 returns-clause-value c = λ w.
     let cells = c.args.store.now.cells in
-    let no = c.at.result.now in
-    rw c.in_ok-set.ensures.ok (cell_chosen cells c.args.test c.args.yes.now c.args.cell c.choose.ensures.grows c.requires.cells c.requires.cell no c.in_ok-word.word w
-    (get_or_from_slice_get cells c.args.cell no no c.at.ensures) (c.in_ok-word.ensures.value w))
+    let those = c.at.result.now in
+    rw c.in_ok-set.ensures.ok (cell_chosen cells c.args.test c.args.yes.now c.args.cell c.choose.ensures.grows c.requires.cells c.requires.cell those c.in_ok-word.word w
+    (get_or_from_slice_get cells c.args.cell those those c.at.ensures) (c.in_ok-word.ensures.value w))

@@ -4,10 +4,10 @@ use Rattle.sym_expr.proofs.ElementLemmas.{cells_later}
 use Rattle.unwinder.proofs.merging.joined.Goals as goal
 
 pub returns-in_err-guard-clause-grows : goal.returns-in_err-guard-clause-grows
-returns-in_err-guard-clause-grows c = grows_within _ (grows_then c.chosen.ensures.grows c.either.ensures.grows) (omega arith)
+returns-in_err-guard-clause-grows c = grows_within _ (grows_then c.chosen.ensures.grows c.either_guard.ensures.grows) (omega arith)
 
 pub returns-clause-grows : goal.returns-clause-grows
-returns-clause-grows c = grows_within _ (grows_then c.chosen.ensures.grows c.either.ensures.grows) (omega arith)
+returns-clause-grows c = grows_within _ (grows_then c.chosen.ensures.grows c.either_guard.ensures.grows) (omega arith)
 
 pub returns-clause-value : goal.returns-clause-value
-returns-clause-value c = λ w. cells_later c.either.ensures.grows c.in_ok-store.store.cells c.in_ok-store.ensures.wires w ∙ c.in_ok-store.ensures.value w
+returns-clause-value c = λ w. cells_later c.either_guard.ensures.grows c.in_ok-store.store.cells c.in_ok-store.ensures.wires w ∙ c.in_ok-store.ensures.value w
