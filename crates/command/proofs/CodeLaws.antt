@@ -83,10 +83,9 @@ other_told true x h = tt
 other_told false x h = h
 
 causes_told : (graph : GraphParts) (q : Query) → AllByRecursion CauseTold (causes graph q)
-causes_told graph q = (
-  mapped_told _ (λ column. refl) _, mapped_told _ (λ column. refl) _, mapped_told _ (λ column. refl) _, mapped_told _ (λ limit. refl) _,
-  mapped_told _ (λ limit. refl) _, chosen_told _ _ refl, chosen_told _ _ refl, other_told _ _ refl, tt,
-)
+causes_told graph q =
+    (mapped_told _ (λ column. refl) _, (mapped_told _ (λ column. refl) _, (mapped_told _ (λ column. refl) _, (mapped_told _ (λ limit. refl) _,
+    (mapped_told _ (λ limit. refl) _, (chosen_told _ _ refl, (chosen_told _ _ refl, (other_told _ _ refl, tt))))))))
 
 query_told : (graph : GraphParts) (bytes : List ℕ) (x : Refusal) → queries.IsRefused graph bytes x → Asked x.code
 query_told graph bytes x (queries.at_query h) = asked_told h
@@ -165,8 +164,11 @@ one_of : (P : ℕ → Type 0) (codes : List ℕ) → AllByRecursion P codes → 
 one_of P [] h code k = absurd (cc)
 one_of P (c ∷ codes) h code k = this_or P c code (list_any (λ (d : ℕ). d == code) codes) (c == code) refl h.0 (one_of P codes h.1 code) k
 
+abbrev all_codes : List ℕ
+all_codes = unread_codes ++ text_codes ++ query_codes ++ input_codes ++ certificate_codes
+
 pub none_is_usage : NoneIsUsage
-none_is_usage code h = one_of NoUsage _ statuses code h
+none_is_usage code h = one_of NoUsage all_codes statuses code h
   where
-    statuses : AllByRecursion NoUsage (unread_codes ++ text_codes ++ query_codes ++ input_codes ++ certificate_codes)
-    statuses = (refl, refl, refl, refl, refl, refl, refl, refl, refl, refl, refl, refl, refl, refl, refl, refl, refl, refl, refl, refl, refl, refl, refl, refl, refl, refl, refl, refl, refl, refl, refl, refl, refl, refl, refl, refl, refl, refl, refl, refl, refl, refl, refl, tt)
+    statuses : AllByRecursion NoUsage all_codes
+    statuses = (refl, (refl, (refl, (refl, (refl, (refl, (refl, (refl, (refl, (refl, (refl, (refl, (refl, (refl, (refl, (refl, (refl, (refl, (refl, (refl, (refl, (refl, (refl, (refl, (refl, (refl, (refl, (refl, (refl, (refl, (refl, (refl, (refl, (refl, (refl, (refl, (refl, (refl, (refl, (refl, (refl, (refl, (refl, tt)))))))))))))))))))))))))))))))))))))))))))

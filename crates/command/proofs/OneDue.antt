@@ -31,8 +31,9 @@ use Rattle.goals.specs.declared.plan.Plan.{Plan}
 use Rattle.hits.specs.Hits.{AreHits}
 use Rattle.hits.specs.Laws.{OneListOfHits}
 use Rattle.input_text.specs.Inputs.{inputs_of}
+use Rattle.report.specs.Texts.{goals_text}
 use Rattle.command_words.specs.Reading.{Text}
-use Rattle.command_words.specs.Request.{Asked, measure, generate, goals, runs, prove, check, sample, request_of}
+use Rattle.command_words.specs.Request.{Asked, measure, generate, goals, runs, prove, check, sample, Listing, Measuring, Running, request_of}
 use Rattle.command.specs.Determined.{AtMostOneIsDue, IsTold, are_told, files_of, measures_or_lists}
 use Rattle.command.specs.Due.{IsDue, IsDueOf}
 use Rattle.command.specs.Inputs.{AreInputsOf}
@@ -41,11 +42,12 @@ use Rattle.command.specs.Measured.{AreAllHits, IsMeasured, report_of}
 use Rattle.command.specs.Queries.{IsPlanned}
 use Rattle.command.specs.Queries as queries
 use Rattle.command.specs.Reads.{Reads, Sees}
+use Rattle.command.specs.Recorded.{recorded}
 use Rattle.command.specs.Refusal.{said_by}
 use Rattle.command.specs.Runs.{EntryFunction, entry_of, runs_of}
 use Rattle.command.specs.Said.{Said, answered}
 use Rattle.command.specs.Sources.{AreRead, AreRefused, HaveAutomaton, IsRead, IsReadUpTo, IsUnread, fails, is_past, most_source}
-use Rattle.command.specs.Stages.{OfEntry, OfInputs, OfQuery, OfSources, Says, usage}
+use Rattle.command.specs.Stages.{OfEntry, OfInputs, OfQuery, OfSources, Says, no_such_entry, usage}
 
 -- at most one thing is said
 abbrev Once : {X : Type 0} → (X → Type 0) → Type 0
@@ -120,13 +122,13 @@ module _ (law : predicates.OneOutcome) (graph : GraphParts) (bytes : List ℕ) w
       some_none x (sym (moved (λ (t : Query). first_cause (causes graph t) ≡ Some x) q b.query a b.asked d) ∙ b.no_cause)
 
   record SamePlans (p r : Predicates) (plan other : Plan) : Type 0 where
-    predicates : p ≡ r
-    plan : plan ≡ other
+    same_predicates : p ≡ r
+    same_plan : plan ≡ other
 
   one_plan : (p r : Predicates) (plan other : Plan) → IsPlanned graph bytes p plan → IsPlanned graph bytes r other → SamePlans p r plan other
   one_plan p r plan other a b = record {
-    predicates = (law graph b.query.predicates).one_answer p r (moved (λ (s : Query). ArePredicatesOf graph s.predicates p) a.query b.query a.asked b.asked a.predicates) b.predicates;
-    plan = a.is ∙ ap (λ (q : Query). plan_of q) (one_asked bytes a.query b.query a.asked b.asked) ∙ sym b.is;
+    same_predicates = (law graph b.query.predicates).one_answer p r (moved (λ (s : Query). ArePredicatesOf graph s.predicates p) a.query b.query a.asked b.asked a.predicates) b.predicates;
+    same_plan = a.is ∙ ap (λ (q : Query). plan_of q) (one_asked bytes a.query b.query a.asked b.asked) ∙ sym b.is;
   }
     where
       plan_of : Query → Plan
@@ -138,7 +140,7 @@ module _ (law : predicates.OneOutcome) (graph : GraphParts) (bytes : List ℕ) w
   one_of_query sources Then once x y (inr a) (inl b) = absurd (not_planned b.0 a.0 a.1.0 b.1 a.1.1)
   one_of_query sources Then once x y (inr a) (inr b) =
       let same = one_plan a.0 b.0 a.1.0 b.1.0 a.1.1 b.1.1 in
-      once b.0 b.1.0 x y (subst (λ (plan : Plan). Then b.0 plan x) same.plan (subst (λ (p : Predicates). Then p a.1.0 x) same.predicates a.1.2)) b.1.2
+      once b.0 b.1.0 x y (subst (λ (plan : Plan). Then b.0 plan x) same.same_plan (subst (λ (p : Predicates). Then p a.1.0 x) same.same_predicates a.1.2)) b.1.2
 
 -- ---- files
 
@@ -217,11 +219,11 @@ module _ (r : Reads) (still : Rose r.faults_before r.faults_after → ⊥) where
   abbrev Splits : List Text → List Text → Text → List Text → Type 0
   Splits files front file back = files ≡ front ++ file ∷ back
 
-  heads : (a b : Text) (as bs : List Text) → a ∷ as ≡ b ∷ bs → a ≡ b
-  heads a b as bs e = cc
+  heads : (a b : Text) (rest more : List Text) → a ∷ rest ≡ b ∷ more → a ≡ b
+  heads a b rest more e = cc
 
-  tails : (a b : Text) (as bs : List Text) → a ∷ as ≡ b ∷ bs → as ≡ bs
-  tails a b as bs e = cc
+  tails : (a b : Text) (rest more : List Text) → a ∷ rest ≡ b ∷ more → rest ≡ more
+  tails a b rest more e = cc
 
   -- the first file that isn't read is one
   one_first : (front : List Text) (file : Text) (back others : List Text) (other : Text) (more : List Text) (x y : Refusal) (ts us : List SourceText) → AreTold (front ++ file ∷ back)
@@ -345,17 +347,36 @@ at_most_one front_law predicates_law hits_law r words still told said other a b 
         let rest = both_told files file (and_right (is_some (r.holds f)) (are_told r (files ++ file ∷ [])) h) in
         (and_both (is_some (r.holds f)) (are_told r files) (and_left (is_some (r.holds f)) (are_told r (files ++ file ∷ [])) h) rest.0, rest.1)
 
+    measured_once : (m : Measuring) → IsTold r (measure m) → IsDueOf r (measure m) said → IsDueOf r (measure m) other → said ≡ other
+    measured_once m h c d =
+        let t = both_told m.sources m.inputs h in
+        let Reported : GraphParts → EntryFunction → Predicates → Plan → List Input → Said → Type 0 = λ graph entry p plan given. IsMeasured graph entry p plan m.ends m.steps m.json given in
+        let Given : GraphParts → EntryFunction → Predicates → Plan → Said → Type 0 = λ graph entry p plan. OfInputs r m.sources m.inputs (length entry.function.parameters) (Reported graph entry p plan) in
+        let Asking : GraphParts → EntryFunction → Said → Type 0 = λ graph entry. OfQuery m.sources graph m.query (Given graph entry) in
+        one_of_sources r still front_law m.sources t.0 (λ graph. OfEntry graph m.entry (Asking graph)) (λ graph.
+        one_by (entry_of graph m.entry) no_such_entry (Asking graph) (λ entry.
+        one_of_query predicates_law graph m.query m.sources (Given graph entry) (λ p plan.
+        one_of_inputs r still m.inputs t.1 (length entry.function.parameters) m.sources (Reported graph entry p plan) (one_measured hits_law plan m.ends graph entry p m.steps m.json)))) said other c d
+
+    listed_once : (m : Listing) → IsTold r (goals m) → IsDueOf r (goals m) said → IsDueOf r (goals m) other → said ≡ other
+    listed_once m h c d =
+        let Listed : GraphParts → Predicates → Plan → Said → Type 0 = λ graph p plan x. x ≡ answered (goals_text graph plan) in
+        one_of_sources r still front_law m.sources h (λ graph. OfQuery m.sources graph m.query (Listed graph)) (λ graph.
+        one_of_query predicates_law graph m.query m.sources (Listed graph) (λ p plan x y e f. e ∙ sym f)) said other c d
+
+    recorded_once : (m : Running) → IsTold r (runs m) → IsDueOf r (runs m) said → IsDueOf r (runs m) other → said ≡ other
+    recorded_once m h c d =
+        let t = both_told m.sources m.inputs h in
+        let Listed : GraphParts → EntryFunction → List Input → Said → Type 0 = λ graph entry given x. x ≡ recorded graph entry m.steps given in
+        let Given : GraphParts → EntryFunction → Said → Type 0 = λ graph entry. OfInputs r m.sources m.inputs (length entry.function.parameters) (Listed graph entry) in
+        one_of_sources r still front_law m.sources t.0 (λ graph. OfEntry graph m.entry (Given graph)) (λ graph.
+        one_by (entry_of graph m.entry) no_such_entry (Given graph) (λ entry.
+        one_of_inputs r still m.inputs t.1 (length entry.function.parameters) m.sources (Listed graph entry) (λ given x y e f. e ∙ sym f))) said other c d
+
     asked_once : (asked : Asked) → IsTold r asked → IsDueOf r asked said → IsDueOf r asked other → said ≡ other
-    asked_once (measure m) h c d =
-        let t = both_told m.sources m.inputs h in
-        one_of_sources r still front_law m.sources t.0 (λ graph. OfEntry graph m.entry (λ entry. OfQuery m.sources graph m.query (λ p plan. OfInputs r m.sources m.inputs (length entry.function.parameters) (IsMeasured graph entry p plan m.ends m.steps m.json))))
-        (λ graph. one_by (entry_of graph m.entry) _ _ (λ entry. one_of_query predicates_law graph m.query m.sources _ (λ p plan. one_of_inputs r still m.inputs t.1 (length entry.function.parameters) m.sources _
-        (one_measured hits_law plan m.ends graph entry p m.steps m.json)))) said other c d
-    asked_once (goals m) h c d =
-        one_of_sources r still front_law m.sources h _ (λ graph. one_of_query predicates_law graph m.query m.sources _ (λ p plan x y e f. e ∙ sym f)) said other c d
-    asked_once (runs m) h c d =
-        let t = both_told m.sources m.inputs h in
-        one_of_sources r still front_law m.sources t.0 _ (λ graph. one_by (entry_of graph m.entry) _ _ (λ entry. one_of_inputs r still m.inputs t.1 (length entry.function.parameters) m.sources _ (λ given x y e f. e ∙ sym f))) said other c d
+    asked_once (measure m) h c d = measured_once m h c d
+    asked_once (goals m) h c d = listed_once m h c d
+    asked_once (runs m) h c d = recorded_once m h c d
     asked_once (generate m) h c d = absurd (cc)
     asked_once (prove m) h c d = absurd (cc)
     asked_once (check m) h c d = absurd (cc)
