@@ -83,9 +83,19 @@ other_told true x h = tt
 other_told false x h = h
 
 causes_told : (graph : GraphParts) (q : Query) → AllByRecursion CauseTold (causes graph q)
-causes_told graph q =
-    (mapped_told _ (λ column. refl) _, (mapped_told _ (λ column. refl) _, (mapped_told _ (λ column. refl) _, (mapped_told _ (λ limit. refl) _,
-    (mapped_told _ (λ limit. refl) _, (chosen_told _ _ refl, (chosen_told _ _ refl, (other_told _ _ refl, tt))))))))
+causes_told graph q = (
+  mapped_told _ (λ column. refl) _,
+  (
+    mapped_told _ (λ column. refl) _,
+    (
+      mapped_told _ (λ column. refl) _,
+      (
+        mapped_told _ (λ limit. refl) _,
+        (mapped_told _ (λ limit. refl) _, (chosen_told _ _ refl, (chosen_told _ _ refl, (other_told _ _ refl, tt)))),
+      ),
+    ),
+  ),
+)
 
 query_told : (graph : GraphParts) (bytes : List ℕ) (x : Refusal) → queries.IsRefused graph bytes x → Asked x.code
 query_told graph bytes x (queries.at_query h) = asked_told h
