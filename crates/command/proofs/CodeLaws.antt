@@ -23,7 +23,6 @@ use Rattle.input_text.specs.Outcome.{Outcome, after, most_inputs, numbered, refu
 use Rattle.input_text.specs.declared.misfit.Misfit.{Misfit}
 use Rattle.input_text.specs.declared.misfit.Misfit.TheVariants as misfit
 use Rattle.predicates.specs.Outcome as predicates
-use Rattle.serde_json.specs.Data.{Items}
 use Rattle.typing_faults.specs.Laws.{IsOneOf}
 use Rattle.command_words.specs.Reading.{Text}
 use Rattle.command.specs.Certificates as certificates
@@ -123,15 +122,18 @@ numbered_told number (Ok input ∷ parts) = by (nat_le number most_inputs) (numb
     by true h = after_told (input ∷ []) (numbered (number + 1) parts) h
     by false h = refl
 
-array_told : (parameters : ℕ) (o : Option Items) → FormTold (inputs_of_array parameters o)
-array_told parameters None = refl
-array_told parameters (Some items) = numbered_told 1 (object_parts parameters items)
+array_told : (parameters : ℕ) (bytes : List ℕ) → FormTold (inputs_of_array parameters (array_of bytes))
+array_told parameters bytes =
+    elim (array_of bytes) as (λ o. FormTold (inputs_of_array parameters o)) [
+      | None ↦ refl
+      | Some items ↦ numbered_told 1 (object_parts parameters items)
+    ]
 
 form_told : (parameters : ℕ) (bytes : List ℕ) → FormTold (inputs_of parameters bytes)
 form_told parameters bytes = by (begins_array bytes)
   where
     by : (b : Bool) → FormTold (cond b (inputs_of_array parameters (array_of bytes)) (numbered 1 (line_parts parameters bytes)))
-    by true = array_told parameters (array_of bytes)
+    by true = array_told parameters bytes
     by false = numbered_told 1 (line_parts parameters bytes)
 
 inputs_told : (r : Reads) (file : Text) (parameters : ℕ) (x : Refusal) → inputs.AreRefused r file parameters x → IsOneOf input_codes x.code
