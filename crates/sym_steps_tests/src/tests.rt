@@ -18,6 +18,7 @@ use cfa::Graph;
 use circuit::{Circuit, Memory};
 use std::alloc::Global;
 use std::test::Fail;
+use sym_expr::SymStore;
 use sym_steps::{SymState, SymStep, start, step};
 use test_expressions::free_store;
 use test_programs::graph_of;
@@ -241,6 +242,16 @@ fn rest(alloc: Global, circuit: &Circuit, words: &[Word], from: usize) -> Result
     Ok(rest)
 }
 
+// The words of a store's cells.
+fn words_of(circuit: &Circuit, store: &SymStore) -> Result<Vec<Word>, Memory>
+    requires { All (All (IsWire circuit.now)) store.now.cells }
+    ensures { IfOk result (λ words. All (All (IsWire circuit.now)) words.items) }
+{
+    let count = store.cells.len();
+    let words = store.cells.range(0, count)?;
+    Ok(words)
+}
+
 // How a run of `f` in a source ends, within so many edges, whose words and then whose answers are these.
 fn ends(alloc: Global, source: &str, patterns: &[u64], most: u32) -> Result<(u32, End), Memory> {
     let refused = (0, End::Refused);
@@ -258,7 +269,7 @@ fn ends(alloc: Global, source: &str, patterns: &[u64], most: u32) -> Result<(u32
     };
     let mut circuit = Circuit::new(alloc);
     let store = free_store(alloc, &mut circuit, patterns.len() as u32)?;
-    let inputs = store.cells.range(0, store.cells.len())?;
+    let inputs = words_of(&circuit, &store)?;
     let Some(words) = fitted(alloc, &circuit, &inputs, &function.parameters)? else {
         return Ok(refused);
     };
