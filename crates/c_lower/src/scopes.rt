@@ -14,24 +14,13 @@ use graph_of::{Around, Parts};
 use std::alloc::{AllocError, Global};
 use typed_trees::{TypedForm, TypedStatement};
 
-pub(crate) fn cloned(alloc: Global, variable: &Variable) -> Result<Variable, AllocError>
-    ensures { IfOk result (λ copy. copy ≡ variable.now) }
-{
-    Ok(Variable {
-        name: variable.name.try_clone(alloc)?,
-        kind: variable.kind,
-        length: variable.length,
-        place: variable.place,
-    })
-}
-
 /// A variable, and what is seen further out.
 fn before(alloc: Global, variable: &Variable, sees: Scope) -> Result<(Scope, bool), AllocError>
     ensures sees { IfOk result (λ r. r.0.variables ≡ variable.now ∷ sees.variables) }
     ensures fresh { IfOk result (λ r. r.1 ≡ true) }
 {
     let Scope { variables } = sees;
-    let variables = Variables::with(alloc, cloned(alloc, variable)?, variables)?;
+    let variables = Variables::with(alloc, variable.try_clone(alloc)?, variables)?;
     Ok((Scope { variables }, true))
 }
 

@@ -8,7 +8,6 @@ ghost use Rattle.graph_of.specs.GraphOf.{graph_of, word_kind, function_of, funct
 ghost use Rattle.c_lower.specs.Stopping.{IsStop, IsTold};
 
 use crate::make::MOST_EDGES;
-use crate::scopes::cloned;
 use crate::statements::block;
 use crate::stop::Stop;
 use c_values::Kind;
@@ -31,7 +30,7 @@ fn before_all(
     let mut i = variables.len();
     while i > 0 {
         i -= 1;
-        chain = Variables::with(alloc, cloned(alloc, &variables[i])?, chain)?;
+        chain = Variables::with(alloc, variables[i].try_clone(alloc)?, chain)?;
     }
     Ok(chain)
 }
@@ -44,7 +43,7 @@ fn global_variables(alloc: Global, globals: &[GlobalVariable]) -> Result<Variabl
     let mut i = globals.len();
     while i > 0 {
         i -= 1;
-        chain = Variables::with(alloc, cloned(alloc, &globals[i].variable)?, chain)?;
+        chain = Variables::with(alloc, globals[i].variable.try_clone(alloc)?, chain)?;
     }
     Ok(chain)
 }

@@ -8,7 +8,7 @@ use c_parse::{Declarator, ExprTree, Ident, Initial};
 use c_values::Kind;
 use cfa::{Variable, VariablePlace};
 use containers::{TryClone, Vector};
-use expression_types::{Bound, Meaning, Typer, converted_to, copied};
+use expression_types::{Bound, Meaning, Typer, converted_to};
 use fq_core::{Name, Span};
 use std::alloc::{AllocError, Global};
 use typed_trees::{TypedExpr, TypedForm, TypedStatement};
@@ -61,7 +61,7 @@ pub(crate) fn bind_variable(
     typer.bind(Bound {
         name: variable.name.try_clone(alloc)?,
         level,
-        meaning: Meaning::Variable(copied(alloc, variable)?),
+        meaning: Meaning::Variable(variable.try_clone(alloc)?),
     })
 }
 

@@ -7,7 +7,8 @@ use crate::around::Around;
 use c_parse::{ExprTree, Ident};
 use c_values::{BinaryOp, Kind};
 use cfa::Variable;
-use expression_types::{Meaning, Typer, converted_to, copied, left_kind, no_variable, right_kind};
+use containers::TryClone;
+use expression_types::{Meaning, Typer, converted_to, left_kind, no_variable, right_kind};
 use fq_core::{Name, Span};
 use std::alloc::{AllocError, Global};
 use typed_trees::{TypedExpr, TypedExprForm, TypedForm, TypedPlace};
@@ -51,7 +52,7 @@ fn variable_at(
             Meaning::Function(_) | Meaning::Constant(_) => 33,
             Meaning::Variable(variable) => match variable.length {
                 Some(_) => 33,
-                None => return copied(alloc, variable),
+                None => return variable.try_clone(alloc),
             },
         },
     };

@@ -5,7 +5,7 @@ ghost use Rattle.c_types.specs.Scoped.{expression_in, names_in, sort_expr};
 use c_parse::ExprTree;
 use cfa::{Expr, Scope, Variable, Variables};
 use containers::{TryClone, Vector};
-use expression_types::{Bound, Cases, Meaning, Names, Scopes, Sort, Typer, copied, expr_of};
+use expression_types::{Bound, Cases, Meaning, Names, Scopes, Sort, Typer, expr_of};
 use fq_core::Memory;
 use std::alloc::{AllocError, Global};
 
@@ -15,7 +15,7 @@ fn row_of(alloc: Global, variables: &Variables) -> Result<Vector<Variable>, Allo
 {
     let mut row = Vector::new(alloc);
     for variable in variables.iter() {
-        row.push(copied(alloc, variable)?)?;
+        row.push(variable.try_clone(alloc)?)?;
     }
     Ok(row)
 }
@@ -32,7 +32,7 @@ fn names_in(alloc: Global, variables: &[Variable]) -> Result<Scopes, AllocError>
         names.push(Bound {
             name: variable.name.try_clone(alloc)?,
             level: 0,
-            meaning: Meaning::Variable(copied(alloc, variable)?),
+            meaning: Meaning::Variable(variable.try_clone(alloc)?),
         })?;
     }
     Ok(names)

@@ -5,6 +5,7 @@ pub mod Fault
 pub mod Graph
 pub mod Kinds
 pub mod Names
+pub mod NameTree
 pub mod Needs
 pub mod Predicates
 pub mod Rules

@@ -11,6 +11,7 @@ mod expr;
 mod fault;
 mod graph;
 pub mod laws;
+mod name_tree;
 mod names;
 mod parts;
 mod rest;
@@ -28,5 +29,5 @@ pub use parts::{
     Edge, Function, GraphParts, InputFunction, Node, Operation, Scope, Variable, VariablePlace,
 };
 pub use rules::{FunctionRoom, checked_kind};
-pub use state::{Frame, Predicates, State, Trap};
+pub use state::{Frame, Predicates, SharedExpr, State, Trap};
 pub use variables::Variables;

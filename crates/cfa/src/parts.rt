@@ -2,8 +2,9 @@
 use crate::expr::{ArrayPlace, CellPlace, Expr};
 use crate::variables::Variables;
 use c_values::Kind;
-use containers::Vector;
+use containers::{TryClone, Vector};
 use fq_core::{Name, Span, StatementKind};
+use std::alloc::{AllocError, Global};
 
 /// What is done along an edge.
 pub enum Operation {
@@ -159,6 +160,17 @@ pub struct Variable {
     /// How many elements an array has, and none for an integer.
     pub length: Option<u32>,
     pub place: VariablePlace,
+}
+
+impl TryClone for Variable {
+    fn try_clone(&self, alloc: Global) -> Result<Variable, AllocError> {
+        Ok(Variable {
+            name: self.name.try_clone(alloc)?,
+            kind: self.kind,
+            length: self.length,
+            place: self.place,
+        })
+    }
 }
 
 /// The variables that a node sees, the innermost first (6.2.1). A scope shares those that an outer one sees too.

@@ -1,7 +1,12 @@
 // States of a run.
+ghost use Rattle.std.specs.Prelude.{◌≡◌, IfOk};
+
 use crate::expr::Expr;
-use containers::Vector;
+use containers::{TryClone, Vector};
 use fq_core::Name;
+use std::alloc::{AllocError, Global};
+use std::marker::Model;
+use std::rc::Rc;
 
 /// A call that hasn't returned yet.
 #[derive(Debug, Drop)]
@@ -41,11 +46,54 @@ pub enum Trap {
     Assert,
 }
 
+/// An expression that several owners share, and contracts see as itself.
+#[derive(Drop)]
+pub struct SharedExpr {
+    expr: Rc<Expr>,
+}
+
+impl Model for SharedExpr {
+    ghost use Rattle.std.specs.Coded.{codes};
+    ghost use Rattle.cfa.specs.contracts.expr.Expr as e;
+    ghost use Rattle.cfa.specs.declared.expr.Expr.{Expr};
+
+    ghost Value = { Expr };
+
+    ghost coded = { Prim.hlevel (codes, e.the_row.coded) };
+
+    ghost view = { λ it. it.expr.value };
+}
+
+impl SharedExpr {
+    /// An expression, not shared yet.
+    pub fn new(alloc: Global, expr: Expr) -> Result<SharedExpr, AllocError>
+        ensures { IfOk result (λ shared. shared ≡ expr) }
+    {
+        let expr = Rc::new(alloc, expr)?;
+        Ok(SharedExpr { expr })
+    }
+
+    /// The expression.
+    pub fn expr(&self) -> &Expr
+        ensures { result.now ≡ self.now }
+    {
+        &self.expr
+    }
+}
+
+impl TryClone for SharedExpr {
+    /// Another owner. It fails only where there are too many owners to be counted.
+    fn try_clone(&self, _alloc: Global) -> Result<SharedExpr, AllocError> {
+        let expr = self.expr.clone()?;
+        Ok(SharedExpr { expr })
+    }
+}
+
 /// The predicates of a query beside a graph.
 #[derive(Drop)]
 pub struct Predicates {
     /// The text of each.
     pub texts: Vector<Name>,
     /// By predicate and scope, its expression where it has a typing in that scope.
-    pub meanings: Vector<Vector<Option<Expr>>>,
+    pub meanings: Vector<Vector<Option<SharedExpr>>>,
 }

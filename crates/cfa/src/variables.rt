@@ -1,19 +1,25 @@
 // The variables that a scope lists, and what they ask of the cells that they name.
 ghost use Rattle.std.specs.Prelude.{◌≡◌, ◌∷◌, [], ◌+◌, ◌++◌, ◌<◌, ◌^◌, ◌&&◌, ℕ, List, nat_le, IfOk};
 ghost use Rattle.std.specs.List.{list_all};
+ghost use Rattle.std.specs.Option.{option_copied};
 ghost use Rattle.c_values.specs.Kind.{is_kind};
 ghost use Rattle.cfa.specs.declared.parts.Variable.{Variable as OneVariable};
 ghost use Rattle.cfa.specs.declared.variables.Lent.{Lent as OneLent};
+ghost use Rattle.cfa.specs.Names.{visible};
 ghost use Rattle.cfa.specs.Rules.{cell_count};
 ghost use Rattle.cfa.specs.Needs.{AreNeeds, end_in_globals, end_in_frame, lent_of};
 ghost use Rattle.cfa.specs.Graph.{lent_fits, variable_fits, global_fits};
 
+use crate::name_tree::{self, NameTree};
 use crate::parts::{Variable, VariablePlace};
 use crate::rules::FunctionRoom;
 use c_values::is_kind;
 use chains::{Chain, ChainIter};
+use fq_core::Name;
 use std::alloc::{AllocError, Global};
+use std::fmt;
 use std::marker::Model;
+use std::rc::Rc;
 
 /// An array of the caller's that a variable names: the number of the parameter, and the length that the variable has.
 #[derive(Clone, Copy, Debug)]
@@ -33,24 +39,27 @@ struct Needs {
     lent: Chain<Lent>,
 }
 
-/// Variables, the innermost first, which contracts see as a list. What is put before others shares them, and whether
-/// all of them fit is told without going over them.
-#[derive(Debug, Drop)]
+/// Variables, the innermost first, which contracts see as a list. What is put before others shares them. Whether all of
+/// them fit, and what a name stands for, is told without going over them.
+#[derive(Drop)]
 pub struct Variables {
     list: Chain<Variable>,
     needs: Needs,
+    by_name: Option<Rc<NameTree>>,
 }
 
 impl Model for Variables {
     ghost use Rattle.std.specs.Prelude.{List};
     ghost use Rattle.cfa.specs.declared.parts.Variable.{Variable};
+    ghost use Rattle.cfa.specs.Names.{SeesAs};
+    ghost use Rattle.cfa.specs.NameTree.{in_part};
     ghost use Rattle.cfa.specs.Needs.{AreNeeds};
 
     ghost Value = { List Variable };
 
     ghost view = { λ it. it.list };
 
-    ghost invariant = { λ it. AreNeeds it.list it.needs };
+    ghost invariant = { λ it. AreNeeds it.list it.needs × SeesAs it.list (in_part it.by_name) };
 }
 
 /// How many cells a variable takes.
@@ -151,6 +160,7 @@ impl Variables {
                 cells: 0,
                 lent: Chain::new(),
             },
+            by_name: None,
         }
     }
 
@@ -158,10 +168,19 @@ impl Variables {
     pub fn with(alloc: Global, first: Variable, others: Variables) -> Result<Variables, AllocError>
         ensures { IfOk result (λ variables. variables ≡ first ∷ others) }
     {
-        let Variables { list, needs } = others;
+        let Variables {
+            list,
+            needs,
+            by_name,
+        } = others;
         let needs = with_needs_of(alloc, &first, needs)?;
+        let by_name = name_tree::with(alloc, &first, &by_name)?;
         let list = Chain::with(alloc, first, list)?;
-        Ok(Variables { list, needs })
+        Ok(Variables {
+            list,
+            needs,
+            by_name,
+        })
     }
 
     /// The same variables, all of them shared. It fails only where there are too many copies to be counted.
@@ -176,7 +195,15 @@ impl Variables {
                 cells: self.needs.cells,
                 lent: self.needs.lent.share()?,
             },
+            by_name: name_tree::shared(&self.by_name)?,
         })
+    }
+
+    /// What a name stands for among the variables: the innermost of that name. It goes over few of them.
+    pub fn find(&self, name: &Name) -> Option<&Variable>
+        ensures { option_copied result ≡ visible name.now self.now }
+    {
+        name_tree::find(&self.by_name, name.bytes())
     }
 
     /// The variables, one after another.
@@ -198,5 +225,11 @@ impl Variables {
         ensures { result ≡ list_all (λ (v : OneVariable). variable_fits room.now v.length v.place) self.now }
     {
         room.has_cells(self.needs.globals, self.needs.cells) && all_lent_fit(room, &self.needs.lent)
+    }
+}
+
+impl fmt::Debug for Variables {
+    fn fmt<W: fmt::Write>(&self, f: &mut fmt::Formatter<W>) -> fmt::Result {
+        write!(f, "{:?}", self.list)
     }
 }

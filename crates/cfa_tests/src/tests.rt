@@ -3,8 +3,10 @@ use std::alloc::Global;
 
 mod broken_edges;
 mod broken_parts;
+mod names;
 
 use broken_edges::Fault;
+use names::{cell_of, row};
 use test_graphs::draft::{Change, Draft, long_parts};
 use test_graphs::worked::{ARRAY, BRANCH, CALL, LOOP, RECURSION};
 
@@ -172,4 +174,23 @@ fn long_ways(alloc: Global) -> Option<[Option<u32>; 4]> {
 fn long_graphs_take_linear_time(rt: HostRuntime) {
     let found = long_ways(rt.alloc());
     assert_eq!(rt; found, Some([Some(0), None, Some(20_000), Some(1)]));
+}
+
+// As many names as a frame and the globals have cells, each twice, so that the outer variable of each is hidden.
+#[test]
+fn names_stand_for_the_innermost(rt: HostRuntime) {
+    let alloc = rt.alloc();
+    let outer = row(alloc, 3, 2).expect(&rt, "no memory");
+    let shared = outer.share().expect(&rt, "no memory");
+    for variables in [&outer, &shared] {
+        assert_eq!(rt; cell_of(alloc, variables, 0), Some(2));
+        assert_eq!(rt; cell_of(alloc, variables, 1), Some(1));
+        assert_eq!(rt; cell_of(alloc, variables, 2), None);
+    }
+    assert_eq!(rt; cell_of(alloc, &Variables::new(), 0), None);
+    let many = row(alloc, 65_536, 32_768).expect(&rt, "no memory");
+    for (number, cell) in [(0, 32_768), (1, 32_769), (9_999, 42_767), (32_767, 65_535)] {
+        assert_eq!(rt; cell_of(alloc, &many, number), Some(cell));
+    }
+    assert_eq!(rt; cell_of(alloc, &many, 32_768), None);
 }

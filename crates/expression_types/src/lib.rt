@@ -20,7 +20,7 @@ mod values;
 pub use constants::Folded;
 pub use faults::Found;
 pub use kinds::{left_kind, promotion, right_kind};
-pub use parts::{converted_to, copied, no_variable};
+pub use parts::{converted_to, no_variable};
 pub use scopes::{Bound, Cases, Meaning, Names, ParameterKind, Scopes, Signature};
 pub use typer::{Given, Sort, Typer};
 pub use values::{expr_of, place_of_typed};

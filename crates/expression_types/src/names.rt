@@ -3,12 +3,12 @@ ghost use Rattle.std.specs.Prelude.{◌≡◌, IfOk, OnOk};
 ghost use Rattle.expression_types.specs.Rule.{after, made_by};
 ghost use Rattle.expression_types.specs.Expressions.{name_at, array_at, function_at, callable, no_function};
 
-use crate::parts::{copied, load_of, missing_at, no_variable};
+use crate::parts::{load_of, missing_at, no_variable};
 use crate::scopes::{Meaning, Signature};
 use crate::typer::{Sort, Typer};
 use c_values::Kind;
 use cfa::Variable;
-use containers::Vector;
+use containers::{TryClone, Vector};
 use fq_core::{Name, Span};
 use std::alloc::{AllocError, Global};
 use typed_trees::{TypedExpr, TypedExprForm};
@@ -38,7 +38,7 @@ impl Typer {
                     form: TypedExprForm::Constant(*value),
                 })),
                 Meaning::Variable(variable) => {
-                    let copy = copied(alloc, variable)?;
+                    let copy = variable.try_clone(alloc)?;
                     match copy.length {
                         None => Ok(Sort::Value(load_of(alloc, span, copy, None)?)),
                         Some(_) => Ok(Sort::Array(copy)),
@@ -65,7 +65,7 @@ impl Typer {
                 Meaning::Function(_) | Meaning::Constant(_) => 33,
                 Meaning::Variable(variable) => match variable.length {
                     None => 33,
-                    Some(_) => return copied(alloc, variable),
+                    Some(_) => return variable.try_clone(alloc),
                 },
             },
         };

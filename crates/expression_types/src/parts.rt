@@ -7,7 +7,7 @@ use crate::scopes::Signature;
 use crate::typer::{Given, Sort};
 use c_values::{BinaryOp, Kind, UnaryOp, binary_kind, unary_kind};
 use cfa::{Variable, VariablePlace};
-use containers::{Boxed, TryClone};
+use containers::Boxed;
 use fq_core::{Name, Span};
 use std::alloc::{AllocError, Global};
 use typed_trees::{Callee, TypedCall, TypedExpr, TypedExprForm, TypedPlace};
@@ -169,16 +169,4 @@ pub(crate) fn called(
             Ok(Sort::Value(TypedExpr { span, kind, form }))
         }
     }
-}
-
-/// A copy of a variable.
-pub fn copied(alloc: Global, variable: &Variable) -> Result<Variable, AllocError>
-    ensures { IfOk result (λ copy. copy ≡ variable.now) }
-{
-    Ok(Variable {
-        name: variable.name.try_clone(alloc)?,
-        kind: variable.kind,
-        length: variable.length,
-        place: variable.place,
-    })
 }

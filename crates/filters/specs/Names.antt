@@ -2,21 +2,19 @@
 use Rattle.std.specs.Prelude.{ℕ, Bool, true, false, ◌||◌, min, List, Option, Some, None, if◌then◌else◌, slice_get}
 use Rattle.std.specs.List.{list_any}
 use Rattle.std.specs.Option.{is_some, option_map_or}
-use Rattle.std.specs.Str.{bytes_eq}
 use Rattle.cfa.specs.declared.parts.Edge.{Edge}
 use Rattle.cfa.specs.declared.parts.GraphParts.{GraphParts}
 use Rattle.cfa.specs.declared.parts.Node.{Node}
 use Rattle.cfa.specs.declared.parts.Scope.{Scope}
-use Rattle.cfa.specs.declared.parts.Variable.{Variable}
-use Rattle.cfa.specs.Names.{first_named}
+use Rattle.cfa.specs.Names.{first_named, visible}
 use Rattle.fql_read.specs.declared.filter.Filter.{Filter, fold-Filter}
 use Rattle.fql_read.specs.declared.filter.FilterForm.TheOpen.{Filter-F, FilterForm-F}
 use Rattle.fql_read.specs.declared.filter.FilterForm.{FilterForm, fold-FilterForm}
 use Rattle.filters.specs.Properties.{is_name, has_name}
 
--- a variable of this name is in a scope
+-- the name of a variable is visible in a scope
 abbrev pub scope_has : List ℕ → Scope → Bool
-scope_has name s = list_any (λ (v : Variable). bytes_eq v.name name) s.variables
+scope_has name s = is_some (visible name s.variables)
 
 -- a variable of this name is in the scope of a node
 abbrev pub sees : GraphParts → List ℕ → Node → Bool

@@ -16,10 +16,7 @@ use std::alloc::Global;
 fn scope_has(scope: &Scope, name: &Name) -> bool
     ensures { result ≡ scope_has name.now scope.now }
 {
-    scope
-        .variables
-        .iter()
-        .any(|variable| variable.name.bytes() == name.bytes())
+    scope.variables.find(name).is_some()
 }
 
 fn scope_at_has(graph: &Graph, scope: usize, name: &Name) -> bool
@@ -31,7 +28,7 @@ fn scope_at_has(graph: &Graph, scope: usize, name: &Name) -> bool
     }
 }
 
-// By scope, whether a variable of this name is in it, so that no scope is read twice.
+// By scope, whether a variable of this name is in it, so that no scope is asked twice.
 #[tactic(auto, using(crate::proofs::MarksLaws::each_more))]
 fn scopes_with(alloc: Global, graph: &Graph, name: &Name) -> Result<Vec<bool>, Memory>
     ensures { IfOk result (λ marks. is_marked marks.items ≡ (λ i. option_map_or (scope_has name.now) (slice_get graph.now.scopes i) false)) }

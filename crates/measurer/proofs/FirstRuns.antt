@@ -1,9 +1,9 @@
 -- The first run that hits a goal, after one more run.
-use Rattle.std.proofs.Common.{◌≡◌, ℕ, zero, suc, ◌+◌, ◌-◌, ◌≤◌, ◌<◌, ◌==◌, ◌||◌, cond, Bool, true, false, List, [], ◌∷◌, ◌++◌, Option, Some, None, length, refl, sym, ◌∙◌, ap, subst, arith, length-append}
+use Rattle.std.proofs.Common.{◌≡◌, ℕ, suc, ◌+◌, ◌-◌, cond, Bool, true, false, List, [], ◌∷◌, ◌++◌, Option, Some, None, length, refl, sym, ◌∙◌, ap, arith, length-append}
 use Rattle.std.specs.Prelude.{slice_get}
 use Rattle.std.specs.List.{position_from}
 use Rattle.measurer.proofs.Automata.{get_push_new}
-use Rattle.measurer.specs.Firsts.{first_hit, has_number, or_none}
+use Rattle.measurer.specs.Firsts.{first_hit, has_number}
 use Rattle.measurer.specs.Noted.{noted}
 
 first_from : (goal n : ℕ) (lists : List (List ℕ)) (hits : List ℕ) → position_from (has_number goal) n (lists ++ hits ∷ []) ≡ noted (has_number goal hits) (n + length lists) (position_from (has_number goal) n lists)

@@ -2,6 +2,7 @@ pub mod Words
 pub mod WordOpenings
 pub mod FirstPlaces
 pub mod Gathered
+pub mod KnownHits
 pub mod Automata
 pub mod FirstRuns
 pub mod Noting

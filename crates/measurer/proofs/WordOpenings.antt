@@ -1,5 +1,5 @@
 -- The edges with which the words of goals begin.
-use Rattle.std.proofs.Common.{◌≡◌, ℕ, ◌≤◌, ◌<◌, Bool, true, false, List, [], ◌∷◌, Option, Some, None, fold, map, refl, sym, ◌∙◌, ap, subst, arith}
+use Rattle.std.proofs.Common.{◌≡◌, ℕ, Bool, true, false, List, [], ◌∷◌, Option, fold, map, refl, sym, ◌∙◌, ap, subst, arith}
 use Rattle.patterns.specs.Letters.{form}
 use Rattle.patterns.specs.Match.{Match, LetterMatch}
 use Rattle.patterns.specs.Match as plain

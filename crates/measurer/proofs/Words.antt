@@ -1,5 +1,5 @@
 -- A word without quoted letters goes along a path exactly where its pattern matches.
-use Rattle.std.proofs.Common.{◌≡◌, ℕ, zero, suc, ◌+◌, ◌-◌, ◌≤◌, ◌⊎◌, ◌↔◌, ◌==◌, ◌||◌, inl, inr, Bool, true, false, not, List, [], ◌∷◌, fold, map, length, refl, sym, ◌∙◌, ap, subst, arith, eqb-true, eq-eqb}
+use Rattle.std.proofs.Common.{◌≡◌, ℕ, ◌-◌, ◌↔◌, ◌==◌, ◌||◌, inl, inr, Bool, true, false, not, List, [], ◌∷◌, fold, map, refl, sym, ◌∙◌, ap, subst, arith, eqb-true, eq-eqb}
 use Rattle.std.specs.Prelude.{slice_index}
 use Rattle.std.proofs.lemmas.Bool.{false≢true}
 use Rattle.patterns.specs.Letters.{form}
@@ -10,7 +10,7 @@ use Rattle.patterns.specs.declared.path_view.PathView.{PathView}
 use Rattle.patterns.specs.declared.letter.Letter.TheVariants as letter
 use Rattle.patterns.specs.declared.pattern.Pattern.TheVariants as pattern
 use Rattle.patterns.proofs.Forms.{form_letter, form_dot}
-use Rattle.goals.specs.Forms.{Pattern, dots, letter_pattern, word_pattern}
+use Rattle.goals.specs.Forms.{Pattern, letter_pattern, word_pattern}
 use Rattle.goals.specs.Words.{Word}
 use Rattle.goals.specs.declared.goal_letter.GoalLetter.{GoalLetter}
 use Rattle.goals.specs.declared.goal_letter.GoalLetter.TheVariants.{Node, Edge, Predicate, Absent, Quoted}

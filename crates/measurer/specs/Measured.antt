@@ -12,7 +12,7 @@ use Rattle.goals.specs.GoalForm.{GoalForm, HasItsPattern}
 use Rattle.goals.specs.declared.plan.PassingPattern.{PassingPattern}
 use Rattle.goals.specs.declared.plan.Plan.{Plan}
 use Rattle.patterns.specs.Segments.{HasSegment}
-use Rattle.word_index.specs.Order.{IsIndexOf}
+use Rattle.word_index.specs.Tables.{IsIndexOf}
 use Rattle.word_index.specs.Walks.{is_plain}
 use Rattle.measurer.specs.Openings.{IsOpening}
 use Rattle.measurer.specs.declared.tables.GoalAutomaton.{GoalAutomaton}
@@ -56,6 +56,6 @@ IsPassingAutomaton (Some p) None = ⊥
 -- the tables were made for this plan
 pub record IsFor (plan : Plan) (tables : Tables) : Type 0 where
   pub patterns : (place : ℕ) (goal : GoalForm) → slice_get plan.goals place ≡ Some goal → HasItsPattern goal
-  pub index : IsIndexOf plan.goals tables.index.order tables.index.absents
+  pub index : IsIndexOf plan.goals tables.index
   pub automata : AreAutomata plan.goals plan.first plan.last (length plan.goals) tables.automata
   pub passing : IsPassingAutomaton plan.passing tables.passing

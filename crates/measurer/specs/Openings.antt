@@ -1,12 +1,12 @@
 -- The edges that matches take first, and where a run first takes them.
-use Rattle.std.specs.Prelude.{◌≡◌, ℕ, ◌<◌, ◌==◌, Bool, true, false, List, [], ◌∷◌, length, slice_index, slice_index_or, Option, Some, None}
+use Rattle.std.specs.Prelude.{◌≡◌, ℕ, ◌<◌, ◌==◌, Bool, false, List, ◌∷◌, length, slice_index, slice_index_or, Option, Some, None}
 use Rattle.std.specs.List.{position_or_len}
 use Rattle.patterns.specs.Match.{Form, Match}
 use Rattle.patterns.specs.Paths.{step_of}
 use Rattle.patterns.specs.declared.letter.Letter.{Letter}
 use Rattle.patterns.specs.declared.path_view.PathView.{PathView}
 use Rattle.goals.specs.Words.{Word}
-use Rattle.goals.specs.declared.goal_letter.GoalLetter.TheVariants.{Node, Edge, Predicate, Absent, Quoted}
+use Rattle.goals.specs.declared.goal_letter.GoalLetter.TheVariants.{Edge}
 
 -- the edge with which a word begins, where matches may begin anywhere
 abbrev pub opening_of : Bool → Word → Option ℕ

@@ -9,6 +9,7 @@
 #![tactic(auto)]
 
 mod firsts;
+mod known;
 mod measurer;
 mod openings;
 mod others;

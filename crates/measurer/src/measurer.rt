@@ -1,14 +1,18 @@
 // The measurer.
-ghost use Rattle.std.specs.Prelude.{◌≡◌, ◌↔◌, ◌⊎◌, [], ◌∷◌, ◌++◌, List, ℕ, true, false, IfOk, OnOk, OnErr, slice_index};
+ghost use Rattle.std.specs.Prelude.{◌≡◌, ◌↔◌, ◌⊎◌, [], ◌∷◌, ◌++◌, List, ℕ, IsTrue, true, false, IfOk, OnOk, OnErr, slice_index};
 ghost use Rattle.std.specs.List.{Contains};
 ghost use Rattle.patterns.specs.Paths.{IsPath};
 ghost use Rattle.measurer.specs.Firsts.{first_hit, or_none};
 ghost use Rattle.word_index.specs.Numbers.{Adds};
 ghost use Rattle.word_index.specs.Walks.{HasGoalWalk};
 ghost use Rattle.hits.specs.Hits.{AreHits, HitsNumber, path_in};
+ghost use Rattle.c_meaning.specs.declared.ends.Ends.{Ends as OneEnds};
+ghost use Rattle.path_runner.specs.Counted.{counts_end};
+ghost use Rattle.measurer.specs.Known.{AreKnown};
 ghost use Rattle.measurer.specs.Measured.{HasOtherMatch, IsFor};
 
 use crate::firsts::note;
+use crate::known::KnownPaths;
 use crate::others::add_others;
 use crate::passing::meets_passing;
 use crate::tables::{Tables, tables_of};
@@ -25,6 +29,8 @@ use word_index::Numbers;
 #[derive(Drop)]
 pub struct Measurer {
     tables: Tables,
+    /// Paths of earlier runs, whose hits aren't sought again.
+    known: KnownPaths,
     /// The numbers of the goals that a run hits, while they are gathered.
     numbers: Numbers,
     hits: Vector<Vector<u32>>,
@@ -51,6 +57,7 @@ impl Measurer {
     {
         Ok(Measurer {
             tables: tables_of(alloc, plan)?,
+            known: KnownPaths::new(alloc),
             numbers: Numbers::new(alloc, plan.goals.len())?,
             hits: Vector::new(alloc),
             firsts: Vec::new(alloc),
@@ -71,8 +78,15 @@ impl Measurer {
         ensures refused { OnErr result (hits_of self.new ≡ hits_of self.old) }
     {
         let alloc = self.hits.allocator();
-        gather(alloc, &self.tables, plan, run, ends, &mut self.numbers)?;
-        let hits = self.numbers.rising(alloc)?;
+        let hits = found(
+            alloc,
+            &self.tables,
+            &mut self.known,
+            &mut self.numbers,
+            plan,
+            run,
+            ends,
+        )?;
         note(&mut self.hits, &mut self.firsts, hits)
     }
 
@@ -89,6 +103,7 @@ impl Measurer {
     {
         let Measurer {
             tables: _tables,
+            known: _known,
             numbers: _numbers,
             hits,
             firsts: _firsts,
@@ -136,26 +151,50 @@ fn add_found(
     add_others(alloc, automata, path, plan.first, plan.last, numbers)
 }
 
-/// Gathers the numbers of the goals that a run hits.
+/// Gathers the numbers of the goals that a run hits whose end is counted.
 fn gather(
     alloc: Global,
     tables: &Tables,
     plan: &Plan,
     run: &PathRecord,
-    ends: Ends,
     numbers: &mut Numbers,
 ) -> Result<(), Memory>
     requires plan { IsFor plan.now tables.now }
     requires path { IsPath (path_in run.now) }
-    ensures { OnOk result ((n : ℕ) → Contains numbers.new n ↔ HitsNumber plan.now ends run.now n) }
+    ensures { (ends : OneEnds) → IsTrue (counts_end ends run.now.end) → OnOk result ((n : ℕ) → Contains numbers.new n ↔ HitsNumber plan.now ends run.now n) }
 {
     numbers.clear();
-    if !run.end.is_counted(ends) {
-        return Ok(());
-    }
     let path = path_in(run);
     if !meets_passing(alloc, &tables.passing, &path)? {
         return Ok(());
     }
     add_found(alloc, tables, plan, &path, numbers)
+}
+
+/// The numbers of the goals that a run hits, in rising order: those of a known path, or those that are found.
+fn found(
+    alloc: Global,
+    tables: &Tables,
+    known: &mut KnownPaths,
+    numbers: &mut Numbers,
+    plan: &Plan,
+    run: &PathRecord,
+    ends: Ends,
+) -> Result<Vec<u32>, Memory>
+    requires plan { IsFor plan.now tables.now }
+    requires path { IsPath (path_in run.now) }
+    requires known { AreKnown plan.now known.old.paths.items }
+    ensures hits { IfOk result (λ hits. AreHits plan.now ends run.now hits.items) }
+    ensures known { AreKnown plan.now known.new.paths.items }
+{
+    if !run.end.is_counted(ends) {
+        return Ok(Vec::new(alloc));
+    }
+    if let Some(path) = known.find(run) {
+        return Ok(Vec::from_slice(alloc, &path.hits)?);
+    }
+    gather(alloc, tables, plan, run, numbers)?;
+    let hits = numbers.rising(alloc)?;
+    known.keep(alloc, run, &hits)?;
+    Ok(hits)
 }

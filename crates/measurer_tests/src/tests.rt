@@ -177,6 +177,31 @@ fn runs_that_do_not_return(rt: HostRuntime) -> Result<(), Fail> {
     Ok(())
 }
 
+// The run on 2 of f along the same edges, with other truths of the predicate and another end.
+fn as_two(alloc: Global, mask: u64, end: RunEnd) -> Result<PathRecord, Fail> {
+    run(alloc, &[2, 4, 5, 3], &[1, 3, 7], &[1, mask, 1, 1], end)
+}
+
+// A run hits what an earlier run along its path hit, if its end counts and the same predicates held.
+#[test]
+fn runs_along_known_paths(rt: HostRuntime) -> Result<(), Fail> {
+    let alloc = rt.alloc();
+    let runs = [
+        as_two(alloc, 1, RunEnd::Blocked)?,
+        two(alloc)?,
+        nine(alloc)?,
+        as_two(alloc, 0, RunEnd::Returned { value: Some(0) })?,
+        as_two(alloc, 1, RunEnd::Trapped(Trap::Assert))?,
+        two(alloc)?,
+        as_two(alloc, 0, RunEnd::Returned { value: Some(0) })?,
+        nine(alloc)?,
+    ];
+    let query = "cover @LINE(3).{x == 2}+@LINE(7)";
+    let text = hits_text(alloc, CALLS, query, &runs)?;
+    assert_eq!(rt; text.as_str(), "; 1 2; 2; 2;; 1 2; 2; 2;");
+    Ok(())
+}
+
 // A word that begins again after it failed, and the first of several runs.
 #[test]
 fn first_runs(rt: HostRuntime) -> Result<(), Fail> {

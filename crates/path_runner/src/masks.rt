@@ -7,17 +7,17 @@ ghost use Rattle.path_runner.specs.Fits.{RowFits};
 ghost use Rattle.path_runner.specs.Masks.{bit, number_of_bits, holds, mask_of};
 
 use c_meaning::value_in;
-use cfa::{Expr, Graph, Predicates, State};
+use cfa::{Graph, Predicates, SharedExpr, State};
 use containers::Vector;
 
 // Whether a predicate holds, by its expressions for each scope.
-fn holds(graph: &Graph, state: &State, row: &[Option<Expr>], scope: u32) -> bool
+fn holds(graph: &Graph, state: &State, row: &[Option<SharedExpr>], scope: u32) -> bool
     requires state { IsState graph.now state.now }
     requires fits { RowFits graph.now state.now scope row.now }
     ensures { result ≡ holds scope state.now row.now }
 {
     match row.get(scope as usize) {
-        Some(Some(expr)) => match value_in(graph, state, expr) {
+        Some(Some(shared)) => match value_in(graph, state, shared.expr()) {
             Ok(value) => value != 0,
             Err(_trap) => false,
         },
@@ -35,7 +35,7 @@ fn with_bit(number: u64, low: bool) -> u64
 }
 
 // The predicates that hold, by their expressions, as a number.
-fn mask_in(graph: &Graph, state: &State, rows: &[Vector<Option<Expr>>], scope: u32) -> u64
+fn mask_in(graph: &Graph, state: &State, rows: &[Vector<Option<SharedExpr>>], scope: u32) -> u64
     requires state { IsState graph.now state.now }
     requires few { length rows.now ≤ 64 }
     requires fits { Each rows.now (λ at row. RowFits graph.now state.now scope row) }

@@ -1,11 +1,12 @@
 -- What an expression is in a scope depends on the variables alone that have its names.
-use Rattle.std.proofs.Common.{◌≡◌, ℕ, zero, suc, ◌<◌, Bool, true, false, List, [], ◌∷◌, ◌++◌, map, length, Option, Some, None, refl, sym, ap, subst, ◌∙◌, inl, inr, rules, arith}
-use Rattle.std.specs.Prelude.{◌||◌, cond, filter, slice_get}
-use Rattle.std.specs.List.{list_all}
+use Rattle.std.proofs.Common.{◌≡◌, ℕ, zero, suc, ◌<◌, Bool, true, false, List, [], ◌∷◌, ◌++◌, map, length, Option, Some, None, refl, sym, ap, subst, ◌∙◌, rules, arith}
+use Rattle.std.specs.Prelude.{◌||◌, cond, option_map, option_to_list, slice_get}
+use Rattle.std.specs.List.{flat_map, list_all}
 use Rattle.std.specs.Str.{bytes_eq}
-use Rattle.std.proofs.lemmas.Bool.{and_from, and_parts, or_cases, or_left, or_right}
+use Rattle.std.proofs.lemmas.Bool.{and_from, and_parts, or_left, or_right}
 use Rattle.std.proofs.lemmas.List.{append-nil}
 use Rattle.std.proofs.lemmas.List.Folds.{list_all-append}
+use Rattle.std.proofs.lemmas.Option.{same_Some}
 use Rattle.fq_core.specs.declared.span.Span.{Span}
 use Rattle.c_values.specs.declared.kinds.Kind.{Kind}
 use Rattle.c_values.specs.declared.operators.BinaryOp.{BinaryOp}
@@ -18,6 +19,7 @@ use Rattle.c_parse.specs.SequencePoints.{has_sequence_point, sequence_step}
 use Rattle.cfa.specs.declared.expr.Expr.{Expr}
 use Rattle.cfa.specs.declared.parts.Scope.{Scope}
 use Rattle.cfa.specs.declared.parts.Variable.{Variable}
+use Rattle.cfa.specs.Names.{is_named, visible}
 use Rattle.expression_types.specs.declared.scopes.Bound.{Bound}
 use Rattle.expression_types.specs.declared.scopes.Meaning.{Meaning}
 use Rattle.expression_types.specs.declared.scopes.Meaning.TheVariants as meanings
@@ -29,8 +31,7 @@ use Rattle.expression_types.specs.Scopes.{bound_at, has_name, last_place, newest
 use Rattle.expression_types.proofs.ScopeLaws.{placed}
 use Rattle.c_types.specs.Declarations.{bound_as}
 use Rattle.c_types.specs.Scoped.{at_scope, done_expr, expression_in, faultless_expr, names_in}
-use Rattle.predicates.specs.Narrowing.{names_of, names_of_all, names_step, narrowed}
-use Rattle.predicates.specs.Typing.{meanings_in}
+use Rattle.predicates.specs.Narrowing.{IsMeaning, names_of, names_step, narrowed, seen}
 
 true_and_false : {b : Bool} → b ≡ true → b ≡ false → ⊥
 true_and_false p q = let both : true ≡ false = sym p ∙ q in cc
@@ -71,28 +72,66 @@ module _ (w : List ℕ) where
       let place : last_place (bs ++ b ∷ []) w ≡ last_place bs w = placed w bs b ∙ ap (λ t. cond t (Some (length bs)) (last_place bs w)) h in
       ap (bound_at (bs ++ b ∷ [])) place ∙ at_before bs (b ∷ []) (last_place bs w) (last_within bs w)
 
-  push_both : (bs cs : List Bound) (b : Bound) → newest w bs ≡ newest w cs → (t : Bool) → bytes_eq b.name w ≡ t → newest w (bs ++ b ∷ []) ≡ newest w (cs ++ b ∷ [])
-  push_both bs cs b e true h = push_hit bs b h ∙ sym (push_hit cs b h)
-  push_both bs cs b e false h = push_miss bs b h ∙ e ∙ sym (push_miss cs b h)
+  newest_by : (v : Variable) (vs : List Variable) → newest w (names_in vs) ≡ option_map (bound_as 0) (visible w vs) → (t : Bool) → is_named w v ≡ t
+      → newest w (names_in vs ++ bound_as 0 v ∷ []) ≡ option_map (bound_as 0) (cond t (Some v) (visible w vs))
+  newest_by v vs e true h = push_hit (names_in vs) (bound_as 0 v) h
+  newest_by v vs e false h = push_miss (names_in vs) (bound_as 0 v) h ∙ e
+
+  -- what is bound to a name last is the variable that the name stands for
+  newest_visible : (vs : List Variable) → newest w (names_in vs) ≡ option_map (bound_as 0) (visible w vs)
+  unfolding names_in last_place
+  newest_visible [] = refl
+  newest_visible (v ∷ vs) = newest_by v vs (newest_visible vs) _ refl
+
+-- ---- the variables that names stand for
+
+module _ (vs : List Variable) where
+  found_case : (w : List ℕ) (u v : Variable) (us : List Variable) → (visible w us ≡ Some v → is_named w v ≡ true) → (t : Bool) → is_named w u ≡ t → cond t (Some u) (visible w us) ≡ Some v → is_named w v ≡ true
+  found_case w u v us f true h e = let same : u ≡ v = same_Some u v e in ap (is_named w) (sym same) ∙ h
+  found_case w u v us f false h e = f e
+
+  found_named : (w : List ℕ) (v : Variable) (us : List Variable) → visible w us ≡ Some v → is_named w v ≡ true
+  found_named w v [] e = cc
+  found_named w v (u ∷ us) e = found_case w u v us (found_named w v us) _ refl e
+
+  abbrev row_of : List (List ℕ) → List Variable
+  row_of ns = flat_map option_to_list (map (λ n. visible n vs) ns)
+
+  -- what stands for one name doesn't have another
+  not_other : (n w : List ℕ) (v : Variable) → visible n vs ≡ Some v → (n ≡ w → ⊥) → (t : Bool) → is_named w v ≡ t → is_named w v ≡ false
+  not_other n w v e apart true h = absurd (apart (sym (same_bytes v.name n (found_named n v vs e)) ∙ same_bytes v.name w h))
+  not_other n w v e apart false h = h
+
+  passed : (n w : List ℕ) (rest : List Variable) → (n ≡ w → ⊥) → (o : Option Variable) → visible n vs ≡ o → visible w (option_to_list o ++ rest) ≡ visible w rest
+  passed n w rest apart None e = refl
+  passed n w rest apart (Some v) e = ap (λ t. cond t (Some v) (visible w rest)) (not_other n w v e apart _ refl)
+
+  none_case : (n w : List ℕ) (rest : List Variable) → visible w vs ≡ None → visible w rest ≡ None → (t : Bool) → bytes_eq n w ≡ t → visible w (option_to_list (visible n vs) ++ rest) ≡ None
+  none_case n w rest none e true h = ap (λ o. visible w (option_to_list o ++ rest)) (ap (λ m. visible m vs) (same_bytes n w h) ∙ none) ∙ e
+  none_case n w rest none e false h = passed n w rest (λ same. true_and_false (ap (λ m. bytes_eq m w) same ∙ bytes_same w) h) _ refl ∙ e
+
+  none_seen : (w : List ℕ) → visible w vs ≡ None → (ns : List (List ℕ)) → visible w (row_of ns) ≡ None
+  none_seen w none [] = refl
+  none_seen w none (n ∷ ns) = none_case n w (row_of ns) none (none_seen w none ns) _ refl
+
+  own_case : (w : List ℕ) (ns : List (List ℕ)) (o : Option Variable) → visible w vs ≡ o → visible w (option_to_list o ++ row_of ns) ≡ o
+  own_case w ns None e = none_seen w e ns
+  own_case w ns (Some v) e = ap (λ t. cond t (Some v) (visible w (row_of ns))) (found_named w v vs e)
+
+  one_case : (n w : List ℕ) (ns : List (List ℕ)) → (has_name ns w ≡ true → visible w (row_of ns) ≡ visible w vs) → (t : Bool) → bytes_eq n w ≡ t → (t || has_name ns w) ≡ true
+      → visible w (option_to_list (visible n vs) ++ row_of ns) ≡ visible w vs
+  one_case n w ns f true h has = ap (λ m. visible w (option_to_list (visible m vs) ++ row_of ns)) (same_bytes n w h) ∙ own_case w ns _ refl
+  one_case n w ns f false h has = passed n w (row_of ns) (λ same. true_and_false (ap (λ m. bytes_eq m w) same ∙ bytes_same w) h) _ refl ∙ f has
+
+  -- each of the names stands for the same among the variables that they stand for
+  visible_seen : (w : List ℕ) (ns : List (List ℕ)) → has_name ns w ≡ true → visible w (row_of ns) ≡ visible w vs
+  unfolding has_name
+  visible_seen w [] has = cc
+  visible_seen w (n ∷ ns) has = one_case n w ns (visible_seen w ns) _ refl has
 
 module _ (ns : List (List ℕ)) where
-  abbrev kept : Variable → Bool
-  kept v = has_name ns v.name
-
-  other_name : (v w : List ℕ) → has_name ns w ≡ true → has_name ns v ≡ false → (t : Bool) → bytes_eq v w ≡ t → bytes_eq v w ≡ false
-  other_name v w had none true h = absurd (true_and_false (ap (has_name ns) (same_bytes v w h) ∙ had) none)
-  other_name v w had none false h = h
-
-  newest_step : (v : Variable) (xs vs : List Variable) (w : List ℕ) → has_name ns w ≡ true → newest w (names_in xs) ≡ newest w (names_in vs) → (k : Bool) → kept v ≡ k
-      → newest w (names_in (cond k (v ∷ xs) xs)) ≡ newest w (names_in vs ++ bound_as 0 v ∷ [])
-  unfolding names_in
-  newest_step v xs vs w has e true h = push_both w (names_in xs) (names_in vs) (bound_as 0 v) e _ refl
-  newest_step v xs vs w has e false h = e ∙ sym (push_miss w (names_in vs) (bound_as 0 v) (other_name v.name w has h _ refl))
-
-  newest_kept : (vs : List Variable) (w : List ℕ) → has_name ns w ≡ true → newest w (names_in (filter kept vs)) ≡ newest w (names_in vs)
-  unfolding names_in
-  newest_kept [] w has = refl
-  newest_kept (v ∷ vs) w has = newest_step v (filter kept vs) vs w has (newest_kept vs w has) _ refl
+  newest_kept : (vs : List Variable) (w : List ℕ) → has_name ns w ≡ true → newest w (names_in (row_of vs ns)) ≡ newest w (names_in vs)
+  newest_kept vs w has = newest_visible w (row_of vs ns) ∙ ap (option_map (bound_as 0)) (visible_seen vs w ns has) ∙ sym (newest_visible w vs)
 
   -- ---- rules that look up no other names
 
@@ -314,21 +353,7 @@ module _ (ns : List (List ℕ)) where
   unfolding expression_in
   narrowing s t had = same_unless (has_sequence_point t) _ _ (same_done s t had)
 
--- ---- the names of several expressions
-
-has_left : (xs ys : List (List ℕ)) (w : List ℕ) → has_name xs w ≡ true → has_name (xs ++ ys) w ≡ true
-unfolding has_name
-has_left [] ys w h = absurd (cc)
-has_left (x ∷ xs) ys w h =
-    elim (or_cases (bytes_eq x w) (has_name xs w) h) [
-      | inl here ↦ or_left (bytes_eq x w) (has_name (xs ++ ys) w) here
-      | inr later ↦ or_right (bytes_eq x w) (has_name (xs ++ ys) w) (has_left xs ys w later)
-    ]
-
-has_right : (xs ys : List (List ℕ)) (w : List ℕ) → has_name ys w ≡ true → has_name (xs ++ ys) w ≡ true
-unfolding has_name
-has_right [] ys w h = h
-has_right (x ∷ xs) ys w h = or_right (bytes_eq x w) (has_name (xs ++ ys) w) (has_right xs ys w h)
+-- ---- an expression has all of its names
 
 all_more : (ns ms ws : List (List ℕ)) → ((w : List ℕ) → has_name ns w ≡ true → has_name ms w ≡ true) → list_all (has_name ns) ws ≡ true → list_all (has_name ms) ws ≡ true
 all_more ns ms [] f h = refl
@@ -339,20 +364,6 @@ unfolding has_name
 all_own [] = refl
 all_own (w ∷ ws) = and_from _ _ (or_left _ _ (bytes_same w)) (all_more ws (w ∷ ws) ws (λ v h. or_right _ _ h) (all_own ws))
 
-all_had : (trees : List ExprTree) (i : ℕ) (t : ExprTree) → slice_get trees i ≡ Some t → list_all (has_name (names_of_all trees)) (names_of t) ≡ true
-all_had [] i t at = absurd (cc)
-all_had (u ∷ ts) zero t at =
-    let same : u ≡ t = cc in
-    let own = all_more (names_of u) (names_of u ++ names_of_all ts) (names_of u) (has_left (names_of u) (names_of_all ts)) (all_own (names_of u)) in
-    subst (λ (v : ExprTree). list_all (has_name (names_of u ++ names_of_all ts)) (names_of v) ≡ true) same own
-all_had (u ∷ ts) (suc i) t at =
-    all_more (names_of_all ts) (names_of u ++ names_of_all ts) (names_of t) (has_right (names_of u) (names_of_all ts)) (all_had ts i t at)
-
-same_row : (ns : List (List ℕ)) (t : ExprTree) → list_all (has_name ns) (names_of t) ≡ true → (scopes : List Scope) → meanings_in (map (narrowed ns) scopes) t ≡ meanings_in scopes t
-same_row ns t had [] = refl
-same_row ns t had (s ∷ scopes) = (λ i. narrowing ns s t had i ∷ same_row ns t had scopes i)
-
--- a row over scopes with the names of all the trees is a row over the scopes
-pub narrowed_row : (trees : List ExprTree) (i : ℕ) (t : ExprTree) (scopes : List Scope) → slice_get trees i ≡ Some t
-    → meanings_in (map (narrowed (names_of_all trees)) scopes) t ≡ meanings_in scopes t
-narrowed_row trees i t scopes at = same_row (names_of_all trees) t (all_had trees i t at) scopes
+-- what an expression is among the variables that its names stand for, it is wherever they stand for these
+pub is_meaning : (t : ExprTree) (row : List (Option Variable)) (meaning : Option Expr) → expression_in (seen row) t ≡ meaning → IsMeaning t row meaning
+is_meaning t row meaning e s at = sym (narrowing (names_of t) s t (all_own (names_of t))) ∙ ap (λ r. expression_in (seen r) t) at ∙ e

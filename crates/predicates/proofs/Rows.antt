@@ -1,30 +1,22 @@
 -- The meanings of trees, one tree more.
-use Rattle.std.proofs.Common.{◌≡◌, ℕ, ◌+◌, ◌<◌, Bool, true, false, List, [], ◌∷◌, ◌++◌, length, map, get_or, take, refl, sym, ap, ◌∙◌}
+use Rattle.std.proofs.Common.{◌≡◌, ℕ, ◌+◌, ◌<◌, Bool, true, false, List, [], ◌∷◌, ◌++◌, length, map, get_or, take, sym, ap, ◌∙◌}
 use Rattle.std.specs.Prelude.{Option}
 use Rattle.std.proofs.lemmas.Bool.{and_from}
 use Rattle.std.proofs.lemmas.List.{map-append, take_more}
 use Rattle.std.proofs.lemmas.List.Folds.{list_all_at, list_all_more}
-use Rattle.std.proofs.lemmas.Option.{slice_get_read}
 use Rattle.c_parse.specs.declared.expr.ExprTree.{ExprTree}
 use Rattle.cfa.specs.declared.expr.Expr.{Expr}
 use Rattle.cfa.specs.declared.parts.GraphParts.{GraphParts}
-use Rattle.cfa.specs.declared.parts.Scope.{Scope}
-use Rattle.predicates.specs.Narrowing.{names_of_all, narrowed}
 use Rattle.predicates.specs.Typing.{IsTableOf, all_typable, is_met, is_typable, meanings_in}
-use Rattle.predicates.proofs.Narrowed.{narrowed_row}
 use Rattle.predicates.proofs.Typable.{met_is_typable}
 
 abbrev Row : Type 0
 Row = List (Option Expr)
 
-module _ (parts : GraphParts) (scopes : List Scope) (trees : List ExprTree) (narrow : scopes ≡ map (narrowed (names_of_all trees)) parts.scopes)
-    (table : List Bool) (of : IsTableOf parts.nodes (length parts.scopes) table)
-    (i : ℕ) (t : ExprTree) (within : i < length trees) (at : t ≡ get_or trees i t) (row : Row) (made : row ≡ meanings_in scopes t) where
-  row_is : row ≡ meanings_in parts.scopes t
-  row_is = made ∙ ap (λ (ss : List Scope). meanings_in ss t) narrow ∙ narrowed_row trees i t parts.scopes (slice_get_read trees (length trees) i t refl within at)
-
+module _ (parts : GraphParts) (trees : List ExprTree) (table : List Bool) (of : IsTableOf parts.nodes (length parts.scopes) table)
+    (i : ℕ) (t : ExprTree) (within : i < length trees) (at : t ≡ get_or trees i t) (row : Row) (made : row ≡ meanings_in parts.scopes t) where
   test_is : is_met row table ≡ is_typable parts (get_or trees i t)
-  test_is = ap (λ (r : Row). is_met r table) row_is ∙ met_is_typable parts t table of ∙ ap (is_typable parts) at
+  test_is = ap (λ (r : Row). is_met r table) made ∙ met_is_typable parts t table of ∙ ap (is_typable parts) at
 
   pub typable_more : is_met row table ≡ true → all_typable parts (take i trees) ≡ true → all_typable parts (take (i + 1) trees) ≡ true
   typable_more met had =
@@ -37,7 +29,7 @@ module _ (parts : GraphParts) (scopes : List Scope) (trees : List ExprTree) (nar
   pub rows_more : (rows more : List Row) → more ≡ rows ++ row ∷ [] → rows ≡ map (meanings_in parts.scopes) (take i trees)
       → more ≡ map (meanings_in parts.scopes) (take (i + 1) trees)
   rows_more rows more e had =
-      e ∙ (λ j. had j ++ row_is j ∷ [])
+      e ∙ (λ j. had j ++ made j ∷ [])
       ∙ sym (map-append (meanings_in parts.scopes) (take i trees) (t ∷ []))
       ∙ ap (λ (u : ExprTree). map (meanings_in parts.scopes) (take i trees ++ u ∷ [])) at
       ∙ sym (ap (map (meanings_in parts.scopes)) (take_more trees i t within))

@@ -1,11 +1,13 @@
 -- The names in an expression, and the part of a scope that it depends on (ISO/IEC 9899:2011, 6.2.1).
-use Rattle.std.specs.Prelude.{ℕ, List, [], ◌∷◌, ◌++◌, filter}
+use Rattle.std.specs.Prelude.{◌≡◌, ℕ, List, [], ◌∷◌, ◌++◌, map, Option, option_to_list}
 use Rattle.std.specs.List.{flat_map}
 use Rattle.c_parse.specs.declared.expr.ExprForm.TheOpen.{ExprForm-F}
 use Rattle.c_parse.specs.declared.expr.ExprTree.{ExprTree, fold-ExprTree}
+use Rattle.c_types.specs.Scoped.{expression_in}
+use Rattle.cfa.specs.declared.expr.Expr.{Expr}
 use Rattle.cfa.specs.declared.parts.Scope.{Scope}
 use Rattle.cfa.specs.declared.parts.Variable.{Variable}
-use Rattle.expression_types.specs.Scopes.{has_name}
+use Rattle.cfa.specs.Names.{visible}
 
 -- the names of a form: those of its parts and its own; what has a sequence point is typed in no scope, and has none here
 abbrev pub names_step : ExprForm-F (List (List ℕ)) (List (List ℕ)) → List (List ℕ)
@@ -24,10 +26,18 @@ names_step (ExprForm-F.Choice test first second) = []
 unfoldable pub names_of : ExprTree → List (List ℕ)
 names_of = fold-ExprTree (List (List ℕ)) (List (List ℕ)) names_step (λ t. t.form)
 
--- those of several expressions
-abbrev pub names_of_all : List ExprTree → List (List ℕ)
-names_of_all trees = flat_map names_of trees
+-- by name, what it stands for in a scope
+abbrev pub sight : List (List ℕ) → Scope → List (Option Variable)
+sight names s = map (λ name. visible name s.variables) names
 
--- the variables of a scope that have one of these names
+-- the variables that names stand for, in the order of the names
+abbrev pub seen : List (Option Variable) → Scope
+seen row = record { variables = flat_map option_to_list row }
+
+-- the part of a scope for which some names stand
 abbrev pub narrowed : List (List ℕ) → Scope → Scope
-narrowed names s = record { variables = filter (λ (v : Variable). has_name names v.name) s.variables }
+narrowed names s = seen (sight names s)
+
+-- an expression is this one in each scope where its names stand for these variables
+abbrev pub IsMeaning : ExprTree → List (Option Variable) → Option Expr → Type 0
+IsMeaning t row meaning = (s : Scope) → sight (names_of t) s ≡ row → expression_in s t ≡ meaning

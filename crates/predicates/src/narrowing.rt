@@ -1,17 +1,17 @@
-// The part of a scope that expressions depend on.
-ghost use Rattle.std.specs.Prelude.{◌≡◌, ◌++◌, map, IfOk, OnOk};
-ghost use Rattle.predicates.specs.Narrowing.{names_of, names_of_all, narrowed};
+// The part of a scope that an expression depends on.
+ghost use Rattle.std.specs.Prelude.{◌≡◌, ◌++◌, true, IfOk, OnOk};
+ghost use Rattle.std.specs.Option.{option_copied};
+ghost use Rattle.predicates.specs.Narrowing.{names_of, seen, sight};
 
 use c_parse::{ExprForm, ExprTree};
 use cfa::{Scope, Variable, Variables};
-use containers::TryClone;
-use expression_types::{Names, copied};
-use fq_core::Memory;
+use containers::{TryClone, Vector};
+use fq_core::Name;
 use std::alloc::{AllocError, Global};
 
 // Adds the names of an expression.
 #[tactic(auto, unfolding(crate::specs::Narrowing::names_of))]
-fn add_names(alloc: Global, tree: &ExprTree, names: &mut Names) -> Result<(), AllocError>
+fn add_names(alloc: Global, tree: &ExprTree, names: &mut Vector<Name>) -> Result<(), AllocError>
     ensures { OnOk result (names.new ≡ names.old ++ names_of tree.now) }
 {
     match &tree.form {
@@ -35,49 +35,83 @@ fn add_names(alloc: Global, tree: &ExprTree, names: &mut Names) -> Result<(), Al
     }
 }
 
-/// The names of expressions, in order.
-pub fn names_of_all(alloc: Global, trees: &[ExprTree]) -> Result<Names, Memory>
-    ensures { IfOk result (λ names. names ≡ names_of_all trees.now) }
+/// The names of an expression, in order.
+pub fn names_of(alloc: Global, tree: &ExprTree) -> Result<Vector<Name>, AllocError>
+    ensures { IfOk result (λ names. names ≡ names_of tree.now) }
 {
-    let mut names = Names::new(alloc);
-    for tree in trees {
-        add_names(alloc, tree, &mut names)?;
-    }
+    let mut names = Vector::new(alloc);
+    add_names(alloc, tree, &mut names)?;
     Ok(names)
 }
 
-// The variables of a scope that have one of some names, in a row.
-fn kept(alloc: Global, names: &Names, scope: &Scope) -> Result<Vec<Variable>, AllocError>
-    ensures { IfOk result (λ row. row.items ≡ (narrowed names.now scope.now).variables) }
+fn copied(alloc: Global, found: Option<&Variable>) -> Result<Option<Variable>, AllocError>
+    ensures { IfOk result (λ copy. copy ≡ option_copied found.entry) }
 {
-    let mut row = Vec::new(alloc);
-    for variable in scope.variables.iter() {
-        if names.has(&variable.name) {
-            row.push(copied(alloc, variable)?)?;
-        }
+    match found {
+        None => Ok(None),
+        Some(variable) => Ok(Some(variable.try_clone(alloc)?)),
+    }
+}
+
+/// By name, what it stands for in a scope.
+pub fn sight(
+    alloc: Global,
+    names: &[Name],
+    scope: &Scope,
+) -> Result<Vector<Option<Variable>>, AllocError>
+    ensures { IfOk result (λ row. row ≡ sight names.now scope.now) }
+{
+    let mut row = Vector::new(alloc);
+    for name in names {
+        let variable = copied(alloc, scope.variables.find(name))?;
+        row.push(variable)?;
     }
     Ok(row)
 }
 
-// The scope of a row of variables.
-fn scope_of(alloc: Global, mut row: Vec<Variable>) -> Result<Scope, AllocError>
-    ensures { IfOk result (λ scope. scope ≡ record { variables = row.items }) }
+fn is_same(a: &Variable, b: &Variable) -> bool
+    ensures { result ≡ true → a.now ≡ b.now }
 {
-    let mut variables = Variables::new();
-    'variables: while let Some(variable) = row.pop() {
-        variables = Variables::with(alloc, variable, variables)?;
-    }
-    Ok(Scope { variables })
+    a.name == b.name && a.kind == b.kind && a.length == b.length && a.place == b.place
 }
 
-/// The scopes with those variables alone that have one of some names.
-pub fn narrowed_all(alloc: Global, names: &Names, scopes: &[Scope]) -> Result<Vec<Scope>, Memory>
-    ensures { IfOk result (λ narrow. narrow.items ≡ map (narrowed names.now) scopes.now) }
+fn is_found(found: Option<&Variable>, expected: &Option<Variable>) -> bool
+    ensures { result ≡ true → option_copied found.entry ≡ expected.now }
 {
-    let mut narrow = Vec::new(alloc);
-    for scope in scopes {
-        let row = kept(alloc, names, scope)?;
-        narrow.push(scope_of(alloc, row)?)?;
+    match (found, expected) {
+        (None, None) => true,
+        (Some(found), Some(expected)) => is_same(found, expected),
+        (None, Some(_)) => false,
+        (Some(_), None) => false,
     }
-    Ok(narrow)
+}
+
+/// Whether names stand for these variables in a scope. It goes no further than to the first that doesn't.
+pub fn is_sight(names: &[Name], scope: &Scope, row: &[Option<Variable>]) -> bool
+    ensures { result ≡ true → sight names.now scope.now ≡ row.now }
+{
+    if names.len() != row.len() {
+        return false;
+    }
+    for (k, name) in names.iter().enumerate() {
+        if !is_found(scope.variables.find(name), &row[k]) {
+            return false;
+        }
+    }
+    true
+}
+
+/// The scope of the variables that names stand for.
+pub fn seen(alloc: Global, row: &[Option<Variable>]) -> Result<Scope, AllocError>
+    ensures { IfOk result (λ scope. scope ≡ seen row.now) }
+{
+    let mut variables = Variables::new();
+    let mut left = row.len();
+    while left > 0 {
+        left -= 1;
+        if let Some(variable) = &row[left] {
+            variables = Variables::with(alloc, variable.try_clone(alloc)?, variables)?;
+        }
+    }
+    Ok(Scope { variables })
 }

@@ -80,7 +80,7 @@ fn show_predicates(text: &mut String, predicates: &Predicates) -> Result<(), Fai
             text.push_str(" ")?;
             match meaning {
                 None => text.push_str("-")?,
-                Some(expr) => show_expr(text, expr)?,
+                Some(shared) => show_expr(text, shared.expr())?,
             }
             text.push_str(",")?;
         }

@@ -15,7 +15,7 @@ ghost use Rattle.unwinding_size.specs.Sizes.{meaning_weight, predicates_weight};
 ghost use Rattle.unwinder.specs.Lists.{truths_in};
 
 use bit_words::gates::both;
-use cfa::{Expr, Graph, Predicates};
+use cfa::{Expr, Graph, Predicates, SharedExpr};
 use circuit::{Circuit, Lit, Memory};
 use containers::Vector;
 use std::alloc::Global;
@@ -40,7 +40,7 @@ fn held_condition(circuit: &mut Circuit, test: &Expr, state: &SymState) -> Resul
 /// A literal that holds where a predicate does, by its expressions for each scope.
 fn truth(
     circuit: &mut Circuit,
-    row: &[Option<Expr>],
+    row: &[Option<SharedExpr>],
     scope: u32,
     state: &SymState,
 ) -> Result<Lit, Memory>
@@ -53,7 +53,7 @@ fn truth(
     ensures value { IfOk result (λ l. (w : World) → lit_holds circuit.new l w ≡ holds scope (state_in circuit.old state.now w) row.now) }
 {
     match row.get(scope as usize) {
-        Some(Some(test)) => held_condition(circuit, test, state),
+        Some(Some(test)) => held_condition(circuit, test.expr(), state),
         Some(None) => Ok(Lit::NO),
         None => Ok(Lit::NO),
     }
@@ -63,7 +63,7 @@ fn truth(
 fn scoped_truths(
     alloc: Global,
     circuit: &mut Circuit,
-    rows: &[Vector<Option<Expr>>],
+    rows: &[Vector<Option<SharedExpr>>],
     scope: u32,
     state: &SymState,
 ) -> Result<Vector<Lit>, Memory>

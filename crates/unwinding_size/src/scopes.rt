@@ -5,20 +5,20 @@ ghost use Rattle.unwinding_size.specs.Sizes.{meaning_weight, scope_weight};
 
 use crate::capped::sum;
 use crate::expressions::weight;
-use cfa::{Expr, Graph, Predicates};
+use cfa::{Graph, Predicates, SharedExpr};
 use fq_core::Memory;
 use std::alloc::Global;
 
 // The weight of a predicate, by its row, in a scope.
 #[tactic(auto, unfolding(crate::specs::Capped::capped))]
-fn meaning_weight(row: &[Option<Expr>], scope: usize) -> u64
+fn meaning_weight(row: &[Option<SharedExpr>], scope: usize) -> u64
     ensures { result ≡ capped (meaning_weight (slice_get row.now scope)) }
 {
     match row.get(scope) {
         None => 0,
         Some(meaning) => match meaning {
             None => 0,
-            Some(expr) => weight(expr),
+            Some(shared) => weight(shared.expr()),
         },
     }
 }

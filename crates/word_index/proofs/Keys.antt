@@ -1,5 +1,5 @@
 -- Words in lexicographic order, by the numbers of their letters.
-use Rattle.std.proofs.Common.{◌≡◌, ℕ, zero, suc, ◌+◌, ◌-◌, ◌*◌, ◌^◌, ◌≤◌, ◌<◌, ◌⊎◌, inl, inr, Bool, true, false, List, [], ◌∷◌, length, get_or, map, drop, Option, Some, None, refl, sym, ◌∙◌, ap, subst, arith}
+use Rattle.std.proofs.Common.{◌≡◌, ℕ, zero, suc, ◌+◌, ◌-◌, ◌^◌, ◌≤◌, ◌<◌, inl, inr, Bool, true, false, List, [], ◌∷◌, length, get_or, drop, Option, Some, None, refl, sym, ap, subst, arith}
 use Rattle.std.specs.Prelude.{slice_get, nat_lt}
 use Rattle.std.specs.Cmp.Lexicographic.{slice_cmp}
 use Rattle.std.specs.Ordering.{is_lt, nat_cmp, ordering_then}
@@ -12,7 +12,7 @@ use Rattle.goals.specs.Words.{Word}
 use Rattle.goals.specs.declared.goal_letter.GoalLetter.{GoalLetter}
 use Rattle.goals.specs.declared.goal_letter.GoalLetter.TheVariants.{Node, Edge, Predicate, Absent, Quoted}
 use Rattle.word_index.specs.Order.{letter_key, key_of, keys, ranked, key_at, IsSortedFrom}
-use Rattle.word_index.specs.Groups.{IsGroup, IsNarrowed}
+use Rattle.word_index.specs.Groups.{IsGroup, IsNarrowed, IsPastEnds}
 use Rattle.word_index.specs.declared.group.Group.{Group}
 
 pub key_above : (l : GoalLetter) → 0 < letter_key l
@@ -143,6 +143,26 @@ module _ (goals : List GoalForm) (order : List ℕ) (letter : GoalLetter) (g : G
         with_letter = with_letter;
         all_with_letter = all_with_letter;
       }
+
+-- ---- past the words that end
+
+-- where the letters at a depth are none before a rank, and none is missing from there on, those that go on begin there
+pub past_is : (goals : List GoalForm) (order : List ℕ) (g : Group) → IsGroup goals order g → (low : ℕ) → g.low ≤ low → low ≤ g.high
+    → ((r : ℕ) → g.low ≤ r → r < low → key_at goals order g.depth r < 1) → ((r : ℕ) → low ≤ r → r < g.high → 1 ≤ key_at goals order g.depth r)
+    → IsPastEnds goals order g (record { low = low; high = g.high; depth = g.depth; absents = g.absents })
+past_is goals order g group low from to below above = record {
+  group = record {
+    range = to;
+    sorted = λ r s f le t. group.sorted r s (omega (arith, from, f)) le t;
+    absents = λ r d p f t e. group.absents r d p (omega (arith, from, f)) t e;
+  };
+  depth = refl;
+  high = refl;
+  absents = refl;
+  from = from;
+  ended = λ r f t. no_key (slice_get (ranked goals order r) g.depth) (below r f t);
+  going = λ r f t e. let k = above r f t in let z : key_at goals order g.depth r ≡ 0 = ap key_of e in omega (arith, k, z);
+}
 
 -- ---- two words that are equal up to a place
 

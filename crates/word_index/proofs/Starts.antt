@@ -1,10 +1,9 @@
 -- The order of an index, and walks from each state.
-use Rattle.std.proofs.Common.{◌≡◌, ℕ, zero, suc, ◌+◌, ◌≤◌, ◌<◌, ◌⊎◌, ◌↔◌, inl, inr, Bool, true, false, List, [], ◌∷◌, length, get_or, drop, Ordering, refl, sym, ◌∙◌, ap, subst, arith}
-use Rattle.std.specs.Prelude.{slice_get, slice_index}
+use Rattle.std.proofs.Common.{◌≡◌, ℕ, suc, ◌+◌, ◌≤◌, ◌<◌, ◌⊎◌, inl, inr, Bool, true, false, List, length, drop, Ordering, refl, sym, ◌∙◌, ap, subst, arith}
+use Rattle.std.specs.Prelude.{slice_index}
 use Rattle.std.specs.Cmp.{IsStrictWeakOrder}
 use Rattle.std.specs.Cmp.Lexicographic.{slice_cmp}
 use Rattle.std.specs.Fn.{Called, ComparesAs}
-use Rattle.std.specs.List.{Contains}
 use Rattle.std.specs.List.Sorted.{IsSortedBy}
 use Rattle.std.specs.Ordering.{is_lt, nat_cmp}
 use Rattle.std.proofs.lemmas.Bool.{cases_lt}
@@ -17,8 +16,8 @@ use denote.Ref.{Bor}
 use Rattle.patterns.specs.declared.path_view.PathView.{PathView}
 use Rattle.goals.specs.GoalForm.{GoalForm}
 use Rattle.word_index.specs.Numbers.{Adds}
-use Rattle.word_index.specs.Order.{keys, ranked, IsSortedFrom, IsIndexOf, IsOrderOf}
-use Rattle.word_index.specs.Walks.{word_at, is_plain, HasWalk, HasGoalWalk}
+use Rattle.word_index.specs.Order.{AreAbsentsBelow, keys, ranked, IsSortedFrom, IsOrderOf}
+use Rattle.word_index.specs.Walks.{word_at, HasGoalWalk}
 use Rattle.word_index.specs.Groups.{IsGroup, GoesOn, Continues, IsAny}
 use Rattle.word_index.specs.declared.group.Group.{Group}
 use Rattle.word_index.proofs.Going.{walks_forward}
@@ -56,15 +55,12 @@ module _ (goals : List GoalForm) (order : List ℕ) (path : PathView) (last : Bo
         | inr above ↦ let e : i ≡ count = omega arith in inr (subst (λ k. Continues goals order path last IsAny all k n) e c)
       ]
 
-module _ (goals : List GoalForm) (order : List ℕ) (path : PathView) (first last : Bool) (all : Group) (at_low : all.low ≡ 0) (at_high : all.high ≡ length order) (shallow : all.depth ≡ 0) (index : IsIndexOf goals order all.absents) where
-  ordered : IsOrderOf goals order
-  ordered = index.ordered
-
+module _ (goals : List GoalForm) (order : List ℕ) (path : PathView) (first last : Bool) (all : Group) (at_low : all.low ≡ 0) (at_high : all.high ≡ length order) (shallow : all.depth ≡ 0) (ordered : IsOrderOf goals order) (absents : AreAbsentsBelow goals all.absents) where
   pub is_group : IsGroup goals order all
   is_group = record {
     range = omega arith;
     sorted = subst (λ d. IsSortedFrom goals order d all.low all.high) (sym shallow) (subst (λ l. IsSortedFrom goals order 0 l all.high) (sym at_low) (subst (λ h. IsSortedFrom goals order 0 0 h) (sym at_high) ordered.sorted));
-    absents = λ r d p from to e. index.absents (slice_index order r) d p e;
+    absents = λ r d p from to e. absents (slice_index order r) d p e;
   }
 
   walk_of : (i n : ℕ) → (first ≡ true → i ≡ 0) → Continues goals order path last IsAny all i n → HasGoalWalk goals first last path n

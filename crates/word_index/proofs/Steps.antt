@@ -1,5 +1,5 @@
 -- What each step of a walk adds.
-use Rattle.std.proofs.Common.{◌≡◌, ℕ, zero, suc, ◌+◌, ◌^◌, ◌≤◌, ◌<◌, ◌⊎◌, ◌↔◌, ◌==◌, inl, inr, Bool, true, false, List, [], ◌∷◌, length, get_or, drop, Option, Some, None, Result, Ok, Err, OnOk, refl, sym, ◌∙◌, ap, subst, arith, eqb-true}
+use Rattle.std.proofs.Common.{◌≡◌, ℕ, suc, ◌+◌, ◌^◌, ◌≤◌, ◌<◌, ◌⊎◌, ◌↔◌, ◌==◌, inl, inr, Bool, true, false, List, length, drop, Option, Some, None, Result, Ok, Err, OnOk, refl, sym, ◌∙◌, ap, subst, arith, eqb-true}
 use Rattle.std.specs.Prelude.{slice_get, slice_index}
 use Rattle.std.specs.Int.{bit_at}
 use Rattle.std.specs.List.{Contains}
@@ -11,11 +11,10 @@ use Rattle.goals.specs.Words.{Word}
 use Rattle.goals.specs.declared.goal_letter.GoalLetter.{GoalLetter}
 use Rattle.goals.specs.declared.goal_letter.GoalLetter.TheVariants.{Node, Edge, Predicate, Absent, Quoted}
 use Rattle.word_index.specs.Numbers.{Adds}
-use Rattle.word_index.specs.Order.{ranked, key_at, key_of}
-use Rattle.word_index.specs.Walks.{Goes, Walks}
-use Rattle.word_index.specs.Groups.{IsGroup, IsNarrowed, GoesOn, Continues, IsAny, IsEnd, IsLetter, IsBelow, IsPredicateBelow, IsAbsentBelow, IsNoEdge}
+use Rattle.word_index.specs.Order.{ranked}
+use Rattle.word_index.specs.Walks.{Goes}
+use Rattle.word_index.specs.Groups.{IsGroup, IsNarrowed, GoesOn, Continues, IsAny, IsEnd, IsLetter, IsBelow, IsPastEnds, IsPredicateBelow, IsAbsentBelow, IsNoEdge, IsStaying}
 use Rattle.word_index.specs.declared.group.Group.{Group}
-use Rattle.word_index.proofs.Keys.{no_key}
 use Rattle.word_index.proofs.Going.{past_staying, before_letter, first_goes, past_edge, at_end, ends_here}
 
 pub on_ok : {T E : Type 0} (r : Result T E) (A B : Type 0) → (A → B) → OnOk r A → OnOk r B
@@ -68,7 +67,7 @@ ranks_more order low rank number xs ys zs le is a b = adds_same _ (RankNumbers o
 
 module _ (goals : List GoalForm) (order : List ℕ) (path : PathView) (last : Bool) (g : Group) (at : ℕ) where
   -- the same number, with another fact of how its word goes on
-  known_as : (H K : Option GoalLetter → Type 0) (n : ℕ) (c : Continues goals order path last H g at n) → K (slice_get (ranked goals order c.rank) g.depth) → Continues goals order path last K g at n
+  pub known_as : (H K : Option GoalLetter → Type 0) (n : ℕ) (c : Continues goals order path last H g at n) → K (slice_get (ranked goals order c.rank) g.depth) → Continues goals order path last K g at n
   known_as H K n c k = record { rank = c.rank; from = c.from; below = c.below; is = c.is; head = k; goes = c.goes }
 
   pub any_head : (H : Option GoalLetter → Type 0) (n : ℕ) → Continues goals order path last H g at n → Continues goals order path last IsAny g at n
@@ -78,22 +77,20 @@ module _ (goals : List GoalForm) (order : List ℕ) (path : PathView) (last : Bo
   pub no_ends : (xs : List ℕ) → last ≡ true → (at ≡ length path.edges → ⊥) → Adds (Continues goals order path last IsEnd g at) xs xs
   no_ends xs is far = adds_none _ xs (λ n c. far (at_end path last (ranked goals order c.rank) g.depth at c.head c.goes is))
 
-  -- the words that end are those whose letter at the depth has no number
-  pub ends : (end : ℕ) (xs ys : List ℕ) → at ≤ length path.edges → (last ≡ true → at ≡ length path.edges) → end ≤ g.high
-      → ((r : ℕ) → g.low ≤ r → r < end → key_at goals order g.depth r < 1) → ((r : ℕ) → end ≤ r → r < g.high → 1 ≤ key_at goals order g.depth r)
-      → Adds (λ n. (r : ℕ) × ((g.low ≤ r) × ((r < end) × (n ≡ suc (slice_index order r))))) xs ys → Adds (Continues goals order path last IsEnd g at) xs ys
-  ends end xs ys within at_last le none some h =
+  -- the words that end are those that don't go on
+  pub ends : (rest : Group) (xs ys : List ℕ) → IsPastEnds goals order g rest → at ≤ length path.edges → (last ≡ true → at ≡ length path.edges)
+      → Adds (λ n. (r : ℕ) × ((g.low ≤ r) × ((r < rest.low) × (n ≡ suc (slice_index order r))))) xs ys → Adds (Continues goals order path last IsEnd g at) xs ys
+  ends rest xs ys past within at_last h =
+      let range = past.group in
+      let le = range.range in
+      let same = past.high in
       adds_same _ (Continues goals order path last IsEnd g at) xs ys
       (λ n (r, (from, (to, is))).
-      let e : slice_get (ranked goals order r) g.depth ≡ None = no_key (slice_get (ranked goals order r) g.depth) (none r from to) in
-      record { rank = r; from = from; below = omega arith; is = is; head = e; goes = ends_here path last (ranked goals order r) g.depth at e within at_last })
+      let e : slice_get (ranked goals order r) g.depth ≡ None = past.ended r from to in
+      record { rank = r; from = from; below = omega (arith, to, le, same); is = is; head = e; goes = ends_here path last (ranked goals order r) g.depth at e within at_last })
       (λ n c.
-      let r : ℕ = c.rank in
-      let zero_key : key_at goals order g.depth c.rank ≡ 0 = ap key_of c.head in
-      let from : g.low ≤ c.rank = c.from in
-      let below : c.rank < g.high = c.below in
-      let to : c.rank < end = elim (cases_lt c.rank end) [ inl x ↦ x | inr y ↦ let z = some c.rank y below in absurd (omega arith) ] in
-      (c.rank, (from, (to, c.is))))
+      let to : c.rank < rest.low = elim (cases_lt c.rank rest.low) [ inl x ↦ x | inr y ↦ absurd (past.going c.rank y c.below c.head) ] in
+      (c.rank, (c.from, (to, c.is))))
       h
 
   module _ (l : GoalLetter) (narrow : Group) (narrowed : IsNarrowed goals order l g narrow) (stays : Goes path l at at) where
@@ -165,41 +162,137 @@ module _ (goals : List GoalForm) (order : List ℕ) (path : PathView) (last : Bo
 
   -- ---- all that stay
 
-  -- a word ends, or goes on with the node, a predicate or an absent predicate
+  -- a word goes on with the node, a predicate or an absent predicate
   abbrev Stays : ℕ → Type 0
   Stays n =
-      ((Continues goals order path last IsEnd g at n ⊎ Continues goals order path last (IsLetter (Node (slice_index path.nodes at))) g at n)
-      ⊎ Continues goals order path last (IsPredicateBelow 64) g at n) ⊎ Continues goals order path last (IsAbsentBelow g.absents) g at n
+      (Continues goals order path last (IsLetter (Node (slice_index path.nodes at))) g at n ⊎ Continues goals order path last (IsPredicateBelow 64) g at n)
+      ⊎ Continues goals order path last (IsAbsentBelow g.absents) g at n
+
+  pub predicate_below : slice_index path.masks at < 2 ^ 64 → (H : Option GoalLetter → Type 0) (n p : ℕ) (c : Continues goals order path last H g at n) → slice_get (ranked goals order c.rank) g.depth ≡ Some (Predicate p)
+      → Continues goals order path last (IsPredicateBelow 64) g at n
+  predicate_below small H n p c e =
+      let bit = predicate_holds p (ranked goals order c.rank) e c.goes in
+      let one : bit_at (slice_index path.masks at) p ≡ 1 = eqb-true _ 1 bit in
+      let lt : p < 64 = elim (cases_lt p 64) [ inl x ↦ x | inr y ↦ let none = bit_at_above (slice_index path.masks at) 64 p small y in absurd (omega arith) ] in
+      known_as H (IsPredicateBelow 64) n c (p, (lt, e))
+
+  pub node_here : (H : Option GoalLetter → Type 0) (n m : ℕ) (c : Continues goals order path last H g at n) → slice_get (ranked goals order c.rank) g.depth ≡ Some (Node m)
+      → Continues goals order path last (IsLetter (Node (slice_index path.nodes at))) g at n
+  node_here H n m c e =
+      let f = first_goes path last (ranked goals order c.rank) g.depth at (Node m) e c.goes in
+      known_as H (IsLetter (Node (slice_index path.nodes at))) n c (e ∙ ap (λ x. Some (Node x)) (sym f.1.0.1))
 
   module _ (small : slice_index path.masks at < 2 ^ 64) (group : IsGroup goals order g) where
-    stay_from : (n : ℕ) → Continues goals order path last IsNoEdge g at n → Stays n
+    stay_from : (n : ℕ) → Continues goals order path last IsStaying g at n → Stays n
     stay_from n c = by_head (slice_get (ranked goals order c.rank) g.depth) refl c.head
       where
-        by_head : (o : Option GoalLetter) → slice_get (ranked goals order c.rank) g.depth ≡ o → IsNoEdge o → Stays n
-        by_head None e h = inl (inl (inl (known_as IsNoEdge IsEnd n c e)))
-        by_head (Some (Node m)) e h =
-            let f = first_goes path last (ranked goals order c.rank) g.depth at (Node m) e c.goes in
-            inl (inl (inr (known_as IsNoEdge (IsLetter (Node (slice_index path.nodes at))) n c (e ∙ ap (λ x. Some (Node x)) (sym f.1.0.1)))))
+        by_head : (o : Option GoalLetter) → slice_get (ranked goals order c.rank) g.depth ≡ o → IsStaying o → Stays n
+        by_head None e h = absurd h
+        by_head (Some (Node m)) e h = inl (inl (node_here IsStaying n m c e))
         by_head (Some (Edge m)) e h = absurd h
-        by_head (Some (Predicate p)) e h =
-            let bit = predicate_holds p (ranked goals order c.rank) e c.goes in
-            let one : bit_at (slice_index path.masks at) p ≡ 1 = eqb-true _ 1 bit in
-            let lt : p < 64 = elim (cases_lt p 64) [ inl x ↦ x | inr y ↦ let none = bit_at_above (slice_index path.masks at) 64 p small y in absurd (omega arith) ] in
-            inl (inr (known_as IsNoEdge (IsPredicateBelow 64) n c (p, (lt, e))))
-        by_head (Some (Absent p)) e h = inr (known_as IsNoEdge (IsAbsentBelow g.absents) n c (p, (group.absents c.rank g.depth p c.from c.below e, e)))
+        by_head (Some (Predicate p)) e h = inl (inr (predicate_below small IsStaying n p c e))
+        by_head (Some (Absent p)) e h = inr (known_as IsStaying (IsAbsentBelow g.absents) n c (p, (group.absents c.rank g.depth p c.from c.below e, e)))
         by_head (Some (Quoted q)) e h = let f = first_goes path last (ranked goals order c.rank) g.depth at (Quoted q) e c.goes in absurd f.1.0
 
-    stay_to : (n : ℕ) → Stays n → Continues goals order path last IsNoEdge g at n
-    stay_to n (inl (inl (inl c))) = known_as IsEnd IsNoEdge n c (subst IsNoEdge (sym c.head) tt)
-    stay_to n (inl (inl (inr c))) = known_as (IsLetter (Node (slice_index path.nodes at))) IsNoEdge n c (subst IsNoEdge (sym c.head) tt)
-    stay_to n (inl (inr c)) = let h = c.head in known_as (IsPredicateBelow 64) IsNoEdge n c (subst IsNoEdge (sym h.1.1) tt)
-    stay_to n (inr c) = let h = c.head in known_as (IsAbsentBelow g.absents) IsNoEdge n c (subst IsNoEdge (sym h.1.1) tt)
+    stay_to : (n : ℕ) → Stays n → Continues goals order path last IsStaying g at n
+    stay_to n (inl (inl c)) = known_as (IsLetter (Node (slice_index path.nodes at))) IsStaying n c (subst IsStaying (sym c.head) tt)
+    stay_to n (inl (inr c)) = let h = c.head in known_as (IsPredicateBelow 64) IsStaying n c (subst IsStaying (sym h.1.1) tt)
+    stay_to n (inr c) = let h = c.head in known_as (IsAbsentBelow g.absents) IsStaying n c (subst IsStaying (sym h.1.1) tt)
 
-    pub staying : (letter : GoalLetter) → letter ≡ Node (slice_index path.nodes at) → (xs ys zs us vs : List ℕ) → Adds (Continues goals order path last IsEnd g at) xs ys → Adds (Continues goals order path last (IsLetter letter) g at) ys zs
-        → Adds (Continues goals order path last (IsPredicateBelow 64) g at) zs us → Adds (Continues goals order path last (IsAbsentBelow g.absents) g at) us vs → Adds (Continues goals order path last IsNoEdge g at) xs vs
-    staying letter e xs ys zs us vs a b c d =
-        let b' : Adds (Continues goals order path last (IsLetter (Node (slice_index path.nodes at))) g at) ys zs = subst (λ l. Adds (Continues goals order path last (IsLetter l) g at) ys zs) e b in
-        adds_same _ (Continues goals order path last IsNoEdge g at) xs vs stay_to stay_from (adds_both _ _ xs us vs (adds_both _ _ xs zs us (adds_both _ _ xs ys zs a b') c) d)
+    pub staying : (letter : GoalLetter) → letter ≡ Node (slice_index path.nodes at) → (xs ys zs us : List ℕ) → Adds (Continues goals order path last (IsLetter letter) g at) xs ys
+        → Adds (Continues goals order path last (IsPredicateBelow 64) g at) ys zs → Adds (Continues goals order path last (IsAbsentBelow g.absents) g at) zs us → Adds (Continues goals order path last IsStaying g at) xs us
+    staying letter e xs ys zs us a b c =
+        let a' : Adds (Continues goals order path last (IsLetter (Node (slice_index path.nodes at))) g at) xs ys = subst (λ l. Adds (Continues goals order path last (IsLetter l) g at) xs ys) e a in
+        adds_same _ (Continues goals order path last IsStaying g at) xs us stay_to stay_from (adds_both _ _ xs zs us (adds_both _ _ xs ys zs a' b) c)
+
+  pub none_stay : (xs : List ℕ) → g.high ≤ g.low → Adds (Continues goals order path last IsStaying g at) xs xs
+  none_stay xs empty = adds_none _ xs (λ n c. let a = c.from in let b = c.below in omega arith)
+
+  -- ---- past the ends
+
+  module _ (rest : Group) (past : IsPastEnds goals order g rest) where
+    rest_to : (H : Option GoalLetter → Type 0) (n : ℕ) → Continues goals order path last H rest at n → Continues goals order path last H g at n
+    rest_to H n c =
+        let a : rest.low ≤ c.rank = c.from in
+        let b : c.rank < rest.high = c.below in
+        let f = past.from in
+        let h = past.high in
+        record {
+          rank = c.rank;
+          from = omega arith;
+          below = omega arith;
+          is = c.is;
+          head = subst (λ d. H (slice_get (ranked goals order c.rank) d)) past.depth c.head;
+          goes = subst (λ d. GoesOn path last (drop d (ranked goals order c.rank)) at) past.depth c.goes;
+        }
+
+    -- what goes on is past the ends
+    rest_from : (H : Option GoalLetter → Type 0) → (H None → ⊥) → (n : ℕ) → Continues goals order path last H g at n → Continues goals order path last H rest at n
+    rest_from H ended n c =
+        let below : c.rank < g.high = c.below in
+        let h = past.high in
+        let from : rest.low ≤ c.rank = elim (cases_lt c.rank rest.low) [ inl x ↦ absurd (ended (subst H (past.ended c.rank c.from x) c.head)) | inr y ↦ y ] in
+        record {
+          rank = c.rank;
+          from = from;
+          below = omega arith;
+          is = c.is;
+          head = subst (λ d. H (slice_get (ranked goals order c.rank) d)) (sym past.depth) c.head;
+          goes = subst (λ d. GoesOn path last (drop d (ranked goals order c.rank)) at) (sym past.depth) c.goes;
+        }
+
+    split_from : (n : ℕ) → Continues goals order path last IsNoEdge g at n → (Continues goals order path last IsEnd g at n ⊎ Continues goals order path last IsStaying rest at n)
+    split_from n c = by_head (slice_get (ranked goals order c.rank) g.depth) refl c.head
+      where
+        stays : (o : Option GoalLetter) → slice_get (ranked goals order c.rank) g.depth ≡ o → IsStaying o → Continues goals order path last IsStaying rest at n
+        stays o e h = rest_from IsStaying (λ x. x) n (known_as IsNoEdge IsStaying n c (subst IsStaying (sym e) h))
+
+        by_head : (o : Option GoalLetter) → slice_get (ranked goals order c.rank) g.depth ≡ o → IsNoEdge o → (Continues goals order path last IsEnd g at n ⊎ Continues goals order path last IsStaying rest at n)
+        by_head None e h = inl (known_as IsNoEdge IsEnd n c e)
+        by_head (Some (Node m)) e h = inr (stays (Some (Node m)) e tt)
+        by_head (Some (Edge m)) e h = absurd h
+        by_head (Some (Predicate p)) e h = inr (stays (Some (Predicate p)) e tt)
+        by_head (Some (Absent p)) e h = inr (stays (Some (Absent p)) e tt)
+        by_head (Some (Quoted q)) e h = inr (stays (Some (Quoted q)) e tt)
+
+    no_edge : (o : Option GoalLetter) → IsStaying o → IsNoEdge o
+    no_edge None h = absurd h
+    no_edge (Some (Node m)) h = tt
+    no_edge (Some (Edge m)) h = absurd h
+    no_edge (Some (Predicate p)) h = tt
+    no_edge (Some (Absent p)) h = tt
+    no_edge (Some (Quoted q)) h = tt
+
+    split_to : (n : ℕ) → (Continues goals order path last IsEnd g at n ⊎ Continues goals order path last IsStaying rest at n) → Continues goals order path last IsNoEdge g at n
+    split_to n (inl c) = known_as IsEnd IsNoEdge n c (subst IsNoEdge (sym c.head) tt)
+    split_to n (inr c) = let d = rest_to IsStaying n c in known_as IsStaying IsNoEdge n d (no_edge (slice_get (ranked goals order d.rank) g.depth) d.head)
+
+    -- those that end, and those that stay past them
+    pub ended_and_staying : (xs ys zs : List ℕ) → Adds (Continues goals order path last IsEnd g at) xs ys → Adds (Continues goals order path last IsStaying rest at) ys zs → Adds (Continues goals order path last IsNoEdge g at) xs zs
+    ended_and_staying xs ys zs a b = adds_same _ (Continues goals order path last IsNoEdge g at) xs zs split_to split_from (adds_both _ _ xs ys zs a b)
+
+    -- the words past the ends that go on with a letter are all that do
+    pub narrowed_past : (l : GoalLetter) (narrow : Group) → IsNarrowed goals order l rest narrow → IsNarrowed goals order l g narrow
+    narrowed_past l narrow h =
+        let f = past.from in
+        let t = past.high in
+        let nf = h.from in
+        let nt = h.to in
+        let deep = h.deeper in
+        let small = h.small in
+        let d = past.depth in
+        record {
+          group = h.group;
+          deeper = omega (arith, deep, d);
+          small = omega (arith, small, d);
+          from = omega (arith, f, nf);
+          to = omega (arith, t, nt);
+          with_letter = λ r a b. ap (slice_get (ranked goals order r)) (sym past.depth) ∙ h.with_letter r a b;
+          all_with_letter = λ r a b e. h.all_with_letter r (going_from r a e) (omega (arith, b, t)) (ap (slice_get (ranked goals order r)) past.depth ∙ e);
+        }
+      where
+        going_from : (r : ℕ) → g.low ≤ r → slice_get (ranked goals order r) g.depth ≡ Some l → rest.low ≤ r
+        going_from r a e = elim (cases_lt r rest.low) [ inl x ↦ absurd (let none : Some l ≡ None = sym e ∙ past.ended r a x in cc) | inr y ↦ y ]
 
   -- ---- edges
 

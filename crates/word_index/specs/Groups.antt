@@ -1,5 +1,5 @@
 -- Ranges of sorted words that go on alike.
-use Rattle.std.specs.Prelude.{◌≡◌, ℕ, suc, ◌-◌, ◌^◌, ◌≤◌, ◌<◌, ◌⊎◌, Bool, true, false, List, length, drop, slice_index, slice_get, Option, Some, None}
+use Rattle.std.specs.Prelude.{◌≡◌, ℕ, suc, ◌-◌, ◌^◌, ◌≤◌, ◌<◌, Bool, true, List, length, drop, slice_index, slice_get, Option, Some, None}
 use Rattle.patterns.specs.declared.path_view.PathView.{PathView}
 use Rattle.goals.specs.GoalForm.{GoalForm}
 use Rattle.goals.specs.Words.{Word}
@@ -24,6 +24,16 @@ pub record IsNarrowed (goals : List GoalForm) (order : List ℕ) (letter : GoalL
   pub to : narrow.high ≤ g.high
   pub with_letter : (r : ℕ) → narrow.low ≤ r → r < narrow.high → slice_get (ranked goals order r) g.depth ≡ Some letter
   pub all_with_letter : (r : ℕ) → g.low ≤ r → r < g.high → slice_get (ranked goals order r) g.depth ≡ Some letter → (narrow.low ≤ r) × (r < narrow.high)
+
+-- the group of those words of another that go on, past those which end at its depth
+pub record IsPastEnds (goals : List GoalForm) (order : List ℕ) (g rest : Group) : Type 0 where
+  pub group : IsGroup goals order rest
+  pub depth : rest.depth ≡ g.depth
+  pub high : rest.high ≡ g.high
+  pub absents : rest.absents ≡ g.absents
+  pub from : g.low ≤ rest.low
+  pub ended : (r : ℕ) → g.low ≤ r → r < rest.low → slice_get (ranked goals order r) g.depth ≡ None
+  pub going : (r : ℕ) → rest.low ≤ r → r < g.high → slice_get (ranked goals order r) g.depth ≡ None → ⊥
 
 -- the word goes from this state to one at which a walk may end
 pub record GoesOn (path : PathView) (last : Bool) (word : Word) (from : ℕ) : Type 0 where
@@ -62,6 +72,28 @@ IsPredicateBelow n o = IsBelow Predicate n o
 
 abbrev pub IsAbsentBelow : ℕ → Option GoalLetter → Type 0
 IsAbsentBelow n o = IsBelow Absent n o
+
+-- with an edge
+abbrev pub IsSomeEdge : Option GoalLetter → Type 0
+IsSomeEdge o = (e : ℕ) × (o ≡ Some (Edge e))
+
+-- with a predicate or an absent one
+abbrev pub IsTest : Option GoalLetter → Type 0
+IsTest None = ⊥
+IsTest (Some (Node n)) = ⊥
+IsTest (Some (Edge e)) = ⊥
+IsTest (Some (Predicate p)) = Unit {0}
+IsTest (Some (Absent p)) = Unit {0}
+IsTest (Some (Quoted q)) = ⊥
+
+-- with a letter that stays at its state, or a quoted one
+abbrev pub IsStaying : Option GoalLetter → Type 0
+IsStaying None = ⊥
+IsStaying (Some (Node n)) = Unit {0}
+IsStaying (Some (Edge e)) = ⊥
+IsStaying (Some (Predicate p)) = Unit {0}
+IsStaying (Some (Absent p)) = Unit {0}
+IsStaying (Some (Quoted q)) = Unit {0}
 
 -- with no edge
 abbrev pub IsNoEdge : Option GoalLetter → Type 0

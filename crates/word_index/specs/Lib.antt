@@ -2,3 +2,4 @@ pub mod Walks
 pub mod Numbers
 pub mod Order
 pub mod Groups
+pub mod Tables

@@ -1,5 +1,5 @@
 -- Sets of numbers, as lists.
-use Rattle.std.specs.Prelude.{◌≡◌, ℕ, ◌↔◌, ◌⊎◌, List}
+use Rattle.std.specs.Prelude.{ℕ, ◌↔◌, ◌⊎◌, List}
 use Rattle.std.specs.List.{Contains}
 use Rattle.std.specs.List.Sorted.{IsStrictlyIncreasing}
 

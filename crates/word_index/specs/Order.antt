@@ -1,5 +1,5 @@
 -- Words in lexicographic order, and the goals of an index by the order of their words.
-use Rattle.std.specs.Prelude.{◌≡◌, ℕ, suc, ◌+◌, ◌*◌, ◌≤◌, ◌<◌, Bool, true, false, List, [], ◌∷◌, length, map, drop, slice_index, slice_get, Option, Some, None}
+use Rattle.std.specs.Prelude.{◌≡◌, ℕ, ◌+◌, ◌*◌, ◌≤◌, ◌<◌, true, false, List, length, map, drop, slice_index, slice_get, Option, Some, None}
 use Rattle.std.specs.Cmp.Lexicographic.{slice_cmp}
 use Rattle.std.specs.List.{Contains}
 use Rattle.std.specs.Ordering.{is_lt, nat_cmp}
@@ -47,8 +47,3 @@ pub record IsOrderOf (goals : List GoalForm) (order : List ℕ) : Type 0 where
 -- each number of an absent predicate of the goals' words is below this one
 abbrev pub AreAbsentsBelow : List GoalForm → ℕ → Type 0
 AreAbsentsBelow goals bound = (g d p : ℕ) → slice_get (word_at goals g) d ≡ Some (Absent p) → p < bound
-
--- such an order of goals, and such a number
-pub record IsIndexOf (goals : List GoalForm) (order : List ℕ) (bound : ℕ) : Type 0 where
-  pub ordered : IsOrderOf goals order
-  pub absents : AreAbsentsBelow goals bound

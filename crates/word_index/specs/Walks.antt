@@ -1,5 +1,5 @@
 -- When a word of letters goes along a path (FQL: Holzer, Schallhart, Tautschnig, Veith, VMCAI 2009 and ASE 2010).
-use Rattle.std.specs.Prelude.{◌≡◌, ℕ, suc, ◌≤◌, ◌<◌, ◌==◌, Bool, true, false, List, [], ◌∷◌, length, slice_index, slice_get, Option, Some, None}
+use Rattle.std.specs.Prelude.{◌≡◌, ℕ, suc, ◌≤◌, ◌==◌, Bool, true, false, List, [], ◌∷◌, length, slice_index, slice_get, Option, Some, None}
 use Rattle.std.specs.Int.{bit_at}
 use Rattle.patterns.specs.declared.path_view.PathView.{PathView}
 use Rattle.goals.specs.GoalForm.{GoalForm}

@@ -1,15 +1,19 @@
 // The index.
-ghost use Rattle.std.specs.Prelude.{◌≡◌, ◌≤◌, ◌<◌, ℕ, true, All, IfOk, OnOk, Some, slice_get};
+ghost use Rattle.std.specs.Prelude.{◌≡◌, ◌≤◌, ◌<◌, ℕ, true, All, IfOk, OnOk, Some, length, slice_get, slice_index, if◌then◌else◌};
 ghost use Rattle.std.specs.List.{Contains};
 ghost use Rattle.word_index.specs.Numbers.{Adds};
+ghost use Rattle.word_index.specs.Order.{AreAbsentsBelow, IsOrderOf};
+ghost use Rattle.word_index.specs.Groups.{Continues, IsAny, IsLetter, IsNarrowed, IsSomeEdge, IsTest};
 ghost use Rattle.goals.specs.declared.goal_letter.GoalLetter.TheVariants as letter;
-ghost use Rattle.word_index.specs.Order.{AreAbsentsBelow, IsIndexOf, IsOrderOf};
+ghost use Rattle.word_index.specs.Tables.{IsIndexOf, root, step};
+ghost use Rattle.word_index.specs.declared.group.Group.{Group as OneGroup};
 ghost use Rattle.word_index.specs.Walks.{HasGoalWalk, is_plain, word_at};
 
 use crate::group::Group;
 use crate::letters::{absents_above, is_plain};
 use crate::numbers::Numbers;
-use crate::walk::add_walks;
+use crate::tables::{all_begin_with_steps, begun, begun_with, root};
+use crate::walk::{add_walks, add_with_absents, add_with_predicates, edge_at, mask_at, node_at};
 use crate::words::{compared, word_at};
 use containers::Vector;
 use fq_core::Memory;
@@ -23,16 +27,30 @@ pub struct WordIndex {
     order: Vector<u32>,
     /// A number above those of the absent predicates of the words.
     absents: u32,
+    /// By edge, the words that begin with it.
+    by_edge: Vector<Group>,
+    /// By node, the words that begin with it.
+    by_node: Vector<Group>,
+    /// Each word begins with an edge or a node.
+    only_steps: bool,
 }
 
 impl WordIndex {
     /// The index of these goals.
     pub fn new(alloc: Global, goals: &[Goal]) -> Result<WordIndex, Memory>
-        ensures { IfOk result (λ index. IsIndexOf goals.now index.order index.absents) }
+        ensures { IfOk result (λ index. IsIndexOf goals.now index) }
     {
+        let order = Vector::from_vec(sorted_places(alloc, goals)?);
+        let absents = absents_of(goals)?;
+        let by_edge = begun(alloc, goals, &order, absents, true)?;
+        let by_node = begun(alloc, goals, &order, absents, false)?;
+        let only_steps = all_begin_with_steps(goals);
         Ok(WordIndex {
-            order: Vector::from_vec(sorted_places(alloc, goals)?),
-            absents: absents_of(goals)?,
+            order,
+            absents,
+            by_edge,
+            by_node,
+            only_steps,
         })
     }
 
@@ -45,39 +63,121 @@ impl WordIndex {
         last: bool,
         numbers: &mut Numbers,
     ) -> Result<(), Memory>
-        requires { IsIndexOf goals.now self.now.order self.now.absents }
+        requires { IsIndexOf goals.now self.now }
         ensures { OnOk result (Adds (HasGoalWalk goals.now first last path.now) numbers.old numbers.new) }
     {
-        add_from_states(goals, &self.order, self.absents, path, first, last, numbers)
+        if first {
+            return self.add_from(goals, path, last, 0, numbers);
+        }
+        for at in 0..path.nodes().len() {
+            self.add_from(goals, path, last, at, numbers)?;
+        }
+        Ok(())
     }
-}
 
-/// Adds the goals of this order whose words go along the path.
-fn add_from_states(
-    goals: &[Goal],
-    order: &[u32],
-    absents: u32,
-    path: &RunPath,
-    first: bool,
-    last: bool,
-    numbers: &mut Numbers,
-) -> Result<(), Memory>
-    requires { IsIndexOf goals.now order.now absents }
-    ensures { OnOk result (Adds (HasGoalWalk goals.now first last path.now) numbers.old numbers.new) }
-{
-    let all = Group {
-        low: 0,
-        high: order.len(),
-        depth: 0,
-        absents,
-    };
-    if first {
-        return add_walks(goals, order, path, last, all, 0, numbers);
+    /// The table of the words that begin with an edge, or with a node.
+    fn table(&self, edges: bool) -> &Vector<Group>
+        ensures { result.now ≡ (if edges then self.now.by_edge else self.now.by_node) }
+    {
+        if edges { &self.by_edge } else { &self.by_node }
     }
-    for at in 0..path.nodes().len() {
-        add_walks(goals, order, path, last, all, at, numbers)?;
+
+    /// Adds the goals whose words begin with this edge, or node, and go on behind it from this state.
+    fn add_begun(
+        &self,
+        goals: &[Goal],
+        path: &RunPath,
+        last: bool,
+        edges: bool,
+        number: u32,
+        at: usize,
+        numbers: &mut Numbers,
+    ) -> Result<(), Memory>
+        requires index { IsIndexOf goals.now self.now }
+        requires at { at ≤ length path.now.edges }
+        ensures { OnOk result ((narrow : OneGroup) × (IsNarrowed goals.now self.now.order (step edges number) (root self.now.order self.now.absents) narrow × Adds (Continues goals.now self.now.order path.now last IsAny narrow at) numbers.old numbers.new)) }
+    {
+        let groups = self.table(edges);
+        let group = begun_with(goals, &self.order, self.absents, groups, edges, number)?;
+        add_walks(goals, &self.order, path, last, group, at, numbers)
     }
-    Ok(())
+
+    /// Adds the goals whose words go on from this state with its node.
+    fn add_node(
+        &self,
+        goals: &[Goal],
+        path: &RunPath,
+        last: bool,
+        at: usize,
+        numbers: &mut Numbers,
+    ) -> Result<(), Memory>
+        requires index { IsIndexOf goals.now self.now }
+        requires at { at ≤ length path.now.edges }
+        ensures { OnOk result (Adds (Continues goals.now self.now.order path.now last (IsLetter (letter.Node (slice_index path.now.nodes at))) (root self.now.order self.now.absents) at) numbers.old numbers.new) }
+    {
+        let node = node_at(path, at);
+        self.add_begun(goals, path, last, false, node, at, numbers)
+    }
+
+    /// Adds the goals whose words go on from this state with the edge out of it.
+    fn add_edge(
+        &self,
+        goals: &[Goal],
+        path: &RunPath,
+        last: bool,
+        at: usize,
+        numbers: &mut Numbers,
+    ) -> Result<(), Memory>
+        requires { IsIndexOf goals.now self.now }
+        ensures { OnOk result (Adds (Continues goals.now self.now.order path.now last IsSomeEdge (root self.now.order self.now.absents) at) numbers.old numbers.new) }
+    {
+        if at >= path.edges().len() {
+            return Ok(());
+        }
+        let edge = edge_at(path, at);
+        self.add_begun(goals, path, last, true, edge, at + 1, numbers)
+    }
+
+    /// Adds the goals whose words go on from this state with a predicate that holds there, or an absent one.
+    fn add_tests(
+        &self,
+        goals: &[Goal],
+        path: &RunPath,
+        last: bool,
+        at: usize,
+        numbers: &mut Numbers,
+    ) -> Result<(), Memory>
+        requires index { IsIndexOf goals.now self.now }
+        requires at { at ≤ length path.now.edges }
+        ensures { OnOk result (Adds (Continues goals.now self.now.order path.now last IsTest (root self.now.order self.now.absents) at) numbers.old numbers.new) }
+    {
+        if self.only_steps {
+            return Ok(());
+        }
+        let order = self.order.as_slice();
+        let all = root(order, self.absents);
+        let _mask = mask_at(path, at);
+        add_with_predicates(goals, order, path, last, all, at, numbers)?;
+        add_with_absents(goals, order, path, last, all, at, numbers)
+    }
+
+    /// Adds the goals whose words go on from this state to one at which a walk may end.
+    fn add_from(
+        &self,
+        goals: &[Goal],
+        path: &RunPath,
+        last: bool,
+        at: usize,
+        numbers: &mut Numbers,
+    ) -> Result<(), Memory>
+        requires index { IsIndexOf goals.now self.now }
+        requires at { at ≤ length path.now.edges }
+        ensures { OnOk result (Adds (Continues goals.now self.now.order path.now last IsAny (root self.now.order self.now.absents) at) numbers.old numbers.new) }
+    {
+        self.add_node(goals, path, last, at, numbers)?;
+        self.add_edge(goals, path, last, at, numbers)?;
+        self.add_tests(goals, path, last, at, numbers)
+    }
 }
 
 /// A number above those of the absent predicates of the goals' words.

@@ -1,6 +1,6 @@
 // Ranges of ranks whose words go on alike.
 ghost use Rattle.std.specs.Prelude.{◌≡◌, ℕ, ◌+◌, ◌≤◌, ◌<◌, length, IfOk, IfSome};
-ghost use Rattle.word_index.specs.Groups.{IsGroup, IsNarrowed};
+ghost use Rattle.word_index.specs.Groups.{IsGroup, IsNarrowed, IsPastEnds};
 ghost use Rattle.word_index.specs.Order.{key_at};
 
 use crate::group::Group;
@@ -61,4 +61,17 @@ pub(crate) fn narrowed(
         depth: group.depth + 1,
         absents: group.absents,
     })
+}
+
+/// The group of those words that go on, past those which end at its depth.
+pub(crate) fn past_ends(goals: &[Goal], order: &[u32], group: Group) -> Group
+    requires { IsGroup goals.now order.now group }
+    ensures { IsPastEnds goals.now order.now group result }
+{
+    Group {
+        low: first_from(goals, order, group, 1),
+        high: group.high,
+        depth: group.depth,
+        absents: group.absents,
+    }
 }

@@ -1,14 +1,15 @@
 // Walks of sorted words along a path.
-ghost use Rattle.std.specs.Prelude.{◌≡◌, ◌==◌, ◌^◌, ℕ, ◌<◌, ◌≤◌, length, OnOk, slice_index, suc, true, false, IfOk, ◌+◌};
+ghost use Rattle.std.specs.Prelude.{◌≡◌, ◌==◌, ◌^◌, ℕ, List, ◌<◌, ◌≤◌, length, OnOk, slice_index, suc, true, false, IfOk, ◌+◌};
 ghost use Rattle.std.specs.Int.{bit_at};
+ghost use Rattle.goals.specs.GoalForm.{GoalForm};
 ghost use Rattle.patterns.specs.Paths.{IsPath};
-ghost use Rattle.word_index.specs.Groups.{Continues, IsAbsentBelow, IsAny, IsEnd, IsGroup, IsLetter, IsNoEdge, IsPredicateBelow};
+ghost use Rattle.word_index.specs.Groups.{Continues, IsAbsentBelow, IsAny, IsEnd, IsGroup, IsLetter, IsPastEnds, IsPredicateBelow, IsStaying};
 ghost use Rattle.word_index.specs.Numbers.{Adds};
 ghost use Rattle.word_index.specs.Walks.{Goes};
 
 use crate::group::Group;
 use crate::numbers::Numbers;
-use crate::ranges::{first_from, narrowed};
+use crate::ranges::{narrowed, past_ends};
 use fq_core::Memory;
 use goals::{Goal, GoalLetter};
 use run_match::RunPath;
@@ -43,23 +44,22 @@ fn may_end(path: &RunPath, last: bool, at: usize) -> bool
     !last || at == path.edges().len()
 }
 
-/// Adds the goals of a group whose words end at its depth, if a walk may end at this state.
+/// Adds the goals of a group whose words end at its depth, which are those up to the rest, if a walk may end at this state.
 fn add_ends(
-    goals: &[Goal],
     order: &[u32],
     path: &RunPath,
     last: bool,
     group: Group,
+    rest: Group,
     at: usize,
     numbers: &mut Numbers,
 ) -> Result<(), Memory>
-    requires group { IsGroup goals.now order.now group }
+    requires range { group.low ≤ rest.low }
     requires at { at ≤ length path.now.edges }
-    ensures { OnOk result (Adds (Continues goals.now order.now path.now last IsEnd group at) numbers.old numbers.new) }
+    ensures { (goals : List GoalForm) → IsPastEnds goals order.now group rest → OnOk result (Adds (Continues goals order.now path.now last IsEnd group at) numbers.old numbers.new) }
 {
     if may_end(path, last, at) {
-        let end = first_from(goals, order, group, 1);
-        add_ranks(order, group.low, end, numbers)?;
+        add_ranks(order, group.low, rest.low, numbers)?;
     }
     Ok(())
 }
@@ -88,22 +88,36 @@ fn add_with(
     Ok(())
 }
 
+/// The node of a state.
+pub(crate) fn node_at(path: &RunPath, at: usize) -> u32
+    ensures { result ≡ slice_index path.now.nodes at }
+{
+    path.nodes().get(at).copied().unwrap_or(0)
+}
+
+/// The edge out of a state.
+pub(crate) fn edge_at(path: &RunPath, at: usize) -> u32
+    ensures { result ≡ slice_index path.now.edges at }
+{
+    path.edges().get(at).copied().unwrap_or(0)
+}
+
 /// The letter of the node of a state.
 fn node_letter(path: &RunPath, at: usize) -> GoalLetter
     ensures { result ≡ GoalLetter.Node (slice_index path.now.nodes at) }
 {
-    GoalLetter::Node(path.nodes().get(at).copied().unwrap_or(0))
+    GoalLetter::Node(node_at(path, at))
 }
 
 /// The letter of the edge out of a state.
 fn edge_letter(path: &RunPath, at: usize) -> GoalLetter
     ensures { result ≡ GoalLetter.Edge (slice_index path.now.edges at) }
 {
-    GoalLetter::Edge(path.edges().get(at).copied().unwrap_or(0))
+    GoalLetter::Edge(edge_at(path, at))
 }
 
 /// Which predicates hold at a state.
-fn mask_at(path: &RunPath, at: usize) -> u64
+pub(crate) fn mask_at(path: &RunPath, at: usize) -> u64
     ensures mask { result ≡ slice_index path.now.masks at }
     ensures small { result < 2 ^ 64 }
 {
@@ -143,7 +157,7 @@ fn add_with_predicate(
 
 /// The same for all predicates.
 #[cycle(walk)]
-fn add_with_predicates(
+pub(crate) fn add_with_predicates(
     goals: &[Goal],
     order: &[u32],
     path: &RunPath,
@@ -190,7 +204,7 @@ fn add_with_absent(
 
 /// The same for all absent predicates.
 #[cycle(walk)]
-fn add_with_absents(
+pub(crate) fn add_with_absents(
     goals: &[Goal],
     order: &[u32],
     path: &RunPath,
@@ -209,7 +223,7 @@ fn add_with_absents(
     Ok(())
 }
 
-/// Adds the goals of a group whose words end at its depth, or go on with a letter that stays at this state.
+/// Adds the goals of a group whose words go on with a letter that stays at this state.
 #[cycle(walk)]
 fn add_staying(
     goals: &[Goal],
@@ -222,9 +236,11 @@ fn add_staying(
 ) -> Result<(), Memory>
     requires group { IsGroup goals.now order.now group }
     requires at { at ≤ length path.now.edges }
-    ensures { OnOk result (Adds (Continues goals.now order.now path.now last IsNoEdge group at) numbers.old numbers.new) }
+    ensures { OnOk result (Adds (Continues goals.now order.now path.now last IsStaying group at) numbers.old numbers.new) }
 {
-    add_ends(goals, order, path, last, group, at, numbers)?;
+    if group.low >= group.high {
+        return Ok(());
+    }
     let node = node_letter(path, at);
     add_with(goals, order, path, last, group, at, node, numbers)?;
     let _mask = mask_at(path, at);
@@ -250,12 +266,14 @@ pub(crate) fn add_walks(
     let mut group = group;
     let mut at = at;
     while group.low < group.high {
-        add_staying(goals, order, path, last, group, at, numbers)?;
+        let rest = past_ends(goals, order, group);
+        add_ends(order, path, last, group, rest, at, numbers)?;
+        add_staying(goals, order, path, last, rest, at, numbers)?;
         if at >= path.edges().len() {
             return Ok(());
         }
         let edge = edge_letter(path, at);
-        group = narrowed(goals, order, group, edge)?;
+        group = narrowed(goals, order, rest, edge)?;
         at += 1;
     }
     Ok(())

@@ -12,6 +12,6 @@ pub loop-left-preserved : goal.loop-left-preserved
 loop-left-preserved c = record {
   within = omega (arith, c.loop-left.invariant.within);
   same =
-      names_turn c.args.variables.now c.loop-left.left c.index-variables-left.result c.loop-left.names c.push.new.self c.in_ok-try_clone.field-0 c.in_ok-copied.field-0
-      c.loop-left-test.true c.loop-left.invariant.within c.index-variables-left.is c.in_ok-try_clone.ensures c.in_ok-copied.ensures c.in_ok-push.ensures c.loop-left.invariant.same;
+      names_turn c.args.variables.now c.loop-left.left c.index-variables-left.result c.loop-left.names c.push.new.self c.in_ok-try_clone.field-0 c.in_ok-try_clone-2.field-0
+      c.loop-left-test.true c.loop-left.invariant.within c.index-variables-left.is c.in_ok-try_clone.ensures c.in_ok-try_clone-2.ensures c.in_ok-push.ensures c.loop-left.invariant.same;
 }

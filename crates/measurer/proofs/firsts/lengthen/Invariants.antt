@@ -1,4 +1,4 @@
-use Rattle.std.proofs.Common.{◌≡◌, ◌<◌, All, ℕ, length, get_or, take}
+use Rattle.std.proofs.Common.{◌≡◌, ◌<◌, ℕ, length, get_or}
 use Rattle.measurer.proofs.firsts.lengthen.Given as goal
 
 abbrev pub invariant-loop-number : goal.invariant-loop-number

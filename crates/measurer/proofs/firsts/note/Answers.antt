@@ -1,4 +1,4 @@
-use Rattle.std.proofs.Common.{◌≡◌, ◌+◌, ◌++◌, ◌∷◌, [], ◌∙◌, ap}
+use Rattle.std.proofs.Common.{◌+◌, ◌++◌, ◌∷◌, [], ◌∙◌, ap}
 use Rattle.measurer.specs.Firsts.{or_none}
 use Rattle.measurer.proofs.FirstRuns.{noted_is, last_pushed}
 use Rattle.measurer.proofs.firsts.note.Goals as goal

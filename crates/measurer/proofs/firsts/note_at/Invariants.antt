@@ -1,4 +1,4 @@
-use Rattle.std.proofs.Common.{◌≡◌, ℕ, length, take}
+use Rattle.std.proofs.Common.{◌≡◌, length, take}
 use Rattle.measurer.proofs.Noting.{HasNotes}
 use Rattle.measurer.proofs.firsts.note_at.Given as goal
 

@@ -1,13 +1,13 @@
-use Rattle.std.proofs.Common.{◌≡◌, length, sym, subst}
+use Rattle.std.proofs.Common.{length, sym, subst}
 use Rattle.word_index.specs.Numbers.{Adds}
-use Rattle.word_index.specs.Order.{IsIndexOf}
+use Rattle.word_index.specs.Tables.{IsIndexOf}
 use Rattle.word_index.specs.Walks.{HasGoalWalk}
 use Rattle.word_index.proofs.Steps.{adds_both, on_ok}
 use Rattle.measurer.specs.Measured.{AreAutomata}
 use Rattle.measurer.proofs.measurer.add_found.Goals as goal
 
 pub add_walks-requires : goal.add_walks-requires
-add_walks-requires c = subst (λ g. IsIndexOf g c.args.tables.now.index.order c.args.tables.now.index.absents) (sym c.as_slice-goals.ensures) c.requires.index
+add_walks-requires c = subst (λ g. IsIndexOf g c.args.tables.now.index) (sym c.as_slice-goals.ensures) c.requires.index
 
 pub returns : goal.returns
 returns c =

@@ -1,11 +1,10 @@
-use Rattle.std.proofs.Common.{subst, sym, ◌∙◌}
+use Rattle.std.proofs.Common.{subst}
 use Rattle.word_index.proofs.Steps.{on_ok}
 use Rattle.hits.specs.Hits.{MeetsPassing}
 use Rattle.measurer.proofs.Gathered.{all_hits}
 use Rattle.measurer.proofs.measurer.gather.Goals as goal
 
 pub returns : goal.returns
-returns c =
-    let counted = sym c.is_counted.ensures ∙ c.if-not-is_counted.false in
+returns c ends counted =
     let passing = subst (MeetsPassing c.args.plan.now.passing) c.path_in-path.ensures ((c.in_ok-meets_passing.ensures c.args.plan.now.passing c.requires.plan.passing).0 c.if-not-branch.false) in
-    on_ok c.add_found.result _ _ (λ h. all_hits c.args.plan.now c.args.ends c.args.run.now c.requires.plan.patterns counted passing c.path_in-path.result _ _ c.path_in-path.ensures c.clear.ensures h) c.add_found.ensures
+    on_ok c.add_found.result _ _ (λ h. all_hits c.args.plan.now ends c.args.run.now c.requires.plan.patterns counted passing c.path_in-path.result _ _ c.path_in-path.ensures c.clear.ensures h) c.add_found.ensures

@@ -1,4 +1,4 @@
-use Rattle.std.proofs.Common.{◌∙◌, sym, subst}
+use Rattle.std.proofs.Common.{sym, subst}
 use Rattle.measurer.specs.Openings.{AreFirstPlaces}
 use Rattle.measurer.proofs.Automata.{no_others}
 use Rattle.measurer.proofs.others.add_others.Goals as goal

@@ -1,4 +1,4 @@
-use Rattle.std.proofs.Common.{◌≡◌, ◌≤◌, ◌<◌, length, ap, arith}
+use Rattle.std.proofs.Common.{length, ap, arith}
 use Rattle.measurer.proofs.FirstPlaces.{never_opened, opened}
 use Rattle.measurer.proofs.others.automaton_accepts.Goals as goal
 

@@ -1,4 +1,4 @@
-use Rattle.std.proofs.Common.{◌≡◌, ◌+◌, Some, sym, ◌∙◌, ap, subst}
+use Rattle.std.proofs.Common.{◌+◌, sym, ◌∙◌, ap, subst}
 use Rattle.word_index.specs.Walks.{is_plain}
 use Rattle.measurer.specs.Measured.{AreAutomata}
 use Rattle.measurer.proofs.Automata.{get_some, goal_added, goal_skipped}

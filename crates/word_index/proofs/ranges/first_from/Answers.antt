@@ -1,4 +1,4 @@
-use Rattle.std.proofs.Common.{◌≡◌, ◌+◌, ◌<◌, ◌≤◌, arith}
+use Rattle.std.proofs.Common.{arith}
 use Rattle.word_index.proofs.Keys.{below_more, above_more}
 use Rattle.word_index.proofs.ranges.first_from.Goals as goal
 

@@ -1,4 +1,4 @@
-use Rattle.std.proofs.Common.{◌≡◌, ◌≤◌, ◌<◌, ◌-◌, ℕ}
+use Rattle.std.proofs.Common.{◌≤◌, ◌<◌, ◌-◌, ℕ}
 use Rattle.word_index.specs.Order.{key_at}
 use Rattle.word_index.proofs.ranges.first_from.Given as goal
 

@@ -1,9 +1,9 @@
-use Rattle.std.proofs.Common.{◌≡◌, ◌+◌, ◌^◌, ◌<◌, ◌≤◌, ◌==◌, length, refl, sym, ◌∙◌, ap, subst, arith}
+use Rattle.std.proofs.Common.{◌≡◌, ◌+◌, ◌^◌, ◌<◌, ◌≤◌, ◌==◌, length, sym, ◌∙◌, ap, subst, arith}
 use Rattle.std.specs.Int.{bit_at}
 use Rattle.goals.specs.declared.goal_letter.GoalLetter.TheVariants.{Absent, Predicate}
 use Rattle.word_index.specs.Groups.{Continues, IsAbsentBelow, IsPredicateBelow}
 use Rattle.word_index.specs.Numbers.{Adds}
-use Rattle.word_index.proofs.Steps.{on_ok, with_staying, with_none, predicate_absent, predicate_there, letter_more, none_hold, staying, same_more, same_last, same_done}
+use Rattle.word_index.proofs.Steps.{on_ok, with_staying, with_none, predicate_absent, predicate_there, letter_more, none_hold, none_stay, staying, ended_and_staying, narrowed_past, same_more, same_last, same_done}
 use Rattle.word_index.proofs.walk.+walk.Goals as goal
 
 pub add_with-returns-in_ok-add_walks : goal.add_with-returns-in_ok-add_walks
@@ -48,15 +48,18 @@ pub add_staying-returns : goal.add_staying-returns
 add_staying-returns t c =
     let small = subst (λ m. m < 2 ^ 64) c.mask_at-mask.ensures.mask c.mask_at-mask.ensures.small in
     on_ok c.add_with_absents.result _ _
-    (λ h. staying c.args.goals.now c.args.order.now c.args.path.now c.args.last c.args.group c.args.at small c.requires.group c.node_letter-node.result c.node_letter-node.ensures _ _ _ _ _ c.in_ok-add_ends.ensures c.in_ok-add_with.ensures c.in_ok-add_with_predicates.ensures h)
+    (λ h. staying c.args.goals.now c.args.order.now c.args.path.now c.args.last c.args.group c.args.at small c.requires.group c.node_letter-node.result c.node_letter-node.ensures _ _ _ _ c.in_ok-add_with.ensures c.in_ok-add_with_predicates.ensures h)
     c.add_with_absents.ensures
+
+pub add_staying-returns-then-group : goal.add_staying-returns-then-group
+add_staying-returns-then-group t c = none_stay c.args.goals.now c.args.order.now c.args.path.now c.args.last c.args.group c.args.at c.args.numbers.now c.if-group.true
 
 pub add_walks-returns-then-at-edges : goal.add_walks-returns-then-at-edges
 add_walks-returns-then-at-edges t c =
     let size = ap length c.edges.ensures.edges in
     let past = c.if-at-edges.true in
     let le : length c.args.path.now.edges ≤ c.loop-group.at = omega arith in
-    same_last c.args.goals.now c.args.order.now c.args.path.now c.args.last c.args.group c.args.at c.args.numbers.now c.loop-group.group c.loop-group.at _ _ c.loop-group.invariant.same c.in_ok-add_staying.ensures le
+    same_last c.args.goals.now c.args.order.now c.args.path.now c.args.last c.args.group c.args.at c.args.numbers.now c.loop-group.group c.loop-group.at _ _ c.loop-group.invariant.same (ended_and_staying c.args.goals.now c.args.order.now c.args.path.now c.args.last c.loop-group.group c.loop-group.at _ c.past_ends-rest.ensures _ _ _ (c.in_ok-add_ends.ensures c.args.goals.now c.past_ends-rest.ensures) c.in_ok-add_staying.ensures) le
 
 pub add_walks-loop-group-preserved : goal.add_walks-loop-group-preserved
 add_walks-loop-group-preserved t c =
@@ -70,7 +73,7 @@ add_walks-loop-group-preserved t c =
       is_group = c.in_ok-group.ensures.group;
       within = within;
       deeper = deeper;
-      same = same_more c.args.goals.now c.args.order.now c.args.path.now c.args.last c.args.group c.args.at c.args.numbers.now c.loop-group.group c.in_ok-group.group c.loop-group.at c.edge_letter-edge.result _ _ c.loop-group.invariant.same c.in_ok-add_staying.ensures c.edge_letter-edge.ensures c.in_ok-group.ensures;
+      same = same_more c.args.goals.now c.args.order.now c.args.path.now c.args.last c.args.group c.args.at c.args.numbers.now c.loop-group.group c.in_ok-group.group c.loop-group.at c.edge_letter-edge.result _ _ c.loop-group.invariant.same (ended_and_staying c.args.goals.now c.args.order.now c.args.path.now c.args.last c.loop-group.group c.loop-group.at _ c.past_ends-rest.ensures _ _ _ (c.in_ok-add_ends.ensures c.args.goals.now c.past_ends-rest.ensures) c.in_ok-add_staying.ensures) c.edge_letter-edge.ensures (narrowed_past c.args.goals.now c.args.order.now c.args.path.now c.args.last c.loop-group.group c.loop-group.at _ c.past_ends-rest.ensures _ _ c.in_ok-group.ensures);
     }
 
 pub add_walks-returns : goal.add_walks-returns

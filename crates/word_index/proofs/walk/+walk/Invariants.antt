@@ -1,4 +1,4 @@
-use Rattle.std.proofs.Common.{◌≡◌, ◌+◌, ◌-◌, ◌*◌, ◌^◌, ◌≤◌, length}
+use Rattle.std.proofs.Common.{◌+◌, ◌-◌, ◌*◌, ◌^◌, ◌≤◌, length}
 use Rattle.word_index.specs.Groups.{Continues, IsAbsentBelow, IsGroup, IsPredicateBelow}
 use Rattle.word_index.specs.Numbers.{Adds}
 use Rattle.word_index.proofs.Steps.{Same}

@@ -1,4 +1,4 @@
-use Rattle.std.proofs.Common.{◌≡◌, ◌+◌, ◌≤◌, ℕ, subst, arith}
+use Rattle.std.proofs.Common.{◌≡◌, ◌≤◌, subst, arith}
 use Rattle.word_index.specs.Numbers.{Adds}
 use Rattle.word_index.proofs.Steps.{RankNumbers, ranks_more}
 use Rattle.word_index.proofs.walk.add_ranks.Goals as goal

@@ -1,4 +1,4 @@
-use Rattle.std.proofs.Common.{◌≡◌, ◌<◌, ◌≤◌, length, sym, ◌∙◌, arith}
+use Rattle.std.proofs.Common.{◌<◌, ◌≤◌, length, sym, ◌∙◌, arith}
 use Rattle.word_index.proofs.Keys.{lower_at, higher_at, equal_at, shorter, both_end}
 use Rattle.word_index.proofs.words.compared.Goals as goal
 

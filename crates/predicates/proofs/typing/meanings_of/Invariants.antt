@@ -1,6 +1,6 @@
 use Rattle.std.proofs.Common.{◌≡◌, true, map, take}
 use Rattle.predicates.specs.Typing.{all_typable, meanings_in}
-use Rattle.predicates.proofs.typing.rows_of.Given as goal
+use Rattle.predicates.proofs.typing.meanings_of.Given as goal
 
 abbrev pub invariant-loop-tree : goal.invariant-loop-tree
 invariant-loop-tree l = record {

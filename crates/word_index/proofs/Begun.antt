@@ -1,0 +1,142 @@
+-- What goes on from a state, by how the words begin.
+use Rattle.std.proofs.Common.{◌≡◌, ℕ, zero, suc, ◌^◌, ◌≤◌, ◌<◌, ◌⊎◌, inl, inr, Bool, true, false, List, [], ◌∷◌, ◌++◌, length, drop, Option, Some, None, refl, sym, ◌∙◌, ap, subst, arith}
+use Rattle.std.specs.Prelude.{if◌then◌else◌, slice_get, slice_index}
+use Rattle.std.proofs.lemmas.Bool.{and_parts, false≢true}
+use Rattle.std.proofs.lemmas.Option.{same_Some}
+use Rattle.patterns.specs.declared.path_view.PathView.{PathView}
+use Rattle.goals.specs.GoalForm.{GoalForm}
+use Rattle.goals.specs.Words.{Word}
+use Rattle.goals.specs.declared.goal_letter.GoalLetter.{GoalLetter}
+use Rattle.goals.specs.declared.goal_letter.GoalLetter.TheVariants.{Node, Edge, Predicate, Absent, Quoted}
+use Rattle.word_index.specs.Numbers.{Adds}
+use Rattle.word_index.specs.Order.{AreAbsentsBelow, IsOrderOf, ranked}
+use Rattle.word_index.specs.Walks.{is_plain, word_of}
+use Rattle.word_index.specs.Groups.{Continues, GoesOn, IsAbsentBelow, IsAny, IsGroup, IsLetter, IsNarrowed, IsPredicateBelow, IsSomeEdge, IsTest}
+use Rattle.word_index.specs.Tables.{AreBegun, IsIndexOf, all_begin_with_steps, begins_with_step, root, step}
+use Rattle.word_index.specs.declared.index.WordIndex.{WordIndex}
+use Rattle.word_index.specs.declared.group.Group.{Group}
+use Rattle.word_index.proofs.Going.{before_letter, first_goes, past_edge}
+use Rattle.word_index.proofs.Starts as starts
+use Rattle.word_index.proofs.Steps.{adds_both, adds_none, adds_same, any_head, known_as, node_here, predicate_below}
+
+pub root_group : (goals : List GoalForm) (order : List ℕ) (absents : ℕ) → IsOrderOf goals order → AreAbsentsBelow goals absents → IsGroup goals order (root order absents)
+root_group goals order absents ordered below = starts.is_group goals order (record { nodes = []; edges = []; masks = [] }) false false (root order absents) refl refl refl ordered below
+
+-- ---- the table, one group more
+
+pushed : (P : ℕ → Group → Type 0) (groups : List Group) (g : Group) → ((k : ℕ) (x : Group) → slice_get groups k ≡ Some x → P k x) → P (length groups) g
+    → (k : ℕ) (x : Group) → slice_get (groups ++ g ∷ []) k ≡ Some x → P k x
+pushed P [] g h p zero x e = let same : g ≡ x = same_Some g x e in subst (P zero) same p
+pushed P [] g h p (suc k) x e = cc
+pushed P (y ∷ ys) g h p zero x e = h zero x e
+pushed P (y ∷ ys) g h p (suc k) x e = pushed (λ i z. P (suc i) z) ys g (λ i z f. h (suc i) z f) p k x e
+
+pub begun_more : (goals : List GoalForm) (order : List ℕ) (absents : ℕ) (edges : Bool) (groups more : List Group) (number : ℕ) (g : Group) → length groups ≡ number → AreBegun goals order absents edges groups
+    → IsNarrowed goals order (step edges number) (root order absents) g → more ≡ groups ++ g ∷ [] → AreBegun goals order absents edges more
+begun_more goals order absents edges groups more number g long h narrowed e =
+    subst (AreBegun goals order absents edges) (sym e)
+    (pushed (λ k x. IsNarrowed goals order (step edges k) (root order absents) x) groups g h (subst (λ k. IsNarrowed goals order (step edges k) (root order absents) g) (sym long) narrowed))
+
+-- ---- words that begin with an edge or a node
+
+first_step : (goals : List GoalForm) → all_begin_with_steps goals ≡ true → (g : ℕ) → begins_with_step (slice_get (word_of (slice_get goals g)) 0) ≡ true
+first_step [] all g = refl
+first_step (x ∷ xs) all zero = (and_parts _ _ all).0
+first_step (x ∷ xs) all (suc g) = first_step xs (and_parts _ _ all).1 g
+
+plain_begins : (w : Word) → is_plain w ≡ true → slice_get w 0 ≡ None → ⊥
+plain_begins [] plain e = let both : false ≡ true = plain in cc
+plain_begins (l ∷ w) plain e = cc
+
+module _ (goals : List GoalForm) (order : List ℕ) (absents : ℕ) (ordered : IsOrderOf goals order) (path : PathView) (last : Bool) (at : ℕ) where
+  abbrev all : Group
+  all = root order absents
+
+  abbrev At : (Option GoalLetter → Type 0) → ℕ → Type 0
+  At H n = Continues goals order path last H all at n
+
+  -- those that go on with the edge of the state are all that go on with an edge
+  pub by_edge : (edge : ℕ) (narrow : Group) → IsNarrowed goals order (Edge edge) all narrow → slice_index path.edges at ≡ edge → (xs ys : List ℕ)
+      → Adds (Continues goals order path last IsAny narrow (suc at)) xs ys → Adds (At IsSomeEdge) xs ys
+  by_edge edge narrow narrowed here xs ys h = adds_same _ (At IsSomeEdge) xs ys to from h
+    where
+      to : (n : ℕ) → Continues goals order path last IsAny narrow (suc at) n → At IsSomeEdge n
+      to n c =
+          let a : narrow.low ≤ c.rank = c.from in
+          let b : c.rank < narrow.high = c.below in
+          let t = narrowed.to in
+          let e = narrowed.with_letter c.rank a b in
+          let deep : GoesOn path last (drop 1 (ranked goals order c.rank)) (suc at) = subst (λ d. GoesOn path last (drop d (ranked goals order c.rank)) (suc at)) narrowed.deeper c.goes in
+          record { rank = c.rank; from = omega arith; below = omega (arith, b, t); is = c.is; head = (edge, e); goes = before_letter path last (ranked goals order c.rank) 0 at (Edge edge) (suc at) e (refl, here) deep }
+
+      from : (n : ℕ) → At IsSomeEdge n → Continues goals order path last IsAny narrow (suc at) n
+      from n c =
+          let head = c.head in
+          let f = past_edge path last (ranked goals order c.rank) 0 at head.0 head.1 c.goes in
+          let same : head.0 ≡ edge = sym f.0 ∙ here in
+          let inside = narrowed.all_with_letter c.rank c.from c.below (head.1 ∙ ap (λ x. Some (Edge x)) same) in
+          record { rank = c.rank; from = inside.0; below = inside.1; is = c.is; head = tt; goes = subst (λ d. GoesOn path last (drop d (ranked goals order c.rank)) (suc at)) (sym narrowed.deeper) f.1.0 }
+
+  -- past the last edge there are none
+  pub no_edge : (xs : List ℕ) → length path.edges ≤ at → Adds (At IsSomeEdge) xs xs
+  no_edge xs past = adds_none _ xs (λ n c. let head = c.head in let f = past_edge path last (ranked goals order c.rank) 0 at head.0 head.1 c.goes in let lt = f.1.1 in omega (arith, past, lt))
+
+  -- where all words begin with an edge or a node, none begins with a predicate or an absent one
+  pub no_tests : (xs : List ℕ) → all_begin_with_steps goals ≡ true → Adds (At IsTest) xs xs
+  no_tests xs steps = adds_none _ xs (λ n c. by_head (slice_get (ranked goals order c.rank) 0) (first_step goals steps (slice_index order c.rank)) c.head)
+    where
+      by_head : (o : Option GoalLetter) → begins_with_step o ≡ true → IsTest o → ⊥
+      by_head None b h = h
+      by_head (Some (Node m)) b h = h
+      by_head (Some (Edge m)) b h = h
+      by_head (Some (Predicate p)) b h = false≢true b
+      by_head (Some (Absent p)) b h = false≢true b
+      by_head (Some (Quoted q)) b h = h
+
+  module _ (below : AreAbsentsBelow goals absents) where
+    -- those that go on with a predicate, and those that go on with an absent one
+    pub both_tests : slice_index path.masks at < 2 ^ 64 → (xs ys zs : List ℕ) → Adds (At (IsPredicateBelow 64)) xs ys → Adds (At (IsAbsentBelow absents)) ys zs → Adds (At IsTest) xs zs
+    both_tests small xs ys zs a b = adds_same _ (At IsTest) xs zs to from (adds_both _ _ xs ys zs a b)
+      where
+        to : (n : ℕ) → (At (IsPredicateBelow 64) n ⊎ At (IsAbsentBelow absents) n) → At IsTest n
+        to n (inl c) = let h = c.head in known_as goals order path last all at (IsPredicateBelow 64) IsTest n c (subst IsTest (sym h.1.1) tt)
+        to n (inr c) = let h = c.head in known_as goals order path last all at (IsAbsentBelow absents) IsTest n c (subst IsTest (sym h.1.1) tt)
+
+        from : (n : ℕ) → At IsTest n → (At (IsPredicateBelow 64) n ⊎ At (IsAbsentBelow absents) n)
+        from n c = by_head (slice_get (ranked goals order c.rank) 0) refl c.head
+          where
+            by_head : (o : Option GoalLetter) → slice_get (ranked goals order c.rank) 0 ≡ o → IsTest o → (At (IsPredicateBelow 64) n ⊎ At (IsAbsentBelow absents) n)
+            by_head None e h = absurd h
+            by_head (Some (Node m)) e h = absurd h
+            by_head (Some (Edge m)) e h = absurd h
+            by_head (Some (Predicate p)) e h = inl (predicate_below goals order path last all at small IsTest n p c e)
+            by_head (Some (Absent p)) e h = inr (known_as goals order path last all at IsTest (IsAbsentBelow absents) n c (p, (below (slice_index order c.rank) 0 p e, e)))
+            by_head (Some (Quoted q)) e h = absurd h
+
+  abbrev Parts : ℕ → Type 0
+  Parts n = (At (IsLetter (Node (slice_index path.nodes at))) n ⊎ At IsSomeEdge n) ⊎ At IsTest n
+
+  -- each word goes on with the node, an edge, a predicate or an absent one
+  parts_from : (n : ℕ) → At IsAny n → Parts n
+  parts_from n c = by_head (slice_get (ranked goals order c.rank) 0) refl
+    where
+      by_head : (o : Option GoalLetter) → slice_get (ranked goals order c.rank) 0 ≡ o → Parts n
+      by_head None e = absurd (plain_begins (ranked goals order c.rank) (ordered.plain c.rank c.below) e)
+      by_head (Some (Node m)) e = inl (inl (node_here goals order path last all at IsAny n m c e))
+      by_head (Some (Edge m)) e = inl (inr (known_as goals order path last all at IsAny IsSomeEdge n c (m, e)))
+      by_head (Some (Predicate p)) e = inr (known_as goals order path last all at IsAny IsTest n c (subst IsTest (sym e) tt))
+      by_head (Some (Absent p)) e = inr (known_as goals order path last all at IsAny IsTest n c (subst IsTest (sym e) tt))
+      by_head (Some (Quoted q)) e = let f = first_goes path last (ranked goals order c.rank) 0 at (Quoted q) e c.goes in absurd f.1.0
+
+  parts_to : (n : ℕ) → Parts n → At IsAny n
+  parts_to n (inl (inl c)) = any_head goals order path last all at (IsLetter (Node (slice_index path.nodes at))) n c
+  parts_to n (inl (inr c)) = any_head goals order path last all at IsSomeEdge n c
+  parts_to n (inr c) = any_head goals order path last all at IsTest n c
+
+  pub all_parts : (xs ys zs us : List ℕ) → Adds (At (IsLetter (Node (slice_index path.nodes at)))) xs ys → Adds (At IsSomeEdge) ys zs → Adds (At IsTest) zs us → Adds (At IsAny) xs us
+  all_parts xs ys zs us a b c = adds_same _ (At IsAny) xs us parts_to parts_from (adds_both _ _ xs zs us (adds_both _ _ xs ys zs a b) c)
+
+-- the table of an index
+pub chosen : (goals : List GoalForm) (index : WordIndex) → IsIndexOf goals index → (edges : Bool) → AreBegun goals index.order index.absents edges (if edges then index.by_edge else index.by_node)
+chosen goals index is true = is.by_edge
+chosen goals index is false = is.by_node

@@ -1,0 +1,18 @@
+use Rattle.std.proofs.Common.{◌∷◌, [], ap, subst, length, length-append, arith}
+use Rattle.word_index.specs.Groups.{IsNarrowed}
+use Rattle.word_index.specs.Tables.{root, step}
+use Rattle.word_index.proofs.Begun.{begun_more}
+use Rattle.word_index.proofs.tables.begun.Goals as goal
+
+pub loop-number-preserved : goal.loop-number-preserved
+loop-number-preserved c =
+    let pushed = c.in_ok-push.ensures.ok in
+    let long = ap length pushed in
+    let narrowed : IsNarrowed c.args.goals.now c.args.order.now (step c.args.edges c.loop-number.number) (root c.args.order.now c.args.absents) c.in_ok-group.group =
+    subst (λ l. IsNarrowed c.args.goals.now c.args.order.now l (root c.args.order.now c.args.absents) c.in_ok-group.group) c.step.ensures
+    (subst (λ g. IsNarrowed c.args.goals.now c.args.order.now c.step.result g c.in_ok-group.group) c.root-all.ensures c.in_ok-group.ensures)
+    in
+    record {
+      length = omega (arith, long, length-append c.loop-number.groups (c.in_ok-group.group ∷ []), c.loop-number.invariant.length);
+      begun = begun_more c.args.goals.now c.args.order.now c.args.absents c.args.edges c.loop-number.groups _ c.loop-number.number c.in_ok-group.group c.loop-number.invariant.length c.loop-number.invariant.begun narrowed pushed;
+    }
