@@ -1,7 +1,7 @@
 -- What goes on from a state, by how the words begin.
-use Rattle.std.proofs.Common.{◌≡◌, ℕ, zero, suc, ◌^◌, ◌≤◌, ◌<◌, ◌⊎◌, inl, inr, Bool, true, false, List, [], ◌∷◌, ◌++◌, length, drop, Option, Some, None, refl, sym, ◌∙◌, ap, subst, arith}
+use Rattle.std.proofs.Common.{◌≡◌, ℕ, zero, suc, ◌+◌, ◌^◌, ◌≤◌, ◌<◌, ◌⊎◌, inl, inr, Bool, true, false, List, [], ◌∷◌, ◌++◌, length, drop, get_or, Option, Some, None, refl, sym, ◌∙◌, ap, subst, arith}
 use Rattle.std.specs.Prelude.{if◌then◌else◌, slice_get, slice_index}
-use Rattle.std.proofs.lemmas.Bool.{and_parts, false≢true}
+use Rattle.std.proofs.lemmas.Bool.{and_parts, cases_lt, false≢true}
 use Rattle.std.proofs.lemmas.Option.{same_Some}
 use Rattle.patterns.specs.declared.path_view.PathView.{PathView}
 use Rattle.goals.specs.GoalForm.{GoalForm}
@@ -10,9 +10,9 @@ use Rattle.goals.specs.declared.goal_letter.GoalLetter.{GoalLetter}
 use Rattle.goals.specs.declared.goal_letter.GoalLetter.TheVariants.{Node, Edge, Predicate, Absent, Quoted}
 use Rattle.word_index.specs.Numbers.{Adds}
 use Rattle.word_index.specs.Order.{AreAbsentsBelow, IsOrderOf, ranked}
-use Rattle.word_index.specs.Walks.{is_plain, word_of}
+use Rattle.word_index.specs.Walks.{is_plain, word_at, word_of}
 use Rattle.word_index.specs.Groups.{Continues, GoesOn, IsAbsentBelow, IsAny, IsGroup, IsLetter, IsNarrowed, IsPredicateBelow, IsSomeEdge, IsTest}
-use Rattle.word_index.specs.Tables.{AreBegun, IsIndexOf, all_begin_with_steps, begins_with_step, root, step}
+use Rattle.word_index.specs.Tables.{AreBegun, BeginsBelow, IsIndexOf, all_begin_with_steps, begins_with_step, root, step}
 use Rattle.word_index.specs.declared.index.WordIndex.{WordIndex}
 use Rattle.word_index.specs.declared.group.Group.{Group}
 use Rattle.word_index.proofs.Going.{before_letter, first_goes, past_edge}
@@ -31,11 +31,61 @@ pushed P [] g h p (suc k) x e = cc
 pushed P (y ∷ ys) g h p zero x e = h zero x e
 pushed P (y ∷ ys) g h p (suc k) x e = pushed (λ i z. P (suc i) z) ys g (λ i z f. h (suc i) z f) p k x e
 
-pub begun_more : (goals : List GoalForm) (order : List ℕ) (absents : ℕ) (edges : Bool) (groups more : List Group) (number : ℕ) (g : Group) → length groups ≡ number → AreBegun goals order absents edges groups
-    → IsNarrowed goals order (step edges number) (root order absents) g → more ≡ groups ++ g ∷ [] → AreBegun goals order absents edges more
+-- the groups of the table so far
+abbrev pub Tabled : List GoalForm → List ℕ → ℕ → Bool → List Group → Type 0
+Tabled goals order absents edges groups = (number : ℕ) (g : Group) → slice_get groups number ≡ Some g → IsNarrowed goals order (step edges number) (root order absents) g
+
+pub begun_more : (goals : List GoalForm) (order : List ℕ) (absents : ℕ) (edges : Bool) (groups more : List Group) (number : ℕ) (g : Group) → length groups ≡ number → Tabled goals order absents edges groups
+    → IsNarrowed goals order (step edges number) (root order absents) g → more ≡ groups ++ g ∷ [] → Tabled goals order absents edges more
 begun_more goals order absents edges groups more number g long h narrowed e =
-    subst (AreBegun goals order absents edges) (sym e)
+    subst (Tabled goals order absents edges) (sym e)
     (pushed (λ k x. IsNarrowed goals order (step edges k) (root order absents) x) groups g h (subst (λ k. IsNarrowed goals order (step edges k) (root order absents) g) (sym long) narrowed))
+
+-- the group of no word, where none begins so
+pub none_begun : (goals : List GoalForm) (order : List ℕ) (absents : ℕ) (edges : Bool) (groups : List Group) (number : ℕ) → slice_get groups number ≡ None → AreBegun goals order absents edges groups
+    → IsNarrowed goals order (step edges number) (root order absents) (record { low = 0; high = 0; depth = 1; absents = absents })
+none_begun goals order absents edges groups number past are = record {
+  group = record { range = omega arith; sorted = λ r s f le t. absurd (omega (arith, t)); absents = λ r d p f t e. absurd (omega (arith, t)) };
+  deeper = refl;
+  small = omega arith;
+  from = omega arith;
+  to = omega arith;
+  with_letter = λ r f t. absurd (omega (arith, t));
+  all_with_letter = λ r f t e. absurd (let below = are.all (slice_index order r) number e in there groups number below past);
+}
+  where
+    there : (xs : List Group) (k : ℕ) → k < length xs → slice_get xs k ≡ None → ⊥
+    there [] k lt e = omega arith
+    there (x ∷ xs) zero lt e = cc
+    there (x ∷ xs) (suc k) lt e = there xs k (omega (arith, lt)) e
+
+-- ---- all words begin below a number, one goal more
+
+item_there : {X : Type 0} (xs : List X) (i : ℕ) (x : X) → x ≡ get_or xs i x → i < length xs → slice_get xs i ≡ Some x
+item_there [] i x e lt = absurd (omega arith)
+item_there (y ∷ xs) zero x e lt = ap Some (sym e)
+item_there (y ∷ xs) (suc i) x e lt = item_there xs i x e (omega (arith, lt))
+
+pub first_more : (goals : List GoalForm) (edges : Bool) (i : ℕ) (goal : GoalForm) (word : Word) (below above : ℕ) → goal ≡ get_or goals i goal → i < length goals → word ≡ goal.word
+    → ((g : ℕ) → g < i → BeginsBelow edges below (word_at goals g)) → below ≤ above → BeginsBelow edges above word → (g : ℕ) → g < i + 1 → BeginsBelow edges above (word_at goals g)
+first_more goals edges i goal word below above is lt same old le here g small n e = elim (cases_lt g i) [
+  | inl less ↦ let own = old g less n e in omega (arith, own, le)
+  | inr ge ↦
+      let at : g ≡ i = omega (arith, ge, small) in
+      let own : word_at goals g ≡ word = ap (word_at goals) at ∙ ap word_of (item_there goals i goal is lt) ∙ sym same in
+      here n (subst (λ w. slice_get w 0 ≡ Some (step edges n)) own e)
+]
+
+no_word : (goals : List GoalForm) (g : ℕ) → length goals ≤ g → word_at goals g ≡ []
+no_word [] g le = refl
+no_word (x ∷ xs) zero le = absurd (omega (arith, le))
+no_word (x ∷ xs) (suc g) le = no_word xs g (omega (arith, le))
+
+pub first_all : (goals : List GoalForm) (edges : Bool) (i bound : ℕ) → length goals ≤ i → ((g : ℕ) → g < i → BeginsBelow edges bound (word_at goals g)) → (g : ℕ) → BeginsBelow edges bound (word_at goals g)
+first_all goals edges i bound past old g n e = elim (cases_lt g i) [
+  | inl lt ↦ old g lt n e
+  | inr ge ↦ absurd (let none : slice_get [] 0 ≡ Some (step edges n) = subst (λ w. slice_get w 0 ≡ Some (step edges n)) (no_word goals g (omega (arith, past, ge))) e in cc)
+]
 
 -- ---- words that begin with an edge or a node
 

@@ -1,11 +1,13 @@
 -- The groups of words that begin alike.
-use Rattle.std.specs.Prelude.{◌≡◌, ℕ, Bool, true, false, List, length, slice_get, Option, Some, None}
+use Rattle.std.specs.Prelude.{◌≡◌, ◌<◌, ℕ, Bool, true, false, List, length, slice_get, Option, Some, None}
 use Rattle.std.specs.List.{list_all}
 use Rattle.goals.specs.GoalForm.{GoalForm}
+use Rattle.goals.specs.Words.{Word}
 use Rattle.goals.specs.declared.goal_letter.GoalLetter.{GoalLetter}
 use Rattle.goals.specs.declared.goal_letter.GoalLetter.TheVariants.{Node, Edge, Predicate, Absent, Quoted}
 use Rattle.word_index.specs.Order.{AreAbsentsBelow, IsOrderOf}
 use Rattle.word_index.specs.Groups.{IsNarrowed}
+use Rattle.word_index.specs.Walks.{word_at}
 use Rattle.word_index.specs.declared.group.Group.{Group}
 use Rattle.word_index.specs.declared.index.WordIndex.{WordIndex}
 
@@ -18,9 +20,14 @@ step false number = Node number
 abbrev pub root : List ℕ → ℕ → Group
 root order absents = record { low = 0; high = length order; depth = 0; absents = absents }
 
--- by number, the groups of the words that begin with an edge, or a node
-abbrev pub AreBegun : List GoalForm → List ℕ → ℕ → Bool → List Group → Type 0
-AreBegun goals order absents edges groups = (number : ℕ) (g : Group) → slice_get groups number ≡ Some g → IsNarrowed goals order (step edges number) (root order absents) g
+-- a word that begins with an edge, or a node, begins with one below this number
+abbrev pub BeginsBelow : Bool → ℕ → Word → Type 0
+BeginsBelow edges bound w = (number : ℕ) → slice_get w 0 ≡ Some (step edges number) → number < bound
+
+-- by number, the groups of the words that begin with an edge, or a node; none begins with one past them
+pub record AreBegun (goals : List GoalForm) (order : List ℕ) (absents : ℕ) (edges : Bool) (groups : List Group) : Type 0 where
+  pub at : (number : ℕ) (g : Group) → slice_get groups number ≡ Some g → IsNarrowed goals order (step edges number) (root order absents) g
+  pub all : (g : ℕ) → BeginsBelow edges (length groups) (word_at goals g)
 
 -- the word is empty, or begins with an edge or a node
 abbrev pub begins_with_step : Option GoalLetter → Bool

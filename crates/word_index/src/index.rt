@@ -98,7 +98,7 @@ impl WordIndex {
         ensures { OnOk result ((narrow : OneGroup) × (IsNarrowed goals.now self.now.order (step edges number) (root self.now.order self.now.absents) narrow × Adds (Continues goals.now self.now.order path.now last IsAny narrow at) numbers.old numbers.new)) }
     {
         let groups = self.table(edges);
-        let group = begun_with(goals, &self.order, self.absents, groups, edges, number)?;
+        let group = begun_with(&self.order, self.absents, groups, edges, number);
         add_walks(goals, &self.order, path, last, group, at, numbers)
     }
 

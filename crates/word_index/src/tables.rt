@@ -1,7 +1,9 @@
 // The groups of words that begin alike.
-ghost use Rattle.std.specs.Prelude.{◌≡◌, IfOk, slice_get};
+ghost use Rattle.std.specs.Prelude.{◌≡◌, ◌≤◌, ℕ, List, IfOk, Some, slice_get};
+ghost use Rattle.goals.specs.GoalForm.{GoalForm};
 ghost use Rattle.word_index.specs.Groups.{IsGroup, IsNarrowed};
-ghost use Rattle.word_index.specs.Tables.{AreBegun, all_begin_with_steps, begins_with_step, root, step};
+ghost use Rattle.word_index.specs.Tables.{AreBegun, BeginsBelow, all_begin_with_steps, begins_with_step, root, step};
+ghost use Rattle.word_index.specs.Walks.{word_at};
 
 use crate::group::Group;
 use crate::ranges::narrowed;
@@ -34,7 +36,9 @@ pub(crate) fn step(edges: bool, number: u32) -> GoalLetter
 }
 
 /// The number of the edge, or of the node, with which a word begins, if it does.
-fn first_number(word: &[GoalLetter], edges: bool) -> Option<u32> {
+fn first_number(word: &[GoalLetter], edges: bool) -> Option<u32>
+    ensures { (n : ℕ) → slice_get word.now 0 ≡ Some (step edges n) → result ≡ Some n }
+{
     match word.first() {
         Some(GoalLetter::Edge(edge)) if edges => Some(*edge),
         Some(GoalLetter::Node(node)) if !edges => Some(*node),
@@ -42,15 +46,29 @@ fn first_number(word: &[GoalLetter], edges: bool) -> Option<u32> {
     }
 }
 
-/// How long a table of the words that begin with an edge, or a node, should be. Nothing but time and memory depends on it.
-fn size(goals: &[Goal], edges: bool) -> u32 {
+/// This number, or one above that of the edge, or the node, with which a word begins, if that isn't below this one.
+fn first_above(word: &[GoalLetter], edges: bool, bound: u32) -> Result<u32, Memory>
+    ensures from { IfOk result (λ above. bound ≤ above) }
+    ensures first { IfOk result (λ above. BeginsBelow edges above word.now) }
+{
+    match first_number(word, edges) {
+        None => Ok(bound),
+        Some(number) => match number.checked_add(1) {
+            Some(above) => Ok(bound.max(above)),
+            None => Err(Memory),
+        },
+    }
+}
+
+/// A number above those of the edges, or the nodes, with which words begin.
+fn size(goals: &[Goal], edges: bool) -> Result<u32, Memory>
+    ensures { IfOk result (λ size. (g : ℕ) → BeginsBelow edges size (word_at goals.now g)) }
+{
     let mut size = 0u32;
     for goal in goals {
-        if let Some(number) = first_number(goal.word(), edges) {
-            size = size.max(number.saturating_add(1));
-        }
+        size = first_above(goal.word(), edges, size)?;
     }
-    size
+    Ok(size)
 }
 
 /// By number, the groups of the words that begin with an edge, or a node.
@@ -66,29 +84,31 @@ pub(crate) fn begun(
 {
     let all = root(order, absents);
     let mut groups = Vector::new(alloc);
-    for number in 0..size(goals, edges) {
+    for number in 0..size(goals, edges)? {
         let group = narrowed(goals, order, all, step(edges, number))?;
         groups.push(group)?;
     }
     Ok(groups)
 }
 
-/// The group of the words that begin with this edge, or node: from the table, or sought among all words.
+/// The group of the words that begin with this edge, or node. None does behind the end of the table.
 pub(crate) fn begun_with(
-    goals: &[Goal],
     order: &[u32],
     absents: u32,
     groups: &Vector<Group>,
     edges: bool,
     number: u32,
-) -> Result<Group, Memory>
-    requires root { IsGroup goals.now order.now (root order.now absents) }
-    requires groups { AreBegun goals.now order.now absents edges groups.now }
-    ensures { IfOk result (λ group. IsNarrowed goals.now order.now (step edges number) (root order.now absents) group) }
+) -> Group
+    ensures { (goals : List GoalForm) → AreBegun goals order.now absents edges groups.now → IsNarrowed goals order.now (step edges number) (root order.now absents) result }
 {
     match groups.get(number as usize) {
-        Some(group) => Ok(*group),
-        None => narrowed(goals, order, root(order, absents), step(edges, number)),
+        Some(group) => *group,
+        None => Group {
+            low: 0,
+            high: 0,
+            depth: 1,
+            absents,
+        },
     }
 }
 

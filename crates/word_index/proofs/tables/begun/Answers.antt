@@ -16,3 +16,9 @@ loop-number-preserved c =
       length = omega (arith, long, length-append c.loop-number.groups (c.in_ok-group.group ∷ []), c.loop-number.invariant.length);
       begun = begun_more c.args.goals.now c.args.order.now c.args.absents c.args.edges c.loop-number.groups _ c.loop-number.number c.in_ok-group.group c.loop-number.invariant.length c.loop-number.invariant.begun narrowed pushed;
     }
+
+pub returns : goal.returns
+returns c = record {
+  at = c.loop-number.invariant.begun;
+  all = λ g n e. let below = c.in_ok-number-end.ensures g n e in omega (arith, below, c.loop-number-test.false, c.loop-number.invariant.length);
+}
