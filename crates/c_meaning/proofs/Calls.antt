@@ -1,9 +1,10 @@
 -- What a call hands over meets the rules.
 use Rattle.std.proofs.Common.{◌≡◌, ℕ, zero, suc, ◌<◌, Bool, List, [], ◌∷◌, Option, Some, None, map, length, refl, subst, ◌∙◌}
-use Rattle.std.specs.Prelude.{Result, Ok, Err, IfOk, IsTrue, slice_get}
+use Rattle.std.specs.Prelude.{Result, Ok, IfOk, IsTrue, slice_get}
 use Rattle.std.specs.Option.{is_some}
 use Rattle.std.proofs.lemmas.Bool.{lt-leb}
 use Rattle.std.proofs.lemmas.Option.{same_Some}
+use Rattle.std.proofs.lemmas.Result.{IfOk-weaker}
 use Rattle.c_values.specs.declared.kinds.Kind.{Kind}
 use Rattle.c_values.proofs.Fitting.{and_left, and_right}
 use Rattle.cfa.specs.declared.expr.ArrayPlace.{ArrayPlace}
@@ -14,8 +15,8 @@ use Rattle.cfa.specs.declared.state.State.{State}
 use Rattle.cfa.specs.Each.{matched}
 use Rattle.cfa.specs.Graph.{arrays_fit, words_fit, word_fits, call_fits}
 use Rattle.cfa.specs.Rules.{Room, array_fits, checked_kind, expr_fits, has_kind}
-use Rattle.c_meaning.specs.declared.stepped.Stepped.{Stepped}
-use Rattle.c_meaning.specs.Steps.{called, call_of, start_in, values_in}
+use Rattle.c_meaning.specs.declared.stepped.Step.{Step}
+use Rattle.c_meaning.specs.Steps.{called, call_of, start_in, stepped, values_in}
 
 -- each element of a list that matches another passes the test with some element of that
 matched_at : {X Y : Type 0} (test : X → Y → Bool) (xs : List X) (ys : List Y) (k : ℕ) (x : X) → IsTrue (matched test xs ys) → slice_get xs k ≡ Some x → (y : Y) × IsTrue (test x y)
@@ -41,11 +42,8 @@ module _ (room : Room) (f : Function) (words : List Expr) (arrays : List ArrayPl
   call_array h k array e =
       matched_at (array_fits room) arrays f.arrays k array (and_right (words_fit room words f.parameters) (arrays_fit room arrays f.arrays) h) e
 
-if_ok_is : {E : Type 0} (r : Result Stepped E) (a b : Stepped) → a ≡ b → IfOk r (λ x. x ≡ a) → IfOk r (λ x. x ≡ b)
-if_ok_is (Ok x) a b e h = h ∙ e
-if_ok_is (Err x) a b e h = h
-
 -- a call where fewer than 64 frames stand
-pub call_made : {E : Type 0} (s : State) (at : ℕ) (e : Edge) (words : List Expr) (arrays : List ArrayPlace) (f : Function) (starts values : List ℕ) (r : Result Stepped E) → length s.frames < 64 → starts ≡ map (start_in s) arrays → Ok values ≡ values_in s words → IfOk r (λ x. x ≡ called s at e starts f values) → IfOk r (λ x. x ≡ call_of s at e words arrays (Some f))
-call_made s at e words arrays f starts values r few places is h =
-    if_ok_is r (called s at e starts f values) (call_of s at e words arrays (Some f)) (rw (lt-leb 64 (length s.frames) few, ← is, places) refl) h
+pub call_made : {E : Type 0} (s to : State) (at : ℕ) (e : Edge) (words : List Expr) (arrays : List ArrayPlace) (f : Function) (starts values : List ℕ) (r : Result Step E) → length s.frames < 64 → starts ≡ map (start_in s) arrays → Ok values ≡ values_in s words → IfOk r (λ step. stepped step to ≡ called s at e starts f values) → IfOk r (λ step. stepped step to ≡ call_of s at e words arrays (Some f))
+call_made s to at e words arrays f starts values r few places is h =
+    let made : called s at e starts f values ≡ call_of s at e words arrays (Some f) = rw (lt-leb 64 (length s.frames) few, ← is, places) refl in
+    IfOk-weaker r _ _ (λ step told. told ∙ made) h

@@ -20,6 +20,8 @@ use Rattle.cfa.specs.States.{running_frame, value_in}
 use Rattle.cfa.specs.Table.{outgoing_of}
 use Rattle.cfa.specs.Values.{array_start, cell_of, value_of}
 use Rattle.c_meaning.specs.declared.input.Input.{Input}
+use Rattle.c_meaning.specs.declared.stepped.Step.{Step}
+use Rattle.c_meaning.specs.declared.stepped.Step.TheVariants as step
 use Rattle.c_meaning.specs.declared.stepped.Stepped.{Stepped}
 use Rattle.c_meaning.specs.declared.stepped.Stepped.TheVariants.{Moved, Returned, Trapped, Blocked, TooDeep}
 use Rattle.c_meaning.specs.Starts.{fitted, frame_cells}
@@ -193,3 +195,11 @@ IfMoved (Returned value) P = Unit {0}
 IfMoved (Trapped trap) P = Unit {0}
 IfMoved Blocked P = Unit {0}
 IfMoved TooDeep P = Unit {0}
+
+-- what comes next, where a step says this and leaves this state
+abbrev pub stepped : Step → State → Stepped
+stepped (step.Moved edge) s = Moved edge s
+stepped (step.Returned value) s = Returned value
+stepped (step.Trapped trap) s = Trapped trap
+stepped step.Blocked s = Blocked
+stepped step.TooDeep s = TooDeep

@@ -1,5 +1,5 @@
 // The values of expressions in a state.
-ghost use Rattle.std.specs.Prelude.{◌≡◌, false, IsTrue, IfOk, Ok, ok_or, pos, slice_index};
+ghost use Rattle.std.specs.Prelude.{◌≡◌, false, IsTrue, IfOk, IfSome, Ok, ok_or, pos, slice_index};
 ghost use Rattle.c_values.specs.Kind.{IsKind, IsValue, converted, wrapped};
 ghost use Rattle.c_values.specs.Operations.{unary_value, binary_value, is_shift};
 ghost use Rattle.cfa.specs.Rules.{expr_fits, place_fits, array_fits};
@@ -133,9 +133,65 @@ fn element_at(
     }
 }
 
+/// The cell of a place that is no element.
+fn direct_cell(store: &Store<'_>, place: &CellPlace) -> Option<usize>
+    requires room { HasRoom store.now }
+    requires fits { IsTrue (place_fits store.now.room place.now) }
+    ensures { IfSome result (λ cell. cell_of store.now.cells store.now.frame place.now ≡ Ok cell) }
+{
+    match place {
+        CellPlace::Global(cell) => Some(*cell as usize),
+        CellPlace::Local(cell) => Some(store.base() + *cell as usize),
+        CellPlace::Element { .. } => None,
+    }
+}
+
+/// The value of a constant, or of a cell that is no element.
+fn leaf_value(store: &Store<'_>, expr: &Expr) -> Option<u64>
+    requires room { HasRoom store.now }
+    requires fits { IsTrue (expr_fits store.now.room expr.now) }
+    ensures { IfSome result (λ value. value_of store.now.cells store.now.frame expr.now ≡ Ok value) }
+{
+    match expr {
+        Expr::Constant(value, _kind) => Some(*value),
+        Expr::Load(place, kind) => match direct_cell(store, place) {
+            Some(cell) => Some(fitted(store.at(cell), *kind)),
+            None => None,
+        },
+        _ => None,
+    }
+}
+
 /// The cell that a place names among all cells, or the trap of its index.
 #[cycle(evaluate)]
 pub(crate) fn cell_of(store: &Store<'_>, place: &CellPlace) -> Result<usize, Trap>
+    requires room { HasRoom store.now }
+    requires fits { IsTrue (place_fits store.now.room place.now) }
+    ensures { result ≡ cell_of store.now.cells store.now.frame place.now }
+{
+    match direct_cell(store, place) {
+        Some(cell) => Ok(cell),
+        None => indexed_cell(store, place),
+    }
+}
+
+/// The value of an expression, or the trap that ends its evaluation. Most parts of expressions are leaves, which take no
+/// further call.
+#[cycle(evaluate)]
+pub(crate) fn value_of(store: &Store<'_>, expr: &Expr) -> Result<u64, Trap>
+    requires room { HasRoom store.now }
+    requires fits { IsTrue (expr_fits store.now.room expr.now) }
+    ensures { result ≡ value_of store.now.cells store.now.frame expr.now }
+{
+    match leaf_value(store, expr) {
+        Some(value) => Ok(value),
+        None => computed_value(store, expr),
+    }
+}
+
+/// The cell of a place, by its index where it is an element.
+#[cycle(evaluate)]
+fn indexed_cell(store: &Store<'_>, place: &CellPlace) -> Result<usize, Trap>
     requires room { HasRoom store.now }
     requires fits { IsTrue (place_fits store.now.room place.now) }
     ensures { result ≡ cell_of store.now.cells store.now.frame place.now }
@@ -151,9 +207,9 @@ pub(crate) fn cell_of(store: &Store<'_>, place: &CellPlace) -> Result<usize, Tra
     }
 }
 
-/// The value of an expression, or the trap that ends its evaluation: the left operand goes first.
+/// The value of an expression, by those of its parts: the left operand goes first.
 #[cycle(evaluate)]
-pub(crate) fn value_of(store: &Store<'_>, expr: &Expr) -> Result<u64, Trap>
+fn computed_value(store: &Store<'_>, expr: &Expr) -> Result<u64, Trap>
     requires room { HasRoom store.now }
     requires fits { IsTrue (expr_fits store.now.room expr.now) }
     ensures { result ≡ value_of store.now.cells store.now.frame expr.now }

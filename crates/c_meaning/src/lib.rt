@@ -26,5 +26,5 @@ pub use ends::Ends;
 pub use input::Input;
 pub use starting::start;
 pub use state_values::{answer_of, value_in};
-pub use stepped::Stepped;
+pub use stepped::{Step, Stepped};
 pub use stepping::step;

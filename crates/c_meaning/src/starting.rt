@@ -6,7 +6,7 @@ ghost use Rattle.c_values.specs.Kind.{is_kind};
 ghost use Rattle.cfa.specs.States.{IsState};
 ghost use Rattle.c_meaning.specs.Starts.{CanStart, first_globals, fitted_words, start_of};
 
-use crate::cells::with_frame;
+use crate::cells::push_frame;
 use crate::evaluate::fitted;
 use crate::input::Input;
 use crate::state::function_of;
@@ -50,7 +50,8 @@ fn first_state(
 {
     graph.well_formed();
     let values = fitted_to(alloc, words, &function.parameters)?;
-    let cells = with_frame(global_cells(alloc, graph)?, &values, function.cells)?;
+    let mut cells = global_cells(alloc, graph)?;
+    push_frame(&mut cells, &values, function.cells)?;
     let base = graph.globals().len() as u32;
     let mut frames = Vector::new(alloc);
     frames.push(Frame {

@@ -72,21 +72,3 @@ pub(crate) fn store_of<'a>(graph: &'a Graph, state: &'a State) -> Store<'a>
     graph.well_formed();
     storage_of(graph, state)
 }
-
-/// The state at another node.
-pub(crate) fn at_node(state: State, node: u32) -> State
-    ensures { result ≡ record state { node = node } }
-{
-    let State {
-        node: _from,
-        frames,
-        cells,
-        taken,
-    } = state;
-    State {
-        node,
-        frames,
-        cells,
-        taken,
-    }
-}

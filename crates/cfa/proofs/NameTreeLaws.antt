@@ -1,12 +1,11 @@
--- A search tree by the hashes of names finds what a list does.
-use Rattle.std.proofs.Common.{◌≡◌, ℕ, ◌<◌, ◌≤◌, Bool, true, false, List, [], ◌∷◌, ◌++◌, Option, Some, None, refl, sym, ap, subst, ◌∙◌, inl, inr, arith}
-use Rattle.std.specs.Prelude.{◌⊎◌, cond, find, if◌then◌else◌}
+-- A search tree by the bits of hashes finds what a list does.
+use Rattle.std.proofs.Common.{◌≡◌, ℕ, Bool, true, false, List, [], ◌∷◌, ◌++◌, Option, Some, None, refl, sym, ap, ◌∙◌}
+use Rattle.std.specs.Prelude.{cond, not}
 use Rattle.std.specs.Str.{bytes_eq}
 use Rattle.std.specs.Cmp.Lexicographic.{bytes_decides}
-use Rattle.std.proofs.lemmas.Bool.{cases_lt}
 use Rattle.cfa.specs.declared.parts.Variable.{Variable}
 use Rattle.cfa.specs.Names.{hash_of, is_named, visible}
-use Rattle.cfa.specs.NameTree.{HasAlso, IsFork, in_part}
+use Rattle.cfa.specs.NameTree.{HasAlso, IsFork, in_part, is_low}
 use Rattle.std.specs.declared.alloc.Global.{Global}
 use Rattle.std.specs.declared.rc.Rc.{Rc}
 
@@ -34,16 +33,30 @@ module _ (name : List ℕ) where
 pub same_hash : (a b : List ℕ) → bytes_eq a b ≡ true → hash_of a ≡ hash_of b
 same_hash a b h = ap hash_of ((bytes_decides a b).0 h)
 
-other_name : (a b : List ℕ) → (hash_of a ≡ hash_of b → ⊥) → (t : Bool) → bytes_eq a b ≡ t → bytes_eq a b ≡ false
-other_name a b h true e = absurd (h (same_hash a b e))
-other_name a b h false e = e
+-- names whose hashes go to different parts are different
+other_part : (place : ℕ) (a b : List ℕ) (t : Bool) → is_low place (hash_of a) ≡ t → is_low place (hash_of b) ≡ not t → bytes_eq a b ≡ false
+other_part place a b t one other = by _ refl
+  where
+    -- (a part isn't the other)
+    apart : (t : Bool) → t ≡ not t → ⊥
+    apart true e = cc
+    apart false e = cc
 
-pub other_hash : (a b : List ℕ) → (hash_of a ≡ hash_of b → ⊥) → bytes_eq a b ≡ false
-other_hash a b h = other_name a b h _ refl
+    by : (equal : Bool) → bytes_eq a b ≡ equal → bytes_eq a b ≡ false
+    by true e = absurd (apart t (sym one ∙ ap (is_low place) (same_hash a b e) ∙ other))
+    by false e = e
+
+-- whatever part a hash goes to
+pub by_part : {A : Type 0} (place hash : ℕ) → (is_low place hash ≡ true → A) → (is_low place hash ≡ false → A) → A
+by_part {A} place hash low high = by _ refl
+  where
+    by : (t : Bool) → is_low place hash ≡ t → A
+    by true e = low e
+    by false e = high e
 
 -- ---- a fork
 
-module _ (h : ℕ) (u : Variable) (low high : List Variable) (is : IsFork h u low high) where
+module _ (place h : ℕ) (u : Variable) (low high : List Variable) (is : IsFork place h u low high) where
   abbrev all : List Variable
   all = u ∷ (low ++ high)
 
@@ -53,11 +66,11 @@ module _ (h : ℕ) (u : Variable) (low high : List Variable) (is : IsFork h u lo
   pub found_here : (name : List ℕ) → is_named name u ≡ true → visible name all ≡ Some u
   found_here name hit = ap (λ t. cond t (Some u) (visible name (low ++ high))) hit
 
-  pub found_low : (name : List ℕ) → is_named name u ≡ false → hash_of name < h → visible name all ≡ visible name low
-  found_low name miss less = missed name miss ∙ in_first name low high (is.low_alone name less)
+  pub found_low : (name : List ℕ) → is_named name u ≡ false → is_low place (hash_of name) ≡ true → visible name all ≡ visible name low
+  found_low name miss near = missed name miss ∙ in_first name low high (is.low_alone name near)
 
-  pub found_high : (name : List ℕ) → is_named name u ≡ false → h ≤ hash_of name → visible name all ≡ visible name high
-  found_high name miss more = missed name miss ∙ in_second name low high (is.high_alone name more)
+  pub found_high : (name : List ℕ) → is_named name u ≡ false → is_low place (hash_of name) ≡ false → visible name all ≡ visible name high
+  found_high name miss far = missed name miss ∙ in_second name low high (is.high_alone name far)
 
   -- ---- one variable more
 
@@ -67,7 +80,7 @@ module _ (h : ℕ) (u : Variable) (low high : List Variable) (is : IsFork h u lo
       own_name : u.name ≡ v.name
       own_name = (bytes_decides u.name v.name).0 same
 
-      pub fork_here : IsFork h v low high
+      pub fork_here : IsFork place h v low high
       fork_here = record { own = is.own ∙ ap hash_of own_name; low_alone = is.low_alone; high_alone = is.high_alone }
 
       hidden : (name : List ℕ) (t : Bool) → is_named name v ≡ t → cond t (Some v) (visible name (low ++ high)) ≡ cond t (Some v) (visible name all)
@@ -94,11 +107,11 @@ module _ (h : ℕ) (u : Variable) (low high : List Variable) (is : IsFork h u lo
           ∙ sym (ap (λ t. cond t (Some v) (visible name all)) (not_both name here))
 
       -- in the low part
-      module _ (less : hash_of v.name < h) (more : List Variable) (has : HasAlso low v more) where
-        other_low : (name : List ℕ) → h ≤ hash_of name → is_named name v ≡ false
-        other_low name far = other_hash v.name name (λ e. let below : hash_of name < h = subst (λ n. n < h) e less in omega (arith, far, below))
+      module _ (below : is_low place (hash_of v.name) ≡ true) (more : List Variable) (has : HasAlso low v more) where
+        other_low : (name : List ℕ) → is_low place (hash_of name) ≡ false → is_named name v ≡ false
+        other_low name far = other_part place v.name name true below far
 
-        pub fork_low : IsFork h u more high
+        pub fork_low : IsFork place h u more high
         fork_low = record {
           own = is.own;
           low_alone = is.low_alone;
@@ -111,24 +124,26 @@ module _ (h : ℕ) (u : Variable) (low high : List Variable) (is : IsFork h u lo
             miss_of : (name : List ℕ) → is_named name u ≡ false → visible name (u ∷ (more ++ high)) ≡ visible name (more ++ high)
             miss_of name miss = ap (λ t. cond t (Some u) (visible name (more ++ high))) miss
 
-            by_side : is_named name u ≡ false → (hash_of name < h) ⊎ (h ≤ hash_of name) → visible name (u ∷ (more ++ high)) ≡ cond (is_named name v) (Some v) (visible name all)
-            by_side miss (inl near) =
+            near_side : is_named name u ≡ false → is_low place (hash_of name) ≡ true → visible name (u ∷ (more ++ high)) ≡ cond (is_named name v) (Some v) (visible name all)
+            near_side miss near =
                 miss_of name miss ∙ in_first name more high (is.low_alone name near) ∙ has name
                 ∙ ap (cond (is_named name v) (Some v)) (sym (found_low name miss near))
-            by_side miss (inr far) =
+
+            far_side : is_named name u ≡ false → is_low place (hash_of name) ≡ false → visible name (u ∷ (more ++ high)) ≡ cond (is_named name v) (Some v) (visible name all)
+            far_side miss far =
                 miss_of name miss ∙ in_second name more high (fork_low.high_alone name far)
                 ∙ sym (ap (λ t. cond t (Some v) (visible name all)) (other_low name far) ∙ found_high name miss far)
 
             by_name : (t : Bool) → is_named name u ≡ t → visible name (u ∷ (more ++ high)) ≡ cond (is_named name v) (Some v) (visible name all)
             by_name true here = both_here name (more ++ high) here
-            by_name false miss = by_side miss (cases_lt (hash_of name) h)
+            by_name false miss = by_part place (hash_of name) (near_side miss) (far_side miss)
 
       -- in the high part
-      module _ (far : h ≤ hash_of v.name) (more : List Variable) (has : HasAlso high v more) where
-        other_high : (name : List ℕ) → hash_of name < h → is_named name v ≡ false
-        other_high name near = other_hash v.name name (λ e. let above : h ≤ hash_of name = subst (λ n. h ≤ n) e far in omega (arith, near, above))
+      module _ (above : is_low place (hash_of v.name) ≡ false) (more : List Variable) (has : HasAlso high v more) where
+        other_high : (name : List ℕ) → is_low place (hash_of name) ≡ true → is_named name v ≡ false
+        other_high name near = other_part place v.name name false above near
 
-        pub fork_high : IsFork h u low more
+        pub fork_high : IsFork place h u low more
         fork_high = record {
           own = is.own;
           low_alone = λ name near. has name ∙ ap (λ t. cond t (Some v) (visible name high)) (other_high name near) ∙ is.low_alone name near;
@@ -141,17 +156,19 @@ module _ (h : ℕ) (u : Variable) (low high : List Variable) (is : IsFork h u lo
             miss_of : (name : List ℕ) → is_named name u ≡ false → visible name (u ∷ (low ++ more)) ≡ visible name (low ++ more)
             miss_of name miss = ap (λ t. cond t (Some u) (visible name (low ++ more))) miss
 
-            by_side : is_named name u ≡ false → (hash_of name < h) ⊎ (h ≤ hash_of name) → visible name (u ∷ (low ++ more)) ≡ cond (is_named name v) (Some v) (visible name all)
-            by_side miss (inl near) =
+            near_side : is_named name u ≡ false → is_low place (hash_of name) ≡ true → visible name (u ∷ (low ++ more)) ≡ cond (is_named name v) (Some v) (visible name all)
+            near_side miss near =
                 miss_of name miss ∙ in_first name low more (fork_high.low_alone name near)
                 ∙ sym (ap (λ t. cond t (Some v) (visible name all)) (other_high name near) ∙ found_low name miss near)
-            by_side miss (inr over) =
-                miss_of name miss ∙ in_second name low more (is.high_alone name over) ∙ has name
-                ∙ ap (cond (is_named name v) (Some v)) (sym (found_high name miss over))
+
+            far_side : is_named name u ≡ false → is_low place (hash_of name) ≡ false → visible name (u ∷ (low ++ more)) ≡ cond (is_named name v) (Some v) (visible name all)
+            far_side miss far =
+                miss_of name miss ∙ in_second name low more (is.high_alone name far) ∙ has name
+                ∙ ap (cond (is_named name v) (Some v)) (sym (found_high name miss far))
 
             by_name : (t : Bool) → is_named name u ≡ t → visible name (u ∷ (low ++ more)) ≡ cond (is_named name v) (Some v) (visible name all)
             by_name true here = both_here name (low ++ more) here
-            by_name false miss = by_side miss (cases_lt (hash_of name) h)
+            by_name false miss = by_part place (hash_of name) (near_side miss) (far_side miss)
 
 -- ---- a part
 
@@ -162,9 +179,6 @@ pub also_tree : (v : Variable) (part : Option (Rc (List Variable) Global)) (tree
 also_tree v part tree more some has name = has name ∙ ap (λ o. cond (is_named name v) (Some v) (visible name (in_part o))) (sym some)
 
 -- what is seen as one of two lists has one variable more than another
-pub also_either : (h k : ℕ) (v : Variable) (old tree near far : List Variable) → (k < h → tree ≡ near) → (h ≤ k → tree ≡ far) → (k < h → HasAlso old v near) → (h ≤ k → HasAlso old v far) → HasAlso old v tree
-also_either h k v old tree near far a b f g name =
-    elim (cases_lt k h) [
-      | inl less ↦ ap (visible name) (a less) ∙ f less name
-      | inr more ↦ ap (visible name) (b more) ∙ g more name
-    ]
+pub also_either : (place hash : ℕ) (v : Variable) (old tree near far : List Variable) → (is_low place hash ≡ true → tree ≡ near) → (is_low place hash ≡ false → tree ≡ far) → (is_low place hash ≡ true → HasAlso old v near) → (is_low place hash ≡ false → HasAlso old v far) → HasAlso old v tree
+also_either place hash v old tree near far a b f g name =
+    by_part place hash (λ low. ap (visible name) (a low) ∙ f low name) (λ high. ap (visible name) (b high) ∙ g high name)

@@ -1,5 +1,5 @@
 -- Functions and variables by their names.
-use Rattle.std.specs.Prelude.{◌≡◌, ℕ, ◌+◌, ◌*◌, ◌%◌, ◌^◌, Bool, List, Option, Vec, find, fold}
+use Rattle.std.specs.Prelude.{◌≡◌, ℕ, ◌+◌, ◌*◌, ◌/◌, ◌%◌, ◌^◌, bit_xor, Bool, List, Option, Vec, find, fold}
 use Rattle.std.specs.declared.alloc.Global.{Global}
 use Rattle.std.specs.BTreeMap.{BTreeMap, get_by}
 use Rattle.std.specs.Cmp.Lexicographic.{slice_cmp}
@@ -37,8 +37,11 @@ SeesAs vs ws = (name : List ℕ) → visible name ws ≡ visible name vs
 
 -- ---- hashes
 
+abbrev pub spread : ℕ → ℕ → ℕ
+spread hash byte = (((hash + byte) % 2 ^ 64) * 11400714819323198485) % 2 ^ 64
+
 abbrev pub hashed : ℕ → ℕ → ℕ
-hashed hash byte = (((hash + byte) % 2 ^ 64) * 11400714819323198485) % 2 ^ 64
+hashed hash byte = bit_xor (spread hash byte) (spread hash byte / 2 ^ 32)
 
 -- the hash of a name
 abbrev pub hash_of : List ℕ → ℕ

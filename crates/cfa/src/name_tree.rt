@@ -1,9 +1,9 @@
 // Variables by their names.
-ghost use Rattle.std.specs.Prelude.{◌≡◌, ◌∷◌, ◌++◌, ◌<◌, ◌≤◌, [], ℕ, List, IfOk, Some, if◌then◌else◌};
+ghost use Rattle.std.specs.Prelude.{◌≡◌, ◌∷◌, ◌++◌, [], ℕ, List, IfOk, Some, true, false, if◌then◌else◌};
 ghost use Rattle.std.specs.Option.{option_copied};
 ghost use Rattle.std.specs.Str.{bytes_eq};
-ghost use Rattle.cfa.specs.Names.{hash_of, visible};
-ghost use Rattle.cfa.specs.NameTree.{HasAlso, IsFork, in_part};
+ghost use Rattle.cfa.specs.Names.{hash_of, hashed, visible};
+ghost use Rattle.cfa.specs.NameTree.{HasAlso, IsFork, in_part, is_low};
 
 use crate::parts::Variable;
 use containers::TryClone;
@@ -14,24 +14,32 @@ use std::rc::Rc;
 /// A factor that spreads what is multiplied by it over all numbers of 64 bits: 2^64 over the golden ratio.
 const FACTOR: u64 = 11_400_714_819_323_198_485;
 
+/// A hash with one byte more, which all its bits depend on.
+fn hashed(hash: u64, byte: u8) -> u64
+    ensures { result ≡ hashed hash byte }
+{
+    let spread = hash.wrapping_add(byte as u64).wrapping_mul(FACTOR);
+    spread ^ spread >> 32
+}
+
 /// A number that a name gives. Nothing but time depends on which one.
 pub(crate) fn hash_of(name: &[u8]) -> u64
     ensures { result ≡ hash_of name.now }
 {
-    name.iter().fold(0u64, |hash, byte| {
-        hash.wrapping_add(*byte as u64).wrapping_mul(FACTOR)
-    })
+    name.iter().fold(0u64, |hash, byte| hashed(hash, *byte))
 }
 
-/// Variables of different names, in a search tree by the hashes of the names. Trees share their parts. Contracts see a
-/// list of the variables.
+/// Variables of different names, in a search tree by the bits of the names' hashes. Trees share their parts. Contracts see
+/// a list of the variables.
 #[derive(Drop)]
 pub(crate) struct NameTree {
+    /// The bit that tells the parts apart.
+    place: u64,
     hash: u64,
     variable: Rc<Variable>,
-    /// Those of lesser hashes.
+    /// Those of other names whose hashes haven't the bit.
     low: Option<Rc<NameTree>>,
-    /// Those of other names whose hashes aren't less.
+    /// Those of other names whose hashes have it.
     high: Option<Rc<NameTree>>,
 }
 
@@ -44,7 +52,7 @@ impl Model for NameTree {
 
     ghost view = { λ it. it.variable.value ∷ (in_part it.low ++ in_part it.high) };
 
-    ghost invariant = { λ it. IsFork it.hash it.variable.value (in_part it.low) (in_part it.high) };
+    ghost invariant = { λ it. IsFork it.place it.hash it.variable.value (in_part it.low) (in_part it.high) };
 
     ghost size = { length };
 
@@ -73,11 +81,12 @@ fn has_name(own: u64, variable: &Variable, hash: u64, name: &[u8]) -> bool
 }
 
 /// A tree of one variable.
-fn leaf(hash: u64, variable: &Rc<Variable>) -> Result<NameTree, AllocError>
+fn leaf(place: u64, hash: u64, variable: &Rc<Variable>) -> Result<NameTree, AllocError>
     requires { hash ≡ hash_of variable.now.value.name }
     ensures { IfOk result (λ tree. tree ≡ variable.now.value ∷ []) }
 {
     Ok(NameTree {
+        place,
         hash,
         variable: variable.clone()?,
         low: None,
@@ -85,21 +94,29 @@ fn leaf(hash: u64, variable: &Rc<Variable>) -> Result<NameTree, AllocError>
     })
 }
 
+/// Whether a name of a hash is in the low part of a fork.
+fn is_low(place: u64, hash: u64) -> bool
+    ensures { result ≡ is_low place hash }
+{
+    hash & place == 0
+}
+
 /// The part of a fork in which a name of a hash may be.
 fn side<'a>(
-    own: u64,
+    place: u64,
     hash: u64,
     low: &'a Option<Rc<NameTree>>,
     high: &'a Option<Rc<NameTree>>,
 ) -> &'a Option<Rc<NameTree>>
-    ensures near { hash < own → result.now ≡ low.now }
-    ensures far { own ≤ hash → result.now ≡ high.now }
+    ensures near { is_low place hash ≡ true → result.now ≡ low.now }
+    ensures far { is_low place hash ≡ false → result.now ≡ high.now }
 {
-    if hash < own { low } else { high }
+    if is_low(place, hash) { low } else { high }
 }
 
-/// A fork of parts, where one of them has one variable more.
+/// A fork of parts, where the one for a hash has one variable more.
 fn grown(
+    place: u64,
     own: u64,
     variable: &Rc<Variable>,
     hash: u64,
@@ -107,13 +124,14 @@ fn grown(
     low: &Option<Rc<NameTree>>,
     high: &Option<Rc<NameTree>>,
 ) -> Result<NameTree, AllocError>
-    requires near { hash < own → IsFork own variable.now.value more.value (in_part high.now) }
-    requires far { own ≤ hash → IsFork own variable.now.value (in_part low.now) more.value }
-    ensures { IfOk result (λ tree. (hash < own → tree ≡ variable.now.value ∷ (more.value ++ in_part high.now)) × (own ≤ hash → tree ≡ variable.now.value ∷ (in_part low.now ++ more.value))) }
+    requires near { is_low place hash ≡ true → IsFork place own variable.now.value more.value (in_part high.now) }
+    requires far { is_low place hash ≡ false → IsFork place own variable.now.value (in_part low.now) more.value }
+    ensures { IfOk result (λ tree. (is_low place hash ≡ true → tree ≡ variable.now.value ∷ (more.value ++ in_part high.now)) × (is_low place hash ≡ false → tree ≡ variable.now.value ∷ (in_part low.now ++ more.value))) }
 {
     let variable = variable.clone()?;
-    if hash < own {
+    if is_low(place, hash) {
         Ok(NameTree {
+            place,
             hash: own,
             variable,
             low: Some(more),
@@ -121,6 +139,7 @@ fn grown(
         })
     } else {
         Ok(NameTree {
+            place,
             hash: own,
             variable,
             low: shared(low)?,
@@ -138,7 +157,7 @@ impl NameTree {
         if has_name(self.hash, &self.variable, hash, name) {
             return Some(&self.variable);
         }
-        match side(self.hash, hash, &self.low, &self.high) {
+        match side(self.place, hash, &self.low, &self.high) {
             None => None,
             Some(tree) => tree.find(hash, name),
         }
@@ -156,18 +175,27 @@ impl NameTree {
     {
         if has_name(self.hash, &self.variable, hash, variable.name.bytes()) {
             return Ok(NameTree {
+                place: self.place,
                 hash,
                 variable: variable.clone()?,
                 low: shared(&self.low)?,
                 high: shared(&self.high)?,
             });
         }
-        let more = match side(self.hash, hash, &self.low, &self.high) {
-            None => leaf(hash, variable)?,
+        let more = match side(self.place, hash, &self.low, &self.high) {
+            None => leaf(self.place << 1, hash, variable)?,
             Some(tree) => tree.with(alloc, hash, variable)?,
         };
         let more = Rc::new(alloc, more)?;
-        grown(self.hash, &self.variable, hash, more, &self.low, &self.high)
+        grown(
+            self.place,
+            self.hash,
+            &self.variable,
+            hash,
+            more,
+            &self.low,
+            &self.high,
+        )
     }
 }
 
@@ -192,7 +220,7 @@ pub(crate) fn with(
     let hash = hash_of(variable.name.bytes());
     let variable = Rc::new(alloc, variable.try_clone(alloc)?)?;
     let tree = match part {
-        None => leaf(hash, &variable)?,
+        None => leaf(1, hash, &variable)?,
         Some(tree) => tree.with(alloc, hash, &variable)?,
     };
     Ok(Some(Rc::new(alloc, tree)?))

@@ -23,3 +23,8 @@ further (Returned value) = Err (ended.Returned value)
 further (Trapped trap) = Err (ended.Trapped trap)
 further Blocked = Err ended.Blocked
 further TooDeep = Err ended.TooDeep
+
+-- the same, of an edge alone, where this is the state that it leads to
+abbrev pub leading : State → Result ℕ RunEnd → Result (ℕ × State) RunEnd
+leading to (Ok edge) = Ok (edge, to)
+leading to (Err end) = Err end

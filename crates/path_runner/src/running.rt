@@ -3,28 +3,30 @@ ghost use Rattle.std.specs.Prelude.{◌≡◌, ◌+◌, ◌^◌, ◌<◌, ◌≤
 ghost use Rattle.std.specs.Option.{IsSomeAnd};
 ghost use Rattle.cfa.specs.Predicates.{IsPredicates};
 ghost use Rattle.cfa.specs.States.{IsState};
+ghost use Rattle.cfa.specs.declared.state.State.{State};
 ghost use Rattle.c_meaning.specs.Starts.{CanStart, start_of};
-ghost use Rattle.path_runner.specs.Fits.{further};
+ghost use Rattle.c_meaning.specs.Steps.{stepped};
+ghost use Rattle.path_runner.specs.Fits.{further, leading};
 ghost use Rattle.path_runner.specs.Paths.{RecordsStates, path_of};
 
 use crate::answers::answer_along;
 use crate::masks::mask_of;
 use crate::path::{Path, PathRecord, RunEnd};
-use c_meaning::{Input, Stepped, start, step};
+use c_meaning::{Input, Step, start, step};
 use cfa::{Graph, Predicates, State};
 use fq_core::Memory;
 use std::alloc::Global;
 
-// The edge along which a run goes on and the state that it leads to, or how the run ends.
-fn further(stepped: Stepped) -> Result<(u32, State), RunEnd>
-    ensures { result ≡ further stepped }
+// The edge along which a run goes on, or how the run ends.
+fn further(step: Step) -> Result<u32, RunEnd>
+    ensures { (to : State) → further (stepped step to) ≡ leading to result }
 {
-    match stepped {
-        Stepped::Moved { edge, state } => Ok((edge, state)),
-        Stepped::Returned { value } => Err(RunEnd::Returned { value }),
-        Stepped::Trapped(trap) => Err(RunEnd::Trapped(trap)),
-        Stepped::Blocked => Err(RunEnd::Blocked),
-        Stepped::TooDeep => Err(RunEnd::TooDeep),
+    match step {
+        Step::Moved(edge) => Ok(edge),
+        Step::Returned { value } => Err(RunEnd::Returned { value }),
+        Step::Trapped(trap) => Err(RunEnd::Trapped(trap)),
+        Step::Blocked => Err(RunEnd::Blocked),
+        Step::TooDeep => Err(RunEnd::TooDeep),
     }
 }
 
@@ -48,15 +50,14 @@ fn run_from(
     loop {
         path.visit(state.node, mask_of(graph, predicates, &state))?;
         let number = state.taken;
-        match further(step(graph, input, state)?) {
+        match further(step(graph, input, &mut state)?) {
             Err(end) => return Ok(path.ended(end)),
-            Ok((edge, to)) => {
+            Ok(edge) => {
                 if left == 0 {
                     return Ok(path.ended(RunEnd::Cut));
                 }
                 path.cross(edge, answer_along(graph, input, edge, number))?;
                 left -= 1;
-                state = to;
             }
         }
     }

@@ -11,14 +11,14 @@ use Rattle.c_meaning.proofs.stepping.back.Goals as goal
 
 pub edge_of-edge-requires : goal.edge_of-edge-requires
 edge_of-edge-requires c =
-    let r = returns_of c.args.graph.now c.args.state c.well_formed-2.ensures c.requires.state c.requires.many in
+    let r = returns_of c.args.graph.now c.args.state.now c.well_formed-2.ensures c.requires.state c.requires.many in
     let call = same_Some r.call c.args.call (sym r.call_is ∙ c.requires.from) in
     let within = slice_get_within c.args.graph.now.edges (r.call + 1) r.edge r.edge_is in
     omega (arith, call, within)
 
 pub returned-requires-clause-below : goal.returned-requires-clause-below
 returned-requires-clause-below c =
-    let s = c.args.state in
+    let s = c.args.state.now in
     let r = returns_of c.args.graph.now s c.well_formed-2.ensures c.requires.state c.requires.many in
     let call = same_Some r.call c.args.call (sym r.call_is ∙ c.requires.from) in
     let edge = same_Some r.edge c.edge_of-edge.result.now (sym r.edge_is ∙ ap (λ n. slice_get c.args.graph.now.edges (n + 1)) call ∙ c.edge_of-edge.ensures) in
@@ -26,7 +26,7 @@ returned-requires-clause-below c =
 
 pub returned-requires-clause-dest : goal.returned-requires-clause-dest
 returned-requires-clause-dest c =
-    let s = c.args.state in
+    let s = c.args.state.now in
     let r = returns_of c.args.graph.now s c.well_formed-2.ensures c.requires.state c.requires.many in
     let call = same_Some r.call c.args.call (sym r.call_is ∙ c.requires.from) in
     let edge = same_Some r.edge c.edge_of-edge.result.now (sym r.edge_is ∙ ap (λ n. slice_get c.args.graph.now.edges (n + 1)) call ∙ c.edge_of-edge.ensures) in

@@ -14,4 +14,4 @@ pub returns-in-Ok : goal.returns-in-Ok
 returns-in-Ok c =
     let starts = rw c.store_of-store.ensures.store at c.in_ok-starts.ensures in
     let values = rw c.store_of-store.ensures.store at c.in_ok-values.ensures in
-    call_made c.args.state c.args.at c.args.edge.now c.args.words.now c.args.arrays.now c.args.function.now c.in_ok-starts.starts c.in-Ok.values c.pushed.result (omega arith) starts (sym c.in-Ok.is ∙ values) (rw c.deref.ensures at c.pushed.ensures)
+    call_made c.args.state.now c.pushed.new.state c.args.at c.args.edge.now c.args.words.now c.args.arrays.now c.args.function.now c.in_ok-starts.starts c.in-Ok.values c.pushed.result (omega arith) starts (sym c.in-Ok.is ∙ values) (rw c.deref.ensures at c.pushed.ensures)

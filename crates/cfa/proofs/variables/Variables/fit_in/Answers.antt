@@ -1,5 +1,5 @@
 use Rattle.std.proofs.Common.{ap, sym, ◌∙◌}
-use Rattle.std.specs.Prelude.{◌&&◌, nat_le}
+use Rattle.std.specs.Prelude.{◌&&◌}
 use Rattle.std.specs.List.{list_all}
 use Rattle.cfa.specs.declared.parts.Variable.{Variable as OneVariable}
 use Rattle.cfa.specs.declared.variables.Lent.{Lent}
