@@ -1,7 +1,9 @@
 """What the scripts of this folder share: the built programs, and how long they take."""
 
 import os
+import re
 import resource
+import shutil
 import subprocess
 import time
 
@@ -69,3 +71,12 @@ def processor_seconds(words, folder=None, runs=3):
         taken = after.ru_utime - before.ru_utime + after.ru_stime - before.ru_stime
         best = taken if best is None else min(best, taken)
     return best
+
+
+def instructions(words, folder=None):
+    """How many instructions a program takes, as callgrind counts them, or None where valgrind isn't installed."""
+    if shutil.which("valgrind") is None:
+        return None
+    counted = ["valgrind", "--tool=callgrind", "--callgrind-out-file=/dev/null", *words]
+    said = subprocess.run(counted, cwd=folder, check=True, stdout=subprocess.DEVNULL, stderr=subprocess.PIPE, text=True).stderr
+    return int(re.search(r"Collected : (\d+)", said).group(1))

@@ -34,19 +34,18 @@ pub(crate) struct KnownPaths {
 
 /// A hash of a path. Nothing but time depends on it.
 fn hash_of(run: &PathRecord) -> u64 {
-    let mut hash = run.edges.len() as u64;
-    for edge in run.edges.as_slice() {
-        hash = mixed(hash, *edge as u64);
-    }
-    for mask in run.masks.as_slice() {
-        hash = mixed(hash, *mask);
+    let masks = run.masks.as_slice();
+    let last = masks.last().copied().unwrap_or(0);
+    let mut hash = mixed(run.edges.len() as u64, 0, last);
+    for (edge, mask) in run.edges.as_slice().iter().zip(masks) {
+        hash = mixed(hash, *edge, *mask);
     }
     hash
 }
 
 /// A step of a hash: with a factor that spreads what is multiplied by it over all numbers of 64 bits.
-fn mixed(hash: u64, item: u64) -> u64 {
-    (hash ^ item)
+fn mixed(hash: u64, edge: u32, mask: u64) -> u64 {
+    (hash ^ edge as u64 ^ mask.rotate_left(32))
         .wrapping_mul(11_400_714_819_323_198_485)
         .rotate_left(23)
 }

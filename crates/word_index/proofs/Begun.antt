@@ -9,18 +9,17 @@ use Rattle.goals.specs.Words.{Word}
 use Rattle.goals.specs.declared.goal_letter.GoalLetter.{GoalLetter}
 use Rattle.goals.specs.declared.goal_letter.GoalLetter.TheVariants.{Node, Edge, Predicate, Absent, Quoted}
 use Rattle.word_index.specs.Numbers.{Adds}
-use Rattle.word_index.specs.Order.{AreAbsentsBelow, IsOrderOf, ranked}
+use Rattle.word_index.specs.Order.{AreAbsentsBelow, IsOrderOf, IsSortedFrom, ranked}
 use Rattle.word_index.specs.Walks.{is_plain, word_at, word_of}
-use Rattle.word_index.specs.Groups.{Continues, GoesOn, IsAbsentBelow, IsAny, IsGroup, IsLetter, IsNarrowed, IsPredicateBelow, IsSomeEdge, IsTest}
-use Rattle.word_index.specs.Tables.{AreBegun, BeginsBelow, IsIndexOf, all_begin_with_steps, begins_with_step, root, step}
+use Rattle.word_index.specs.Groups.{Continues, GoesOn, IsAbsentBelow, IsAny, IsGroup, IsLetter, IsNarrowed, IsPredicateBelow, IsTest, Started}
+use Rattle.word_index.specs.Tables.{AreBegun, BeginsBelow, IsIndexOf, IsStep, all_begin_with_steps, begins_with_step, root, step}
 use Rattle.word_index.specs.declared.index.WordIndex.{WordIndex}
 use Rattle.word_index.specs.declared.group.Group.{Group}
 use Rattle.word_index.proofs.Going.{before_letter, first_goes, past_edge}
-use Rattle.word_index.proofs.Starts as starts
-use Rattle.word_index.proofs.Steps.{adds_both, adds_none, adds_same, any_head, known_as, node_here, predicate_below}
+use Rattle.word_index.proofs.Steps.{adds_both, adds_none, adds_same, any_head, known_as, node_here, predicate_below, with_staying}
 
-pub root_group : (goals : List GoalForm) (order : List ℕ) (absents : ℕ) → IsOrderOf goals order → AreAbsentsBelow goals absents → IsGroup goals order (root order absents)
-root_group goals order absents ordered below = starts.is_group goals order (record { nodes = []; edges = []; masks = [] }) false false (root order absents) refl refl refl ordered below
+pub root_group : (goals : List GoalForm) (order : List ℕ) (absents : ℕ) → IsSortedFrom goals order 0 0 (length order) → AreAbsentsBelow goals absents → IsGroup goals order (root order absents)
+root_group goals order absents sorted below = record { range = omega arith; sorted = sorted; absents = λ r d p from to e. below (slice_index order r) d p e }
 
 -- ---- the table, one group more
 
@@ -98,7 +97,7 @@ plain_begins : (w : Word) → is_plain w ≡ true → slice_get w 0 ≡ None →
 plain_begins [] plain e = let both : false ≡ true = plain in cc
 plain_begins (l ∷ w) plain e = cc
 
-module _ (goals : List GoalForm) (order : List ℕ) (absents : ℕ) (ordered : IsOrderOf goals order) (path : PathView) (last : Bool) (at : ℕ) where
+module _ (goals : List GoalForm) (order : List ℕ) (absents : ℕ) (path : PathView) (last : Bool) (at : ℕ) where
   abbrev all : Group
   all = root order absents
 
@@ -107,10 +106,10 @@ module _ (goals : List GoalForm) (order : List ℕ) (absents : ℕ) (ordered : I
 
   -- those that go on with the edge of the state are all that go on with an edge
   pub by_edge : (edge : ℕ) (narrow : Group) → IsNarrowed goals order (Edge edge) all narrow → slice_index path.edges at ≡ edge → (xs ys : List ℕ)
-      → Adds (Continues goals order path last IsAny narrow (suc at)) xs ys → Adds (At IsSomeEdge) xs ys
-  by_edge edge narrow narrowed here xs ys h = adds_same _ (At IsSomeEdge) xs ys to from h
+      → Adds (Continues goals order path last IsAny narrow (suc at)) xs ys → Adds (At (IsStep true)) xs ys
+  by_edge edge narrow narrowed here xs ys h = adds_same _ (At (IsStep true)) xs ys to from h
     where
-      to : (n : ℕ) → Continues goals order path last IsAny narrow (suc at) n → At IsSomeEdge n
+      to : (n : ℕ) → Continues goals order path last IsAny narrow (suc at) n → At (IsStep true) n
       to n c =
           let a : narrow.low ≤ c.rank = c.from in
           let b : c.rank < narrow.high = c.below in
@@ -119,7 +118,7 @@ module _ (goals : List GoalForm) (order : List ℕ) (absents : ℕ) (ordered : I
           let deep : GoesOn path last (drop 1 (ranked goals order c.rank)) (suc at) = subst (λ d. GoesOn path last (drop d (ranked goals order c.rank)) (suc at)) narrowed.deeper c.goes in
           record { rank = c.rank; from = omega arith; below = omega (arith, b, t); is = c.is; head = (edge, e); goes = before_letter path last (ranked goals order c.rank) 0 at (Edge edge) (suc at) e (refl, here) deep }
 
-      from : (n : ℕ) → At IsSomeEdge n → Continues goals order path last IsAny narrow (suc at) n
+      from : (n : ℕ) → At (IsStep true) n → Continues goals order path last IsAny narrow (suc at) n
       from n c =
           let head = c.head in
           let f = past_edge path last (ranked goals order c.rank) 0 at head.0 head.1 c.goes in
@@ -127,13 +126,24 @@ module _ (goals : List GoalForm) (order : List ℕ) (absents : ℕ) (ordered : I
           let inside = narrowed.all_with_letter c.rank c.from c.below (head.1 ∙ ap (λ x. Some (Edge x)) same) in
           record { rank = c.rank; from = inside.0; below = inside.1; is = c.is; head = tt; goes = subst (λ d. GoesOn path last (drop d (ranked goals order c.rank)) (suc at)) (sym narrowed.deeper) f.1.0 }
 
+  -- those that go on with the node of the state are all that go on with a node
+  pub by_node : (node : ℕ) (narrow : Group) → IsNarrowed goals order (Node node) all narrow → slice_index path.nodes at ≡ node → (xs ys : List ℕ)
+      → Adds (Continues goals order path last IsAny narrow at) xs ys → Adds (At (IsStep false)) xs ys
+  by_node node narrow narrowed here xs ys h = adds_same _ (At (IsStep false)) xs ys to from (with_staying goals order path last all at (Node node) narrow narrowed (refl, here) xs ys h)
+    where
+      to : (n : ℕ) → At (IsLetter (Node node)) n → At (IsStep false) n
+      to n c = known_as goals order path last all at (IsLetter (Node node)) (IsStep false) n c (node, c.head)
+
+      from : (n : ℕ) → At (IsStep false) n → At (IsLetter (Node node)) n
+      from n c = let head = c.head in subst (λ m. At (IsLetter (Node m)) n) here (node_here goals order path last all at (IsStep false) n head.0 c head.1)
+
   -- past the last edge there are none
-  pub no_edge : (xs : List ℕ) → length path.edges ≤ at → Adds (At IsSomeEdge) xs xs
+  pub no_edge : (xs : List ℕ) → length path.edges ≤ at → Adds (At (IsStep true)) xs xs
   no_edge xs past = adds_none _ xs (λ n c. let head = c.head in let f = past_edge path last (ranked goals order c.rank) 0 at head.0 head.1 c.goes in let lt = f.1.1 in omega (arith, past, lt))
 
   -- where all words begin with an edge or a node, none begins with a predicate or an absent one
-  pub no_tests : (xs : List ℕ) → all_begin_with_steps goals ≡ true → Adds (At IsTest) xs xs
-  no_tests xs steps = adds_none _ xs (λ n c. by_head (slice_get (ranked goals order c.rank) 0) (first_step goals steps (slice_index order c.rank)) c.head)
+  pub no_tests : all_begin_with_steps goals ≡ true → (n : ℕ) → At IsTest n → ⊥
+  no_tests steps n c = by_head (slice_get (ranked goals order c.rank) 0) (first_step goals steps (slice_index order c.rank)) c.head
     where
       by_head : (o : Option GoalLetter) → begins_with_step o ≡ true → IsTest o → ⊥
       by_head None b h = h
@@ -143,7 +153,7 @@ module _ (goals : List GoalForm) (order : List ℕ) (absents : ℕ) (ordered : I
       by_head (Some (Absent p)) b h = false≢true b
       by_head (Some (Quoted q)) b h = h
 
-  module _ (below : AreAbsentsBelow goals absents) where
+  module _ (group : IsGroup goals order all) where
     -- those that go on with a predicate, and those that go on with an absent one
     pub both_tests : slice_index path.masks at < 2 ^ 64 → (xs ys zs : List ℕ) → Adds (At (IsPredicateBelow 64)) xs ys → Adds (At (IsAbsentBelow absents)) ys zs → Adds (At IsTest) xs zs
     both_tests small xs ys zs a b = adds_same _ (At IsTest) xs zs to from (adds_both _ _ xs ys zs a b)
@@ -160,31 +170,51 @@ module _ (goals : List GoalForm) (order : List ℕ) (absents : ℕ) (ordered : I
             by_head (Some (Node m)) e h = absurd h
             by_head (Some (Edge m)) e h = absurd h
             by_head (Some (Predicate p)) e h = inl (predicate_below goals order path last all at small IsTest n p c e)
-            by_head (Some (Absent p)) e h = inr (known_as goals order path last all at IsTest (IsAbsentBelow absents) n c (p, (below (slice_index order c.rank) 0 p e, e)))
+            by_head (Some (Absent p)) e h = inr (known_as goals order path last all at IsTest (IsAbsentBelow absents) n c (p, (group.absents c.rank 0 p c.from c.below e, e)))
             by_head (Some (Quoted q)) e h = absurd h
 
   abbrev Parts : ℕ → Type 0
-  Parts n = (At (IsLetter (Node (slice_index path.nodes at))) n ⊎ At IsSomeEdge n) ⊎ At IsTest n
+  Parts n = (At (IsStep false) n ⊎ At (IsStep true) n) ⊎ At IsTest n
 
-  -- each word goes on with the node, an edge, a predicate or an absent one
-  parts_from : (n : ℕ) → At IsAny n → Parts n
-  parts_from n c = by_head (slice_get (ranked goals order c.rank) 0) refl
+  module _ (ordered : IsOrderOf goals order) where
+    -- each word goes on with a node, an edge, a predicate or an absent one
+    parts_from : (n : ℕ) → At IsAny n → Parts n
+    parts_from n c = by_head (slice_get (ranked goals order c.rank) 0) refl
+      where
+        by_head : (o : Option GoalLetter) → slice_get (ranked goals order c.rank) 0 ≡ o → Parts n
+        by_head None e = absurd (plain_begins (ranked goals order c.rank) (ordered.plain c.rank c.below) e)
+        by_head (Some (Node m)) e = inl (inl (known_as goals order path last all at IsAny (IsStep false) n c (m, e)))
+        by_head (Some (Edge m)) e = inl (inr (known_as goals order path last all at IsAny (IsStep true) n c (m, e)))
+        by_head (Some (Predicate p)) e = inr (known_as goals order path last all at IsAny IsTest n c (subst IsTest (sym e) tt))
+        by_head (Some (Absent p)) e = inr (known_as goals order path last all at IsAny IsTest n c (subst IsTest (sym e) tt))
+        by_head (Some (Quoted q)) e = let f = first_goes path last (ranked goals order c.rank) 0 at (Quoted q) e c.goes in absurd f.1.0
+
+    parts_to : (n : ℕ) → Parts n → At IsAny n
+    parts_to n (inl (inl c)) = any_head goals order path last all at (IsStep false) n c
+    parts_to n (inl (inr c)) = any_head goals order path last all at (IsStep true) n c
+    parts_to n (inr c) = any_head goals order path last all at IsTest n c
+
+    pub all_parts : (xs ys zs us : List ℕ) → Adds (At (IsStep false)) xs ys → Adds (At (IsStep true)) ys zs → Adds (At IsTest) zs us → Adds (At IsAny) xs us
+    all_parts xs ys zs us a b c = adds_same _ (At IsAny) xs us parts_to parts_from (adds_both _ _ xs zs us (adds_both _ _ xs ys zs a b) c)
+
+-- the same from so many first states
+module _ (goals : List GoalForm) (order : List ℕ) (absents : ℕ) (path : PathView) (last : Bool) (ordered : IsOrderOf goals order) (count : ℕ) where
+  abbrev From : (Option GoalLetter → Type 0) → ℕ → Type 0
+  From H n = Started goals order path last H (root order absents) count n
+
+  pub all_started : (xs ys zs us : List ℕ) → Adds (From (IsStep false)) xs ys → Adds (From (IsStep true)) ys zs → Adds (From IsTest) zs us → Adds (From IsAny) xs us
+  all_started xs ys zs us a b c = adds_same _ (From IsAny) xs us to from (adds_both _ _ xs zs us (adds_both _ _ xs ys zs a b) c)
     where
-      by_head : (o : Option GoalLetter) → slice_get (ranked goals order c.rank) 0 ≡ o → Parts n
-      by_head None e = absurd (plain_begins (ranked goals order c.rank) (ordered.plain c.rank c.below) e)
-      by_head (Some (Node m)) e = inl (inl (node_here goals order path last all at IsAny n m c e))
-      by_head (Some (Edge m)) e = inl (inr (known_as goals order path last all at IsAny IsSomeEdge n c (m, e)))
-      by_head (Some (Predicate p)) e = inr (known_as goals order path last all at IsAny IsTest n c (subst IsTest (sym e) tt))
-      by_head (Some (Absent p)) e = inr (known_as goals order path last all at IsAny IsTest n c (subst IsTest (sym e) tt))
-      by_head (Some (Quoted q)) e = let f = first_goes path last (ranked goals order c.rank) 0 at (Quoted q) e c.goes in absurd f.1.0
+      to : (n : ℕ) → ((From (IsStep false) n ⊎ From (IsStep true) n) ⊎ From IsTest n) → From IsAny n
+      to n (inl (inl (at, (lt, h)))) = (at, (lt, parts_to goals order absents path last at ordered n (inl (inl h))))
+      to n (inl (inr (at, (lt, h)))) = (at, (lt, parts_to goals order absents path last at ordered n (inl (inr h))))
+      to n (inr (at, (lt, h))) = (at, (lt, parts_to goals order absents path last at ordered n (inr h)))
 
-  parts_to : (n : ℕ) → Parts n → At IsAny n
-  parts_to n (inl (inl c)) = any_head goals order path last all at (IsLetter (Node (slice_index path.nodes at))) n c
-  parts_to n (inl (inr c)) = any_head goals order path last all at IsSomeEdge n c
-  parts_to n (inr c) = any_head goals order path last all at IsTest n c
-
-  pub all_parts : (xs ys zs us : List ℕ) → Adds (At (IsLetter (Node (slice_index path.nodes at)))) xs ys → Adds (At IsSomeEdge) ys zs → Adds (At IsTest) zs us → Adds (At IsAny) xs us
-  all_parts xs ys zs us a b c = adds_same _ (At IsAny) xs us parts_to parts_from (adds_both _ _ xs zs us (adds_both _ _ xs ys zs a b) c)
+      from : (n : ℕ) → From IsAny n → ((From (IsStep false) n ⊎ From (IsStep true) n) ⊎ From IsTest n)
+      from n (at, (lt, h)) = elim (parts_from goals order absents path last at ordered n h) [
+        | inl x ↦ elim x [ inl y ↦ inl (inl (at, (lt, y))) | inr y ↦ inl (inr (at, (lt, y))) ]
+        | inr x ↦ inr (at, (lt, x))
+      ]
 
 -- the table of an index
 pub chosen : (goals : List GoalForm) (index : WordIndex) → IsIndexOf goals index → (edges : Bool) → AreBegun goals index.order index.absents edges (if edges then index.by_edge else index.by_node)

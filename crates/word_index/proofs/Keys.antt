@@ -12,7 +12,7 @@ use Rattle.goals.specs.Words.{Word}
 use Rattle.goals.specs.declared.goal_letter.GoalLetter.{GoalLetter}
 use Rattle.goals.specs.declared.goal_letter.GoalLetter.TheVariants.{Node, Edge, Predicate, Absent, Quoted}
 use Rattle.word_index.specs.Order.{letter_key, key_of, keys, ranked, key_at, IsSortedFrom}
-use Rattle.word_index.specs.Groups.{IsGroup, IsNarrowed, IsPastEnds}
+use Rattle.word_index.specs.Groups.{IsEnded, IsGroup, IsNarrowed, IsPastEnds}
 use Rattle.word_index.specs.declared.group.Group.{Group}
 
 pub key_above : (l : GoalLetter) → 0 < letter_key l
@@ -163,6 +163,12 @@ past_is goals order g group low from to below above = record {
   ended = λ r f t. no_key (slice_get (ranked goals order r) g.depth) (below r f t);
   going = λ r f t e. let k = above r f t in let z : key_at goals order g.depth r ≡ 0 = ap key_of e in omega (arith, k, z);
 }
+
+-- where no letter is there in the last word, none is in those before it
+pub ended_is : (goals : List GoalForm) (order : List ℕ) (g : Group) → IsGroup goals order g → g.low < g.high → key_at goals order g.depth (g.high - 1) ≡ 0 → IsEnded goals order g
+ended_is goals order g group some none r from to =
+    let up = rise goals order g.depth g.low g.high group.sorted r (g.high - 1) from (omega (arith, to)) (omega (arith, some)) in
+    no_key (slice_get (ranked goals order r) g.depth) (omega (arith, up, none))
 
 -- ---- two words that are equal up to a place
 

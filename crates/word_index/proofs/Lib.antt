@@ -5,3 +5,5 @@ pub mod Steps
 pub mod Begun
 pub mod Starts
 pub mod Cleared
+pub mod Enough
+pub mod Picked

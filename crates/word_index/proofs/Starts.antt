@@ -1,15 +1,16 @@
 -- The order of an index, and walks from each state.
-use Rattle.std.proofs.Common.{◌≡◌, ℕ, suc, ◌+◌, ◌≤◌, ◌<◌, ◌⊎◌, inl, inr, Bool, true, false, List, length, drop, Ordering, refl, sym, ◌∙◌, ap, subst, arith}
+use Rattle.std.proofs.Common.{◌≡◌, ℕ, suc, ◌+◌, ◌≤◌, ◌<◌, Bool, true, false, List, length, get_or, drop, Ordering, refl, sym, ◌∙◌, ap, subst, arith}
 use Rattle.std.specs.Prelude.{slice_index}
 use Rattle.std.specs.Cmp.{IsStrictWeakOrder}
 use Rattle.std.specs.Cmp.Lexicographic.{slice_cmp}
 use Rattle.std.specs.Fn.{Called, ComparesAs}
+use Rattle.std.specs.List.{filter}
 use Rattle.std.specs.List.Sorted.{IsSortedBy}
 use Rattle.std.specs.Ordering.{is_lt, nat_cmp}
-use Rattle.std.proofs.lemmas.Bool.{cases_lt}
 use Rattle.std.proofs.lemmas.Cmp.{nat_list_cmp_total}
 use Rattle.std.proofs.lemmas.Fn.{always_returns_same}
 use Rattle.std.proofs.lemmas.List.{get_or_default}
+use Rattle.std.proofs.lemmas.List.Kept.{IsSortedBy-filter}
 use Rattle.std.proofs.lemmas.List.Sorted.{ranks_by, sorted_far}
 use denote.Param.Members.{Mut}
 use denote.Ref.{Bor}
@@ -18,10 +19,20 @@ use Rattle.goals.specs.GoalForm.{GoalForm}
 use Rattle.word_index.specs.Numbers.{Adds}
 use Rattle.word_index.specs.Order.{AreAbsentsBelow, keys, ranked, IsSortedFrom, IsOrderOf}
 use Rattle.word_index.specs.Walks.{word_at, HasGoalWalk}
-use Rattle.word_index.specs.Groups.{IsGroup, GoesOn, Continues, IsAny}
+use Rattle.word_index.specs.Groups.{GoesOn, Continues, IsAny, Started}
 use Rattle.word_index.specs.declared.group.Group.{Group}
 use Rattle.word_index.proofs.Going.{walks_forward}
-use Rattle.word_index.proofs.Steps.{adds_both, adds_same, adds_none}
+use Rattle.word_index.proofs.Steps.{adds_same}
+
+-- the word of one place comes before that of another
+abbrev before : List GoalForm → ℕ → ℕ → Bool
+before goals x y = is_lt (slice_cmp nat_cmp (keys (word_at goals x)) (keys (word_at goals y)))
+
+before_weak : (goals : List GoalForm) → IsStrictWeakOrder (before goals)
+before_weak goals = ranks_by nat_list_cmp_total (λ x. keys (word_at goals x))
+
+in_order : (goals : List GoalForm) (xs : List ℕ) → IsSortedBy (before goals) xs → IsSortedFrom goals xs 0 0 (length xs)
+in_order goals xs sorted r s from le to = sorted_far (before goals) (before_weak goals) xs sorted r s 0 le to
 
 -- a sort by words puts them in order
 pub sorted_words : (goals : List GoalForm) {F : Type 0} {g : Mut F (Bor ℕ × (Bor ℕ × Unit {0})) Ordering} {f : F} (xs : List ℕ)
@@ -29,40 +40,22 @@ pub sorted_words : (goals : List GoalForm) {F : Type 0} {g : Mut F (Bor ℕ × (
     → ((a : Bor ℕ × (Bor ℕ × Unit {0})) (r : Ordering) (f' : F) → Called g f a r f' → (r ≡ slice_cmp nat_cmp (keys (word_at goals a.0.now)) (keys (word_at goals a.1.0.now))) × (f' ≡ f))
     → IsSortedFrom goals xs 0 0 (length xs)
 sorted_words goals {g = g} {f = f} xs up calls =
-    let lt : ℕ → ℕ → Bool = λ x y. is_lt (slice_cmp nat_cmp (keys (word_at goals x)) (keys (word_at goals y))) in
-    let weak : IsStrictWeakOrder lt = ranks_by nat_list_cmp_total (λ x. keys (word_at goals x)) in
-    let sorted : IsSortedBy lt xs = up lt weak (always_returns_same g (λ a r. is_lt r ≡ lt a.0.now a.1.0.now) f (λ a r f' k. (ap is_lt (calls a r f' k).0, (calls a r f' k).1))) in
-    λ r s from le to. sorted_far lt weak xs sorted r s 0 le to
+    in_order goals xs (up (before goals) (before_weak goals) (always_returns_same g (λ a r. is_lt r ≡ before goals a.0.now a.1.0.now) f (λ a r f' k. (ap is_lt (calls a r f' k).0, (calls a r f' k).1))))
 
--- one more state from which to walk
-abbrev pub Started : List GoalForm → List ℕ → PathView → Bool → Group → ℕ → ℕ → Type 0
-Started goals order path last all count n = (i : ℕ) × ((i < count) × Continues goals order path last IsAny all i n)
+-- words that are picked out stay in order
+pub sorted_filter : (goals : List GoalForm) (keeps : ℕ → Bool) (xs : List ℕ) → IsSortedFrom goals xs 0 0 (length xs) → IsSortedFrom goals (filter keeps xs) 0 0 (length (filter keeps xs))
+sorted_filter goals keeps xs sorted = in_order goals (filter keeps xs) (IsSortedBy-filter (before goals) (before_weak goals) keeps xs adjacent)
+  where
+    adjacent : IsSortedBy (before goals) xs
+    adjacent k d from lt =
+        let a : get_or xs k 0 ≡ get_or xs k d = get_or_default xs k 0 d (omega (arith, lt)) in
+        let b : get_or xs (k + 1) 0 ≡ get_or xs (k + 1) d = get_or_default xs (k + 1) 0 d lt in
+        let h : before goals (get_or xs (k + 1) 0) (get_or xs k 0) ≡ false = sorted k (k + 1) from (omega arith) lt in
+        rw (a, b) at h
 
-module _ (goals : List GoalForm) (order : List ℕ) (path : PathView) (last : Bool) (all : Group) where
-  pub none_started : (xs : List ℕ) → Adds (Started goals order path last all 0) xs xs
-  none_started xs = adds_none _ xs (λ n (i, (lt, c)). absurd (omega arith))
-
-  pub started_more : (count : ℕ) (xs ys zs : List ℕ) → Adds (Started goals order path last all count) xs ys → Adds (Continues goals order path last IsAny all count) ys zs → Adds (Started goals order path last all (count + 1)) xs zs
-  started_more count xs ys zs a b = adds_same _ (Started goals order path last all (count + 1)) xs zs to from (adds_both _ _ xs ys zs a b)
-    where
-      to : (n : ℕ) → (Started goals order path last all count n ⊎ Continues goals order path last IsAny all count n) → Started goals order path last all (count + 1) n
-      to n (inl (i, (lt, c))) = (i, (omega arith, c))
-      to n (inr c) = (count, (omega arith, c))
-
-      from : (n : ℕ) → Started goals order path last all (count + 1) n → (Started goals order path last all count n ⊎ Continues goals order path last IsAny all count n)
-      from n (i, (lt, c)) = elim (cases_lt i count) [
-        | inl below ↦ inl (i, (below, c))
-        | inr above ↦ let e : i ≡ count = omega arith in inr (subst (λ k. Continues goals order path last IsAny all k n) e c)
-      ]
+-- ---- from any state
 
 module _ (goals : List GoalForm) (order : List ℕ) (path : PathView) (first last : Bool) (all : Group) (at_low : all.low ≡ 0) (at_high : all.high ≡ length order) (shallow : all.depth ≡ 0) (ordered : IsOrderOf goals order) (absents : AreAbsentsBelow goals all.absents) where
-  pub is_group : IsGroup goals order all
-  is_group = record {
-    range = omega arith;
-    sorted = subst (λ d. IsSortedFrom goals order d all.low all.high) (sym shallow) (subst (λ l. IsSortedFrom goals order 0 l all.high) (sym at_low) (subst (λ h. IsSortedFrom goals order 0 0 h) (sym at_high) ordered.sorted));
-    absents = λ r d p from to e. absents (slice_index order r) d p e;
-  }
-
   walk_of : (i n : ℕ) → (first ≡ true → i ≡ 0) → Continues goals order path last IsAny all i n → HasGoalWalk goals first last path n
   walk_of i n begins c =
       let below : c.rank < all.high = c.below in
@@ -99,7 +92,7 @@ module _ (goals : List GoalForm) (order : List ℕ) (path : PathView) (first las
       (λ n g. subst (λ i. Continues goals order path last IsAny all i n) (g.walk.at_first is) (continues_of n g)) h
 
   -- from all states
-  pub from_all : (count : ℕ) (xs ys : List ℕ) → first ≡ false → count ≡ length path.edges + 1 → Adds (Started goals order path last all count) xs ys → Adds (HasGoalWalk goals first last path) xs ys
+  pub from_all : (count : ℕ) (xs ys : List ℕ) → first ≡ false → count ≡ length path.edges + 1 → Adds (Started goals order path last IsAny all count) xs ys → Adds (HasGoalWalk goals first last path) xs ys
   from_all count xs ys is size h = adds_same _ (HasGoalWalk goals first last path) xs ys
       (λ n (i, (lt, c)). walk_of i n (λ e. absurd (let f : true ≡ false = sym e ∙ is in cc)) c)
       (λ n g. let w = begins_within n g in (g.walk.from, (omega arith, continues_of n g))) h

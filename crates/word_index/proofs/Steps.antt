@@ -41,6 +41,24 @@ adds_both P Q xs ys zs g h n = (
   ],
 )
 
+-- the numbers of which this holds at one of so many first places
+abbrev pub Below : (ℕ → ℕ → Type 0) → ℕ → ℕ → Type 0
+Below P count n = (k : ℕ) × ((k < count) × P k n)
+
+pub below_none : (P : ℕ → ℕ → Type 0) (xs : List ℕ) → Adds (Below P 0) xs xs
+below_none P xs = adds_none _ xs (λ n (k, (lt, h)). absurd (omega arith))
+
+-- one more place
+pub below_more : (P : ℕ → ℕ → Type 0) (count : ℕ) (xs ys zs : List ℕ) → Adds (Below P count) xs ys → Adds (P count) ys zs → Adds (Below P (count + 1)) xs zs
+below_more P count xs ys zs a b = adds_same _ (Below P (count + 1)) xs zs to from (adds_both _ _ xs ys zs a b)
+  where
+    to : (n : ℕ) → (Below P count n ⊎ P count n) → Below P (count + 1) n
+    to n (inl (k, (lt, h))) = (k, (omega arith, h))
+    to n (inr h) = (count, (omega arith, h))
+
+    from : (n : ℕ) → Below P (count + 1) n → (Below P count n ⊎ P count n)
+    from n (k, (lt, h)) = elim (cases_lt k count) [ inl below ↦ inl (k, (below, h)) | inr above ↦ let e : k ≡ count = omega arith in inr (subst (λ i. P i n) e h) ]
+
 -- ---- ranks
 
 -- the numbers of goals of these ranks

@@ -52,6 +52,14 @@ pub record Continues (goals : List GoalForm) (order : List ℕ) (path : PathView
   pub head : Head (slice_get (ranked goals order rank) g.depth)
   pub goes : GoesOn path last (drop g.depth (ranked goals order rank)) at
 
+-- the same from one of so many first states
+abbrev pub Started : List GoalForm → List ℕ → PathView → Bool → (Option GoalLetter → Type 0) → Group → ℕ → ℕ → Type 0
+Started goals order path last Head g count number = (at : ℕ) × ((at < count) × Continues goals order path last Head g at number)
+
+-- each word of the group ends at its depth
+abbrev pub IsEnded : List GoalForm → List ℕ → Group → Type 0
+IsEnded goals order g = (r : ℕ) → g.low ≤ r → r < g.high → slice_get (ranked goals order r) g.depth ≡ None
+
 -- ---- how a word goes on
 
 abbrev pub IsAny : Option GoalLetter → Type 0
@@ -72,10 +80,6 @@ IsPredicateBelow n o = IsBelow Predicate n o
 
 abbrev pub IsAbsentBelow : ℕ → Option GoalLetter → Type 0
 IsAbsentBelow n o = IsBelow Absent n o
-
--- with an edge
-abbrev pub IsSomeEdge : Option GoalLetter → Type 0
-IsSomeEdge o = (e : ℕ) × (o ≡ Some (Edge e))
 
 -- with a predicate or an absent one
 abbrev pub IsTest : Option GoalLetter → Type 0

@@ -3,3 +3,5 @@ pub mod Numbers
 pub mod Order
 pub mod Groups
 pub mod Tables
+pub mod Places
+pub mod Tests

@@ -1,6 +1,7 @@
 -- The groups of words that begin alike.
 use Rattle.std.specs.Prelude.{◌≡◌, ◌<◌, ℕ, Bool, true, false, List, length, slice_get, Option, Some, None}
 use Rattle.std.specs.List.{list_all}
+use Rattle.patterns.specs.declared.path_view.PathView.{PathView}
 use Rattle.goals.specs.GoalForm.{GoalForm}
 use Rattle.goals.specs.Words.{Word}
 use Rattle.goals.specs.declared.goal_letter.GoalLetter.{GoalLetter}
@@ -15,6 +16,15 @@ use Rattle.word_index.specs.declared.index.WordIndex.{WordIndex}
 abbrev pub step : Bool → ℕ → GoalLetter
 step true number = Edge number
 step false number = Node number
+
+-- a word goes on with an edge, or a node
+abbrev pub IsStep : Bool → Option GoalLetter → Type 0
+IsStep edges o = (number : ℕ) × (o ≡ Some (step edges number))
+
+-- the edges, or the nodes, of a path
+abbrev pub steps : Bool → PathView → List ℕ
+steps true path = path.edges
+steps false path = path.nodes
 
 -- the group of all words
 abbrev pub root : List ℕ → ℕ → Group

@@ -1,17 +1,18 @@
 // The index.
-ghost use Rattle.std.specs.Prelude.{◌≡◌, ◌≤◌, ◌<◌, ℕ, true, All, IfOk, OnOk, Some, length, slice_get, slice_index, if◌then◌else◌};
+ghost use Rattle.std.specs.Prelude.{◌≡◌, ◌≤◌, ◌<◌, ◌+◌, ℕ, true, false, All, IfOk, OnOk, length, if◌then◌else◌};
 ghost use Rattle.std.specs.List.{Contains};
 ghost use Rattle.word_index.specs.Numbers.{Adds};
 ghost use Rattle.word_index.specs.Order.{AreAbsentsBelow, IsOrderOf};
-ghost use Rattle.word_index.specs.Groups.{Continues, IsAny, IsLetter, IsNarrowed, IsSomeEdge, IsTest};
-ghost use Rattle.goals.specs.declared.goal_letter.GoalLetter.TheVariants as letter;
-ghost use Rattle.word_index.specs.Tables.{IsIndexOf, root, step};
+ghost use Rattle.word_index.specs.Groups.{Continues, IsAny, IsGroup, IsNarrowed, IsTest, Started};
+ghost use Rattle.word_index.specs.Tables.{IsIndexOf, IsStep, root, step};
 ghost use Rattle.word_index.specs.declared.group.Group.{Group as OneGroup};
 ghost use Rattle.word_index.specs.Walks.{HasGoalWalk, is_plain, word_at};
 
 use crate::group::Group;
 use crate::letters::{absents_above, is_plain};
 use crate::numbers::Numbers;
+use crate::places::step_places;
+use crate::possible::tests_along;
 use crate::tables::{all_begin_with_steps, begun, begun_with, root};
 use crate::walk::{add_walks, add_with_absents, add_with_predicates, edge_at, mask_at, node_at};
 use crate::words::{compared, word_at};
@@ -69,8 +70,28 @@ impl WordIndex {
         if first {
             return self.add_from(goals, path, last, 0, numbers);
         }
-        for at in 0..path.nodes().len() {
-            self.add_from(goals, path, last, at, numbers)?;
+        self.add_steps(goals, path, last, false, numbers)?;
+        self.add_steps(goals, path, last, true, numbers)?;
+        self.add_all_tests(goals, path, last, numbers)
+    }
+
+    /// Adds the goals whose words begin with an edge, or a node, of the path and go on from there.
+    fn add_steps(
+        &self,
+        goals: &[Goal],
+        path: &RunPath,
+        last: bool,
+        edges: bool,
+        numbers: &mut Numbers,
+    ) -> Result<(), Memory>
+        requires { IsIndexOf goals.now self.now }
+        ensures { OnOk result (Adds (Started goals.now self.now.order path.now last (IsStep edges) (root self.now.order self.now.absents) (length path.now.edges + 1)) numbers.old numbers.new) }
+    {
+        let alloc = self.order.allocator();
+        let groups = self.table(edges);
+        let places = step_places(alloc, goals, &self.order, groups, path, last, edges)?;
+        for at in &places {
+            self.add_step(goals, path, last, edges, *at, numbers)?;
         }
         Ok(())
     }
@@ -102,6 +123,27 @@ impl WordIndex {
         add_walks(goals, &self.order, path, last, group, at, numbers)
     }
 
+    /// Adds the goals whose words go on from this state with the edge out of it, or with its node.
+    fn add_step(
+        &self,
+        goals: &[Goal],
+        path: &RunPath,
+        last: bool,
+        edges: bool,
+        at: usize,
+        numbers: &mut Numbers,
+    ) -> Result<(), Memory>
+        requires index { IsIndexOf goals.now self.now }
+        requires at { at ≤ length path.now.edges }
+        ensures { OnOk result (Adds (Continues goals.now self.now.order path.now last (IsStep edges) (root self.now.order self.now.absents) at) numbers.old numbers.new) }
+    {
+        if edges {
+            self.add_edge(goals, path, last, at, numbers)
+        } else {
+            self.add_node(goals, path, last, at, numbers)
+        }
+    }
+
     /// Adds the goals whose words go on from this state with its node.
     fn add_node(
         &self,
@@ -113,7 +155,7 @@ impl WordIndex {
     ) -> Result<(), Memory>
         requires index { IsIndexOf goals.now self.now }
         requires at { at ≤ length path.now.edges }
-        ensures { OnOk result (Adds (Continues goals.now self.now.order path.now last (IsLetter (letter.Node (slice_index path.now.nodes at))) (root self.now.order self.now.absents) at) numbers.old numbers.new) }
+        ensures { OnOk result (Adds (Continues goals.now self.now.order path.now last (IsStep false) (root self.now.order self.now.absents) at) numbers.old numbers.new) }
     {
         let node = node_at(path, at);
         self.add_begun(goals, path, last, false, node, at, numbers)
@@ -129,7 +171,7 @@ impl WordIndex {
         numbers: &mut Numbers,
     ) -> Result<(), Memory>
         requires { IsIndexOf goals.now self.now }
-        ensures { OnOk result (Adds (Continues goals.now self.now.order path.now last IsSomeEdge (root self.now.order self.now.absents) at) numbers.old numbers.new) }
+        ensures { OnOk result (Adds (Continues goals.now self.now.order path.now last (IsStep true) (root self.now.order self.now.absents) at) numbers.old numbers.new) }
     {
         if at >= path.edges().len() {
             return Ok(());
@@ -138,27 +180,29 @@ impl WordIndex {
         self.add_begun(goals, path, last, true, edge, at + 1, numbers)
     }
 
-    /// Adds the goals whose words go on from this state with a predicate that holds there, or an absent one.
-    fn add_tests(
+    /// Adds the goals whose words begin with a predicate or an absent one and go on from some state.
+    fn add_all_tests(
         &self,
         goals: &[Goal],
         path: &RunPath,
         last: bool,
-        at: usize,
         numbers: &mut Numbers,
     ) -> Result<(), Memory>
-        requires index { IsIndexOf goals.now self.now }
-        requires at { at ≤ length path.now.edges }
-        ensures { OnOk result (Adds (Continues goals.now self.now.order path.now last IsTest (root self.now.order self.now.absents) at) numbers.old numbers.new) }
+        requires { IsIndexOf goals.now self.now }
+        ensures { OnOk result (Adds (Started goals.now self.now.order path.now last IsTest (root self.now.order self.now.absents) (length path.now.edges + 1)) numbers.old numbers.new) }
     {
         if self.only_steps {
             return Ok(());
         }
-        let order = self.order.as_slice();
-        let all = root(order, self.absents);
-        let _mask = mask_at(path, at);
-        add_with_predicates(goals, order, path, last, all, at, numbers)?;
-        add_with_absents(goals, order, path, last, all, at, numbers)
+        let places = tests_along(self.order.allocator(), goals, &self.order, path)?;
+        let order = places.as_slice();
+        if order.is_empty() {
+            return Ok(());
+        }
+        for at in 0..path.nodes().len() {
+            add_tests(goals, order, self.absents, path, last, at, numbers)?;
+        }
+        Ok(())
     }
 
     /// Adds the goals whose words go on from this state to one at which a walk may end.
@@ -176,8 +220,32 @@ impl WordIndex {
     {
         self.add_node(goals, path, last, at, numbers)?;
         self.add_edge(goals, path, last, at, numbers)?;
-        self.add_tests(goals, path, last, at, numbers)
+        if self.only_steps {
+            return Ok(());
+        }
+        let order = self.order.as_slice();
+        add_tests(goals, order, self.absents, path, last, at, numbers)
     }
+}
+
+/// Adds the goals of these places whose words go on from this state with a predicate that holds there, or an absent one.
+fn add_tests(
+    goals: &[Goal],
+    order: &[u32],
+    absents: u32,
+    path: &RunPath,
+    last: bool,
+    at: usize,
+    numbers: &mut Numbers,
+) -> Result<(), Memory>
+    requires group { IsGroup goals.now order.now (root order.now absents) }
+    requires at { at ≤ length path.now.edges }
+    ensures { OnOk result (Adds (Continues goals.now order.now path.now last IsTest (root order.now absents) at) numbers.old numbers.new) }
+{
+    let all = root(order, absents);
+    let _mask = mask_at(path, at);
+    add_with_predicates(goals, order, path, last, all, at, numbers)?;
+    add_with_absents(goals, order, path, last, all, at, numbers)
 }
 
 /// A number above those of the absent predicates of the goals' words.

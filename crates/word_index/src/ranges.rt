@@ -1,6 +1,6 @@
 // Ranges of ranks whose words go on alike.
-ghost use Rattle.std.specs.Prelude.{◌≡◌, ℕ, ◌+◌, ◌≤◌, ◌<◌, length, IfOk, IfSome};
-ghost use Rattle.word_index.specs.Groups.{IsGroup, IsNarrowed, IsPastEnds};
+ghost use Rattle.std.specs.Prelude.{◌≡◌, ℕ, ◌+◌, ◌≤◌, ◌<◌, length, IfOk, IfSome, true};
+ghost use Rattle.word_index.specs.Groups.{IsEnded, IsGroup, IsNarrowed, IsPastEnds};
 ghost use Rattle.word_index.specs.Order.{key_at};
 
 use crate::group::Group;
@@ -74,4 +74,11 @@ pub(crate) fn past_ends(goals: &[Goal], order: &[u32], group: Group) -> Group
         depth: group.depth,
         absents: group.absents,
     }
+}
+
+/// Whether all words of a group end at its depth.
+pub(crate) fn all_end(goals: &[Goal], order: &[u32], group: Group) -> bool
+    ensures { result ≡ true → IsGroup goals.now order.now group → IsEnded goals.now order.now group }
+{
+    group.low >= group.high || key_at(goals, order, group.depth, group.high - 1) == 0
 }

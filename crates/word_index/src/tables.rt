@@ -113,7 +113,7 @@ pub(crate) fn begun_with(
 }
 
 /// Whether a word is empty, or begins with an edge or a node.
-fn begins_with_step(word: &[GoalLetter]) -> bool
+pub(crate) fn begins_with_step(word: &[GoalLetter]) -> bool
     ensures { result ≡ begins_with_step (slice_get word.now 0) }
 {
     match word.first() {

@@ -5,6 +5,7 @@ ghost use Rattle.goals.specs.GoalForm.{GoalForm};
 ghost use Rattle.patterns.specs.Paths.{IsPath};
 ghost use Rattle.word_index.specs.Groups.{Continues, IsAbsentBelow, IsAny, IsEnd, IsGroup, IsLetter, IsPastEnds, IsPredicateBelow, IsStaying};
 ghost use Rattle.word_index.specs.Numbers.{Adds};
+ghost use Rattle.word_index.specs.Tables.{steps};
 ghost use Rattle.word_index.specs.Walks.{Goes};
 
 use crate::group::Group;
@@ -102,6 +103,14 @@ pub(crate) fn edge_at(path: &RunPath, at: usize) -> u32
     path.edges().get(at).copied().unwrap_or(0)
 }
 
+/// The edges, or the nodes, of a path.
+pub(crate) fn steps<'a>(path: &'a RunPath, edges: bool) -> &'a [u32]
+    ensures steps { result.now ≡ steps edges path.now }
+    ensures path { IsPath path.now }
+{
+    if edges { path.edges() } else { path.nodes() }
+}
+
 /// The letter of the node of a state.
 fn node_letter(path: &RunPath, at: usize) -> GoalLetter
     ensures { result ≡ GoalLetter.Node (slice_index path.now.nodes at) }
@@ -126,7 +135,7 @@ pub(crate) fn mask_at(path: &RunPath, at: usize) -> u64
 
 /// Whether a bit, counted from the lowest, is set. There is none past the highest.
 #[tactic(auto, using(patterns::proofs::Members::no_bit, std::proofs::lemmas::Nat::Bits::shr_and_one))]
-fn has_bit(mask: u64, bit: u32) -> bool
+pub(crate) fn has_bit(mask: u64, bit: u32) -> bool
     ensures { result ≡ (bit_at mask bit == 1) }
 {
     bit < 64 && (mask >> bit) & 1 == 1

@@ -8,12 +8,12 @@ use Rattle.word_index.proofs.index.WordIndex.new.Goals as goal
 pub begun-requires : goal.begun-requires
 begun-requires c =
     let ordered = subst (IsOrderOf c.args.goals.now) (sym c.from_vec-order.ensures) c.in_ok-sorted_places.ensures in
-    subst (λ o. IsGroup c.args.goals.now o (root o c.in_ok-absents.absents)) (sym c.deref.ensures) (root_group c.args.goals.now c.from_vec-order.result c.in_ok-absents.absents ordered c.in_ok-absents.ensures)
+    subst (λ o. IsGroup c.args.goals.now o (root o c.in_ok-absents.absents)) (sym c.deref.ensures) (root_group c.args.goals.now c.from_vec-order.result c.in_ok-absents.absents ordered.sorted c.in_ok-absents.ensures)
 
 pub begun-requires-2 : goal.begun-requires-2
 begun-requires-2 c =
     let ordered = subst (IsOrderOf c.args.goals.now) (sym c.from_vec-order.ensures) c.in_ok-sorted_places.ensures in
-    subst (λ o. IsGroup c.args.goals.now o (root o c.in_ok-absents.absents)) (sym c.deref-2.ensures) (root_group c.args.goals.now c.from_vec-order.result c.in_ok-absents.absents ordered c.in_ok-absents.ensures)
+    subst (λ o. IsGroup c.args.goals.now o (root o c.in_ok-absents.absents)) (sym c.deref-2.ensures) (root_group c.args.goals.now c.from_vec-order.result c.in_ok-absents.absents ordered.sorted c.in_ok-absents.ensures)
 
 pub returns : goal.returns
 returns c = record {
