@@ -175,17 +175,17 @@ pub(crate) fn cell_of(store: &Store<'_>, place: &CellPlace) -> Result<usize, Tra
     }
 }
 
-/// The value of an expression, or the trap that ends its evaluation. Most parts of expressions are leaves, which take no
-/// further call.
+/// The value of a part of an expression, or the trap that ends its evaluation. Most parts are leaves, which take no further
+/// call.
 #[cycle(evaluate)]
-pub(crate) fn value_of(store: &Store<'_>, expr: &Expr) -> Result<u64, Trap>
+fn operand_value(store: &Store<'_>, expr: &Expr) -> Result<u64, Trap>
     requires room { HasRoom store.now }
     requires fits { IsTrue (expr_fits store.now.room expr.now) }
     ensures { result ≡ value_of store.now.cells store.now.frame expr.now }
 {
     match leaf_value(store, expr) {
         Some(value) => Ok(value),
-        None => computed_value(store, expr),
+        None => value_of(store, expr),
     }
 }
 
@@ -203,13 +203,19 @@ fn indexed_cell(store: &Store<'_>, place: &CellPlace) -> Result<usize, Trap>
             array,
             index,
             length,
-        } => element_at(store, *array, *length, value_of(store, index), index.kind()),
+        } => element_at(
+            store,
+            *array,
+            *length,
+            operand_value(store, index),
+            index.kind(),
+        ),
     }
 }
 
-/// The value of an expression, by those of its parts: the left operand goes first.
+/// The value of an expression, or the trap that ends its evaluation: the left operand goes first.
 #[cycle(evaluate)]
-fn computed_value(store: &Store<'_>, expr: &Expr) -> Result<u64, Trap>
+pub(crate) fn value_of(store: &Store<'_>, expr: &Expr) -> Result<u64, Trap>
     requires room { HasRoom store.now }
     requires fits { IsTrue (expr_fits store.now.room expr.now) }
     ensures { result ≡ value_of store.now.cells store.now.frame expr.now }
@@ -217,13 +223,17 @@ fn computed_value(store: &Store<'_>, expr: &Expr) -> Result<u64, Trap>
     match expr {
         Expr::Constant(value, _kind) => Ok(*value),
         Expr::Load(place, kind) => loaded(store, cell_of(store, place), *kind),
-        Expr::Convert(operand, kind) => converted(value_of(store, operand), operand.kind(), *kind),
-        Expr::Unary(op, operand, kind) => unary_outcome(*op, value_of(store, operand), *kind),
+        Expr::Convert(operand, kind) => converted(
+            operand_value(store, operand),
+            operand.kind(),
+            *kind,
+        ),
+        Expr::Unary(op, operand, kind) => unary_outcome(*op, operand_value(store, operand), *kind),
         Expr::Binary(op, left, right, kind) => binary_outcome(
             *op,
-            value_of(store, left),
+            operand_value(store, left),
             *kind,
-            value_of(store, right),
+            operand_value(store, right),
             right.kind(),
         ),
     }

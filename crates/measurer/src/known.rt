@@ -12,6 +12,9 @@ use std::collections::BTreeMap;
 /// How many steps of paths and numbers of goals are kept at most.
 const MOST: usize = 1 << 20;
 
+/// How many steps of a path its hash is made of, the first ones.
+const HASHED: usize = 1 << 12;
+
 /// A path, and the numbers of the goals that a run along it hits if its end is counted.
 #[derive(Debug, Drop)]
 pub(crate) struct KnownPath {
@@ -21,23 +24,23 @@ pub(crate) struct KnownPath {
     pub(crate) hits: Vec<u32>,
 }
 
-/// Some paths of earlier runs, the first ones, with the goals that they hit. Most inputs of a long list take a path that
-/// another one took.
+/// Some paths of earlier runs, the first ones that came twice, with the goals that they hit. Most inputs of a long list take a
+/// path that another one took.
 #[derive(Debug, Drop)]
 pub(crate) struct KnownPaths {
     paths: Vec<KnownPath>,
-    /// By a hash of a path, the place of the last path of this hash.
-    places: BTreeMap<u64, usize>,
+    /// By a hash of a path that came, the place of the last path of this hash that is kept, where one is.
+    places: BTreeMap<u64, Option<usize>>,
     /// How many steps and numbers are kept.
     size: usize,
 }
 
-/// A hash of a path. Nothing but time depends on it.
-fn hash_of(run: &PathRecord) -> u64 {
+/// A hash of a path, by which it is kept. Nothing but time depends on it.
+pub(crate) fn hash_of(run: &PathRecord) -> u64 {
     let masks = run.masks.as_slice();
     let last = masks.last().copied().unwrap_or(0);
     let mut hash = mixed(run.edges.len() as u64, 0, last);
-    for (edge, mask) in run.edges.as_slice().iter().zip(masks) {
+    for (edge, mask) in run.edges.as_slice().iter().zip(masks).take(HASHED) {
         hash = mixed(hash, *edge, *mask);
     }
     hash
@@ -84,11 +87,11 @@ impl KnownPaths {
         }
     }
 
-    /// The path of a run, if it is known.
-    pub(crate) fn find(&self, run: &PathRecord) -> Option<&KnownPath>
+    /// The path of a run, if it is known, by its hash.
+    pub(crate) fn find(&self, hash: u64, run: &PathRecord) -> Option<&KnownPath>
         ensures { (plan : Plan) → AreKnown plan self.now.paths.items → IfSome result (λ known. HasHits plan (path_in run.now) known.now.hits.items) }
     {
-        let place = *self.places.get(&hash_of(run))?;
+        let place = (*self.places.get(&hash)?)?;
         let known = self.paths.get(place)?;
         if is_along(run, known) {
             Some(known)
@@ -97,15 +100,21 @@ impl KnownPaths {
         }
     }
 
-    /// Keeps the path of a run and the goals that it hits, unless too much is kept.
+    /// Keeps the path of a run, whose hash is given, and the goals that it hits, where this hash came before, unless too much
+    /// is kept.
     pub(crate) fn keep(
         &mut self,
         alloc: Global,
+        hash: u64,
         run: &PathRecord,
         hits: &[u32],
     ) -> Result<(), Memory>
         ensures { (plan : Plan) → AreKnown plan self.old.paths.items → HasHits plan (path_in run.now) hits.now → AreKnown plan self.new.paths.items }
     {
+        if !self.places.contains_key(&hash) {
+            self.places.insert(hash, None)?;
+            return Ok(());
+        }
         let size = self
             .size
             .saturating_add(run.edges.len())
@@ -116,8 +125,8 @@ impl KnownPaths {
         let known = known_path(alloc, run, hits)?;
         let place = self.paths.len();
         self.paths.push(known)?;
-        self.places.insert(hash_of(run), place)?;
         self.size = size;
+        self.places.insert(hash, Some(place))?;
         Ok(())
     }
 }

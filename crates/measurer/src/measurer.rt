@@ -12,7 +12,7 @@ ghost use Rattle.measurer.specs.Known.{AreKnown};
 ghost use Rattle.measurer.specs.Measured.{HasOtherMatch, IsFor};
 
 use crate::firsts::note;
-use crate::known::KnownPaths;
+use crate::known::{KnownPaths, hash_of};
 use crate::others::add_others;
 use crate::passing::meets_passing;
 use crate::tables::{Tables, tables_of};
@@ -190,11 +190,13 @@ fn found(
     if !run.end.is_counted(ends) {
         return Ok(Vec::new(alloc));
     }
-    if let Some(path) = known.find(run) {
+    let hash = hash_of(run);
+    if let Some(path) = known.find(hash, run) {
         return Ok(Vec::from_slice(alloc, &path.hits)?);
     }
     gather(alloc, tables, plan, run, numbers)?;
     let hits = numbers.rising(alloc)?;
-    known.keep(alloc, run, &hits)?;
+    // Where it isn't kept for want of memory, it is walked again.
+    let _kept = known.keep(alloc, hash, run, &hits);
     Ok(hits)
 }

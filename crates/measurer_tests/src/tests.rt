@@ -182,7 +182,8 @@ fn as_two(alloc: Global, mask: u64, end: RunEnd) -> Result<PathRecord, Fail> {
     run(alloc, &[2, 4, 5, 3], &[1, 3, 7], &[1, mask, 1, 1], end)
 }
 
-// A run hits what an earlier run along its path hit, if its end counts and the same predicates held.
+// A run hits what an earlier run along its path hit, if its end counts and the same predicates held. Each path comes three
+// times, since it is kept at the second.
 #[test]
 fn runs_along_known_paths(rt: HostRuntime) -> Result<(), Fail> {
     let alloc = rt.alloc();
@@ -195,10 +196,13 @@ fn runs_along_known_paths(rt: HostRuntime) -> Result<(), Fail> {
         two(alloc)?,
         as_two(alloc, 0, RunEnd::Returned { value: Some(0) })?,
         nine(alloc)?,
+        two(alloc)?,
+        as_two(alloc, 0, RunEnd::Returned { value: Some(0) })?,
+        nine(alloc)?,
     ];
     let query = "cover @LINE(3).{x == 2}+@LINE(7)";
     let text = hits_text(alloc, CALLS, query, &runs)?;
-    assert_eq!(rt; text.as_str(), "; 1 2; 2; 2;; 1 2; 2; 2;");
+    assert_eq!(rt; text.as_str(), "; 1 2; 2; 2;; 1 2; 2; 2; 1 2; 2; 2;");
     Ok(())
 }
 

@@ -24,18 +24,5 @@ returns-clause-hits c =
 pub returns-clause-known : goal.returns-clause-known
 returns-clause-known c =
     let counted = sym c.is_counted.ensures ∙ c.if-not-is_counted.false in
-    c.keep.ensures c.args.plan.now c.requires.known
+    c.keep-kept.ensures c.args.plan.now c.requires.known
     (subst (HasHits c.args.plan.now (path_in c.args.run.now)) (sym c.deref-2.ensures.value) (all_along c.args.plan.now c.args.ends c.args.run.now c.in_ok-hits.hits.items counted (returns-clause-hits c)))
-
-pub returns-in_err-keep-clause-known : goal.returns-in_err-keep-clause-known
-returns-in_err-keep-clause-known c =
-    let counted = sym c.is_counted.ensures ∙ c.if-not-is_counted.false in
-    let exact : AreHits c.args.plan.now c.args.ends c.args.run.now c.in_ok-hits.hits.items = record {
-      rise = c.in_ok-hits.ensures.rises;
-      exact = λ n. (
-        λ h. (c.in_ok-gather.ensures c.args.ends counted n).0 ((c.in_ok-hits.ensures.same n).0 h),
-        λ h. (c.in_ok-hits.ensures.same n).1 ((c.in_ok-gather.ensures c.args.ends counted n).1 h),
-      );
-    } in
-    c.keep.ensures c.args.plan.now c.requires.known
-    (subst (HasHits c.args.plan.now (path_in c.args.run.now)) (sym c.deref-2.ensures.value) (all_along c.args.plan.now c.args.ends c.args.run.now c.in_ok-hits.hits.items counted exact))
