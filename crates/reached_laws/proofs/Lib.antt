@@ -1,0 +1,4 @@
+mod Members
+mod Weights
+mod Counts
+mod Sizes
