@@ -1,0 +1,2 @@
+mod OneDue
+mod OneKind

@@ -1,0 +1,26 @@
+//! Laws of what is due. Each function does nothing else: its contract is the law.
+ghost use Rattle.due_laws.specs.Determined.{AtMostOneIsDue, AtMostOneKindIsDue};
+
+use hits::laws::one_list_of_hits;
+use reached_laws::laws::{not_too_many, one_count, one_size};
+
+/// What is due of a command that measures or lists is determined by its words and by what its files hold.
+pub fn at_most_one_is_due()
+    ensures { AtMostOneIsDue }
+{
+    c_front::laws::one_outcome();
+    predicates::laws::one_outcome();
+    one_list_of_hits();
+}
+
+/// Two texts that are due of any command are alike: the same refusal, or both answers.
+pub fn at_most_one_kind_is_due()
+    ensures { AtMostOneKindIsDue }
+{
+    c_front::laws::one_outcome();
+    predicates::laws::one_outcome();
+    one_list_of_hits();
+    one_count();
+    one_size();
+    not_too_many();
+}
