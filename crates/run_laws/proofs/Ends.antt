@@ -1,11 +1,11 @@
 -- The sequence of states and its end.
-use Rattle.std.proofs.Common.{◌≡◌, ℕ, ◌+◌, ◌-◌, ◌<◌, ◌≤◌, zero, suc, List, [], ◌∷◌, length, Some, None, Option, refl, sym, ap, subst, ◌∙◌, ⊎_elim, arith}
+use Rattle.std.proofs.Common.{◌≡◌, ℕ, ◌+◌, ◌-◌, ◌<◌, zero, suc, List, [], ◌∷◌, length, Some, None, Option, refl, sym, ap, subst, ◌∙◌, ⊎_elim, arith}
 use Rattle.std.proofs.lemmas.Bool.{cases_lt}
 use Rattle.std.proofs.lemmas.Option.{same_Some}
 use Rattle.std.specs.Prelude.{IsTrue, option_and_then, slice_get}
 use Rattle.cfa.specs.declared.parts.GraphParts.{GraphParts}
 use Rattle.cfa.specs.declared.state.State.{State}
-use Rattle.c_meaning.proofs.RunLaws.{counted_over, moves_states, runs_by_ends, state_from_moved, state_from_over}
+use Rattle.c_meaning.proofs.RunLaws.{counted_over, runs_by_ends, state_from_moved, state_from_over}
 use Rattle.c_meaning.specs.Runs.{AreMoves, Move, Run, counts, last_in, last_state, state_after, state_from, state_moved, states_of}
 use Rattle.c_meaning.specs.Starts.{start_of}
 use Rattle.c_meaning.specs.Steps.{next}

@@ -1,1 +1,3 @@
+pub mod Eaches
 pub mod Ends
+pub mod Leaving

@@ -1,25 +1,20 @@
 -- What follows from the definitions of runs, their ends and bounds.
-use Rattle.std.specs.Prelude.{◌≡◌, ◌↔◌, ℕ, ◌+◌, ◌<◌, ◌≤◌, ◌%◌, ◌^◌, Bool, true, false, All, List, map, Option, Some, IsTrue, option_and_then, slice_get, slice_index}
-use Rattle.c_values.specs.Kind.{IsKind}
-use Rattle.c_values.specs.declared.kinds.Kind.{Kind}
-use Rattle.cfa.specs.Graph.{IsGraph}
+use Rattle.std.specs.Prelude.{◌≡◌, ◌↔◌, ℕ, ◌+◌, ◌<◌, ◌^◌, false, All, Some, IsTrue, option_and_then}
 use Rattle.cfa.specs.declared.parts.Function.{Function}
 use Rattle.cfa.specs.declared.parts.GraphParts.{GraphParts}
 use Rattle.cfa.specs.declared.state.Predicates.{Predicates}
 use Rattle.cfa.specs.declared.state.State.{State}
 use Rattle.c_meaning.specs.Pairs.{IsLongestWithin, IsRunWithin}
-use Rattle.c_meaning.specs.Runs.{Run, IsBeginning, IsRun, counts, last_in, state_from, states_in}
-use Rattle.c_meaning.specs.Starts.{CanStart, fitted, fitted_words, start_of}
+use Rattle.c_meaning.specs.Runs.{Run, IsRun, counts, last_in, state_from, states_in}
+use Rattle.c_meaning.specs.Starts.{CanStart}
 use Rattle.c_meaning.specs.Steps.{next}
 use Rattle.c_meaning.specs.declared.ends.Ends.{Ends}
 use Rattle.c_meaning.specs.declared.ends.Ends.TheVariants as counted
 use Rattle.c_meaning.specs.declared.input.Input.{Input}
 use Rattle.c_meaning.specs.declared.stepped.Stepped.{Stepped}
-use Rattle.path_runner.specs.Paths.{end_at, record_of}
 use Rattle.goals.specs.GoalForm.{GoalForm}
 use Rattle.goals.specs.declared.plan.Plan.{Plan}
 use Rattle.hits.specs.Inputs.{InputHits, InputHitsWithin}
-use Rattle.run_laws.specs.Alike.{AnswerAlike, AreAlike, WordsAlike}
 use Rattle.run_laws.specs.Ends.{EndsFrom, EndsIn}
 use Rattle.run_laws.specs.Leaving.{LeavesBounds}
 

@@ -1,5 +1,5 @@
 //! Laws of the definitions in specs/. Each function does nothing: its contract is the law.
-ghost use Rattle.run_laws.specs.Laws.{StatesCompose, OneEnd, EndsCompose, RunsEnd, EndsAreRuns};
+ghost use Rattle.run_laws.specs.Laws.{StatesCompose, OneEnd, EndsCompose, RunsEnd, EndsAreRuns, LongestLeaves, NoneEnds, RunsLeave, RunsStay, HitsStay, NoneHitsAtAll};
 
 /// State n + m from a state is state m from its state n.
 pub fn states_compose()
@@ -24,4 +24,34 @@ pub fn runs_end()
 /// Where the states of an input end in a way that is counted, it has a run that ends so.
 pub fn ends_are_runs()
     ensures { EndsAreRuns }
+{}
+
+/// Of the longest beginning within bounds, the run goes on exactly where the input leaves them.
+pub fn longest_leaves()
+    ensures { LongestLeaves }
+{}
+
+/// It goes on from each state of the longest beginning within bounds exactly where the input leaves them.
+pub fn none_ends()
+    ensures { NoneEnds }
+{}
+
+/// The run of an input isn't within bounds exactly where the input leaves them.
+pub fn runs_leave()
+    ensures { RunsLeave }
+{}
+
+/// The run of an input that doesn't leave the bounds is within them.
+pub fn runs_stay()
+    ensures { RunsStay }
+{}
+
+/// An input that doesn't leave the bounds, and hits a goal, hits it within them.
+pub fn hits_stay()
+    ensures { HitsStay }
+{}
+
+/// Where no input leaves the bounds, and none hits a goal within them, none hits it at all.
+pub fn none_hits_at_all()
+    ensures { NoneHitsAtAll }
 {}
