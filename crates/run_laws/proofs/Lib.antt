@@ -1,3 +1,4 @@
 pub mod Eaches
 pub mod Ends
+pub mod Fitting
 pub mod Leaving

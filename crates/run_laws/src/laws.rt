@@ -1,5 +1,5 @@
 //! Laws of the definitions in specs/. Each function does nothing: its contract is the law.
-ghost use Rattle.run_laws.specs.Laws.{StatesCompose, OneEnd, EndsCompose, RunsEnd, EndsAreRuns, LongestLeaves, NoneEnds, RunsLeave, RunsStay, HitsStay, NoneHitsAtAll};
+ghost use Rattle.run_laws.specs.Laws.{StatesCompose, OneEnd, EndsCompose, RunsEnd, EndsAreRuns, LongestLeaves, NoneEnds, RunsLeave, RunsStay, HitsStay, NoneHitsAtAll, EqualModulo, SameValue, LeastWord, FittedTwice};
 
 /// State n + m from a state is state m from its state n.
 pub fn states_compose()
@@ -54,4 +54,24 @@ pub fn hits_stay()
 /// Where no input leaves the bounds, and none hits a goal within them, none hits it at all.
 pub fn none_hits_at_all()
     ensures { NoneHitsAtAll }
+{}
+
+/// Words that are equal modulo 2 to 64 are the same value of each kind.
+pub fn equal_modulo()
+    ensures { EqualModulo }
+{}
+
+/// Exactly the words that are equal modulo 2 to a kind's width are the same value of it.
+pub fn same_value()
+    ensures { SameValue }
+{}
+
+/// Of the words that are one value of a kind, the least is what is left modulo 2 to the width.
+pub fn least_word()
+    ensures { LeastWord }
+{}
+
+/// Words as values of the parameters' kinds are these values.
+pub fn fitted_twice()
+    ensures { FittedTwice }
 {}
