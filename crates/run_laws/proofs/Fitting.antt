@@ -1,7 +1,7 @@
 -- Words of a kind.
-use Rattle.std.proofs.Common.{◌≡◌, ℕ, ◌%◌, ◌^◌, ◌<◌, ◌≤◌, List, [], ◌∷◌, Some, pos, refl, sym, ap, subst, ◌∙◌, arith}
+use Rattle.std.proofs.Common.{◌≡◌, ℕ, ◌%◌, ◌^◌, ◌<◌, List, [], ◌∷◌, pos, refl, sym, ap, ◌∙◌, arith}
 use Rattle.std.proofs.Math.Nat.{mod-eq_of_lt, mod-le, mod-lt}
-use Rattle.std.specs.Prelude.{IsTrue, slice_get}
+use Rattle.std.specs.Prelude.{IsTrue}
 use Rattle.std.specs.List.{list_all}
 use Rattle.c_meaning.specs.Starts.{fitted, fitted_words}
 use Rattle.c_values.proofs.Bits.{low-wrapped}
@@ -9,9 +9,6 @@ use Rattle.c_values.proofs.Fitting.{IsValue-wrapped, and_left, and_right, patter
 use Rattle.c_values.proofs.Sums.{wrapped-from}
 use Rattle.c_values.specs.Kind.{IsKind, IsValue, fit, is_kind, number_of, pattern_of, reading, residue, wrapped}
 use Rattle.c_values.specs.declared.kinds.Kind.{Kind}
-use Rattle.cfa.specs.Graph.{IsGraph}
-use Rattle.cfa.specs.declared.parts.Function.{Function}
-use Rattle.cfa.specs.declared.parts.GraphParts.{GraphParts}
 use Rattle.run_laws.specs.Laws.{EqualModulo, FittedTwice, LeastWord, SameValue}
 
 -- a value is what its kind has of it

@@ -3,7 +3,7 @@ use Rattle.std.proofs.Common.{◌≡◌, ℕ, ◌+◌, ◌≤◌, suc, false, Li
 use Rattle.std.proofs.lemmas.List.Elements.{All-cons, All-head, All-nil, All-tail}
 use Rattle.std.specs.Prelude.{All}
 use Rattle.c_meaning.proofs.RunLaws.{counted_over, moved_over, moved_same}
-use Rattle.c_meaning.specs.Pairs.{IsRunWithin, pair_along, pairs_along}
+use Rattle.c_meaning.specs.Pairs.{IsRunWithin, last_pair_in, pair_along, pair_along_all, pairs_along}
 use Rattle.c_meaning.specs.Runs.{AreMoves, IsBeginning, Move, Run, counts, last_in, last_state, states_of, state_moved}
 use Rattle.c_meaning.specs.Steps.{next}
 use Rattle.c_meaning.specs.declared.ends.Ends.TheVariants as counted
@@ -45,7 +45,7 @@ moved_goes x at to is = ap (counts counted.Any) is
 
 module _ (parts : GraphParts) (input : Input) where
   -- the moves with one more
-  snoc_moves : (s : State) (ms : List Move) (m : Move) → AreMoves parts input s ms → m.source ≡ last_state s ms → next parts input (last_state s ms) ≡ Moved m.edge m.target → AreMoves parts input s (ms ++ m ∷ [])
+  pub snoc_moves : (s : State) (ms : List Move) (m : Move) → AreMoves parts input s ms → m.source ≡ last_state s ms → next parts input (last_state s ms) ≡ Moved m.edge m.target → AreMoves parts input s (ms ++ m ∷ [])
   snoc_moves s [] m h source comes = (source, comes, tt)
   snoc_moves s (n ∷ ms) m h source comes = (h.0, h.1, snoc_moves n.target ms m h.2 source comes)
 
@@ -74,6 +74,12 @@ module _ (parts : GraphParts) (input : Input) where
         let all : Each (pairs_along parts p (edges_of (m ∷ ns))) (λ i q. Within q) =
         each_cons Within (pair_along parts p m.edge) (pairs_along parts (pair_along parts p m.edge) (edges_of ns)) (within 0 (pair_along parts p m.edge) refl) more in
         subst (λ at. Each (pair_along parts p at ∷ pairs_along parts (pair_along parts p at) (edges_of ns)) (λ i q. Within q)) same.0 all
+
+    snoc_within : (p : Pair) (ms : List Move) (m : Move) → Each (pairs_along parts p (edges_of ms)) (λ n q. Within q) → Within (pair_along parts (pair_along_all parts p (edges_of ms)) m.edge) → Each (pairs_along parts p (edges_of (ms ++ m ∷ []))) (λ n q. Within q)
+    snoc_within p [] m within last = each_cons Within (pair_along parts p m.edge) [] last (each_none Within)
+    snoc_within p (n ∷ ms) m within last =
+        each_cons Within (pair_along parts p n.edge) (pairs_along parts (pair_along parts p n.edge) (edges_of (ms ++ m ∷ []))) (within 0 (pair_along parts p n.edge) refl)
+        (snoc_within (pair_along parts p n.edge) ms m (λ i q there. within (suc i) q there) last)
 
 -- ---- bounds
 
@@ -109,11 +115,18 @@ module _ (turns frames answers : ℕ) where
           (front_within parts input turns frames answers r.first (first_pair entry) r.moves q.moves h.moves moves over (λ i p there. within (suc i) p there))
 
       -- the beginning with one more move
-      one_more : (r : Run) (at : ℕ) (to : State) → IsBeginning parts entry input r → next parts input (last_in r) ≡ Moved at to → (q : Run) × IsBeginning parts entry input q × (length q.moves ≡ length r.moves + 1)
+      abbrev pub one_more : (r : Run) (at : ℕ) (to : State) → IsBeginning parts entry input r → next parts input (last_in r) ≡ Moved at to → (q : Run) × IsBeginning parts entry input q × (length q.moves ≡ length r.moves + 1)
       one_more r at to h comes =
           let m : Move = record { edge = at; source = last_in r; target = to } in
           let q : Run = record { first = r.first; moves = r.moves ++ m ∷ [] } in
           (q, record { start = h.start; moves = snoc_moves parts input r.first r.moves m h.moves refl comes }, length-append r.moves (m ∷ []))
+
+      -- it is within the bounds, where its last pair is
+      pub within_more : (r : Run) (at : ℕ) (to : State) (h : IsBeginning parts entry input r) (comes : next parts input (last_in r) ≡ Moved at to) → IsRunWithin turns frames answers parts entry r → IsWithin turns frames answers (pair_along parts (last_pair_in parts entry r) at).context → IsRunWithin turns frames answers parts entry (one_more r at to h comes).0
+      within_more r at to h comes within last =
+          let m : Move = record { edge = at; source = last_in r; target = to } in
+          each_cons (λ (p : Pair). IsWithin turns frames answers p.context) (first_pair entry) (pairs_along parts (first_pair entry) (edges_of (r.moves ++ m ∷ []))) (within 0 (first_pair entry) refl)
+          (snoc_within parts input turns frames answers (first_pair entry) r.moves m (λ i p there. within (suc i) p there) last)
 
 pub longest_leaves : LongestLeaves
 longest_leaves turns frames answers parts entry input r h = (

@@ -1,5 +1,5 @@
 //! Laws of the definitions in specs/. Each function does nothing: its contract is the law.
-ghost use Rattle.run_laws.specs.Laws.{StatesCompose, OneEnd, EndsCompose, RunsEnd, EndsAreRuns, LongestLeaves, NoneEnds, RunsLeave, RunsStay, HitsStay, NoneHitsAtAll, EqualModulo, SameValue, LeastWord, FittedTwice};
+ghost use Rattle.run_laws.specs.Laws.{StatesCompose, OneEnd, EndsCompose, RunsEnd, EndsAreRuns, LongestLeaves, NoneEnds, RunsLeave, RunsStay, HitsStay, NoneHitsAtAll, WordsStart, AlikeNexts, SameEdges, SameEnds, AlikeBeginnings, AlikeRecords, AlikeRuns, AlikeLongest, AlikeHits, AlikeBack, AlikeByNumbers, AnswersAlike, TakenAlike, TakenWithin, FittedWords, FittedLongest, EqualModulo, SameValue, LeastWord, FittedTwice};
 
 /// State n + m from a state is state m from its state n.
 pub fn states_compose()
@@ -54,6 +54,88 @@ pub fn hits_stay()
 /// Where no input leaves the bounds, and none hits a goal within them, none hits it at all.
 pub fn none_hits_at_all()
     ensures { NoneHitsAtAll }
+{}
+
+/// Words that are the same values of the parameters' kinds begin a run in one state.
+pub fn words_start()
+    ensures { WordsStart }
+{}
+
+/// Where the answer that would be taken next is alike, so is what comes next.
+pub fn alike_nexts()
+    ensures { AlikeNexts }
+{}
+
+/// Whatever the answers, a run goes on along the same edge.
+pub fn same_edges()
+    ensures { SameEdges }
+{}
+
+/// Whatever the answers, a run ends in the same way, or goes on.
+pub fn same_ends()
+    ensures { SameEnds }
+{}
+
+/// Inputs that are alike for a run's beginning both have it.
+pub fn alike_beginnings()
+    ensures { AlikeBeginnings }
+{}
+
+/// Inputs that are alike for a run's beginning have one record of it.
+pub fn alike_records()
+    ensures { AlikeRecords }
+{}
+
+/// Inputs that are alike for a run both have it.
+pub fn alike_runs()
+    ensures { AlikeRuns }
+{}
+
+/// Inputs that are alike for the longest beginning within bounds both have it.
+pub fn alike_longest()
+    ensures { AlikeLongest }
+{}
+
+/// Inputs that are alike for a run that hits a goal both hit it.
+pub fn alike_hits()
+    ensures { AlikeHits }
+{}
+
+/// Being alike is mutual.
+pub fn alike_back()
+    ensures { AlikeBack }
+{}
+
+/// Inputs are alike for a run's beginning where their words are the same values and their answers are alike as far as it
+/// takes them.
+pub fn alike_by_numbers()
+    ensures { AlikeByNumbers }
+{}
+
+/// Inputs with equal words, whose answers are equal as far as a run's beginning takes them, have the same moves and record.
+pub fn answers_alike()
+    ensures { AnswersAlike }
+{}
+
+/// An input is alike to the one that has exactly the answers that a run's beginning reads.
+pub fn taken_alike()
+    ensures { TakenAlike }
+{}
+
+/// A run's beginning within bounds takes no more answers than they have.
+pub fn taken_within()
+    ensures { TakenWithin }
+{}
+
+/// Inputs whose words are the same values, and whose answers are alike as far as the bounds have answers, hit the same
+/// goals within the bounds.
+pub fn fitted_words()
+    ensures { FittedWords }
+{}
+
+/// And they have the same longest beginning within the bounds.
+pub fn fitted_longest()
+    ensures { FittedLongest }
 {}
 
 /// Words that are equal modulo 2 to 64 are the same value of each kind.
