@@ -22,7 +22,7 @@ same_number (false ∷ bits) = ap (λ n. 0 + 2 * n) (same_number bits)
 pub low_bits_of_number : LowBitsOfNumber
 low_bits_of_number bits = ap (low_bits (length bits)) (same_number bits) ∙ low_bits-number_from bits
 
-rows_by_number : (xs ys : List Bool) → length xs ≡ length ys → number_of_bits xs ≡ number_of_bits ys → xs ≡ ys
+pub rows_by_number : (xs ys : List Bool) → length xs ≡ length ys → number_of_bits xs ≡ number_of_bits ys → xs ≡ ys
 rows_by_number xs ys long e = sym (low_bits_of_number xs) ∙ (λ i. low_bits (long i) (e i)) ∙ low_bits_of_number ys
 
 rows_by_bits : (xs ys : List Bool) → length xs ≡ length ys → ((i : ℕ) → i < length xs → get_or xs i false ≡ get_or ys i false) → xs ≡ ys
@@ -34,11 +34,11 @@ rows_by_bits (x ∷ xs) (y ∷ ys) long h =
     let rest = rows_by_bits xs ys (omega (arith, long)) (λ i lt. h (suc i) (omega (arith, lt))) in
     λ i. here i ∷ rest i
 
-bit_few : (b : Bool) → bit b ≤ 1
+pub bit_few : (b : Bool) → bit b ≤ 1
 bit_few true = omega arith
 bit_few false = omega arith
 
-bits_apart : (x y : Bool) → bit x < bit y → (x ≡ false) × (y ≡ true)
+pub bits_apart : (x y : Bool) → bit x < bit y → (x ≡ false) × (y ≡ true)
 bits_apart true true lt = absurd (omega (arith, lt))
 bits_apart true false lt = absurd (omega (arith, lt))
 bits_apart false true lt = (refl, refl)

@@ -1,6 +1,6 @@
 -- What follows from the definitions of formulas and bits.
-use Rattle.std.specs.Prelude.{◌≡◌, ◌↔◌, ℕ, ◌<◌, ◌%◌, ◌^◌, ℤ, Bool, true, List, length, IsTrue}
-use Rattle.std.specs.List.{list_all}
+use Rattle.std.specs.Prelude.{◌≡◌, ◌↔◌, ℕ, ◌<◌, ◌≤◌, ◌%◌, ◌^◌, ℤ, Bool, true, List, length, map, IsTrue}
+use Rattle.std.specs.List.{AllZip, list_all}
 use Rattle.cnf.specs.Checks.{Checks}
 use Rattle.cnf.specs.Formulas.{Satisfies, is_true_literal}
 use Rattle.cnf.specs.declared.derivation.Derivation.{Derivation}
@@ -8,6 +8,7 @@ use Rattle.cnf.specs.declared.formula.Formula.{Formula}
 use Rattle.input_words.specs.Worlds.{low_bits}
 use Rattle.path_runner.specs.Masks.{number_of_bits}
 use Rattle.formula_laws.specs.Bits.{DifferAt, RowsDifferAt}
+use Rattle.formula_laws.specs.Orders.{FirstDifferAt, IsBefore, bits_in_order}
 use Rattle.formula_laws.specs.Units.{with_units}
 
 -- ---- unit clauses
@@ -47,3 +48,19 @@ NumberOfLowBits = (width n : ℕ) → number_of_bits (low_bits width n) ≡ n % 
 -- and the low bits of the number of a row are the row
 abbrev pub LowBitsOfNumber : Type 0
 LowBitsOfNumber = (bits : List Bool) → low_bits (length bits) (number_of_bits bits) ≡ bits
+
+-- ---- orders
+
+-- of rows of bits, the numbers of some are before those of others exactly where the bits, each row from its highest on,
+-- first differ so
+abbrev pub FirstBitDecides : Type 0
+FirstBitDecides =
+    (rows others : List (List Bool)) → map length rows ≡ map length others → IsBefore (map number_of_bits rows) (map number_of_bits others) ↔ ((k : ℕ) × FirstDifferAt (bits_in_order rows) (bits_in_order others) k)
+
+-- numbers each of which is at most another's are before what these are before
+abbrev pub LowerIsBefore : Type 0
+LowerIsBefore = (xs ys zs : List ℕ) → AllZip (λ x y. x ≤ y) xs ys → IsBefore ys zs → IsBefore xs zs
+
+-- a row with fewer bits has no greater number
+abbrev pub FewerBits : Type 0
+FewerBits = (xs ys : List Bool) → AllZip (λ x y. IsTrue x → IsTrue y) xs ys → number_of_bits xs ≤ number_of_bits ys

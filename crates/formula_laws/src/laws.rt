@@ -1,5 +1,5 @@
 //! Laws of the definitions in specs/. Each function does nothing: its contract is the law.
-ghost use Rattle.formula_laws.specs.Laws.{UnitsHold, UnitsKeep, UnitsRefuted, HighestBitOfRows, HighestBitDecides, NumberOfLowBits, LowBitsOfNumber};
+ghost use Rattle.formula_laws.specs.Laws.{UnitsHold, UnitsKeep, UnitsRefuted, HighestBitOfRows, HighestBitDecides, NumberOfLowBits, LowBitsOfNumber, FirstBitDecides, LowerIsBefore, FewerBits};
 
 /// A formula with unit clauses is satisfied exactly where the formula is, and all their literals are true.
 pub fn units_hold()
@@ -35,4 +35,20 @@ pub fn number_of_low_bits()
 /// The low bits of the number of a row are the row.
 pub fn low_bits_of_number()
     ensures { LowBitsOfNumber }
+{}
+
+/// Of rows of as many bits, the first difference of their bits, each row's from its highest on, decides which numbers are
+/// before the others.
+pub fn first_bit_decides()
+    ensures { FirstBitDecides }
+{}
+
+/// Numbers each of which is at most another's are before what these are before.
+pub fn lower_is_before()
+    ensures { LowerIsBefore }
+{}
+
+/// A row with fewer bits has no greater number.
+pub fn fewer_bits()
+    ensures { FewerBits }
 {}
