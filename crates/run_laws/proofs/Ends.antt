@@ -13,7 +13,7 @@ use Rattle.c_meaning.specs.declared.input.Input.{Input}
 use Rattle.c_meaning.specs.declared.stepped.Stepped.{Stepped}
 use Rattle.c_meaning.specs.declared.stepped.Stepped.TheVariants.{Moved, Returned, Trapped, Blocked, TooDeep}
 use Rattle.run_laws.specs.Ends.{EndsFrom}
-use Rattle.run_laws.specs.Laws.{EndsAreRuns, EndsCompose, OneEnd, RunsEnd, StatesCompose}
+use Rattle.run_laws.specs.Laws.{EndsAreRuns, EndsCompose, EndsHere, EndsOn, OneEnd, RunsEnd, StatesCompose}
 
 and_then_twice : (o : Option State) (f g : State → Option State) → option_and_then g (option_and_then f o) ≡ option_and_then (λ (t : State). option_and_then g (f t)) o
 and_then_twice None f g = refl
@@ -88,6 +88,14 @@ ends_compose parts input s t n end is = (
     over = h.over;
   },
 )
+
+pub ends_on : EndsOn
+ends_on parts input s to at end is = ends_compose parts input s to 1 end (ap state_moved is)
+
+pub ends_here : EndsHere
+ends_here parts input s end over =
+    let here : EndsFrom parts input s (next parts input s) = record { number = 0; last = s; reached = refl; comes = refl; over = over } in
+    (λ h. one_end parts input s (next parts input s) end here h, λ is. subst (EndsFrom parts input s) is here)
 
 -- ---- runs and their ends
 

@@ -5,3 +5,4 @@ pub mod Fitting
 pub mod Leaving
 pub mod Nexts
 pub mod Taken
+pub mod Traces

@@ -1,5 +1,5 @@
 -- What follows from the definitions of runs, their ends and bounds.
-use Rattle.std.specs.Prelude.{◌≡◌, ◌↔◌, ℕ, ◌+◌, ◌<◌, ◌≤◌, ◌%◌, ◌^◌, false, All, List, map, Some, IsTrue, option_and_then, slice_get, slice_index}
+use Rattle.std.specs.Prelude.{◌≡◌, ◌↔◌, ℕ, ◌+◌, ◌<◌, ◌≤◌, ◌%◌, ◌^◌, false, All, List, length, map, Some, None, IsTrue, option_and_then, slice_get, slice_index}
 use Rattle.c_values.specs.Kind.{IsKind}
 use Rattle.c_values.specs.declared.kinds.Kind.{Kind}
 use Rattle.cfa.specs.Graph.{IsGraph}
@@ -8,7 +8,7 @@ use Rattle.cfa.specs.declared.parts.GraphParts.{GraphParts}
 use Rattle.cfa.specs.declared.state.Predicates.{Predicates}
 use Rattle.cfa.specs.declared.state.State.{State}
 use Rattle.c_meaning.specs.Pairs.{IsLongestWithin, IsRunWithin}
-use Rattle.c_meaning.specs.Runs.{Run, IsBeginning, IsRun, counts, last_in, state_from, states_in}
+use Rattle.c_meaning.specs.Runs.{Run, IsBeginning, IsRun, counts, last_in, state_from, state_moved, states_in}
 use Rattle.c_meaning.specs.Starts.{CanStart, fitted, fitted_words, start_of}
 use Rattle.c_meaning.specs.Steps.{next}
 use Rattle.c_meaning.specs.declared.ends.Ends.{Ends}
@@ -16,13 +16,15 @@ use Rattle.c_meaning.specs.declared.ends.Ends.TheVariants as counted
 use Rattle.c_meaning.specs.declared.input.Input.{Input}
 use Rattle.c_meaning.specs.declared.stepped.Stepped.{Stepped}
 use Rattle.c_meaning.specs.declared.stepped.Stepped.TheVariants.{Moved}
-use Rattle.path_runner.specs.Paths.{end_at, record_of}
+use Rattle.path_runner.specs.Counted.{counts_end}
+use Rattle.path_runner.specs.Paths.{end_at, path_of, record_of}
 use Rattle.goals.specs.GoalForm.{GoalForm}
 use Rattle.goals.specs.declared.plan.Plan.{Plan}
 use Rattle.hits.specs.Inputs.{InputHits, InputHitsWithin}
 use Rattle.run_laws.specs.Alike.{AnswerAlike, AreAlike, WordsAlike}
 use Rattle.run_laws.specs.Ends.{EndsFrom, EndsIn}
 use Rattle.run_laws.specs.Leaving.{LeavesBounds}
+use Rattle.run_laws.specs.Traces.{RunsAlong}
 
 -- ---- the sequence of states
 
@@ -42,6 +44,15 @@ abbrev pub EndsCompose : Type 0
 EndsCompose =
     (parts : GraphParts) (input : Input) (s t : State) (n : ℕ) (end : Stepped) → state_from parts input s n ≡ Some t → EndsFrom parts input s end ↔ EndsFrom parts input t end
 
+-- so it ends as that from the next state does, where the run goes on, and else in what comes next
+abbrev pub EndsOn : Type 0
+EndsOn =
+    (parts : GraphParts) (input : Input) (s to : State) (at : ℕ) (end : Stepped) → next parts input s ≡ Moved at to → EndsFrom parts input s end ↔ EndsFrom parts input to end
+
+abbrev pub EndsHere : Type 0
+EndsHere =
+    (parts : GraphParts) (input : Input) (s : State) (end : Stepped) → state_moved (next parts input s) ≡ None → EndsFrom parts input s end ↔ (next parts input s ≡ end)
+
 -- a run ends in what comes next of its last state, and that is counted
 abbrev pub RunsEnd : Type 0
 RunsEnd =
@@ -51,6 +62,26 @@ RunsEnd =
 abbrev pub EndsAreRuns : Type 0
 EndsAreRuns =
     (parts : GraphParts) (entry : Function) (input : Input) (ends : Ends) (end : Stepped) → EndsIn parts entry input end → IsTrue (counts ends end) → (r : Run) × IsRun parts entry input ends r × (next parts input (last_in r) ≡ end)
+
+-- ---- edges
+
+-- a run goes along these edges exactly where the path up to as many edges does, and its end is counted
+abbrev pub PathsAlong : Type 0
+PathsAlong =
+    (parts : GraphParts) (entry : Function) (input : Input) (p : Predicates) (ends : Ends) (edges : List ℕ) →
+    RunsAlong parts entry input ends edges
+    ↔ (((path_of parts input p (length edges) (start_of parts entry input.words)).edges ≡ edges) × IsTrue (counts_end ends (path_of parts input p (length edges) (start_of parts entry input.words)).end))
+
+-- and then that path records the run
+abbrev pub RecordsAlong : Type 0
+RecordsAlong =
+    (parts : GraphParts) (entry : Function) (input : Input) (p : Predicates) (ends : Ends) (edges : List ℕ) (h : RunsAlong parts entry input ends edges) →
+    path_of parts input p (length edges) (start_of parts entry input.words) ≡ record_of parts input p h.run
+
+-- an input runs along one list of edges at most, whatever ends count
+abbrev pub OneTrace : Type 0
+OneTrace =
+    (parts : GraphParts) (entry : Function) (input : Input) (ends other : Ends) (edges more : List ℕ) → RunsAlong parts entry input ends edges → RunsAlong parts entry input other more → edges ≡ more
 
 -- ---- bounds
 

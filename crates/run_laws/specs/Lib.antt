@@ -2,3 +2,4 @@ pub mod Alike
 pub mod Ends
 pub mod Laws
 pub mod Leaving
+pub mod Traces

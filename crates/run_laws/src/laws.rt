@@ -1,5 +1,5 @@
 //! Laws of the definitions in specs/. Each function does nothing: its contract is the law.
-ghost use Rattle.run_laws.specs.Laws.{StatesCompose, OneEnd, EndsCompose, RunsEnd, EndsAreRuns, LongestLeaves, NoneEnds, RunsLeave, RunsStay, HitsStay, NoneHitsAtAll, WordsStart, AlikeNexts, SameEdges, SameEnds, AlikeBeginnings, AlikeRecords, AlikeRuns, AlikeLongest, AlikeHits, AlikeBack, AlikeByNumbers, AnswersAlike, TakenAlike, TakenWithin, FittedWords, FittedLongest, EqualModulo, SameValue, LeastWord, FittedTwice};
+ghost use Rattle.run_laws.specs.Laws.{StatesCompose, OneEnd, EndsCompose, EndsOn, EndsHere, RunsEnd, EndsAreRuns, PathsAlong, RecordsAlong, OneTrace, LongestLeaves, NoneEnds, RunsLeave, RunsStay, HitsStay, NoneHitsAtAll, WordsStart, AlikeNexts, SameEdges, SameEnds, AlikeBeginnings, AlikeRecords, AlikeRuns, AlikeLongest, AlikeHits, AlikeBack, AlikeByNumbers, AnswersAlike, TakenAlike, TakenWithin, FittedWords, FittedLongest, EqualModulo, SameValue, LeastWord, FittedTwice};
 
 /// State n + m from a state is state m from its state n.
 pub fn states_compose()
@@ -16,6 +16,16 @@ pub fn ends_compose()
     ensures { EndsCompose }
 {}
 
+/// Where the run goes on from a state, the states from it on end as those from the next one do.
+pub fn ends_on()
+    ensures { EndsOn }
+{}
+
+/// Where the run doesn't go on from a state, the states from it on end in what comes next of it.
+pub fn ends_here()
+    ensures { EndsHere }
+{}
+
 /// A run ends in what comes next of its last state, and that is counted.
 pub fn runs_end()
     ensures { RunsEnd }
@@ -24,6 +34,21 @@ pub fn runs_end()
 /// Where the states of an input end in a way that is counted, it has a run that ends so.
 pub fn ends_are_runs()
     ensures { EndsAreRuns }
+{}
+
+/// A run goes along these edges exactly where the path up to as many edges does, and its end is counted.
+pub fn paths_along()
+    ensures { PathsAlong }
+{}
+
+/// The path up to as many edges as a run goes along records the run.
+pub fn records_along()
+    ensures { RecordsAlong }
+{}
+
+/// An input runs along one list of edges at most.
+pub fn one_trace()
+    ensures { OneTrace }
 {}
 
 /// Of the longest beginning within bounds, the run goes on exactly where the input leaves them.
