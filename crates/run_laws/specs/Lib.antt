@@ -1,0 +1,5 @@
+pub mod Alike
+pub mod Ends
+pub mod Laws
+pub mod Leaving
+pub mod Traces
