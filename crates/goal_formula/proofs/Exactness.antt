@@ -48,7 +48,12 @@ module _ (parts : GraphParts) (predicates : Predicates) (f : Function) (u : Unwo
         let first = first_holds parts predicates f u.bounds u.ends plan goal u.circuit u.entries input h.lists given h.starts in
         let entries = run_hits parts predicates f u.bounds u.ends plan goal u.circuit u.entries input h.lists given hits in
         s.says.complete w (length-world_of f.parameters u.bounds.answers input) ((s.hit.value w first).1 entries);
-    determined = s.says.determined;
+    gates = new;
+    root = s.root;
+    variable = s.says.variable;
+    form = s.says.form;
+    inputs_over = s.says.inputs_over;
+    inputs_apart = s.says.inputs_apart;
     pairs = h.pairs;
     steps = h.steps;
     reached = h.reached;

@@ -3,7 +3,7 @@ use Rattle.std.proofs.Common.{◌≡◌, ◌⊎◌, ℕ, zero, suc, ◌+◌, ◌
 use Rattle.std.specs.Prelude.{slice_get}
 use Rattle.std.specs.List.{AllZip, Contains, filter_map, range_with_len}
 use Rattle.std.proofs.lemmas.Bool.{cases_lt}
-use Rattle.std.proofs.lemmas.List.{length-map, take_all, take_more}
+use Rattle.std.proofs.lemmas.List.{length-map, length-take-le, take_all, take_more}
 use Rattle.std.proofs.lemmas.Option.{get_or_from_slice_get, same_Some, slice_get_within}
 use Rattle.circuit.proofs.Gates.{input_count_more, input_count_same}
 use Rattle.circuit.specs.Truth.{World}
@@ -13,8 +13,10 @@ use Rattle.circuit.specs.declared.lit.Gate.TheVariants.{Input, And}
 use Rattle.circuit.specs.declared.lit.Lit.{Lit}
 use Rattle.clause_form.proofs.WorldLaws.{held_on}
 use Rattle.clause_form.specs.Encoding.{variable_of}
+use Rattle.clause_form.specs.Parts.{IsGateAt}
 use Rattle.clause_form.specs.Worlds.{AgreesOnInputs, AgreesOnWires}
 use Rattle.goal_formula.specs.Bits.{Gives, bit_in}
+use Rattle.goal_formula.specs.Forms.{variables_of_inputs}
 use Rattle.goal_formula.specs.Parts.{AreInputVariables}
 
 -- ---- lists
@@ -53,6 +55,22 @@ zip_each R [] (y ∷ ys) e h = absurd (omega (arith, e))
 zip_each R (x ∷ xs) [] e h = absurd (omega (arith, e))
 zip_each R (x ∷ xs) (y ∷ ys) e h = (h 0 x y refl refl, zip_each R xs ys (omega (arith, e)) (λ k a b p q. h (suc k) a b p q))
 
+-- ---- one gate more
+
+listed_more : (gates : List Gate) (variable : List (Option ℕ)) (v : Option ℕ) (number : ℕ) → length gates ≡ length variable → variables_of_inputs (gates ++ Input number ∷ []) (variable ++ v ∷ []) ≡ variables_of_inputs gates variable ++ v ∷ []
+listed_more [] [] v number e = refl
+listed_more [] (x ∷ variable) v number e = absurd (omega (arith, e))
+listed_more (g ∷ gates) [] v number e = absurd (omega (arith, e))
+listed_more (Input n ∷ gates) (x ∷ variable) v number e = ap (λ xs. x ∷ xs) (listed_more gates variable v number (omega (arith, e)))
+listed_more (And a b ∷ gates) (x ∷ variable) v number e = listed_more gates variable v number (omega (arith, e))
+
+listed_same : (gates : List Gate) (variable : List (Option ℕ)) (v : Option ℕ) (a b : Lit) → length gates ≡ length variable → variables_of_inputs (gates ++ And a b ∷ []) (variable ++ v ∷ []) ≡ variables_of_inputs gates variable
+listed_same [] [] v a b e = refl
+listed_same [] (x ∷ variable) v a b e = absurd (omega (arith, e))
+listed_same (g ∷ gates) [] v a b e = absurd (omega (arith, e))
+listed_same (Input n ∷ gates) (x ∷ variable) v a b e = ap (λ xs. x ∷ xs) (listed_same gates variable v a b (omega (arith, e)))
+listed_same (And c d ∷ gates) (x ∷ variable) v a b e = listed_same gates variable v a b (omega (arith, e))
+
 -- ---- one place after another
 
 module _ (gates : List Gate) (variable : List (Option ℕ)) where
@@ -61,15 +79,36 @@ module _ (gates : List Gate) (variable : List (Option ℕ)) where
     size = refl;
     each = λ number v e. absurd cc;
     all = λ place number lt e. absurd (omega arith);
+    listed = refl;
+    made = λ place g lt e. absurd (omega arith);
   }
 
-  module _ (place : ℕ) (bits : List (Option ℕ)) (h : AreInputVariables gates variable place bits) where
+  module _ (place : ℕ) (bits : List (Option ℕ)) (long : length variable ≡ length gates) (h : AreInputVariables gates variable place bits) where
     next_gates : (g : Gate) → slice_get gates place ≡ Some g → take (place + 1) gates ≡ take place gates ++ g ∷ []
     next_gates g there = take_more gates place g (slice_get_within gates place g there) ∙ ap (λ x. take place gates ++ x ∷ []) (get_or_from_slice_get gates place g g there)
 
-    pub inputs_more : (number : ℕ) (v : Option ℕ) → slice_get gates place ≡ Some (Input number) → number ≡ input_count (take place gates) → v ≡ get_or variable place None → AreInputVariables gates variable (place + 1) (bits ++ v ∷ [])
-    inputs_more number v there numbered is =
+    next_variables : (g : Gate) → slice_get gates place ≡ Some g → take (place + 1) variable ≡ take place variable ++ get_or variable place None ∷ []
+    next_variables g there = let lt = slice_get_within gates place g there in take_more variable place None (omega (arith, lt, long))
+
+    same_size : (g : Gate) → slice_get gates place ≡ Some g → length (take place gates) ≡ length (take place variable)
+    same_size g there =
+        let lt = slice_get_within gates place g there in
+        length-take-le place gates (omega (arith, lt)) ∙ sym (length-take-le place variable (omega (arith, lt, long)))
+
+    made_more : (g : Gate) → slice_get gates place ≡ Some g → IsGateAt gates place g → (q : ℕ) (x : Gate) → q < place + 1 → slice_get gates q ≡ Some x → IsGateAt gates q x
+    made_more g there own q x lt e =
+        ⊎_elim
+        (λ below. h.made q x below e)
+        (λ above.
+        let here : q ≡ place = omega arith in
+        let same : g ≡ x = same_Some g x (sym there ∙ ap (slice_get gates) (sym here) ∙ e) in
+        subst (λ n. IsGateAt gates n x) (sym here) (subst (IsGateAt gates place) same own))
+        (cases_lt q place)
+
+    pub inputs_more : (number : ℕ) (v : Option ℕ) → slice_get gates place ≡ Some (Input number) → IsGateAt gates place (Input number) → v ≡ get_or variable place None → AreInputVariables gates variable (place + 1) (bits ++ v ∷ [])
+    inputs_more number v there own is =
         let size = h.size in
+        let numbered : number ≡ input_count (take place gates) = own.number in
         let at : number ≡ length bits = numbered ∙ sym size in
         record {
           size = (let more = input_count_more (take place gates) number in let long = length-append bits (v ∷ []) in let count = ap input_count (next_gates (Input number) there) in omega arith);
@@ -85,10 +124,16 @@ module _ (gates : List Gate) (variable : List (Option ℕ)) where
               let own : number ≡ n = cc in
               got_new bits v n (sym own ∙ at) ∙ ap Some (is ∙ ap (λ k. get_or variable k None) (sym here)))
               (cases_lt q place);
+          listed =
+              ap (λ xs. xs ++ v ∷ []) h.listed
+              ∙ ap (λ x. variables_of_inputs (take place gates) (take place variable) ++ x ∷ []) is
+              ∙ sym (listed_more (take place gates) (take place variable) (get_or variable place None) number (same_size (Input number) there))
+              ∙ (λ i. variables_of_inputs (sym (next_gates (Input number) there) i) (sym (next_variables (Input number) there) i));
+          made = made_more (Input number) there own;
         }
 
-    pub inputs_other : (a b : Lit) → slice_get gates place ≡ Some (And a b) → AreInputVariables gates variable (place + 1) bits
-    inputs_other a b there = record {
+    pub inputs_other : (a b : Lit) → slice_get gates place ≡ Some (And a b) → IsGateAt gates place (And a b) → AreInputVariables gates variable (place + 1) bits
+    inputs_other a b there own = record {
       size = h.size ∙ sym (input_count_same (take place gates) a b) ∙ ap input_count (sym (next_gates (And a b) there));
       each = h.each;
       all = λ q n lt e. ⊎_elim
@@ -98,6 +143,11 @@ module _ (gates : List Gate) (variable : List (Option ℕ)) where
           let same : And a b ≡ Input n = same_Some (And a b) (Input n) (sym there ∙ ap (slice_get gates) (sym here) ∙ e) in
           absurd cc)
           (cases_lt q place);
+      listed =
+          h.listed
+          ∙ sym (listed_same (take place gates) (take place variable) (get_or variable place None) a b (same_size (And a b) there))
+          ∙ (λ i. variables_of_inputs (sym (next_gates (And a b) there) i) (sym (next_variables (And a b) there) i));
+      made = made_more (And a b) there own;
     }
 
 -- ---- all places
@@ -105,6 +155,9 @@ module _ (gates : List Gate) (variable : List (Option ℕ)) where
 module _ (gates : List Gate) (variable bits : List (Option ℕ)) (h : AreInputVariables gates variable (length gates) bits) where
   pub count_is : length bits ≡ input_count gates
   count_is = h.size ∙ ap input_count (take_all (length gates) gates (omega arith))
+
+  pub listed_all : length variable ≡ length gates → bits ≡ variables_of_inputs gates variable
+  listed_all long = h.listed ∙ (λ i. variables_of_inputs (take_all (length gates) gates (omega arith) i) (take_all (length gates) variable (omega (arith, long)) i))
 
   -- what an assignment gives the bits it gives the circuit's inputs
   pub inputs_given : (value : ℕ → Bool) (w : World) → Gives value bits w → AgreesOnInputs gates variable value w

@@ -6,6 +6,7 @@ pub mod Rooms
 pub mod RunHits
 pub mod Ends
 pub mod InputBits
+pub mod Cones
 pub mod Rooted
 pub mod InputWorlds
 pub mod Exactness

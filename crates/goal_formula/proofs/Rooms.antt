@@ -16,9 +16,12 @@ use Rattle.patterns.specs.declared.letter.Letter.{Letter}
 use Rattle.unwinder.proofs.Made.{few_inputs}
 use Rattle.unwinder.specs.Unwinding.{IsUnwound}
 use Rattle.unwinder.specs.declared.unwound.Unwound.{Unwound}
+use Rattle.input_words.specs.Worlds.{world_length}
+use Rattle.unwinding_size.specs.Sizes.{size_sum}
+use Rattle.goal_formula.specs.Laws.{VariablesAreFew}
 use Rattle.goal_formula.specs.Parts.{CanSay, SaysHit, most_hit_gates, most_match_gates}
 use Rattle.goal_formula.specs.declared.goal.GoalFormula.{GoalFormula}
-use Rattle.goal_formula.specs.Sizes.{passing_size, pattern_size, size_of}
+use Rattle.goal_formula.specs.Sizes.{goal_size, passing_size, pattern_size, size_of}
 use Rattle.goal_formula.proofs.Taken.{times_more}
 
 -- so many gates for each of so many entries, of which there may be more
@@ -102,5 +105,13 @@ module _ (parts : GraphParts) (predicates : Predicates) (f : Function) (u : Unwo
   }
 
   -- a formula that says that the entries hit a goal has fewer variables than a circuit may have wires
-  pub few_says : (new : List Gate) (g : GoalFormula) → SaysHit u.circuit new u.entries plan pattern f.parameters u.bounds.answers g → CanSay f u plan pattern → g.formula.variables ≤ 2 ^ 30
+  pub few_says : (new : List Gate) (g : GoalFormula) → SaysHit u.circuit new u.entries plan pattern f.parameters u.bounds.answers g → CanSay f u plan pattern → g.formula.variables < 2 ^ 30
   few_says new g s can = omega (arith, s.says.few_variables, s.grows.used, can.room)
+
+-- ---- within the limits
+
+pub variables_are_few_law : VariablesAreFew
+variables_are_few_law parts predicates entry f bounds plan goal pairs steps g are own few_answers few_pairs small size =
+    let inputs = few_inputs parts entry f bounds.answers g own few_answers in
+    let gates : 48 * goal_size plan goal (length pairs) ≤ 48 * 8388608 = mul-le-mul_left 48 size in
+    room_for (world_length f.parameters bounds.answers) (size_sum parts predicates f pairs steps) (length predicates.meanings) (length pairs) (48 * goal_size plan goal (length pairs)) inputs small are.most few_pairs gates

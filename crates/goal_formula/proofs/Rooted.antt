@@ -1,5 +1,6 @@
 -- The clause form of a literal, with the variables of the input bits.
-use Rattle.std.proofs.Common.{◌≡◌, ℕ, ◌+◌, ◌-◌, ◌*◌, ◌≤◌, ◌<◌, Bool, true, List, [], ◌∷◌, ◌++◌, length, take, drop, map, get_or, replicate, Option, Some, refl, sym, ap, subst, ◌∙◌, arith}
+use Rattle.std.proofs.Common.{◌≡◌, ℕ, ◌+◌, ◌-◌, ◌*◌, ◌^◌, ◌≤◌, ◌<◌, ◌↔◌, Bool, true, List, [], ◌∷◌, ◌++◌, length, take, drop, map, get_or, replicate, Option, Some, refl, sym, ap, subst, ◌∙◌, inl, inr, ⊎_elim, arith}
+use Rattle.std.specs.Prelude.{IsSome, slice_get}
 use Rattle.std.specs.List.{Contains, filter_map, flat_map, list_all, range_with_len}
 use Rattle.std.proofs.lemmas.List.{append-nil, drop-drop, length-drop, length-take-le, map-append, replicate_more, take-append-drop, take_all, take_more}
 use Rattle.std.proofs.lemmas.Grind.{flat_map-append}
@@ -7,18 +8,20 @@ use Rattle.std.proofs.lemmas.List.Sums.{sum_by_more}
 use Rattle.std.proofs.Math.Seq.{take-add}
 use Rattle.c_values.specs.declared.kinds.Kind.{Kind}
 use Rattle.circuit.specs.Truth.{World}
-use Rattle.circuit.specs.Wires.{input_count, lit_holds}
+use Rattle.circuit.specs.Wires.{IsWire, input_count, lit_holds}
 use Rattle.circuit.specs.declared.lit.Gate.{Gate}
 use Rattle.circuit.specs.declared.lit.Lit.{Lit}
-use Rattle.clause_form.specs.Encoding.{is_over}
+use Rattle.clause_form.specs.Cone.{IsInCone}
+use Rattle.clause_form.specs.Encoding.{cone_clauses, is_over, variable_of}
 use Rattle.clause_form.specs.Worlds.{AgreesOnInputs, AgreesOnWires, assignment_of}
 use Rattle.cnf.specs.Formulas.{Satisfies}
 use Rattle.input_words.specs.Worlds.{total_width, world_length}
-use Rattle.goal_formula.specs.Bits.{Gives, IsShaped, bit_in, input_variables}
-use Rattle.goal_formula.specs.Exact.{AgreeOnInputs}
-use Rattle.goal_formula.specs.Parts.{AreInputVariables, SaysRoot}
+use Rattle.goal_formula.specs.Bits.{Gives, IsShaped, input_variables}
+use Rattle.goal_formula.specs.Forms.{IsConeForm, IsFormulaOf}
+use Rattle.goal_formula.specs.Parts.{AreInputVariables}
 use Rattle.goal_formula.specs.declared.goal.GoalFormula.{GoalFormula}
-use Rattle.goal_formula.proofs.InputBits.{bits_given, count_is, gives_other, gives_own, inputs_given, wire_of}
+use Rattle.goal_formula.proofs.Cones.{circuit_of, inputs_apart, inputs_over, made, of_each, same_values}
+use Rattle.goal_formula.proofs.InputBits.{bits_given, count_is, inputs_given, listed_all}
 
 -- ---- rows
 
@@ -95,9 +98,9 @@ all_rows bits words answers width count from long at front back =
 
 module _ (gates : List Gate) (root : Lit) (parameters : List Kind) (answers : ℕ) (variable bits : List (Option ℕ)) (g : GoalFormula)
     (inputs : AreInputVariables gates variable (length gates) bits) (all : input_variables g ≡ bits) (shape : IsShaped parameters answers g) (count : input_count gates ≡ world_length parameters answers)
+    (size : length variable ≡ length gates) (cone : (wire : ℕ) → 0 < wire → IsSome (variable_of variable wire) ↔ IsInCone gates root wire)
     (numbers : filter_map (λ v. v) variable ≡ range_with_len 1 g.formula.variables)
     (sound : (value : ℕ → Bool) (w : World) → Satisfies value g.formula → AgreesOnInputs gates variable value w → lit_holds gates root w ≡ true)
-    (determined : (value : ℕ → Bool) (w : World) → Satisfies value g.formula → AgreesOnInputs gates variable value w → AgreesOnWires gates variable value w)
     (assigned : (w : World) → AgreesOnWires gates variable (assignment_of gates variable w) w)
     (complete : (value : ℕ → Bool) (w : World) → lit_holds gates root w ≡ true → AgreesOnWires gates variable value w → Satisfies value g.formula) where
   abbrev GivesAll : (ℕ → Bool) → World → Type 0
@@ -109,25 +112,36 @@ module _ (gates : List Gate) (root : Lit) (parameters : List Kind) (answers : �
   from_bits : (value : ℕ → Bool) (w : World) → Gives value bits w → GivesAll value w
   from_bits value w h = subst (λ vs. Gives value vs w) (sym all) h
 
-  same_values : (value other : ℕ → Bool) → Satisfies value g.formula → Satisfies other g.formula → AgreeOnInputs value other g → (n : ℕ) → 0 < n → n ≤ g.formula.variables → value n ≡ other n
-  same_values value other own next agree n low high =
-      let w = map (bit_in value) bits in
-      let agree_bits : (m : ℕ) → Contains bits (Some m) → value m ≡ other m = λ m has. agree m (subst (λ vs. Contains vs (Some m)) (sym all) has) in
-      let first = determined value w own (inputs_given gates variable bits inputs value w (gives_own value bits)) in
-      let second = determined other w next (inputs_given gates variable bits inputs other w (gives_other value other bits agree_bits)) in
-      let wire = wire_of variable g.formula.variables n numbers low high in
-      first wire.0 n wire.1 ∙ sym (second wire.0 n wire.1)
+  has_bits : (n : ℕ) → Contains bits (Some n) → Contains (input_variables g) (Some n)
+  has_bits n has = subst (λ vs. Contains vs (Some n)) (sym all) has
 
-  pub rooted : g.formula.variables ≤ length gates → list_all (list_all (is_over g.formula.variables)) g.formula.clauses ≡ true → length g.formula.clauses ≤ 3 * g.formula.variables + 1 → SaysRoot gates root parameters answers g
-  rooted few over few_clauses = record {
+  cone_form : IsWire gates root → length gates ≤ 2 ^ 30 → g.formula.clauses ≡ cone_clauses gates variable root → IsConeForm gates root variable g
+  cone_form wire few clauses = record {
+    circuit = circuit_of gates few (made gates root variable bits g.formula.variables inputs size cone numbers);
+    root_wire = wire;
+    wires = size;
+    cone = cone;
+    numbers = numbers;
+    clauses = clauses;
+    inputs = all ∙ listed_all gates variable bits inputs size;
+    each = λ n low high. ⊎_elim (λ has. inl (has_bits n has)) (λ gate. inr gate) (of_each gates root variable bits g.formula.variables inputs size cone numbers n low high);
+    determined = λ value other own next agree. same_values gates root variable bits g.formula.variables inputs size cone numbers value other own next (λ m has. agree m (has_bits m has));
+  }
+
+  pub rooted : IsWire gates root → length gates ≤ 2 ^ 30 → g.formula.clauses ≡ cone_clauses gates variable root → g.formula.variables ≤ length gates → list_all (list_all (is_over g.formula.variables)) g.formula.clauses ≡ true
+      → length g.formula.clauses ≤ 3 * g.formula.variables + 1 → IsFormulaOf gates root parameters answers g
+  rooted wire few clauses few_variables over few_clauses = record {
     shape = shape;
     sound = λ value w own gives. sound value w own (inputs_given gates variable bits inputs value w (to_bits value w gives));
     complete = λ w long holds.
         let value = assignment_of gates variable w in
         let size : length w ≡ length bits = long ∙ sym count ∙ sym (count_is gates variable bits inputs) in
         (value, from_bits value w (bits_given gates variable bits inputs value w size (assigned w)), complete value w holds (assigned w));
-    determined = same_values;
-    few_variables = few;
+    variable = variable;
+    form = cone_form wire few clauses;
+    inputs_over = λ n has. inputs_over gates root variable bits g.formula.variables inputs size cone numbers n (subst (λ vs. Contains vs (Some n)) all has);
+    inputs_apart = λ i j n p q. inputs_apart gates root variable bits g.formula.variables inputs size cone numbers i j n (ap (λ vs. slice_get vs i) (sym all) ∙ p) (ap (λ vs. slice_get vs j) (sym all) ∙ q);
+    few_variables = few_variables;
     over = over;
     few_clauses = few_clauses;
   }

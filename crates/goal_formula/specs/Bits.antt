@@ -1,6 +1,6 @@
 -- Which variable is which bit of an input, and the input of an assignment.
-use Rattle.std.specs.Prelude.{◌≡◌, ℕ, ◌-◌, Bool, false, List, [], ◌∷◌, ◌++◌, map, replicate, Option, Some, slice_index_or}
-use Rattle.std.specs.List.{AllZip, flat_map}
+use Rattle.std.specs.Prelude.{◌≡◌, ℕ, ◌-◌, ◌<◌, ◌≤◌, Bool, false, List, [], ◌∷◌, ◌++◌, map, replicate, Option, Some, slice_get, slice_index_or}
+use Rattle.std.specs.List.{AllZip, Contains, flat_map}
 use Rattle.std.specs.Option.{option_map_or}
 use Rattle.std.proofs.Common.{length}
 use Rattle.c_meaning.specs.declared.input.Input.{Input}
@@ -18,6 +18,18 @@ input_variables g = flat_map (λ row. row) g.words ++ flat_map (λ row. row) g.a
 pub record IsShaped (parameters : List Kind) (answers : ℕ) (g : GoalFormula) : Type 0 where
   pub words : map length g.words ≡ map (λ (kind : Kind). kind.width) parameters
   pub answers_are : map length g.answers ≡ replicate answers 64
+
+-- each of these variables is one of the formula's, from 1 to their number
+abbrev pub AreInputsOver : GoalFormula → Type 0
+AreInputsOver g = (n : ℕ) → Contains (input_variables g) (Some n) → (0 < n) × (n ≤ g.formula.variables)
+
+-- none of them stands at two places
+abbrev pub AreInputsApart : GoalFormula → Type 0
+AreInputsApart g = (i j n : ℕ) → slice_get (input_variables g) i ≡ Some (Some n) → slice_get (input_variables g) j ≡ Some (Some n) → i ≡ j
+
+-- two assignments give each input bit that has a variable the same value
+abbrev pub AgreeOnInputs : (value other : ℕ → Bool) → GoalFormula → Type 0
+AgreeOnInputs value other g = (n : ℕ) → Contains (input_variables g) (Some n) → value n ≡ other n
 
 -- an assignment gives each of these bits that has a variable what the world has there
 abbrev pub Gives : (ℕ → Bool) → List (Option ℕ) → World → Type 0

@@ -1,6 +1,5 @@
 -- What only the code's parts ask of each other.
 use Rattle.std.specs.Prelude.{◌≡◌, ℕ, ◌+◌, ◌*◌, ◌^◌, ◌<◌, ◌≤◌, ◌↔◌, Bool, true, List, length, take, Option, None, Some, slice_get, slice_index_or}
-use Rattle.std.specs.List.{list_all}
 use Rattle.automata.specs.Standing.{HasMatch}
 use Rattle.bit_words.specs.Words.{Grows}
 use Rattle.c_values.specs.declared.kinds.Kind.{Kind}
@@ -11,8 +10,7 @@ use Rattle.circuit.specs.Wires.{IsWire, input_count, lit_holds}
 use Rattle.circuit.specs.declared.lit.Gate.{Gate}
 use Rattle.circuit.specs.declared.lit.Gate.TheVariants.{Input}
 use Rattle.circuit.specs.declared.lit.Lit.{Lit}
-use Rattle.clause_form.specs.Encoding.{is_over}
-use Rattle.cnf.specs.Formulas.{Satisfies}
+use Rattle.clause_form.specs.Parts.{IsGateAt}
 use Rattle.goals.specs.declared.plan.PassingPattern.{PassingPattern}
 use Rattle.goals.specs.declared.plan.Plan.{Plan}
 use Rattle.input_words.specs.Worlds.{world_length}
@@ -20,8 +18,7 @@ use Rattle.patterns.specs.Match.{Form}
 use Rattle.patterns.specs.declared.letter.Letter.{Letter}
 use Rattle.unwinder.specs.declared.unwound.Entry.{Entry}
 use Rattle.unwinder.specs.declared.unwound.Unwound.{Unwound}
-use Rattle.goal_formula.specs.Bits.{Gives, IsShaped, input_variables}
-use Rattle.goal_formula.specs.Exact.{AgreeOnInputs}
+use Rattle.goal_formula.specs.Forms.{IsFormulaOf, variables_of_inputs}
 use Rattle.goal_formula.specs.Hitting.{EntriesHit, FirstHolds, MeetsPassing}
 use Rattle.goal_formula.specs.Sizes.{passing_size, pattern_size}
 use Rattle.goal_formula.specs.Steps.{HasWires, steps_in}
@@ -55,28 +52,20 @@ pub record IsHitBit (old new : List Gate) (entries : List Entry) (plan : Plan) (
 
 -- ---- clauses
 
--- the variable of each input of the gates at the first places, in order
+-- the variable of each input of the gates at the first places, in order, and what a circuit keeps of these gates
 pub record AreInputVariables (gates : List Gate) (variable : List (Option ℕ)) (places : ℕ) (bits : List (Option ℕ)) : Type 0 where
   pub size : length bits ≡ input_count (take places gates)
   pub each : (number : ℕ) (v : Option ℕ) → slice_get bits number ≡ Some v → (place : ℕ) × (slice_get gates place ≡ Some (Input number)) × (slice_index_or variable place None ≡ v)
   pub all : (place number : ℕ) → place < places → slice_get gates place ≡ Some (Input number) → slice_get bits number ≡ Some (slice_index_or variable place None)
-
--- a formula with its input bits says that a literal holds
-pub record SaysRoot (gates : List Gate) (root : Lit) (parameters : List Kind) (answers : ℕ) (g : GoalFormula) : Type 0 where
-  pub shape : IsShaped parameters answers g
-  pub sound : (value : ℕ → Bool) (w : World) → Satisfies value g.formula → Gives value (input_variables g) w → lit_holds gates root w ≡ true
-  pub complete : (w : World) → length w ≡ world_length parameters answers → lit_holds gates root w ≡ true → (value : ℕ → Bool) × Gives value (input_variables g) w × Satisfies value g.formula
-  pub determined : (value other : ℕ → Bool) → Satisfies value g.formula → Satisfies other g.formula → AgreeOnInputs value other g → (n : ℕ) → 0 < n → n ≤ g.formula.variables → value n ≡ other n
-  pub few_variables : g.formula.variables ≤ length gates
-  pub over : list_all (list_all (is_over g.formula.variables)) g.formula.clauses ≡ true
-  pub few_clauses : length g.formula.clauses ≤ 3 * g.formula.variables + 1
+  pub listed : bits ≡ variables_of_inputs (take places gates) (take places variable)
+  pub made : (place : ℕ) (g : Gate) → place < places → slice_get gates place ≡ Some g → IsGateAt gates place g
 
 -- a formula with its input bits says that the entries hit a goal, by a literal of a circuit that has grown
 pub record SaysHit (old new : List Gate) (entries : List Entry) (plan : Plan) (pattern : Form Letter) (parameters : List Kind) (answers : ℕ) (g : GoalFormula) : Type 0 where
   pub grows : Grows old new (most_hit_gates plan pattern (length entries))
   pub root : Lit
   pub hit : IsHitBit old new entries plan pattern root
-  pub says : SaysRoot new root parameters answers g
+  pub says : IsFormulaOf new root parameters answers g
 
 -- what the clauses of a goal ask of an unwinding of a function: entries over the wires of its circuit, whose inputs are the
 -- bits of the function's inputs, and room for the gates of the goal

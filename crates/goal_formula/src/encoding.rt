@@ -1,10 +1,11 @@
-// A literal of an unwinding's circuit as clauses, with the variables of the input bits.
+// The formula of a literal of an unwinding's circuit, with the variables of the input bits.
 ghost use Rattle.std.specs.Prelude.{◌≡◌, ◌+◌, ◌*◌, ◌≤◌, ◌^◌, IfOk, length, map, replicate, take, drop};
 ghost use Rattle.std.specs.List.{flat_map};
 ghost use Rattle.c_values.specs.declared.kinds.Kind.{Kind as OneKind};
 ghost use Rattle.circuit.specs.Wires.{IsWire, input_count};
 ghost use Rattle.input_words.specs.Worlds.{total_width, world_length};
-ghost use Rattle.goal_formula.specs.Parts.{AreInputVariables, SaysRoot};
+ghost use Rattle.goal_formula.specs.Forms.{IsFormulaOf};
+ghost use Rattle.goal_formula.specs.Parts.{AreInputVariables};
 
 use crate::goal::GoalFormula;
 use c_values::Kind;
@@ -84,21 +85,27 @@ fn answer_rows(
     Ok(rows)
 }
 
-/// The clauses that say that a literal holds, with the variables of the bits of a function's arguments and of so many answers.
-pub(crate) fn encoded(
+/// The formula that says that a literal holds, of a circuit whose inputs are the bits of a function's inputs: those of its
+/// arguments, and 64 for each of so many answers. It is the clause form of the literal's cone, with the variable of each
+/// input bit.
+///
+/// The circuit is that of an unwinding, or one that grew from it by gates that aren't inputs: so a caller adds the gates of
+/// what it asks, takes the formula of their literal, and cuts them off again. An unwinding has at most 256 answers. Want of
+/// memory is the only other answer. Takes time and memory in proportion to the literal's cone, and to a table of all wires.
+pub fn literal_formula(
     alloc: Global,
     circuit: &Circuit,
-    root: Lit,
+    literal: Lit,
     parameters: &[Kind],
     answers: u32,
 ) -> Result<GoalFormula, Memory>
-    requires root { IsWire circuit.now root }
+    requires literal { IsWire circuit.now literal }
     requires few { length circuit.now ≤ 2 ^ 30 }
     requires inputs { input_count circuit.now ≡ world_length parameters.now answers }
     requires answers { answers ≤ 256 }
-    ensures { IfOk result (SaysRoot circuit.now root parameters.now answers) }
+    ensures { IfOk result (IsFormulaOf circuit.now literal parameters.now answers) }
 {
-    let form = clause_form(alloc, circuit, root)?;
+    let form = clause_form(alloc, circuit, literal)?;
     let bits = input_variables(alloc, circuit, &form.variable)?;
     let words = word_rows(alloc, &bits, parameters)?;
     let from = bits.len() - 64 * answers as usize;

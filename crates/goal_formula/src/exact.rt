@@ -16,7 +16,7 @@ ghost use Rattle.goal_formula.specs.Parts.{CanSay, SaysHit, most_hit_gates};
 ghost use Rattle.goal_formula.specs.Sizes.{IsFormulaFault, goal_size, size_of};
 ghost use Rattle.goal_formula.specs.Steps.{HasWires};
 
-use crate::encoding::encoded;
+use crate::encoding::literal_formula;
 use crate::goal::GoalFormula;
 use crate::hitting::hit;
 use crate::size::is_too_large;
@@ -49,7 +49,7 @@ fn clauses(
 {
     match hit(alloc, circuit, plan, pattern, entries) {
         Err(_) => Err(Memory),
-        Ok(root) => encoded(alloc, circuit, root, parameters, answers),
+        Ok(root) => literal_formula(alloc, circuit, root, parameters, answers),
     }
 }
 
@@ -111,7 +111,7 @@ pub fn formula(
     requires some { 0 < goal }
     requires there { goal ≤ length plan.now.goals }
     ensures accepted { IfOk result (λ formula. (f : OneFunction) (g : GoalForm) → slice_get graph.now.functions unwound.old.entry ≡ Some f → slice_get plan.now.goals (goal - 1) ≡ Some g → IsExact graph.now predicates.now f unwound.old.bounds unwound.old.ends plan.now g formula) }
-    ensures small { IfOk result (λ formula. formula.formula.variables ≤ 2 ^ 30) }
+    ensures small { IfOk result (λ formula. formula.formula.variables < 2 ^ 30) }
     ensures size { IfOk result (λ _. (g : GoalForm) → slice_get plan.now.goals (goal - 1) ≡ Some g → goal_size plan.now g unwound.old.pairs ≤ 8388608) }
     ensures refused { IfErr result (λ fault. (g : GoalForm) → slice_get plan.now.goals (goal - 1) ≡ Some g → IsFormulaFault (goal_size plan.now g unwound.old.pairs) fault) }
     ensures unwound { unwound.new ≡ unwound.old }

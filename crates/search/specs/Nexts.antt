@@ -52,3 +52,9 @@ IsFound formula budget (found.Model model) = IsModel formula model
 IsFound formula budget (found.NoModel derivation) = IsRefutation formula budget derivation
 IsFound formula budget (found.Spent history) =
     (length history.moves ≡ budget) × ((end : State) × Runs formula first_state history.moves end × (IsFinished formula end → ⊥))
+
+-- a search ended with a model or with a derivation
+abbrev pub HasEnded : Found → Type 0
+HasEnded (found.Model model) = Unit {0}
+HasEnded (found.NoModel derivation) = Unit {0}
+HasEnded (found.Spent history) = ⊥

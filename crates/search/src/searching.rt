@@ -1,7 +1,7 @@
 // The search.
 ghost use Rattle.std.specs.Prelude.{◌≤◌, ◌^◌, IfOk};
 ghost use Rattle.search.specs.Laws.{IsFormula};
-ghost use Rattle.search.specs.Nexts.{IsFound};
+ghost use Rattle.search.specs.Nexts.{HasEnded, IsFound};
 
 use crate::found::Found;
 use crate::installing::{install_all, nothing_watched};
@@ -12,9 +12,8 @@ use cnf::Formula;
 use fq_core::Memory;
 use std::alloc::Global;
 
-/// Searches a model of a formula with at most so many moves: a model, a derivation that shows that there is none, or,
-/// where the budget is spent, all the moves.
-pub fn search(alloc: Global, formula: &Formula, budget: u64) -> Result<Found, Memory>
+/// What a search finds.
+fn searched(alloc: Global, formula: &Formula, budget: u64) -> Result<Found, Memory>
     requires formula { IsFormula formula.now }
     requires small { formula.now.variables ≤ 2 ^ 30 }
     ensures { IfOk result (IsFound formula.now budget) }
@@ -39,4 +38,15 @@ pub fn search(alloc: Global, formula: &Formula, budget: u64) -> Result<Found, Me
         }
     }
     machine.end(alloc, formula)
+}
+
+/// Searches a model of a formula with at most so many moves: a model, a derivation that shows that there is none, or,
+/// where the budget is spent, all the moves. A budget of 3 to the number of the formula's variables is never spent.
+pub fn search(alloc: Global, formula: &Formula, budget: u64) -> Result<Found, Memory>
+    requires formula { IsFormula formula.now }
+    requires small { formula.now.variables ≤ 2 ^ 30 }
+    ensures found { IfOk result (IsFound formula.now budget) }
+    ensures enough { 3 ^ formula.now.variables ≤ budget → IfOk result HasEnded }
+{
+    searched(alloc, formula, budget)
 }

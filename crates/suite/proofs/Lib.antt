@@ -1,6 +1,7 @@
 pub mod Answering
 pub mod Firsts
 pub mod Generation
+pub mod Short
 pub mod Irredundant
 pub mod MarksLaws
 pub mod Models

@@ -1,6 +1,6 @@
 -- What is said of a goal where inputs are made: an input that hits it within the bounds, that no input does, or that the
 -- search spent its budget.
-use Rattle.std.specs.Prelude.{◌≡◌, ℕ, All, map}
+use Rattle.std.specs.Prelude.{◌≡◌, ℕ, ◌<◌, ◌^◌, All, List, map}
 use Rattle.std.specs.List.{AllZip}
 use Rattle.c_meaning.specs.Pairs.{IsRunWithin}
 use Rattle.c_meaning.specs.Runs.{IsRun, Run}
@@ -8,17 +8,20 @@ use Rattle.c_meaning.specs.declared.ends.Ends.{Ends}
 use Rattle.c_meaning.specs.declared.input.Input.{Input}
 use Rattle.c_values.specs.Kind.{IsValue}
 use Rattle.c_values.specs.declared.kinds.Kind.{Kind}
+use Rattle.cfa.specs.Contexts.{Pair}
 use Rattle.cfa.specs.declared.parts.Function.{Function}
 use Rattle.cfa.specs.declared.parts.GraphParts.{GraphParts}
 use Rattle.cfa.specs.declared.state.Predicates.{Predicates}
 use Rattle.cnf.specs.declared.formula.Formula.{Formula}
-use Rattle.goal_formula.specs.Exact.{IsExact}
+use Rattle.goal_formula.specs.Exact.{IsExact, most_variables}
 use Rattle.goals.specs.GoalForm.{GoalForm}
 use Rattle.goals.specs.declared.plan.Plan.{Plan}
 use Rattle.hits.specs.Hits.{Hits}
 use Rattle.hits.specs.Inputs.{InputHitsWithin}
 use Rattle.path_runner.specs.Paths.{record_of}
+use Rattle.reached.specs.Reaching.{AreReached}
 use Rattle.reached.specs.declared.bounds.Bounds.{Bounds}
+use Rattle.reached.specs.declared.step.Step.{Step}
 use Rattle.search.specs.Nexts.{IsFound, IsRefutation}
 use Rattle.search.specs.declared.found.Found.TheVariants.{Spent}
 use Rattle.search.specs.declared.moves.History.{History}
@@ -64,3 +67,17 @@ module _ (parts : GraphParts) (f : Function) (p : Predicates) (plan : Plan) (bou
       IsExact parts p f bounds ends plan goal formula × IsRefutation formula.formula budget derivation × NoneHits goal
   IsDecided goal budget (Undecided formula history) =
       IsExact parts p f bounds ends plan goal formula × IsSpent formula.formula budget history
+
+-- A budget of so many moves is below 3 to the most variables that a goal's formula has, over the pairs that are reached
+-- within the bounds.
+pub record FallsShort (parts : GraphParts) (f : Function) (p : Predicates) (plan : Plan) (bounds : Bounds) (goal : GoalForm) (budget : ℕ) : Type 0 where
+  pub pairs : List Pair
+  pub steps : List (List Step)
+  pub reached : AreReached parts bounds f pairs steps
+  pub short : budget < 3 ^ most_variables parts p f bounds plan goal pairs steps
+
+-- a goal stays undecided only where its budget falls short
+abbrev pub IsOpenWhereShort : GraphParts → Function → Predicates → Plan → Bounds → GoalForm → ℕ → Decided → Type 0
+IsOpenWhereShort parts f p plan bounds goal budget (Covered input) = Unit {0}
+IsOpenWhereShort parts f p plan bounds goal budget (Refuted formula derivation) = Unit {0}
+IsOpenWhereShort parts f p plan bounds goal budget (Undecided formula history) = FallsShort parts f p plan bounds goal budget

@@ -10,7 +10,7 @@ ghost use Rattle.goal_formula.specs.Sizes.{IsFormulaFault, goal_size};
 ghost use Rattle.goals.specs.GoalForm.{GoalForm};
 ghost use Rattle.goals.specs.declared.plan.Plan.{Plan as OnePlan};
 ghost use Rattle.search.specs.Nexts.{IsModel};
-ghost use Rattle.suite.specs.Made.{IsDecided, IsMadeFor};
+ghost use Rattle.suite.specs.Made.{IsDecided, IsMadeFor, IsOpenWhereShort};
 ghost use Rattle.unwinder.specs.Unwinding.{IsUnwound};
 
 use crate::decided::Decided;
@@ -115,7 +115,8 @@ fn searched(
 /// An input that is made has a run within the bounds that hits the goal, exactly the answers that this run reads, and values
 /// of their kinds as words. A goal is refuted by a derivation that checks over a formula that is exact for it, with at most one
 /// line more than the budget: then no input at all has such a run. It stays undecided only where a search of such a formula
-/// made as many moves as the budget allows and isn't finished. The unwinding stays as it was.
+/// made as many moves as the budget allows and isn't finished, and only with a budget below 3 to the most variables of its
+/// formula. The unwinding stays as it was.
 ///
 /// # Errors
 ///
@@ -135,6 +136,7 @@ pub fn decide(
     requires some { 0 < goal }
     requires there { goal ≤ length plan.now.goals }
     ensures decided { IfOk result (λ decided. (f : OneFunction) (g : GoalForm) → slice_get graph.now.functions unwound.old.entry ≡ Some f → slice_get plan.now.goals (goal - 1) ≡ Some g → IsDecided graph.now f predicates.now plan.now unwound.old.bounds unwound.old.ends g budget decided) }
+    ensures enough { IfOk result (λ decided. (f : OneFunction) (g : GoalForm) → slice_get graph.now.functions unwound.old.entry ≡ Some f → slice_get plan.now.goals (goal - 1) ≡ Some g → IsOpenWhereShort graph.now f predicates.now plan.now unwound.old.bounds g budget decided) }
     ensures size { IfOk result (λ _. (g : GoalForm) → slice_get plan.now.goals (goal - 1) ≡ Some g → goal_size plan.now g unwound.old.pairs ≤ 8388608) }
     ensures refused { IfErr result (λ fault. (g : GoalForm) → slice_get plan.now.goals (goal - 1) ≡ Some g → IsFormulaFault (goal_size plan.now g unwound.old.pairs) fault) }
     ensures unwound { unwound.new ≡ unwound.old }

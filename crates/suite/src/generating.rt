@@ -9,7 +9,7 @@ ghost use Rattle.goal_formula.specs.Sizes.{goal_size};
 ghost use Rattle.goals.specs.GoalForm.{GoalForm};
 ghost use Rattle.measurer.specs.Measurers.{IsMadeFor as MeasuresFor};
 ghost use Rattle.suite.specs.Generated.{AreAnswered, IsGenerateFault, IsGenerated, Shown, seen_also};
-ghost use Rattle.suite.specs.Made.{IsDecided, IsMadeFor};
+ghost use Rattle.suite.specs.Made.{FallsShort, IsDecided, IsMadeFor};
 ghost use Rattle.suite.specs.Progress.{AddsInput, AllAnswered, AnswersMore, AreSmall, IsNext, IsSizeFault, Tried, so_far};
 ghost use Rattle.unwinder.specs.Unwinding.{IsUnwound};
 
@@ -257,7 +257,8 @@ fn all_answered<W: Watch>(
 /// input is made for it, which has exactly the answers that its run reads, and values of their kinds as words; or it is
 /// refuted, since no input at all has a run within the bounds that hits it; or it stays undecided, and the watch is shown its
 /// number, a formula that is exact for it, and the moves of the search of this formula, as many as the budget, after which it
-/// isn't finished. The watch is shown nothing else.
+/// isn't finished. The watch is shown nothing else. No goal stays undecided with a budget of at least 3 to the most variables
+/// of its formula.
 ///
 /// # Errors
 ///
@@ -282,6 +283,7 @@ pub fn generate<W: Watch>(
     requires answers { bounds.answers ≤ 256 }
     requires few { length plan.now.goals < 2 ^ 32 }
     ensures generated { IfOk result (λ made. (f : OneFunction) → slice_get graph.now.functions entry ≡ Some f → (shown : List Shown) × IsGenerated graph.now f predicates.now plan.now bounds ends budget made shown × (W.seen watch.new ≡ seen_also (W.seen watch.old) shown)) }
+    ensures enough { IfOk result (λ made. (f : OneFunction) (place : ℕ) (g : GoalForm) → slice_get graph.now.functions entry ≡ Some f → slice_get plan.now.goals place ≡ Some g → slice_get made.answers place ≡ Some Answer.Undecided → FallsShort graph.now f predicates.now plan.now bounds g budget) }
     ensures refused { IfErr result (λ fault. (f : OneFunction) → slice_get graph.now.functions entry ≡ Some f → IsGenerateFault graph.now f predicates.now plan.now bounds ends fault) }
     ensures unseen { IfErr result (λ fault. IfRefused fault (λ _. W.seen watch.new ≡ W.seen watch.old)) }
 {

@@ -1,19 +1,21 @@
-use Rattle.std.proofs.Common.{length, arith, ◌≡◌}
-use Rattle.search.proofs.RoundLaws.{end_found}
+use Rattle.std.proofs.Common.{ℕ, ◌≤◌, ◌^◌, Err, Ok, Result, IfOk, arith}
+use Rattle.cnf.specs.declared.formula.Formula.{Formula}
+use Rattle.fq_core.specs.declared.memory.Memory.{Memory}
+use Rattle.search.specs.declared.found.Found.{Found}
+use Rattle.search.specs.declared.found.Found.TheVariants as found
+use Rattle.search.specs.Laws.{IsFormula}
+use Rattle.search.specs.Nexts.{HasEnded, IsFound}
+use Rattle.search.proofs.HistoryLaws.{histories_end_law}
 use Rattle.search.proofs.searching.search.Goals as goal
 
-pub returns-in-Model : goal.returns-in-Model
-returns-in-Model c = end_found c.args.formula.now 0 c.args.budget (omega arith) c.satisfied.result c.satisfied.ensures
+-- a history of so many moves would be too long
+ends : (formula : Formula) (budget : ℕ) → IsFormula formula → 3 ^ formula.variables ≤ budget → (r : Result Found Memory) → IfOk r (IsFound formula budget) → IfOk r HasEnded
+ends formula budget is most (Err e) h = tt
+ends formula budget is most (Ok (found.Model model)) h = tt
+ends formula budget is most (Ok (found.NoModel derivation)) h = tt
+ends formula budget is most (Ok (found.Spent history)) h =
+    let short = histories_end_law formula history.moves h.1.0 is h.1.1 in
+    absurd (omega (arith, h.0, short, most))
 
-pub returns-in-Refuted : goal.returns-in-Refuted
-returns-in-Refuted c =
-    let round = rw c.in-Refuted.is at c.in_ok-next_round.ensures in
-    end_found c.args.formula.now (length c.next_round.new.machine.moves.items) c.args.budget round.3 c.refuted.result c.refuted.ensures
-
-pub returns : goal.returns
-returns c =
-    let count = c.loop.invariant.count in
-    let paid = c.loop.invariant.searching.paid in
-    let ended = c.loop-test.false in
-    let same : length c.loop.machine.moves.items ≡ c.args.budget = omega (arith, count, paid, ended) in
-    rw same at c.end-2.ensures
+pub returns-clause-enough : goal.returns-clause-enough
+returns-clause-enough c = λ most. ends c.args.formula.now c.args.budget c.requires.formula most c.searched.result c.searched.ensures

@@ -1,4 +1,4 @@
-use Rattle.std.proofs.Common.{◌-◌, sym, subst, arith}
+use Rattle.std.proofs.Common.{◌≡◌, ◌-◌, Some, sym, subst, arith}
 use Rattle.std.specs.Prelude.{slice_get}
 use Rattle.std.specs.Option.{IsSomeAnd}
 use Rattle.cfa.proofs.Exits.{given, taken}
@@ -8,7 +8,9 @@ use Rattle.goals.specs.GoalForm.{GoalForm}
 use Rattle.goals.specs.declared.plan.Plan.{Plan}
 use Rattle.unwinder.specs.Unwinding.{IsUnwound}
 use Rattle.unwinder.specs.declared.unwound.Unwound.{Unwound}
+use Rattle.suite.specs.Made.{IsDecided}
 use Rattle.suite.proofs.Firsts.{there_at}
+use Rattle.suite.proofs.Short.{open_where_short}
 use Rattle.suite.proofs.deciding.decide.Goals as goal
 
 pub searched-requires-clause-exact : goal.searched-requires-clause-exact
@@ -25,3 +27,12 @@ searched-requires-clause-exact c =
     let Exact-at : Unwound → Function → Type 0 = λ v f. (plan : Plan) × ((g : GoalForm) × IsExact parts p f v.bounds v.ends plan g c.in_ok-formula.formula) in
     let Here : Unwound → Type 0 = λ v. IsSomeAnd (slice_get parts.functions v.entry) (Exact-at v) in
     subst Here (sym c.in_ok-formula.ensures.unwound) (given (Exact-at u) (slice_get parts.functions u.entry) it.0 it.1 (c.args.plan.now, (own_goal.0, exact)))
+
+pub returns-in-Ok-clause-enough : goal.returns-in-Ok-clause-enough
+returns-in-Ok-clause-enough c = λ f g own at.
+    let u = c.args.unwound.now in
+    let exact = c.in_ok-formula.ensures.accepted f g own at in
+    let Says : Unwound → Type 0 = λ v. (e : Function) (plan : Plan) (goal : GoalForm) → slice_get c.args.graph.now.functions v.entry ≡ Some e
+    → IsExact c.args.graph.now c.args.predicates.now e v.bounds v.ends plan goal c.in_ok-formula.formula → IsDecided c.args.graph.now e c.args.predicates.now plan v.bounds v.ends goal c.args.budget c.in-Ok.decided in
+    let says : Says u = subst Says c.in_ok-formula.ensures.unwound c.in-Ok.ensures in
+    open_where_short c.args.graph.now f c.args.predicates.now c.args.plan.now u.bounds u.ends g c.args.budget c.in-Ok.decided (says f c.args.plan.now g own exact)

@@ -1,6 +1,6 @@
 use Rattle.std.proofs.Common.{◌≤◌, length}
 use Rattle.search.specs.Readings.{IsSearching}
-use Rattle.search.proofs.searching.search.Given as goal
+use Rattle.search.proofs.searching.searched.Given as goal
 
 abbrev pub invariant-loop : goal.invariant-loop
 invariant-loop l = record {
