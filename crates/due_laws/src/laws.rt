@@ -1,4 +1,5 @@
 //! Laws of what is due. Each function does nothing else: its contract is the law.
+ghost use Rattle.due_laws.specs.Agreement.{CountsAddUp, CoveredIsNeverRefuted};
 ghost use Rattle.due_laws.specs.Determined.{AtMostOneIsDue, AtMostOneKindIsDue};
 
 use hits::laws::one_list_of_hits;
@@ -24,3 +25,13 @@ pub fn at_most_one_kind_is_due()
     one_size();
     not_too_many();
 }
+
+/// A goal that an input covers, by `generate` or `prove`, is refuted by none of `generate`, `prove` and `check`.
+pub fn covered_is_never_refuted()
+    ensures { CoveredIsNeverRefuted }
+{}
+
+/// Of a generation, the goals that are covered, refuted and undecided are all goals.
+pub fn counts_add_up()
+    ensures { CountsAddUp }
+{}
