@@ -18,7 +18,7 @@ use Rattle.unwinder.specs.Unwinding.{IsUnwound}
 use Rattle.unwinder.specs.declared.unwound.Unwound.{Unwound}
 use Rattle.input_words.specs.Worlds.{world_length}
 use Rattle.unwinding_size.specs.Sizes.{size_sum}
-use Rattle.goal_formula.specs.Laws.{VariablesAreFew}
+use Rattle.goal_formula.specs.Laws.{UnwindingsLeaveRoom, VariablesAreFew}
 use Rattle.goal_formula.specs.Parts.{CanSay, SaysHit, most_hit_gates, most_match_gates}
 use Rattle.goal_formula.specs.declared.goal.GoalFormula.{GoalFormula}
 use Rattle.goal_formula.specs.Sizes.{goal_size, passing_size, pattern_size, size_of}
@@ -115,3 +115,10 @@ variables_are_few_law parts predicates entry f bounds plan goal pairs steps g ar
     let inputs = few_inputs parts entry f bounds.answers g own few_answers in
     let gates : 48 * goal_size plan goal (length pairs) ≤ 48 * 8388608 = mul-le-mul_left 48 size in
     room_for (world_length f.parameters bounds.answers) (size_sum parts predicates f pairs steps) (length predicates.meanings) (length pairs) (48 * goal_size plan goal (length pairs)) inputs small are.most few_pairs gates
+
+pub unwindings_leave_room_law : UnwindingsLeaveRoom
+unwindings_leave_room_law parts predicates f u g are own h =
+    let inputs = few_inputs parts u.entry f u.bounds.answers g own h.most_answers in
+    let wires = h.wires in
+    let most = room_for _ _ (length predicates.meanings) (length h.pairs) (48 * 8388608) inputs h.small are.most h.few_pairs (omega arith) in
+    omega (arith, wires, most)

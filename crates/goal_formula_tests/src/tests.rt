@@ -3,15 +3,16 @@ ghost use Rattle.std.specs.Prelude.{◌≡◌, ◌<◌, ◌≤◌, [], IfOk, len
 ghost use Rattle.std.specs.Option.{IsSomeAnd};
 ghost use Rattle.cfa.specs.Contexts.{IsOnce};
 ghost use Rattle.cfa.specs.Predicates.{IsPredicates};
+ghost use Rattle.unwinder.specs.Unwinding.{IsUnwound};
 
 use c_front::automaton_of_texts;
 use c_meaning::Ends;
 use c_values::Kind;
 use cfa::{Graph, Predicates};
 use containers::Same;
-use fq_core::{Fault, Place, Refusal};
+use fq_core::{Fault, Memory, Place, Refusal};
 use fql_read::{Query, read_query};
-use goal_formula::{GoalFormula, formula, input_of, is_goal_too_large};
+use goal_formula::{GoalFormula, formula, input_of, is_goal_too_large, literal_formula};
 use goals::{Plan, plan_of};
 use predicates::resolve;
 use reached::Bounds;
@@ -19,6 +20,7 @@ use std::alloc::Global;
 use std::test::Fail;
 use test_programs::{graph_of, texts_of};
 use test_unwindings::{entry_of, unwound_of};
+use unwinder::Unwound;
 
 // A program, a query, the number of a goal, how runs are bounded, which ends count, and how many values of one byte, as the
 // argument or as the first answer, satisfy the goal's formula.
@@ -125,6 +127,22 @@ fn pair_in(
     Ok((before, after))
 }
 
+// The automaton of a source.
+fn automaton_of(alloc: Global, source: &str) -> Result<Graph, Fail>
+    ensures { IfOk result (λ graph. IsOnce graph) }
+{
+    let Ok(texts) = texts_of(alloc, &[("a.c", source)]) else {
+        return Err(Fail::from("no memory"));
+    };
+    if !c_lex::are_small(&texts) || texts.len() != 1 {
+        return Err(Fail::from("no unit"));
+    }
+    match automaton_of_texts(alloc, &texts) {
+        Ok(graph) => Ok(graph),
+        Err(_) => Err(Fail::from("no automaton")),
+    }
+}
+
 fn pair_of(
     alloc: Global,
     source: &str,
@@ -134,15 +152,7 @@ fn pair_of(
     bounds: Bounds,
     ends: Ends,
 ) -> Result<Result<(GoalFormula, GoalFormula), Fault>, Fail> {
-    let Ok(texts) = texts_of(alloc, &[("a.c", source)]) else {
-        return Err(Fail::from("no memory"));
-    };
-    if !c_lex::are_small(&texts) || texts.len() != 1 {
-        return Err(Fail::from("no unit"));
-    }
-    let Ok(graph) = automaton_of_texts(alloc, &texts) else {
-        return Err(Fail::from("no automaton"));
-    };
+    let graph = automaton_of(alloc, source)?;
     let Ok(query) = read_query(alloc, query.as_bytes()) else {
         return Err(Fail::from("no query"));
     };
@@ -173,6 +183,68 @@ fn pair_of(
         bounds,
         ends,
     ))
+}
+
+// The formula of the guard of an entry.
+fn guard_at(
+    alloc: Global,
+    graph: &Graph,
+    predicates: &Predicates,
+    unwound: &Unwound,
+    place: usize,
+) -> Result<GoalFormula, Memory>
+    requires predicates { IsPredicates graph.now predicates.now }
+    requires unwound { IsSomeAnd (slice_get graph.now.functions unwound.now.entry) (λ f. IsUnwound graph.now predicates.now f unwound.now.entry unwound.now.bounds unwound.now.ends unwound.now) }
+    requires there { place < length unwound.now.entries }
+{
+    graph.well_formed();
+    let function = &graph.functions()[unwound.entry as usize];
+    literal_formula(
+        alloc,
+        &unwound.circuit,
+        unwound.entries[place].guard,
+        &function.parameters,
+        unwound.bounds.answers,
+    )
+}
+
+// The formula of the guard of the entry behind an edge, of which there is at most one.
+fn guard_in(
+    alloc: Global,
+    graph: &Graph,
+    entry: u32,
+    predicates: &Predicates,
+    edge: u32,
+) -> Result<Option<GoalFormula>, Fault>
+    requires once { IsOnce graph.now }
+    requires entry { IsSomeAnd (slice_get graph.now.functions entry) (λ f. f.arrays ≡ []) }
+    requires predicates { IsPredicates graph.now predicates.now }
+{
+    let unwound = unwound_of(alloc, graph, entry, predicates, TURNS, Ends::Returned)?;
+    for place in 0..unwound.entries.len() {
+        if unwound.entries[place].edge == Some(edge) {
+            let made = guard_at(alloc, graph, predicates, &unwound, place)?;
+            return Ok(Some(made));
+        }
+    }
+    Ok(None)
+}
+
+fn guard_of(alloc: Global, source: &str, edge: u32) -> Result<GoalFormula, Fail> {
+    let graph = automaton_of(alloc, source)?;
+    let Ok(query) = read_query(alloc, b"cover NODES(ID)") else {
+        return Err(Fail::from("no query"));
+    };
+    let Ok(predicates) = predicates_of(alloc, &graph, &query) else {
+        return Err(Fail::from("no predicates"));
+    };
+    let Some(entry) = entry_of(&graph) else {
+        return Err(Fail::from("no function"));
+    };
+    match guard_in(alloc, &graph, entry, &predicates, edge) {
+        Ok(Some(made)) => Ok(made),
+        _ => Err(Fail::from("no entry")),
+    }
 }
 
 // Sets the variables of a row to the bits of a value.
@@ -262,6 +334,27 @@ fn models_by_hand(rt: HostRuntime) -> Result<(), Fail> {
             count_models(rt.alloc(), &made)?,
             *count,
             "{query} {goal} of {source}"
+        );
+    }
+    Ok(())
+}
+
+// 117 values of a char are above 10, and 139 aren't. Each byte comes to a loop, and each but 0 into its first turn.
+#[test]
+fn guards_by_hand(rt: HostRuntime) -> Result<(), Fail> {
+    let rows = [
+        (BRANCH, 0, 117),
+        (BRANCH, 1, 139),
+        (BRANCH, 2, 117),
+        (LOOP, 0, 256),
+        (LOOP, 2, 255),
+    ];
+    for (source, edge, count) in rows {
+        let made = guard_of(rt.alloc(), source, edge)?;
+        assert_eq!(rt;
+            count_models(rt.alloc(), &made)?,
+            count,
+            "{edge} of {source}"
         );
     }
     Ok(())
