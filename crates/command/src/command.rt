@@ -96,6 +96,7 @@ fn sources_of<'a>(request: &'a Request<'a>) -> &'a [&'a str]
         Request::Runs(request) => &request.sources,
         Request::Prove(request) => &request.sources,
         Request::Check(request) => &request.sources,
+        Request::Graph(sources) => sources,
         Request::Sample(_) => &SAMPLE_SOURCES,
     }
 }
