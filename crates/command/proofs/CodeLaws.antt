@@ -1,6 +1,6 @@
 -- Which codes a refusal of each stage has.
 use Rattle.std.proofs.Common.{◌≡◌, ℕ, ◌+◌, Bool, true, false, List, [], ◌∷◌, ◌++◌, Option, Some, None, Result, Ok, Err, refl, sym, ap, subst}
-use Rattle.std.specs.Prelude.{◌==◌, ◌||◌, IfSome, IsTrue, cond, nat_le, nat_lt, length, option_and_then, option_map}
+use Rattle.std.specs.Prelude.{◌==◌, ◌||◌, IfSome, IsSomeAnd, IsTrue, cond, nat_le, nat_lt, length, option_and_then, option_map}
 use Rattle.std.specs.List.{AllByRecursion, list_any}
 use Rattle.std.proofs.lemmas.Bool.Decides.{Decides-eqb}
 use Rattle.fq_core.specs.declared.refusal.Fault.{Fault}
@@ -166,13 +166,13 @@ their_codes law = record {
 -- ---- statuses
 
 abbrev NoUsage : ℕ → Type 0
-NoUsage code = is_usage (status_of code) ≡ false
+NoUsage code = IsSomeAnd (status_of code) (λ s. is_usage s ≡ false)
 
 this_or : (P : ℕ → Type 0) (c code : ℕ) (rest b : Bool) → (c == code) ≡ b → P c → (IsTrue rest → P code) → IsTrue (b || rest) → P code
 this_or P c code rest true e here there k = subst P ((Decides-eqb c code).0 e) here
 this_or P c code rest false e here there k = there k
 
-one_of : (P : ℕ → Type 0) (codes : List ℕ) → AllByRecursion P codes → (code : ℕ) → IsOneOf codes code → P code
+pub one_of : (P : ℕ → Type 0) (codes : List ℕ) → AllByRecursion P codes → (code : ℕ) → IsOneOf codes code → P code
 one_of P [] h code k = absurd (cc)
 one_of P (c ∷ codes) h code k = this_or P c code (list_any (λ (d : ℕ). d == code) codes) (c == code) refl h.0 (one_of P codes h.1 code) k
 
