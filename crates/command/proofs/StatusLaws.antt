@@ -53,7 +53,7 @@ use Rattle.command.specs.Recorded.{edges_in, ending, listed, most_listed, record
 use Rattle.command.specs.Refusal.{said_by, status_of}
 use Rattle.command.specs.Runs.{EntryFunction, entry_of, no_predicates, runs_of}
 use Rattle.command.specs.Said.{Said, answered}
-use Rattle.command.specs.Sampling.{IsDueOfSample, IsSampled, default_bounds, default_budget, sample_source}
+use Rattle.command.specs.Sampling.{IsSampled, default_bounds, default_budget, sample_source}
 use Rattle.command.specs.Sources.{AreRefused, IsReadUpTo}
 use Rattle.command.specs.Stages.{OfCertificate, OfEntry, OfGoal, OfInputs, OfQuery, OfSources, OfTexts, Says, no_such_entry, no_such_goal}
 use Rattle.command.proofs.CodeLaws.{one_of, their_codes}
