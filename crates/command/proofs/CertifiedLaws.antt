@@ -1,6 +1,6 @@
 -- An accepted certificate refutes its goal.
 use Rattle.std.proofs.Common.{◌≡◌, ℕ, ◌-◌, List, [], ◌∷◌, Some, None, slice_get, refl, sym, ap, subst, ◌∙◌, inl, inr}
-use Rattle.std.specs.Prelude.{Bool, true, false, ◌==◌, ◌&&◌, Option, MatchOption, find, option_map, unwrap_or}
+use Rattle.std.specs.Prelude.{Bool, true, false, ◌==◌, ◌&&◌, Option, MatchOption, find, option_map}
 use Rattle.std.specs.List.{list_all}
 use Rattle.fq_core.specs.declared.refusal.Place.TheVariants as place
 use Rattle.fq_core.specs.declared.refusal.Refusal.{Refusal}
@@ -37,45 +37,45 @@ use Rattle.command.proofs.GoalLaws.{none_hits}
 
 -- ---- no refusal is done
 
-abbrev is_open_row : Status → Bool
-is_open_row status.Done = false
+abbrev is_open_row : Option Status → Bool
+is_open_row (Some status.Done) = false
 is_open_row s = true
 
-abbrev row_status : List (ℕ × Status) → ℕ → Status
-row_status rows code = unwrap_or (option_map (λ row. row.1) (find (λ row. row.0 == code) rows)) status.Usage
+abbrev row_status : List (ℕ × Status) → ℕ → Option Status
+row_status rows code = option_map (λ row. row.1) (find (λ row. row.0 == code) rows)
 
 all_of : (a b : Bool) → (a && b) ≡ true → (a ≡ true) × (b ≡ true)
 all_of true true is = (refl, refl)
 all_of true false is = absurd (cc)
 all_of false b is = absurd (cc)
 
-rows_not_done : (rows : List (ℕ × Status)) (code : ℕ) → list_all (λ row. is_open_row row.1) rows ≡ true → is_open_row (row_status rows code) ≡ true
+rows_not_done : (rows : List (ℕ × Status)) (code : ℕ) → list_all (λ row. is_open_row (Some row.1)) rows ≡ true → is_open_row (row_status rows code) ≡ true
 rows_not_done [] code all = refl
 rows_not_done (row ∷ rows) code all =
-    let parts = all_of (is_open_row row.1) (list_all (λ other. is_open_row other.1) rows) all in
+    let parts = all_of (is_open_row (Some row.1)) (list_all (λ other. is_open_row (Some other.1)) rows) all in
     by (row.0 == code) refl parts.0 (rows_not_done rows code parts.1)
   where
-    by : (test : Bool) → (row.0 == code) ≡ test → is_open_row row.1 ≡ true → is_open_row (row_status rows code) ≡ true → is_open_row (row_status (row ∷ rows) code) ≡ true
+    by : (test : Bool) → (row.0 == code) ≡ test → is_open_row (Some row.1) ≡ true → is_open_row (row_status rows code) ≡ true → is_open_row (row_status (row ∷ rows) code) ≡ true
     by true is here rest = rw is here
     by false is here rest = rw is rest
 
-code_not_done : (code : ℕ) → status_of code ≡ status.Done → ⊥
+code_not_done : (code : ℕ) → status_of code ≡ Some status.Done → ⊥
 code_not_done code done =
     let open_row = rows_not_done status_rows code refl in
     let shut : is_open_row (status_of code) ≡ false = ap is_open_row done in
     let both : false ≡ true = sym shut ∙ open_row in
     absurd (cc)
 
-said_not_done : (names : List Text) (x : Refusal) (said : Said) → said ≡ said_by names x → said.status ≡ status.Done → ⊥
+said_not_done : (names : List Text) (x : Refusal) (said : Said) → said ≡ said_by names x → said.status ≡ Some status.Done → ⊥
 unfolding said_by
 said_not_done names x said is done = code_not_done x.code (sym (ap (λ (s : Said). s.status) is) ∙ done)
 
-says_not_done : (names : List Text) (P : Refusal → Type 0) (said : Said) → Says names P said → said.status ≡ status.Done → ⊥
+says_not_done : (names : List Text) (P : Refusal → Type 0) (said : Said) → Says names P said → said.status ≡ Some status.Done → ⊥
 says_not_done names P said says done = said_not_done names says.0 said says.2 done
 
 -- ---- the stages of `check`
 
-module _ (m : Checking) (said : Said) (done : said.status ≡ status.Done) where
+module _ (m : Checking) (said : Said) (done : said.status ≡ Some status.Done) where
   module _ (graph : GraphParts) (entry : EntryFunction) (p : Predicates) (plan : Plan) (goal : GoalForm) where
     abbrev NoneOf : Type 0
     NoneOf = NoneHits graph entry.function p plan (within m.bounds) m.ends goal
@@ -89,7 +89,7 @@ module _ (m : Checking) (said : Said) (done : said.status ≡ status.Done) where
     compared : (theirs : Formula) (ours : GoalFormula) (derivation : Derivation) → IsExact graph p entry.function (within m.bounds) m.ends plan goal ours
         → IsCompared m theirs ours.formula derivation said → NoneOf
     compared theirs ours derivation exact (inl other) =
-        let rejected : said.status ≡ status.CertificateRejected = ap (λ (s : Said). s.status) other.2 in
+        let rejected : said.status ≡ Some status.CertificateRejected = ap (λ (s : Said). s.status) other.2 in
         absurd (cc)
     compared theirs ours derivation exact (inr same) = right ours derivation same.1.0 exact same.1.1 same.1.2
 

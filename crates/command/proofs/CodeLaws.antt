@@ -1,9 +1,8 @@
 -- Which codes a refusal of each stage has.
-use Rattle.std.proofs.Common.{◌≡◌, ℕ, ◌+◌, Bool, true, false, List, [], ◌∷◌, ◌++◌, Option, Some, None, Result, Ok, Err, refl, sym, ap, subst}
-use Rattle.std.specs.Prelude.{◌==◌, ◌||◌, IfSome, IsTrue, cond, nat_le, nat_lt, length, option_and_then, option_map}
+use Rattle.std.proofs.Common.{◌≡◌, ℕ, ◌+◌, Bool, true, false, List, [], ◌∷◌, ◌++◌, Option, Some, None, Result, Ok, Err, refl, sym, subst}
+use Rattle.std.specs.Prelude.{◌==◌, ◌||◌, IfSome, IsSomeAnd, IsTrue, cond, nat_le, option_map}
 use Rattle.std.specs.List.{AllByRecursion, list_any}
 use Rattle.std.proofs.lemmas.Bool.Decides.{Decides-eqb}
-use Rattle.fq_core.specs.declared.refusal.Fault.{Fault}
 use Rattle.fq_core.specs.declared.refusal.Fault.TheVariants as fault
 use Rattle.fq_core.specs.declared.refusal.Place.{Place}
 use Rattle.fq_core.specs.declared.refusal.Place.TheVariants as place
@@ -11,11 +10,11 @@ use Rattle.fq_core.specs.declared.refusal.Refusal.{Refusal}
 use Rattle.c_front.specs.Codes.{RefusedByTheseCodes, text_codes}
 use Rattle.cfa.specs.declared.parts.GraphParts.{GraphParts}
 use Rattle.c_meaning.specs.declared.input.Input.{Input}
-use Rattle.certificate.specs.Refusals.{IsRefusedAtLine, bad_line}
+use Rattle.certificate.specs.Refusals.{IsRefusedAtLine}
 use Rattle.fql_read.specs.Asks as asks
 use Rattle.fql_read.specs.declared.query.Query.{Query}
 use Rattle.fql_tokens.specs.Accepted as cut
-use Rattle.goals.specs.Plans.{causes, cover_tree, first_cause, is_too_long, late_causes, passing_tree, tree_causes}
+use Rattle.goals.specs.Plans.{causes, first_cause}
 use Rattle.input_text.specs.Inputs.{begins_array, inputs_of, inputs_of_array}
 use Rattle.input_text.specs.Json.{array_of, object_parts}
 use Rattle.input_text.specs.Lines.{line_parts}
@@ -31,7 +30,7 @@ use Rattle.command.specs.Inputs as inputs
 use Rattle.command.specs.Queries as queries
 use Rattle.command.specs.Reads.{Reads}
 use Rattle.command.specs.Refusal.{status_of}
-use Rattle.command.specs.Sources.{AreRefused, IsReadUpTo, IsUnread, fails, is_past, most_source}
+use Rattle.command.specs.Sources.{IsUnread, fails, is_past, most_source}
 
 -- ---- files
 
@@ -166,13 +165,13 @@ their_codes law = record {
 -- ---- statuses
 
 abbrev NoUsage : ℕ → Type 0
-NoUsage code = is_usage (status_of code) ≡ false
+NoUsage code = IsSomeAnd (status_of code) (λ s. is_usage s ≡ false)
 
 this_or : (P : ℕ → Type 0) (c code : ℕ) (rest b : Bool) → (c == code) ≡ b → P c → (IsTrue rest → P code) → IsTrue (b || rest) → P code
 this_or P c code rest true e here there k = subst P ((Decides-eqb c code).0 e) here
 this_or P c code rest false e here there k = there k
 
-one_of : (P : ℕ → Type 0) (codes : List ℕ) → AllByRecursion P codes → (code : ℕ) → IsOneOf codes code → P code
+pub one_of : (P : ℕ → Type 0) (codes : List ℕ) → AllByRecursion P codes → (code : ℕ) → IsOneOf codes code → P code
 one_of P [] h code k = absurd (cc)
 one_of P (c ∷ codes) h code k = this_or P c code (list_any (λ (d : ℕ). d == code) codes) (c == code) refl h.0 (one_of P codes h.1 code) k
 

@@ -1,6 +1,6 @@
 -- How a run ends.
-use Rattle.std.proofs.Common.{◌≡◌, ℕ, Bool, List, [], None, Some, inl, inr, refl, sym, subst, append-nil}
-use Rattle.std.specs.Prelude.{Option, MatchOption}
+use Rattle.std.proofs.Common.{◌≡◌, ℕ, Bool, List, [], None, Some, inl, inr, refl, sym, ap, subst, append-nil}
+use Rattle.std.specs.Prelude.{Option, IsSomeAnd, MatchOption}
 use Rattle.std.specs.Io.KnownBytes.{Appends, Keeps}
 use Rattle.fq_core.specs.declared.refusal.Refusal.{Refusal}
 use Rattle.suite.specs.Generated.{Shown}
@@ -12,7 +12,7 @@ use Rattle.command.specs.Due.{IsDue, IsDueOf}
 use Rattle.command.specs.Reads.{Reads}
 use Rattle.command.specs.Refusal.{line_of, said_by, status_of}
 use Rattle.command.specs.Replies.{said_in}
-use Rattle.command.specs.Said.{Said, status_with}
+use Rattle.command.specs.Said.{Said, refused, status_with}
 use Rattle.command.specs.declared.reply.Reply.{Reply}
 use Rattle.command.specs.declared.reply.Reply.TheVariants.{Answer, OtherFormula}
 use Rattle.command.specs.Stages.{usage}
@@ -32,30 +32,30 @@ Keeps-refl (Some xs) = refl
 
 module _ (due : Said → Type 0) (wanted : Status) (bytes : List ℕ) (shown : List Shown) (watch : Watched) (is_shown : IsShown shown watch) where
   -- what is due is written to `out`, or its writing is cut short
-  ends_out : (s : Status) (out err : Writes) → due (record { status = wanted; out = bytes; err = []; shown = shown }) → EndsWriting wanted bytes s out → GainsNone err
+  ends_out : (s : Status) (out err : Writes) → due (record { status = Some wanted; out = bytes; err = []; shown = shown }) → EndsWriting wanted bytes s out → GainsNone err
       → Ends due s out err watch
-  ends_out status.WriteFault out err is written none = (record { status = wanted; out = bytes; err = []; shown = shown }, is, inl (written.0, none, written.1), is_shown)
+  ends_out status.WriteFault out err is written none = (record { status = Some wanted; out = bytes; err = []; shown = shown }, is, inl (written.0, none, written.1), is_shown)
   ends_out status.Memory out err is written none =
-      elim written [ inl kept ↦ inl (kept, none) | inr part ↦ inr (record { status = wanted; out = bytes; err = []; shown = shown }, is, inl (part.0, none, part.1)) ]
+      elim written [ inl kept ↦ inl (kept, none) | inr part ↦ inr (record { status = Some wanted; out = bytes; err = []; shown = shown }, is, inl (part.0, none, part.1)) ]
   ends_out s out err is written none =
-      (record { status = wanted; out = bytes; err = []; shown = shown }, is, sym written.0, (written.1, Appends-nil err.before err.after none), is_shown)
+      (record { status = Some wanted; out = bytes; err = []; shown = shown }, is, ap Some (sym written.0), (written.1, Appends-nil err.before err.after none), is_shown)
 
   -- the same to `err`
-  ends_err : (s : Status) (out err : Writes) → due (record { status = wanted; out = []; err = bytes; shown = shown }) → EndsWriting wanted bytes s err → GainsNone out
+  ends_err : (s : Status) (out err : Writes) → due (record { status = Some wanted; out = []; err = bytes; shown = shown }) → EndsWriting wanted bytes s err → GainsNone out
       → Ends due s out err watch
-  ends_err status.WriteFault out err is written none = (record { status = wanted; out = []; err = bytes; shown = shown }, is, inr (none, written.0, written.1), is_shown)
+  ends_err status.WriteFault out err is written none = (record { status = Some wanted; out = []; err = bytes; shown = shown }, is, inr (none, written.0, written.1), is_shown)
   ends_err status.Memory out err is written none =
-      elim written [ inl kept ↦ inl (none, kept) | inr part ↦ inr (record { status = wanted; out = []; err = bytes; shown = shown }, is, inr (none, part.0, part.1)) ]
+      elim written [ inl kept ↦ inl (none, kept) | inr part ↦ inr (record { status = Some wanted; out = []; err = bytes; shown = shown }, is, inr (none, part.0, part.1)) ]
   ends_err s out err is written none =
-      (record { status = wanted; out = []; err = bytes; shown = shown }, is, sym written.0, (Appends-nil out.before out.after none, written.1), is_shown)
+      (record { status = Some wanted; out = []; err = bytes; shown = shown }, is, ap Some (sym written.0), (Appends-nil out.before out.after none, written.1), is_shown)
 
   -- what is due is written to one sink, and the other one is as it was
   pub ends_answered : {S : Type 0} (taken : S → Option (List ℕ)) (faults : S → ℕ) (may_lack_memory : Bool) (e : S) (s : Status) (out : Writes)
-      → due (record { status = wanted; out = bytes; err = []; shown = shown }) → EndsWriting wanted bytes s out → Ends due s out (writes taken faults may_lack_memory e e) watch
+      → due (record { status = Some wanted; out = bytes; err = []; shown = shown }) → EndsWriting wanted bytes s out → Ends due s out (writes taken faults may_lack_memory e e) watch
   ends_answered taken faults may_lack_memory e s out is written = ends_out s out (writes taken faults may_lack_memory e e) is written (Keeps-refl (taken e))
 
   pub ends_rejected : {S : Type 0} (taken : S → Option (List ℕ)) (faults : S → ℕ) (may_lack_memory : Bool) (o : S) (s : Status) (err : Writes)
-      → due (record { status = wanted; out = []; err = bytes; shown = shown }) → EndsWriting wanted bytes s err → Ends due s (writes taken faults may_lack_memory o o) err watch
+      → due (record { status = Some wanted; out = []; err = bytes; shown = shown }) → EndsWriting wanted bytes s err → Ends due s (writes taken faults may_lack_memory o o) err watch
   ends_rejected taken faults may_lack_memory o s err is written = ends_err s (writes taken faults may_lack_memory o o) err is written (Keeps-refl (taken o))
 
 -- a refusal that is due is written, or its writing is cut short, and the watch was shown nothing
@@ -64,7 +64,13 @@ pub ends_refused : {S : Type 0} (taken : S → Option (List ℕ)) (faults : S �
     → Ends due s (writes taken faults may_lack_memory o o) err watch
 unfolding said_by
 ends_refused taken faults may_lack_memory o due sources refusal s err watch is none refuses =
-    ends_rejected due (status_of refusal.code) (line_of sources refusal) [] watch (shown_nothing watch none) taken faults may_lack_memory o s err is refuses
+    by (status_of refusal.code) is refuses
+  where
+    by : (known : Option Status) → due (refused known (line_of sources refusal)) → IsSomeAnd known (λ wanted. EndsWriting wanted (line_of sources refusal) s err)
+        → Ends due s (writes taken faults may_lack_memory o o) err watch
+    by None said written = absurd written
+    by (Some wanted) said written =
+        ends_rejected due wanted (line_of sources refusal) [] watch (shown_nothing watch none) taken faults may_lack_memory o s err said written
 
 -- a reply that is due is written, or its writing is cut short
 pub ends_reply : (due : Said → Type 0) (r : Reply) (s : Status) (out err : Writes) (watch : Watched) (shown : List Shown) → due (said_in r shown) → IsShown shown watch

@@ -36,7 +36,7 @@ module _ (names : List Text) (graph : GraphParts) (entry : EntryFunction) (p : P
   generation_refused fault.Memory why unseen = tt
 
   same_said : (one other : Bool) (a b : List ℕ) (shown : List Shown) → one ≡ other → a ≡ b
-      → ◌≡◌ {A = Said} (record { status = status_with one; out = a; err = []; shown = shown }) (record { status = status_with other; out = b; err = []; shown = shown })
+      → ◌≡◌ {A = Said} (record { status = Some (status_with one); out = a; err = []; shown = shown }) (record { status = Some (status_with other); out = b; err = []; shown = shown })
   same_said one other a b shown opened is_text = rw (opened, is_text) refl
 
   -- the text of what was made is given, and the watch was shown this

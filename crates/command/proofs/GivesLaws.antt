@@ -63,5 +63,5 @@ ok_tells (Err e) P Q p tells = tt
 
 -- what is said of an answer that is left open, by its text
 pub same_open : (a b : List ℕ) (shown : List Shown) → a ≡ b
-    → ◌≡◌ {A = Said} (record { status = status.DoneOpen; out = a; err = []; shown = shown }) (record { status = status.DoneOpen; out = b; err = []; shown = shown })
+    → ◌≡◌ {A = Said} (record { status = Some status.DoneOpen; out = a; err = []; shown = shown }) (record { status = Some status.DoneOpen; out = b; err = []; shown = shown })
 same_open a b shown is = rw is refl

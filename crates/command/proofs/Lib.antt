@@ -16,3 +16,4 @@ pub mod RangeLaws
 pub mod ReadsLaws
 pub mod RecordedLaws
 pub mod StageLaws
+pub mod StatusLaws

@@ -1,10 +1,8 @@
 -- The words and the files determine what is due of the commands that measure and list.
-use Rattle.std.proofs.Common.{◌≡◌, ℕ, ◌<◌, ◌≤◌, Bool, true, false, List, [], ◌∷◌, ◌++◌, length, map, Option, Some, None, Result, Ok, Err, refl, sym, ap, subst, ◌∙◌, inl, inr, arith}
-use Rattle.std.specs.Prelude.{◌⊎◌, ◌&&◌, IfSome, IsTrue, MatchOption, if◌then◌else◌}
-use Rattle.std.specs.List.{AllZip, list_all}
+use Rattle.std.proofs.Common.{◌≡◌, ℕ, ◌<◌, ◌≤◌, Bool, true, List, [], ◌∷◌, ◌++◌, length, Option, Some, None, Result, Ok, Err, refl, sym, ap, subst, ◌∙◌, inl, inr, arith}
+use Rattle.std.specs.Prelude.{IfSome, IsTrue, MatchOption}
 use Rattle.std.specs.Option.{is_some}
 use Rattle.fq_core.specs.declared.refusal.Fault.{Fault}
-use Rattle.fq_core.specs.declared.refusal.Place.{Place}
 use Rattle.fq_core.specs.declared.refusal.Place.TheVariants as place
 use Rattle.fq_core.specs.declared.refusal.Refusal.{Refusal}
 use Rattle.fq_core.specs.Refusals.{refusal}
@@ -21,21 +19,21 @@ use Rattle.c_meaning.specs.declared.input.Input.{Input}
 use Rattle.path_runner.specs.declared.path.PathRecord.{PathRecord}
 use Rattle.fql_read.specs.declared.query.Query.{Query}
 use Rattle.fql_read.specs.Asks.{Asks, IsRefusedQuery}
-use Rattle.fql_read.specs.ReadingQueries.{query_outcome}
 use Rattle.fql_read.proofs.QueryOutcome.{query_accepts, query_refuses}
 use Rattle.predicates.specs.Laws as predicates
 use Rattle.predicates.specs.Outcome.{ArePredicatesOf}
 use Rattle.predicates.specs.Outcome as outcome
 use Rattle.goals.specs.Plans.{causes, cover_tree, first_cause, passing_tree, plan_with}
 use Rattle.goals.specs.declared.plan.Plan.{Plan}
-use Rattle.hits.specs.Hits.{AreHits}
 use Rattle.hits.specs.Laws.{OneListOfHits}
 use Rattle.input_text.specs.Inputs.{inputs_of}
+use Rattle.report.specs.GraphText.{graph_text}
 use Rattle.report.specs.Texts.{goals_text}
 use Rattle.command_words.specs.Reading.{Text}
+use Rattle.command_words.specs.Request as asks
 use Rattle.command_words.specs.Request.{Asked, measure, generate, goals, runs, prove, check, sample, Listing, Measuring, Running, request_of}
-use Rattle.command.specs.Determined.{AtMostOneIsDue, IsTold, are_told, files_of, measures_or_lists}
-use Rattle.command.specs.Due.{IsDue, IsDueOf}
+use Rattle.command.specs.Determined.{AtMostOneIsDue, IsTold, are_told}
+use Rattle.command.specs.Due.{IsDueOf}
 use Rattle.command.specs.Inputs.{AreInputsOf}
 use Rattle.command.specs.Inputs as inputs
 use Rattle.command.specs.Measured.{AreAllHits, IsMeasured, report_of}
@@ -373,6 +371,11 @@ at_most_one front_law predicates_law hits_law r words still told said other a b 
         one_by (entry_of graph m.entry) no_such_entry (Given graph) (λ entry.
         one_of_inputs r still m.inputs t.1 (length entry.function.parameters) m.sources (Listed graph entry) (λ given x y e f. e ∙ sym f))) said other c d
 
+    printed_once : (sources : List Text) → IsTold r (asks.graph sources) → IsDueOf r (asks.graph sources) said → IsDueOf r (asks.graph sources) other → said ≡ other
+    printed_once sources h c d =
+        let Printed : GraphParts → Said → Type 0 = λ graph x. x ≡ answered (graph_text graph) in
+        one_of_sources r still front_law sources h Printed (λ graph x y e f. e ∙ sym f) said other c d
+
     asked_once : (asked : Asked) → IsTold r asked → IsDueOf r asked said → IsDueOf r asked other → said ≡ other
     asked_once (measure m) h c d = measured_once m h c d
     asked_once (goals m) h c d = listed_once m h c d
@@ -380,6 +383,7 @@ at_most_one front_law predicates_law hits_law r words still told said other a b 
     asked_once (generate m) h c d = absurd (cc)
     asked_once (prove m) h c d = absurd (cc)
     asked_once (check m) h c d = absurd (cc)
+    asked_once (asks.graph sources) h c d = printed_once sources h c d
     asked_once (sample number) h c d = absurd (cc)
 
     by : (o : Option Asked) → IfSome o (IsTold r) → MatchOption o (said ≡ usage) (λ asked. IsDueOf r asked said) → MatchOption o (other ≡ usage) (λ asked. IsDueOf r asked other) → said ≡ other

@@ -11,7 +11,8 @@ use Rattle.command_words.specs.declared.command_option.CommandOption.{CommandOpt
 use Rattle.command_words.specs.declared.command_option.CommandOption.TheVariants.{Steps, Turns, Frames, Answers, Ends as ends_option, Budget, Json}
 use Rattle.command_words.specs.declared.requests.Bounds.{Bounds}
 use Rattle.command_words.specs.Reading.{Text, Use, reading, values}
-use Rattle.command_words.specs.Request.{Asked, asked_by, bounds_of, bounds_with, check_of, checked, generate_of, generated, goal_in, goals_of, listed, measure_of, measured, number_in, number_of, positionals_of, prove_of, proved, request_of, run_with, runs_of, sample_of, sampled}
+use Rattle.command_words.specs.Request as asks
+use Rattle.command_words.specs.Request.{Asked, asked_by, bounds_of, bounds_with, check_of, checked, generate_of, generated, goal_in, goals_of, graph_of, listed, measure_of, measured, number_in, number_of, positionals_of, printed, prove_of, proved, request_of, run_with, runs_of, sample_of, sampled}
 use Rattle.command.specs.Ranges.{AreBounds, IsInRange}
 
 -- ---- numbers
@@ -76,6 +77,10 @@ module _ (a : Asked) where
       numbered (goal_in number) _ 1 10000 (number_within 1 10000 number) (λ goal within. (ok, within.0)) is
   checked_within words bounds ends ok is = none_asked is
 
+  printed_within : (words : List Text) → printed words ≡ Some a → IsInRange a
+  printed_within [] is = none_asked is
+  printed_within (source ∷ sources) is = asked_is (asks.graph (source ∷ sources)) tt is
+
   sampled_within : (words : List Text) → sampled words ≡ Some a → IsInRange a
   sampled_within [] is = none_asked is
   sampled_within (number ∷ []) is = numbered (number_in 1 200 number) _ 1 200 (number_within 1 200 number) (λ n within. within) is
@@ -120,4 +125,5 @@ module _ (a : Asked) where
       (choose (bytes_eq name (codes "runs")) _ _ (asked_within runs_of (Steps ∷ []) words (λ uses. run_within _ _))
       (choose (bytes_eq name (codes "prove")) _ _ (asked_within prove_of (Turns ∷ Frames ∷ Answers ∷ ends_option ∷ Budget ∷ []) words (λ uses. proved_within _ _ _ _ (bounds_ok uses)))
       (choose (bytes_eq name (codes "check")) _ _ (asked_within check_of (Turns ∷ Frames ∷ Answers ∷ ends_option ∷ []) words (λ uses. checked_within _ _ _ (bounds_ok uses)))
-      (choose (bytes_eq name (codes "sample")) _ _ (asked_within sample_of [] words (λ uses. sampled_within (positionals_of uses))) none_asked)))))) is
+      (choose (bytes_eq name (codes "graph")) _ _ (asked_within graph_of [] words (λ uses. printed_within (positionals_of uses)))
+      (choose (bytes_eq name (codes "sample")) _ _ (asked_within sample_of [] words (λ uses. sampled_within (positionals_of uses))) none_asked))))))) is

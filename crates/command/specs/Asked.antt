@@ -1,6 +1,7 @@
 -- The sources of a request.
 use Rattle.std.specs.Prelude.{List, [], ◌∷◌, codes}
 use Rattle.command_words.specs.Reading.{Text}
+use Rattle.command_words.specs.Request as asks
 use Rattle.command_words.specs.Request.{Asked, measure, generate, goals, runs, prove, check, sample}
 
 -- the file of a program that is made from a number
@@ -15,4 +16,5 @@ sources_of (goals m) = m.sources
 sources_of (runs m) = m.sources
 sources_of (prove m) = m.sources
 sources_of (check m) = m.sources
+sources_of (asks.graph sources) = sources
 sources_of (sample number) = sample_file ∷ []

@@ -45,7 +45,7 @@ abbrev pub difference_line : Formula → Formula → Difference → List ℕ
 difference_line theirs ours d = codes "error 91 OtherFormula " ++ difference_text theirs ours d ++ codes "\n"
 
 abbrev pub other_formula : Formula → Formula → Difference → Said
-other_formula theirs ours d = refused status.CertificateRejected (difference_line theirs ours d)
+other_formula theirs ours d = refused (Some status.CertificateRejected) (difference_line theirs ours d)
 
 -- ---- a formula that is the goal's
 

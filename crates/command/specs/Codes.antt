@@ -1,5 +1,5 @@
 -- Which codes a refusal of each stage has.
-use Rattle.std.specs.Prelude.{◌≡◌, ℕ, Bool, true, false, List, [], ◌∷◌, ◌++◌}
+use Rattle.std.specs.Prelude.{◌≡◌, ℕ, Bool, true, false, List, [], ◌∷◌, ◌++◌, IsSomeAnd}
 use Rattle.fq_core.specs.declared.refusal.Refusal.{Refusal}
 use Rattle.c_front.specs.Codes.{text_codes}
 use Rattle.cfa.specs.declared.parts.GraphParts.{GraphParts}
@@ -44,6 +44,6 @@ abbrev pub is_usage : Status → Bool
 is_usage status.Usage = true
 is_usage _ = false
 
--- and none of these codes ends in the status of wrong usage
+-- and each of these codes has a status, which isn't that of wrong usage
 abbrev pub NoneIsUsage : Type 0
-NoneIsUsage = (code : ℕ) → IsOneOf (unread_codes ++ text_codes ++ query_codes ++ input_codes ++ certificate_codes) code → is_usage (status_of code) ≡ false
+NoneIsUsage = (code : ℕ) → IsOneOf (unread_codes ++ text_codes ++ query_codes ++ input_codes ++ certificate_codes) code → IsSomeAnd (status_of code) (λ s. is_usage s ≡ false)

@@ -5,6 +5,7 @@ use Rattle.std.specs.List.{list_all}
 use Rattle.std.specs.Option.{is_some}
 use Rattle.fq_io.specs.Counts.{Rose}
 use Rattle.command_words.specs.Reading.{Text}
+use Rattle.command_words.specs.Request as asks
 use Rattle.command_words.specs.Request.{Asked, measure, generate, goals, runs, prove, check, sample, request_of}
 use Rattle.command.specs.Due.{IsDue}
 use Rattle.command.specs.Reads.{Reads}
@@ -17,6 +18,7 @@ measures_or_lists (runs m) = true
 measures_or_lists (generate m) = false
 measures_or_lists (prove m) = false
 measures_or_lists (check m) = false
+measures_or_lists (asks.graph sources) = true
 measures_or_lists (sample number) = false
 
 -- the files that such a command reads
@@ -27,6 +29,7 @@ files_of (runs m) = m.sources ++ m.inputs ∷ []
 files_of (generate m) = []
 files_of (prove m) = []
 files_of (check m) = []
+files_of (asks.graph sources) = sources
 files_of (sample number) = []
 
 -- these files tell what they hold

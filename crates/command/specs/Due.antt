@@ -1,8 +1,10 @@
 -- What is due: what the program says, by its words and by the files that they name.
 use Rattle.std.specs.Prelude.{◌≡◌, List, MatchOption, length}
 use Rattle.cfa.specs.declared.parts.GraphParts.{GraphParts}
+use Rattle.report.specs.GraphText.{graph_text}
 use Rattle.report.specs.Texts.{goals_text}
 use Rattle.command_words.specs.Reading.{Text}
+use Rattle.command_words.specs.Request as asks
 use Rattle.command_words.specs.Request.{Asked, measure, generate, goals, runs, prove, check, sample, Measuring, Listing, Running, request_of}
 use Rattle.command.specs.Checking.{IsDueOfCheck}
 use Rattle.command.specs.Generating.{IsDueOfGenerate}
@@ -18,6 +20,9 @@ use Rattle.command.specs.Stages.{OfEntry, OfInputs, OfQuery, OfSources, usage}
 
 abbrev pub IsDueOfGoals : Listing → GraphParts → Said → Type 0
 IsDueOfGoals m graph said = OfQuery m.sources graph m.query (λ p plan said. said ≡ answered (goals_text graph plan)) said
+
+abbrev pub IsDueOfGraph : GraphParts → Said → Type 0
+IsDueOfGraph graph said = said ≡ answered (graph_text graph)
 
 module _ (r : Reads) where
   abbrev pub IsDueOfMeasure : Measuring → GraphParts → Said → Type 0
@@ -38,6 +43,7 @@ module _ (r : Reads) where
   IsDueOf (runs m) said = OfSources r m.sources (IsDueOfRuns m) said
   IsDueOf (prove m) said = OfSources r m.sources (IsDueOfProve m) said
   IsDueOf (check m) said = OfSources r m.sources (IsDueOfCheck r m) said
+  IsDueOf (asks.graph sources) said = OfSources r sources IsDueOfGraph said
   IsDueOf (sample number) said = IsDueOfSample number said
 
   -- by the words

@@ -1,5 +1,5 @@
 -- What is due of making inputs that cover the goals of a query.
-use Rattle.std.specs.Prelude.{◌≡◌, ◌⊎◌, ℕ, Bool, List, [], if◌then◌else◌}
+use Rattle.std.specs.Prelude.{◌≡◌, ◌⊎◌, ℕ, Bool, List, [], Some, if◌then◌else◌}
 use Rattle.std.specs.List.{list_any}
 use Rattle.fq_core.specs.declared.refusal.Fault.TheVariants as fault
 use Rattle.fq_core.specs.declared.refusal.Refusal.{Refusal}
@@ -27,7 +27,7 @@ is_open answers = list_any is_undecided answers
 
 -- a text is said of what was made, and the watch is shown this; it is left open where some goal stays undecided
 abbrev pub concluded : Generated → List ℕ → List Shown → Said
-concluded made text shown = record { status = status_with (is_open made.answers); out = text; err = []; shown = shown }
+concluded made text shown = record { status = Some (status_with (is_open made.answers)); out = text; err = []; shown = shown }
 
 -- Inputs are made for the goals of a plan, each answer being true (`IsGenerated`), and a text of them is said; or the pairs of
 -- node and context that are reached within the bounds, their size or that of some goal are too many.

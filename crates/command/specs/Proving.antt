@@ -1,5 +1,5 @@
 -- What is due of proving that no input covers a goal, or of what stands in the place of a proof.
-use Rattle.std.specs.Prelude.{◌≡◌, ◌⊎◌, ℕ, List, [], ◌∷◌}
+use Rattle.std.specs.Prelude.{◌≡◌, ◌⊎◌, ℕ, List, [], ◌∷◌, Some}
 use Rattle.cfa.specs.declared.parts.GraphParts.{GraphParts}
 use Rattle.cfa.specs.declared.state.Predicates.{Predicates}
 use Rattle.c_meaning.specs.Runs.{Run}
@@ -32,7 +32,7 @@ module _ (graph : GraphParts) (entry : EntryFunction) (p : Predicates) (plan : P
       × (said ≡ answered (proved_text graph entry.number number input (record_of graph input p run).taken))
   IsSaidOf (Refuted formula derivation) said = said ≡ answered (certificate_text formula.formula derivation)
   IsSaidOf (Undecided formula history) said =
-      said ≡ record { status = status.DoneOpen; out = undecided_text number; err = []; shown = (number, formula.formula, history) ∷ [] }
+      said ≡ record { status = Some status.DoneOpen; out = undecided_text number; err = []; shown = (number, formula.formula, history) ∷ [] }
 
   -- The goal is decided (`IsDecided` says what each answer means), and that is said; or it has no formula.
   abbrev pub IsProved : List Text → ℕ → Said → Type 0

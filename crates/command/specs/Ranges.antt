@@ -1,6 +1,7 @@
 -- The ranges of the numbers in the words.
 use Rattle.std.specs.Prelude.{◌≤◌}
 use Rattle.command_words.specs.declared.requests.Bounds.{Bounds as AskedBounds}
+use Rattle.command_words.specs.Request as asks
 use Rattle.command_words.specs.Request.{Asked, measure, generate, goals, runs, prove, check, sample}
 use Rattle.reached.specs.declared.bounds.Bounds.{Bounds}
 
@@ -20,4 +21,5 @@ IsInRange (goals m) = Unit {0}
 IsInRange (runs m) = Unit {0}
 IsInRange (prove m) = AreBounds m.bounds × (1 ≤ m.goal)
 IsInRange (check m) = AreBounds m.bounds × (1 ≤ m.goal)
+IsInRange (asks.graph sources) = Unit {0}
 IsInRange (sample number) = (1 ≤ number) × (number ≤ 200)

@@ -1,5 +1,5 @@
 -- The status and the line of a refusal.
-use Rattle.std.specs.Prelude.{ℕ, ◌==◌, List, [], ◌∷◌, ◌++◌, codes, find, option_map, unwrap_or, slice_get}
+use Rattle.std.specs.Prelude.{ℕ, ◌==◌, List, [], ◌∷◌, ◌++◌, codes, find, option_map, unwrap_or, slice_get, Option}
 use Rattle.std.specs.Fmt.{decimal}
 use Rattle.fq_core.specs.Code.{name_of_code}
 use Rattle.fq_core.specs.declared.refusal.Place.{Place}
@@ -64,9 +64,9 @@ status_rows = (2, status.Usage)
     ∷ (93, status.CertificateRejected)
     ∷ []
 
--- The status that a code ends in, by its row. A number that is no code has none, and nothing is refused with one.
-abbrev pub status_of : ℕ → Status
-status_of code = unwrap_or (option_map (λ row. row.1) (find (λ row. row.0 == code) status_rows)) status.Usage
+-- the status that a code ends in, by its row
+abbrev pub status_of : ℕ → Option Status
+status_of code = option_map (λ row. row.1) (find (λ row. row.0 == code) status_rows)
 
 -- a place, after a space, where the sources have these names
 abbrev pub place_text : List (List ℕ) → Place → List ℕ

@@ -1,5 +1,5 @@
 -- What a call answers of what is due.
-use Rattle.std.specs.Prelude.{List, [], Result, Ok, Err}
+use Rattle.std.specs.Prelude.{List, [], Some, Result, Ok, Err}
 use Rattle.fq_core.specs.declared.refusal.Fault.{Fault}
 use Rattle.fq_core.specs.declared.refusal.Fault.TheVariants as fault
 use Rattle.command_words.specs.Reading.{Text}
@@ -13,8 +13,8 @@ use Rattle.command.specs.Watched.{IsShown, IsShownNone, Watched}
 
 -- what a reply says, where the watch is shown this
 abbrev pub said_in : Reply → List Shown → Said
-said_in (Answer text left_open) shown = record { status = status_with left_open; out = text.items; err = []; shown = shown }
-said_in (OtherFormula line) shown = record { status = status.CertificateRejected; out = []; err = line.items; shown = shown }
+said_in (Answer text left_open) shown = record { status = Some (status_with left_open); out = text.items; err = []; shown = shown }
+said_in (OtherFormula line) shown = record { status = Some status.CertificateRejected; out = []; err = line.items; shown = shown }
 
 -- A reply or a refusal that is due, where nothing is shown; want of memory is free.
 abbrev pub Tells : (Said → Type 0) → List Text → Result Reply Fault → Type 0

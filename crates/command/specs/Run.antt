@@ -1,5 +1,5 @@
 -- What a run of the program writes, and how it ends.
-use Rattle.std.specs.Prelude.{◌≡◌, ◌⊎◌, ℕ, Bool, List, Option, IsTrue}
+use Rattle.std.specs.Prelude.{◌≡◌, ◌⊎◌, ℕ, Bool, List, Option, Some, IsSomeAnd, IsTrue}
 use Rattle.std.specs.Io.KnownBytes.{Appends, Keeps}
 use Rattle.fq_core.specs.declared.refusal.Refusal.{Refusal}
 use Rattle.fq_io.specs.Bytes.{AppendsPart}
@@ -68,7 +68,7 @@ WritesReply (OtherFormula line) s out err = EndsWriting status.CertificateReject
 
 -- the same of a refusal's line
 abbrev pub Refuses : List (List ℕ) → Refusal → Status → Writes → Type 0
-Refuses sources refusal s err = EndsWriting (status_of refusal.code) (line_of sources refusal) s err
+Refuses sources refusal s err = IsSomeAnd (status_of refusal.code) (λ wanted. EndsWriting wanted (line_of sources refusal) s err)
 
 -- ---- how a run ends, by its status
 
@@ -78,4 +78,4 @@ Refuses sources refusal s err = EndsWriting (status_of refusal.code) (line_of so
 abbrev pub Ends : (Said → Type 0) → Status → Writes → Writes → Watched → Type 0
 Ends due status.WriteFault out err watch = (said : Said) × due said × IsCut HasFailed said out err × IsShown said.shown watch
 Ends due status.Memory out err watch = (GainsNone out × GainsNone err) ⊎ ((said : Said) × due said × IsCut MayLackMemory said out err)
-Ends due s out err watch = (said : Said) × due said × (said.status ≡ s) × IsWritten said out err × IsShown said.shown watch
+Ends due s out err watch = (said : Said) × due said × (said.status ≡ Some s) × IsWritten said out err × IsShown said.shown watch

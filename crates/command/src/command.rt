@@ -1,11 +1,12 @@
 // The top call.
-ghost use Rattle.std.specs.Prelude.{◌≡◌};
+ghost use Rattle.std.specs.Prelude.{◌≡◌, IsSome};
 ghost use Rattle.command_words.specs.Reading.{texts};
 ghost use Rattle.command_words.specs.Request.{asked, texts_at};
 ghost use Rattle.command.specs.Asked.{sources_of};
 ghost use Rattle.command.specs.Certified.{Certifies};
 ghost use Rattle.command.specs.Due.{IsDue, IsDueOf};
 ghost use Rattle.command.specs.Ranges.{IsInRange};
+ghost use Rattle.command.specs.Refusal.{status_of};
 ghost use Rattle.command.specs.Reads.{reads};
 ghost use Rattle.command.specs.Run.{Ends, EndsWriting, Refuses, WritesReply, writes};
 ghost use Rattle.command.specs.Said.{status_with};
@@ -15,6 +16,7 @@ use crate::Status;
 use crate::refusal::{nowhere, refusal_line, refused_status};
 use crate::reply::Reply;
 use crate::session::answer;
+use c_front::laws::refused_by_these_codes;
 use command_words::{Refused, Request, request};
 use fq_core::{Fault, Refusal};
 use fq_io::{Files, Sink, SinkFault, write_all};
@@ -78,6 +80,7 @@ fn serve<F: Files, O: Sink, E: Sink, W: Watch>(
         result (writes O.taken O.faults O.may_lack_memory out.old out.new) (writes E.taken E.faults E.may_lack_memory err.old err.new)
         (watched W.seen watch.old watch.new) }
 {
+    refused_by_these_codes();
     match answer(alloc, request, files, watch) {
         Ok(reply) => write_reply(reply, out, err),
         Err(Fault::Refused(refusal)) => refuse(alloc, sources_of(request), &refusal, err),
@@ -96,6 +99,7 @@ fn sources_of<'a>(request: &'a Request<'a>) -> &'a [&'a str]
         Request::Runs(request) => &request.sources,
         Request::Prove(request) => &request.sources,
         Request::Check(request) => &request.sources,
+        Request::Graph(sources) => sources,
         Request::Sample(_) => &SAMPLE_SOURCES,
     }
 }
@@ -135,13 +139,17 @@ fn reject<E: Sink>(err: &mut E, line: &[u8]) -> Status
 
 // Writes the refusal's line.
 fn refuse<E: Sink>(alloc: Global, sources: &[&str], refusal: &Refusal, err: &mut E) -> Status
+    requires { IsSome (status_of refusal.now.code) }
     ensures { Refuses (texts_at sources.now) refusal.now result (writes E.taken E.faults E.may_lack_memory err.old err.new) }
 {
+    let Some(status) = refused_status(refusal.code) else {
+        unreachable!()
+    };
     let Ok(line) = refusal_line(alloc, sources, refusal) else {
         return Status::Memory;
     };
     match write_all(err, &line) {
-        Ok(()) => refused_status(refusal.code),
+        Ok(()) => status,
         Err(SinkFault::Failed) => Status::WriteFault,
         Err(SinkFault::Memory) => Status::Memory,
     }

@@ -3,9 +3,9 @@
 //! `run` does all that the program does, over any files and sinks of `fq_io`. Its one clause says what it wrote by the
 //! words, by the bytes that the files held and by the status (`specs/Due.antt`, `specs/Run.antt`): for `measure` the report
 //! of which goals of the query the inputs cover, for `goals` the list of the goals, for `runs` how the inputs' runs end and
-//! which edges they take, for `generate` the report of inputs that were made for the goals, for `prove` a certificate that
-//! no input covers a goal, or what stands in its place, for `check` whether a certificate refutes a goal, for `sample` what is
-//! found of a large program, and else the line of the refusal that is due.
+//! which edges they take, for `graph` the automaton of the sources, for `generate` the report of inputs that were made for
+//! the goals, for `prove` a certificate that no input covers a goal, or what stands in its place, for `check` whether a
+//! certificate refutes a goal, for `sample` what is found of a large program, and else the line of the refusal that is due.
 //!
 //! Each stage has a crate: the words `command_words`, the sources' automaton `c_front`, the query `fql_read`, `predicates`
 //! and `goals`, the inputs `input_text`, the runs `path_runner`, their hits `measurer`, made inputs and reduced suites

@@ -29,11 +29,12 @@ pub fn no_such_goal() -> Refusal
     }
 }
 
-/// The status in which a refusal of this code ends.
-pub fn refused_status(code: u16) -> Status
+/// The status in which a refusal of this code ends, or none for a number that is no code.
+pub fn refused_status(code: u16) -> Option<Status>
     ensures { result ≡ status_of code }
 {
-    match code {
+    let status = match code {
+        2 => Status::Usage,
         7 => Status::ReadFault,
         10 | 11 | 12 | 13 | 14 | 20 | 21 | 29 | 30 | 31 | 32 | 33 | 35 | 36 | 38 | 39 =>
             Status::SourceRefused,
@@ -41,8 +42,9 @@ pub fn refused_status(code: u16) -> Status
         50 | 51 | 52 | 55 | 56 => Status::InputRefused,
         15 | 16 | 22 | 34 | 37 | 41 | 53 | 54 | 63 | 67 | 71 | 73 | 80 | 81 | 82 => Status::Limit,
         90 | 91 | 92 | 93 => Status::CertificateRejected,
-        _ => Status::Usage,
-    }
+        _ => return None,
+    };
+    Some(status)
 }
 
 fn push_number(

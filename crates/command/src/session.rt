@@ -1,9 +1,9 @@
 // From a request to the text that it asks for.
 ghost use Rattle.std.specs.Prelude.{◌≡◌, ◌≤◌, ◌<◌, Some, false, IfOk, IfErr, MatchResult, length};
-ghost use Rattle.command_words.specs.Request.{asked, checking, generating, listing, measuring, proving, running};
+ghost use Rattle.command_words.specs.Request.{asked, checking, generating, listing, measuring, proving, running, texts_at};
 ghost use Rattle.command.specs.Asked.{sources_of};
 ghost use Rattle.command.specs.Checking.{IsDueOfCheck};
-ghost use Rattle.command.specs.Due.{IsDueOf, IsDueOfGoals, IsDueOfMeasure, IsDueOfRuns};
+ghost use Rattle.command.specs.Due.{IsDueOf, IsDueOfGoals, IsDueOfGraph, IsDueOfMeasure, IsDueOfRuns};
 ghost use Rattle.command.specs.Generating.{IsDueOfGenerate};
 ghost use Rattle.command.specs.Proving.{IsDueOfProve};
 ghost use Rattle.command.specs.Ranges.{AreBounds, IsInRange};
@@ -31,7 +31,7 @@ use cfa::Graph;
 use command_words::{Check, Generate, Goals, Measure, Prove, Request, Runs};
 use fq_core::{Fault, Memory};
 use fq_io::Files;
-use report::goals_text;
+use report::{goals_text, graph_text};
 use search::Watch;
 use std::alloc::Global;
 
@@ -177,6 +177,18 @@ fn check<F: Files>(alloc: Global, request: &Check, files: &mut F) -> Result<Repl
     check_graph(alloc, request, &graph, files)
 }
 
+// The text of the sources' automaton.
+fn graph<F: Files>(alloc: Global, sources: &[&str], files: &mut F) -> Result<Vec<u8>, Fault>
+    ensures ok { IfOk result (λ text. OfSources (reads F.holds F.last_failed F.faults F.received files.old files.new)
+        (texts_at sources.now) IsDueOfGraph (answered text.items)) }
+    ensures err { IfErr result (λ fault. IfRefused fault (λ refusal. OfSources (reads F.holds F.last_failed F.faults F.received files.old files.new)
+        (texts_at sources.now) IsDueOfGraph (said_by (texts_at sources.now) refusal))) }
+{
+    let graph = automaton(alloc, files, sources)?;
+    let text = graph_text(alloc, &graph)?;
+    Ok(text)
+}
+
 // A text as a reply, in which nothing is left open.
 fn plain(text: Result<Vec<u8>, Fault>) -> Result<Reply, Fault>
     ensures { MatchResult text (λ text. result ≡ Ok (Reply.Answer text false)) (λ fault. result ≡ Err fault) }
@@ -208,6 +220,7 @@ pub fn answer<F: Files, W: Watch>(
         Request::Runs(request) => plain(runs(alloc, request, files)),
         Request::Prove(request) => prove(alloc, request, files, watch),
         Request::Check(request) => check(alloc, request, files),
+        Request::Graph(sources) => plain(graph(alloc, sources, files)),
         Request::Sample(number) => sample(alloc, *number, watch),
     }
 }

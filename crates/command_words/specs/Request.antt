@@ -76,6 +76,8 @@ pub data Asked : Type 0 where
   runs : Running → Asked
   prove : Proving → Asked
   check : Checking → Asked
+  -- of these sources
+  graph : List Text → Asked
   -- of this size
   sample : ℕ → Asked
 
@@ -110,6 +112,7 @@ asked (request.Goals m) = goals (listing m)
 asked (request.Runs m) = runs (running m)
 asked (request.Prove m) = prove (proving m)
 asked (request.Check m) = check (checking m)
+asked (request.Graph sources) = graph (texts_at sources.items)
 asked (request.Sample size) = sample size
 
 -- ---- numbers
@@ -207,6 +210,10 @@ abbrev pub checked : List Text → Option Bounds → Option Ends → Option Aske
 checked (entry ∷ query ∷ number ∷ certificate ∷ source ∷ sources) (Some bounds) (Some ends) = option_map (λ goal. check record { entry = entry; query = query; goal = goal; certificate = certificate; sources = source ∷ sources; bounds = bounds; ends = ends }) (goal_in number)
 checked _ _ _ = None
 
+abbrev pub printed : List Text → Option Asked
+printed (source ∷ sources) = Some (graph (source ∷ sources))
+printed _ = None
+
 abbrev pub sampled : List Text → Option Asked
 sampled (number ∷ []) = option_map sample (number_in 1 200 number)
 sampled _ = None
@@ -234,6 +241,9 @@ prove_of uses = proved (positionals_of uses) (bounds_of uses) (ends_of uses) (bu
 abbrev pub check_of : List Use → Option Asked
 check_of uses = checked (positionals_of uses) (bounds_of uses) (ends_of uses)
 
+abbrev pub graph_of : List Use → Option Asked
+graph_of uses = printed (positionals_of uses)
+
 abbrev pub sample_of : List Use → Option Asked
 sample_of uses = sampled (positionals_of uses)
 
@@ -251,4 +261,5 @@ request_of (name ∷ words) =
     (if bytes_eq name (codes "runs") then asked_by runs_of (Steps ∷ []) words else
     (if bytes_eq name (codes "prove") then asked_by prove_of (Turns ∷ Frames ∷ Answers ∷ ends_option ∷ Budget ∷ []) words else
     (if bytes_eq name (codes "check") then asked_by check_of (Turns ∷ Frames ∷ Answers ∷ ends_option ∷ []) words else
-    (if bytes_eq name (codes "sample") then asked_by sample_of [] words else None))))))
+    (if bytes_eq name (codes "graph") then asked_by graph_of [] words else
+    (if bytes_eq name (codes "sample") then asked_by sample_of [] words else None)))))))

@@ -3,14 +3,14 @@ ghost use Rattle.std.specs.Prelude.{◌≡◌, None, Some, IfOk, IsErrOf};
 ghost use Rattle.clap.specs.Matches.{found_of};
 ghost use Rattle.clap.specs.Walk.{rows_of};
 ghost use Rattle.command_words.specs.Reading.{texts, row_values};
-ghost use Rattle.command_words.specs.Request.{asked, asked_by, bounds_in, check_of, generate_of, goals_of, measure_of, prove_of, request_of, runs_of, sample_of};
+ghost use Rattle.command_words.specs.Request.{asked, asked_by, bounds_in, check_of, generate_of, goals_of, graph_of, measure_of, prove_of, request_of, runs_of, sample_of};
 
 use crate::CommandOption;
 use crate::matching::{WORDS, matches, values_of};
 use crate::requests::{
     Bounds, Refused, Request, bounds_given, budget_given, check_with, ends_given, flag_given,
-    generate_with, goals_with, measure_with, number_given, prove_with, runs_with, sample_with,
-    steps_given,
+    generate_with, goals_with, graph_with, measure_with, number_given, prove_with, runs_with,
+    sample_with, steps_given,
 };
 use clap::ArgMatches;
 use std::alloc::{AllocError, Global};
@@ -48,6 +48,8 @@ const CHECK: [CommandOption; 4] = [
     CommandOption::Answers,
     CommandOption::Ends,
 ];
+
+const GRAPH: [CommandOption; 0] = [];
 
 const SAMPLE: [CommandOption; 0] = [];
 
@@ -151,6 +153,15 @@ fn check<'a>(alloc: Global, words: &'a [String]) -> Result<Request<'a>, Refused>
     check_with(alloc, &positionals, bounds, ends_given(&ends))
 }
 
+fn graph<'a>(alloc: Global, words: &'a [String]) -> Result<Request<'a>, Refused>
+    ensures ok { IfOk result (λ r. asked_by graph_of GRAPH (texts words.now) ≡ Some (asked r)) }
+    ensures usage { IsErrOf result Refused.Usage → asked_by graph_of GRAPH (texts words.now) ≡ None }
+{
+    let matches = matches(alloc, "graph", &GRAPH, words)?;
+    let positionals = values_of(alloc, &matches, WORDS)?;
+    graph_with(alloc, &positionals)
+}
+
 fn sample<'a>(alloc: Global, words: &'a [String]) -> Result<Request<'a>, Refused>
     ensures ok { IfOk result (λ r. asked_by sample_of SAMPLE (texts words.now) ≡ Some (asked r)) }
     ensures usage { IsErrOf result Refused.Usage → asked_by sample_of SAMPLE (texts words.now) ≡ None }
@@ -172,6 +183,7 @@ pub fn request<'a>(alloc: Global, words: &'a [String]) -> Result<Request<'a>, Re
         [name, rest @ ..] if name.as_str() == "runs" => runs(alloc, rest),
         [name, rest @ ..] if name.as_str() == "prove" => prove(alloc, rest),
         [name, rest @ ..] if name.as_str() == "check" => check(alloc, rest),
+        [name, rest @ ..] if name.as_str() == "graph" => graph(alloc, rest),
         [name, rest @ ..] if name.as_str() == "sample" => sample(alloc, rest),
         _ => Err(Refused::Usage),
     }

@@ -2,7 +2,7 @@
 ghost use Rattle.std.specs.Prelude.{◌≡◌, ◌&&◌, nat_le, length, map, IfOk, IsErrOf, None, Some};
 ghost use Rattle.std.specs.Char.{is_ascii_digit};
 ghost use Rattle.std.specs.List.{list_all};
-ghost use Rattle.command_words.specs.Request.{asked, bounds_with, budget_in, checked, ends_in, ends_named, flag_of, generated, goal_in, listed, measured, number_in, number_of, proved, run_with, sampled, steps_in};
+ghost use Rattle.command_words.specs.Request.{asked, bounds_with, budget_in, checked, ends_in, ends_named, flag_of, generated, goal_in, listed, measured, number_in, number_of, printed, proved, run_with, sampled, steps_in};
 
 use c_meaning::Ends;
 use std::alloc::{AllocError, Global};
@@ -135,6 +135,8 @@ pub enum Request<'a> {
     Runs(Runs<'a>),
     Prove(Prove<'a>),
     Check(Check<'a>),
+    /// The automaton of the sources whose files have these names, one at least.
+    Graph(Vec<&'a str>),
     /// A large program, made from a number from 1 to 200.
     Sample(u32),
 }
@@ -405,6 +407,17 @@ pub fn check_with<'a>(
                 None => Err(Refused::Usage),
             }
         }
+        _ => Err(Refused::Usage),
+    }
+}
+
+/// The request of `graph`.
+pub fn graph_with<'a>(alloc: Global, positionals: &[&'a str]) -> Result<Request<'a>, Refused>
+    ensures ok { IfOk result (λ r. printed (map (λ v. v.now) positionals.now) ≡ Some (asked r)) }
+    ensures usage { IsErrOf result Refused.Usage → printed (map (λ v. v.now) positionals.now) ≡ None }
+{
+    match positionals {
+        [sources @ ..] if !sources.is_empty() => Ok(Request::Graph(sources.to_vec(alloc)?)),
         _ => Err(Refused::Usage),
     }
 }

@@ -86,6 +86,7 @@ fn show(alloc: Global, request: &Request) -> Result<String, Fail> {
                 show_ends(m.ends)
             )?
         }
+        Request::Graph(sources) => format!(in alloc; "graph {:?}", sources)?,
         Request::Sample(size) => format!(in alloc; "sample {size}")?,
     };
     Ok(text)
@@ -101,7 +102,7 @@ fn answer(alloc: Global, line: &str) -> Result<String, Fail> {
 }
 
 // What lines ask for.
-static ASKED: [(&str, &str); 28] = [
+static ASKED: [(&str, &str); 31] = [
     (
         "measure f q in a.c",
         "measure f q in [\"a.c\"] 100000 returned false",
@@ -179,6 +180,9 @@ static ASKED: [(&str, &str); 28] = [
         "check f q 1 c a.c --ends any",
         "check f q 1 c [\"a.c\"] 4/8/16 any",
     ),
+    ("graph a.c", "graph [\"a.c\"]"),
+    ("graph a.c b.c a.c", "graph [\"a.c\", \"b.c\", \"a.c\"]"),
+    ("graph _ -- --json -", "graph [\"\", \"--json\", \"-\"]"),
     ("sample 1", "sample 1"),
     ("sample 200", "sample 200"),
     ("sample -- 7", "sample 7"),
@@ -187,7 +191,7 @@ static ASKED: [(&str, &str); 28] = [
 ];
 
 // Lines that ask for nothing.
-static REFUSED: [&str; 57] = [
+static REFUSED: [&str; 62] = [
     "measure f q in a.c --ends",
     "measure f q in a.c --ends blocked",
     "measure f q in a.c --ends Returned",
@@ -240,6 +244,11 @@ static REFUSED: [&str; 57] = [
     "check f q 1 c",
     "check f q 0 c a.c",
     "check f q 1 c a.c --budget 1",
+    "graph",
+    "graph --",
+    "graph a.c --json",
+    "graph --steps 3 a.c",
+    "graph -",
     "sample",
     "sample 0",
     "sample 201",

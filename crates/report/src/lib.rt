@@ -9,7 +9,9 @@
 //! generated.rt.
 #![tactic(auto)]
 
+mod automaton;
 mod counts;
+mod edges;
 mod ends;
 mod generated;
 mod generated_values;
@@ -23,6 +25,7 @@ mod numbers;
 mod one_goal;
 mod strings;
 
+pub use automaton::graph_text;
 pub use generated::generated_text;
 pub use generated_values::generated_json;
 pub use json::measured_json;

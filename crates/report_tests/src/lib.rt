@@ -2,6 +2,8 @@
 #![tactic(auto)]
 
 #[cfg(test)]
+mod automaton;
+#[cfg(test)]
 mod generation;
 #[cfg(test)]
 mod tests;

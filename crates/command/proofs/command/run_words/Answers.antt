@@ -10,6 +10,9 @@ use Rattle.command.proofs.command.run_words.Goals as goal
 pub serve-requires : goal.serve-requires
 serve-requires g c = in_range _ (texts c.args.words.now) c.in-Ok.ensures.ok
 
+pub refuse-requires : goal.refuse-requires
+refuse-requires g c = rw c.nowhere.ensures refl
+
 pub returns-in-Ok : goal.returns-in-Ok
 returns-in-Ok g c = due_asked _ (texts c.args.words.now) _ c.in-Ok.ensures.ok _ _ _ _ c.serve.ensures
 

@@ -1,5 +1,11 @@
 use Rattle.command.proofs.Ended.{ends_refused, ends_reply}
+use Rattle.command.proofs.StatusLaws.{refusal_coded}
 use Rattle.command.proofs.command.serve.Goals as goal
+
+pub refuse-requires : goal.refuse-requires
+refuse-requires g c =
+    let given = rw c.in-Err-Refused.field-0-is at c.in-Err-Refused.ensures in
+    refusal_coded c.refused_by_these_codes.ensures _ _ _ c.in-Err-Refused.refusal given.0
 
 pub returns-in-Ok : goal.returns-in-Ok
 returns-in-Ok g c =

@@ -25,6 +25,12 @@ returns-in-Runs g c =
     (watched g.W.Watch.seen c.args.watch.now c.args.watch.now) c.runs.result c.plain-in-Runs.result c.plain-in-Runs.ensures
     (rw c.in-Runs.is c.runs.ensures.ok) (rw c.in-Runs.is c.runs.ensures.err) refl
 
+pub returns-in-Graph : goal.returns-in-Graph
+returns-in-Graph g c =
+    gives_plain (IsDueOf (reads g.F.Files.holds g.F.Files.last_failed g.F.Files.faults g.F.Files.received c.args.files.now c.graph.new.files) (asked c.args.request.now)) (sources_of (asked c.args.request.now))
+    (watched g.W.Watch.seen c.args.watch.now c.args.watch.now) c.graph.result c.plain-in-Graph.result c.plain-in-Graph.ensures
+    (rw c.in-Graph.is (rw c.deref.ensures.value at c.graph.ensures.ok)) (rw c.in-Graph.is (rw c.deref.ensures.value at c.graph.ensures.err)) refl
+
 pub returns-in-Generate : goal.returns-in-Generate
 returns-in-Generate g c = rw c.in-Generate.is c.generate.ensures
 
