@@ -1,13 +1,14 @@
 -- How words go on along a path.
-use Rattle.std.proofs.Common.{◌≡◌, ◌≢◌, ℕ, zero, suc, ◌+◌, ◌-◌, ◌≤◌, ◌<◌, ◌⊎◌, ◌↔◌, inl, inr, Bool, true, false, cond, List, [], ◌∷◌, ◌++◌, length, get_or, take, drop, Option, Some, None, refl, sym, ◌∙◌, ap, subst, arith}
-use Rattle.std.specs.Prelude.{slice_index, count_by}
+use Rattle.std.proofs.Common.{◌≡◌, ℕ, zero, suc, ◌+◌, ◌≤◌, ◌<◌, ◌↔◌, cond, List, [], ◌∷◌, ◌++◌, length, get_or, take, drop, refl, sym, subst, arith}
+use Rattle.std.specs.Prelude.{count_by}
 use Rattle.std.proofs.lemmas.List.{drop_more, drop_all, take_more}
 use Rattle.std.proofs.lemmas.List.Sums.{sum_by-cons}
-use Rattle.patterns.specs.declared.path_view.PathView.{PathView}
+use Rattle.gap_words.specs.Placed.{Placed}
 use Rattle.gap_words.specs.Walks.{Goes, Walks}
-use Rattle.gap_words.specs.Parts.{IsLetter, AreLetters, IsStep, IsEnd, is_edge}
+use Rattle.gap_words.specs.Parts.{IsLetter, AreLetters, is_edge}
 use Rattle.gap_words.specs.declared.piece.Piece.{Piece}
 use Rattle.gap_words.specs.declared.piece.Piece.TheVariants.{Edge, Node, Predicate, Absent, Gap}
+use Rattle.gap_words.specs.declared.piece.Span.{Span}
 
 -- ---- rows of letters
 
@@ -16,7 +17,7 @@ letter_at [] h i d lt = absurd (omega arith)
 letter_at (q ∷ w) h zero d lt = h.0
 letter_at (q ∷ w) h (suc i) d lt = letter_at w h.1 i d (omega arith)
 
-pub not_gap : (p : Piece) → ((bound : ℕ) → p ≡ Gap bound → ⊥) → IsLetter p
+pub not_gap : (p : Piece) → ((span : Span) → p ≡ Gap span → ⊥) → IsLetter p
 not_gap (Edge e) h = tt
 not_gap (Node n) h = tt
 not_gap (Predicate n) h = tt
@@ -30,13 +31,13 @@ append_letters (p ∷ u) w h g = (h.0, append_letters u w h.1 g)
 pub more_letters : (w : List Piece) (i : ℕ) (d : Piece) → i < length w → IsLetter (get_or w i d) → AreLetters (take i w) → AreLetters (take (i + 1) w)
 more_letters w i d lt l h = subst AreLetters (sym (take_more w i d lt)) (append_letters (take i w) (get_or w i d ∷ []) h (l, tt))
 
-module _ (path : PathView) where
+module _ (path : Placed) where
   goes_forward : (p : Piece) (i j : ℕ) → Goes path p i j → i ≤ j
   goes_forward (Edge e) i j h = let a = h.0 in omega arith
   goes_forward (Node n) i j h = let a = h.0 in omega arith
   goes_forward (Predicate n) i j h = let a = h.0 in omega arith
   goes_forward (Absent n) i j h = let a = h.0 in omega arith
-  goes_forward (Gap b) i j h = h.0
+  goes_forward (Gap b) i j h = let a = h.0 in omega arith
 
   pub walks_forward : (w : List Piece) (i j : ℕ) → Walks path w i j → i ≤ j
   walks_forward [] i j h = omega arith

@@ -1,4 +1,5 @@
 pub mod Going
-pub mod Ends
+pub mod Starts
+pub mod Begins
 pub mod Gaps
 pub mod Spelled

@@ -1,3 +1,4 @@
+pub mod Placed
 pub mod Walks
 pub mod Parts
 pub mod GapWords

@@ -1,9 +1,9 @@
 // Words of letters and gaps.
-ghost use Rattle.std.specs.Prelude.{◌≡◌, ◌↔◌, ◌≤◌, ◌<◌, ◌+◌, true, length, drop};
-ghost use Rattle.gap_words.specs.Parts.{IsAboveEdges};
-ghost use Rattle.gap_words.specs.Walks.{HasWalk, IsAtMost, IsAtMostGaps};
+ghost use Rattle.std.specs.Prelude.{◌≡◌, ◌<◌, ◌+◌, length, drop};
+ghost use Rattle.gap_words.specs.Parts.{IsFirstStartOrNone};
 
-use crate::parts::{first_gap, last_part_goes, part_end};
+use crate::gap_sets::GapSets;
+use crate::parts::{edge_count, first_gap, first_start, gap_begin, last_start};
 use crate::path_places::PathPlaces;
 use crate::piece::Piece;
 use crate::spelling::add_pieces;
@@ -17,28 +17,6 @@ pub struct GapWord {
     pieces: Vec<Piece>,
 }
 
-/// A number no greater than this one, and than the bound of the piece if it is a gap.
-fn capped(piece: Piece, bound: u32) -> u32
-    ensures less { result ≤ bound }
-    ensures gap { IsAtMost result piece }
-{
-    match piece {
-        Piece::Gap(own) => bound.min(own),
-        _ => bound,
-    }
-}
-
-/// The least bound of a word's gaps.
-fn least_bound(word: &[Piece]) -> u32
-    ensures { IsAtMostGaps result word.now }
-{
-    let mut least = u32::MAX;
-    for piece in word {
-        least = capped(*piece, least);
-    }
-    least
-}
-
 /// What stands behind a place of a word.
 fn rest_after(word: &[Piece], place: usize) -> &[Piece]
     requires { place < length word.now }
@@ -47,24 +25,46 @@ fn rest_after(word: &[Piece], place: usize) -> &[Piece]
     &word[place + 1..]
 }
 
-/// Whether a word goes along a path whose edges are below the bounds of its gaps.
-fn goes_along(path: &PathPlaces, word: &[Piece], first: bool, last: bool, bound: usize) -> bool
-    requires edges { IsAboveEdges bound path.now.edges }
-    requires gaps { IsAtMostGaps bound word.now }
-    ensures { (result ≡ true) ↔ HasWalk path.now first last word.now 0 }
+/// The first state from this one on from which a word goes to where it may end.
+///
+/// The part before the first gap begins at the first state from which it goes, and what stands behind the gap at the first
+/// one that is far enough. Where the gap doesn't reach that one, no end of the part before the gap's beginning is of use, so
+/// the search goes on from there. What stands behind the gap is sought again only past where it was found, so that each of
+/// the word's parts goes along the path once.
+fn word_start(path: &PathPlaces, word: &[Piece], last: bool, start: usize) -> Option<usize>
+    ensures { IsFirstStartOrNone path.now last word.now start result }
 {
-    let mut rest = word;
-    let mut tied = first;
-    let mut at = 0;
-    while let Some(size) = first_gap(rest) {
-        match part_end(path, &rest[..size], tied, at) {
-            None => return false,
-            Some(end) => at = end,
+    let Some(gap) = first_gap(word) else {
+        return last_start(path, word, last, start);
+    };
+    let part = &word[..gap.place];
+    let rest = rest_after(word, gap.place);
+    let Some(mut next) = word_start(path, rest, last, start) else {
+        return None;
+    };
+    let size = edge_count(part);
+    let least = gap.span.least as usize;
+    let count = path.count();
+    let mut from = start;
+    while let Some(at) = first_start(path, part, from) {
+        let end = at + size;
+        if count - end < least {
+            return None;
         }
-        rest = rest_after(rest, size);
-        tied = false;
+        let needed = end + least;
+        if next < needed {
+            match word_start(path, rest, last, needed) {
+                None => return None,
+                Some(later) => next = later,
+            }
+        }
+        let begin = gap_begin(path, gap.span, next);
+        if begin <= end {
+            return Some(at);
+        }
+        from = begin - size;
     }
-    last_part_goes(path, rest, tied, last, at)
+    None
 }
 
 impl GapWord {
@@ -73,33 +73,36 @@ impl GapWord {
     ghost use Rattle.patterns.specs.Match.{Form};
     ghost use Rattle.patterns.specs.Segments.{HasSegment};
     ghost use Rattle.gap_words.specs.GapWords.{IsGapWordOf};
+    ghost use Rattle.gap_words.specs.Placed.{path_of};
 
-    /// The word of a pattern that is a row of letters and gaps: edges, nodes and predicates, and repetitions, without bound,
-    /// of all edges below a number.
+    /// The word of a pattern that is a row of letters and gaps: edges, nodes and predicates, and repetitions of edges of one
+    /// of these sets.
     ///
     /// # Errors
     ///
     /// Want of memory alone.
-    pub fn of(alloc: Global, pattern: &Pattern<Letter>) -> Result<Option<GapWord>, Memory>
-        ensures { IfOk result (λ o. IfSome o (λ word. IsGapWordOf (form pattern.now) word)) }
+    pub fn of(
+        alloc: Global,
+        pattern: &Pattern<Letter>,
+        sets: &GapSets,
+    ) -> Result<Option<GapWord>, Memory>
+        ensures { IfOk result (λ o. IfSome o (λ word. IsGapWordOf sets.now (form pattern.now) word)) }
     {
         let mut pieces = Vec::new(alloc);
-        if !add_pieces(pattern, &mut pieces)? {
+        if !add_pieces(pattern, sets, &mut pieces)? {
             return Ok(None);
         }
         Ok(Some(GapWord { pieces }))
     }
 
-    /// Whether some segment of the path matches the pattern, from the first state and to the last one where that is asked. It
-    /// isn't told where an edge of the path is none of those that each gap takes.
-    pub fn has_match(&self, path: &PathPlaces, first: bool, last: bool) -> Option<bool>
-        ensures { (pattern : Form Letter) → IsGapWordOf pattern self.now → IfSome result (λ b. (b ≡ true) ↔ HasSegment first last pattern path.now) }
+    /// Whether some segment of the path matches the pattern, from the first state and to the last one where that is asked,
+    /// where the path has the sets of the word's gaps.
+    pub fn has_match(&self, path: &PathPlaces, first: bool, last: bool) -> bool
+        ensures { (pattern : Form Letter) → IsGapWordOf path.now.sets pattern self.now → (result ≡ true) ↔ HasSegment first last pattern (path_of path.now) }
     {
-        let word = self.pieces.as_slice();
-        let bound = least_bound(word) as usize;
-        if path.above() > bound {
-            return None;
+        match word_start(path, &self.pieces, last, 0) {
+            None => false,
+            Some(start) => !first || start == 0,
         }
-        Some(goes_along(path, word, first, last, bound))
     }
 }

@@ -1,19 +1,25 @@
 // Where the parts of a word between its gaps go first.
-ghost use Rattle.std.specs.Prelude.{◌≡◌, ◌↔◌, ◌≤◌, List, true, false, length, count_by};
-ghost use Rattle.gap_words.specs.Parts.{AreLetters, IsFirstEndOrNone, IsFirstGapOrNone, IsNoLater, is_edge};
-ghost use Rattle.gap_words.specs.Walks.{HasWalk};
+ghost use Rattle.std.specs.Prelude.{◌≡◌, ◌≤◌, List, false, true, length, count_by};
+ghost use Rattle.gap_words.specs.Parts.{AreLetters, IsFirstGapOrNone, IsFirstStartOrNone, IsGapBegin, IsNoLater, is_edge};
 
 use crate::path_places::PathPlaces;
-use crate::piece::Piece;
+use crate::piece::{Piece, Span};
 use crate::steps::end_of;
 
-/// The place of the first gap of a word.
-pub(crate) fn first_gap(word: &[Piece]) -> Option<usize>
+/// The first gap of a word, and its place.
+#[derive(Clone, Copy, Debug, Drop)]
+pub(crate) struct FirstGap {
+    pub(crate) place: usize,
+    pub(crate) span: Span,
+}
+
+/// The first gap of a word.
+pub(crate) fn first_gap(word: &[Piece]) -> Option<FirstGap>
     ensures { IsFirstGapOrNone word.now result }
 {
     for (place, piece) in word.iter().enumerate() {
-        if let Piece::Gap(_) = *piece {
-            return Some(place);
+        if let Piece::Gap(span) = *piece {
+            return Some(FirstGap { place, span });
         }
     }
     None
@@ -45,15 +51,15 @@ fn likely_start(path: &PathPlaces, part: &[Piece], start: usize) -> Option<usize
     }
 }
 
-/// The first state to which a row of letters goes from this one or a later one.
-fn first_end(path: &PathPlaces, part: &[Piece], start: usize) -> Option<usize>
+/// The first state from this one on from which a row of letters goes.
+pub(crate) fn first_start(path: &PathPlaces, part: &[Piece], start: usize) -> Option<usize>
     requires { AreLetters part.now }
-    ensures { IsFirstEndOrNone path.now false part.now start result }
+    ensures { IsFirstStartOrNone path.now false part.now start result }
 {
     let mut from = start;
     while let Some(at) = likely_start(path, part, from) {
         match end_of(path, part, at) {
-            Some(end) => return Some(end),
+            Some(_) => return Some(at),
             None if at >= path.count() => return None,
             None => from = at + 1,
         }
@@ -61,66 +67,57 @@ fn first_end(path: &PathPlaces, part: &[Piece], start: usize) -> Option<usize>
     None
 }
 
-/// The first state to which a row of letters goes from this one, or where it isn't tied from this one or a later one.
-pub(crate) fn part_end(path: &PathPlaces, part: &[Piece], tied: bool, start: usize) -> Option<usize>
-    requires start { start ≤ length path.now.edges }
-    requires letters { AreLetters part.now }
-    ensures { IsFirstEndOrNone path.now tied part.now start result }
-{
-    if tied {
-        end_of(path, part, start)
-    } else {
-        first_end(path, part, start)
-    }
-}
-
 /// How many edges a row of letters has.
-fn edge_count(part: &[Piece]) -> usize
+pub(crate) fn edge_count(part: &[Piece]) -> usize
     ensures { result ≡ count_by is_edge part.now }
 {
     part.iter().filter(|piece| piece.is_edge()).count()
 }
 
-/// Whether a row of letters may go from this state, where it has to go from another one if it is tied.
-fn may_begin(tied: bool, at: usize, start: usize) -> bool
-    ensures yes { result ≡ true → tied ≡ true → at ≡ start }
-    ensures no { result ≡ false → (tied ≡ true) × (¬ (at ≡ start)) }
+/// The state from which a row of letters goes to the last one, if it is this state or a later one.
+fn start_to_last(path: &PathPlaces, part: &[Piece], start: usize) -> Option<usize>
+    requires { AreLetters part.now }
+    ensures { IsFirstStartOrNone path.now true part.now start result }
 {
-    !tied || at == start
+    let size = edge_count(part);
+    if path.count() < size {
+        return None;
+    }
+    let at = path.count() - size;
+    if at < start {
+        return None;
+    }
+    match end_of(path, part, at) {
+        None => None,
+        Some(_) => Some(at),
+    }
 }
 
-/// Whether a row of letters goes from a state, this one or where it isn't tied a later one, to the last one.
-fn ends_at_last(path: &PathPlaces, part: &[Piece], tied: bool, start: usize) -> bool
-    requires start { start ≤ length path.now.edges }
-    requires letters { AreLetters part.now }
-    ensures { (result ≡ true) ↔ HasWalk path.now tied true part.now start }
-{
-    let count = edge_count(part);
-    if path.count() - start < count {
-        return false;
-    }
-    let at = path.count() - count;
-    if !may_begin(tied, at, start) {
-        return false;
-    }
-    end_of(path, part, at).is_some()
-}
-
-/// Whether a row of letters goes from a state, this one or where it isn't tied a later one, to one where it may end.
-pub(crate) fn last_part_goes(
+/// The first state from this one on from which a row of letters goes to where it may end.
+pub(crate) fn last_start(
     path: &PathPlaces,
     part: &[Piece],
-    tied: bool,
     last: bool,
     start: usize,
-) -> bool
-    requires start { start ≤ length path.now.edges }
-    requires letters { AreLetters part.now }
-    ensures { (result ≡ true) ↔ HasWalk path.now tied last part.now start }
+) -> Option<usize>
+    requires { AreLetters part.now }
+    ensures { IsFirstStartOrNone path.now last part.now start result }
 {
     if last {
-        ends_at_last(path, part, tied, start)
+        start_to_last(path, part, start)
     } else {
-        part_end(path, part, tied, start).is_some()
+        first_start(path, part, start)
+    }
+}
+
+/// The first state from which a gap reaches this one, as far as its set and its greatest number of edges go.
+pub(crate) fn gap_begin(path: &PathPlaces, span: Span, state: usize) -> usize
+    requires { state ≤ length path.now.edges }
+    ensures { IsGapBegin path.now span state result }
+{
+    let begin = path.begin_at(span.set, state);
+    match span.most {
+        None => begin,
+        Some(most) => begin.max(state.saturating_sub(most as usize)),
     }
 }

@@ -1,6 +1,15 @@
 ghost use Rattle.std.specs.Prelude.{◌≡◌};
 ghost use Rattle.gap_words.specs.Parts.{is_edge};
 
+/// What a gap goes over: edges of a set, by its place among the sets of gaps, no fewer than the least number and no more than
+/// the greatest one, where there is one.
+#[derive(Clone, Copy, Debug, Drop)]
+pub(crate) struct Span {
+    pub(crate) set: usize,
+    pub(crate) least: u32,
+    pub(crate) most: Option<u32>,
+}
+
 /// A piece of a word with gaps.
 #[derive(Clone, Copy, Debug, Drop)]
 pub(crate) enum Piece {
@@ -12,8 +21,8 @@ pub(crate) enum Piece {
     Predicate(u32),
     /// A predicate that doesn't hold, by its number.
     Absent(u32),
-    /// Any number of edges below this bound.
-    Gap(u32),
+    /// A number of edges of a set.
+    Gap(Span),
 }
 
 impl Piece {

@@ -1,11 +1,11 @@
 // The words of patterns.
-ghost use Rattle.std.specs.Prelude.{◌≡◌, ◌↔◌, ◌==◌, ◌<◌, ◌∷◌, [], ℕ, true, None, IfOk, IfSome};
-ghost use Rattle.std.specs.List.{list_any};
+ghost use Rattle.std.specs.Prelude.{◌≡◌, ◌∷◌, [], ℕ, List, true, IfOk, IfSome};
 ghost use Rattle.patterns.specs.Letters.{form};
 ghost use Rattle.patterns.specs.Match as plain;
 ghost use Rattle.gap_words.specs.Parts.{IsAppended, IsPieceOf};
 
-use crate::piece::Piece;
+use crate::gap_sets::GapSets;
+use crate::piece::{Piece, Span};
 use fq_core::Memory;
 use patterns::{Letter, NumberSet, Pattern};
 
@@ -19,25 +19,9 @@ fn single(set: &NumberSet) -> Option<u32>
     }
 }
 
-/// A bound that tells the members of the set from all others, where there is one.
-fn bound_of(set: &NumberSet) -> Option<u32>
-    ensures { IfSome result (λ bound. (x : ℕ) → (list_any (λ member. member == x) set.now ≡ true) ↔ (x < bound)) }
-{
-    let members = set.as_slice();
-    let count = members.len();
-    if count == 0 {
-        return Some(0);
-    }
-    let last = members[count - 1];
-    if last as usize != count - 1 || last == u32::MAX {
-        return None;
-    }
-    Some(last + 1)
-}
-
 /// The piece of a letter, where there is one.
 fn letter_piece(letter: &Letter) -> Option<Piece>
-    ensures { IfSome result (λ piece. IsPieceOf (plain.letter letter.now) piece) }
+    ensures { (sets : List (List ℕ)) → IfSome result (λ piece. IsPieceOf sets (plain.letter letter.now) piece) }
 {
     match letter {
         Letter::Edges(edges) => match single(edges) {
@@ -53,42 +37,37 @@ fn letter_piece(letter: &Letter) -> Option<Piece>
     }
 }
 
-/// The gap that any number of matches of a letter are, where they are one.
-fn letter_gap(letter: &Letter) -> Option<Piece>
-    ensures { IfSome result (λ piece. IsPieceOf (plain.repeat (plain.letter letter.now) 0 None) piece) }
+/// The gap that repetitions of a letter are, where they are one.
+fn letter_gap(letter: &Letter, least: u32, most: Option<u32>, sets: &GapSets) -> Option<Piece>
+    ensures { IfSome result (λ piece. IsPieceOf sets.now (plain.repeat (plain.letter letter.now) least most) piece) }
 {
     match letter {
-        Letter::Edges(edges) => match bound_of(edges) {
+        Letter::Edges(edges) => match sets.place_of(edges) {
             None => None,
-            Some(bound) => Some(Piece::Gap(bound)),
+            Some(set) => Some(Piece::Gap(Span { set, least, most })),
         },
         _ => None,
     }
 }
 
-/// The gap that any number of matches of a pattern are, where they are one.
-fn pattern_gap(body: &Pattern<Letter>) -> Option<Piece>
-    ensures { IfSome result (λ piece. IsPieceOf (plain.repeat (form body.now) 0 None) piece) }
+/// The gap that repetitions of a pattern are, where they are one.
+fn pattern_gap(
+    body: &Pattern<Letter>,
+    least: u32,
+    most: Option<u32>,
+    sets: &GapSets,
+) -> Option<Piece>
+    ensures { IfSome result (λ piece. IsPieceOf sets.now (plain.repeat (form body.now) least most) piece) }
 {
     match body {
-        Pattern::Letter(letter) => letter_gap(letter),
+        Pattern::Letter(letter) => letter_gap(letter, least, most, sets),
         _ => None,
-    }
-}
-
-/// Whether a repetition has no bounds.
-fn is_unbounded(least: u32, most: Option<u32>) -> bool
-    ensures { result ≡ true → (least ≡ 0) × (most ≡ None) }
-{
-    match most {
-        None => least == 0,
-        Some(_) => false,
     }
 }
 
 /// Adds this piece, if there is one.
 fn add_piece(piece: Option<Piece>, pieces: &mut Vec<Piece>) -> Result<bool, Memory>
-    ensures { (pattern : plain.Form Letter) → IfSome piece (λ piece. IsPieceOf pattern piece) → IfOk result (λ b. b ≡ true → IsAppended pattern pieces.old.items pieces.new.items) }
+    ensures { (sets : List (List ℕ)) (pattern : plain.Form Letter) → IfSome piece (λ piece. IsPieceOf sets pattern piece) → IfOk result (λ b. b ≡ true → IsAppended sets pattern pieces.old.items pieces.new.items) }
 {
     match piece {
         None => Ok(false),
@@ -100,22 +79,23 @@ fn add_piece(piece: Option<Piece>, pieces: &mut Vec<Piece>) -> Result<bool, Memo
 }
 
 /// Adds the pieces of a pattern, and answers whether it is a row of letters and gaps.
-pub(crate) fn add_pieces(pattern: &Pattern<Letter>, pieces: &mut Vec<Piece>) -> Result<bool, Memory>
-    ensures { IfOk result (λ b. b ≡ true → IsAppended (form pattern.now) pieces.old.items pieces.new.items) }
+pub(crate) fn add_pieces(
+    pattern: &Pattern<Letter>,
+    sets: &GapSets,
+    pieces: &mut Vec<Piece>,
+) -> Result<bool, Memory>
+    ensures { IfOk result (λ b. b ≡ true → IsAppended sets.now (form pattern.now) pieces.old.items pieces.new.items) }
 {
     match pattern {
         Pattern::Letter(letter) => add_piece(letter_piece(letter), pieces),
         Pattern::Dot(a, b) => {
-            if !add_pieces(a, pieces)? {
+            if !add_pieces(a, sets, pieces)? {
                 return Ok(false);
             }
-            add_pieces(b, pieces)
+            add_pieces(b, sets, pieces)
         }
         Pattern::Repeat { body, least, most } => {
-            if !is_unbounded(*least, *most) {
-                return Ok(false);
-            }
-            add_piece(pattern_gap(body), pieces)
+            add_piece(pattern_gap(body, *least, *most, sets), pieces)
         }
         _ => Ok(false),
     }

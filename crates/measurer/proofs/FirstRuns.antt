@@ -2,7 +2,7 @@
 use Rattle.std.proofs.Common.{◌≡◌, ℕ, suc, ◌+◌, ◌-◌, cond, Bool, true, false, List, [], ◌∷◌, ◌++◌, Option, Some, None, length, refl, sym, ◌∙◌, ap, arith, length-append}
 use Rattle.std.specs.Prelude.{slice_get}
 use Rattle.std.specs.List.{position_from}
-use Rattle.measurer.proofs.Automata.{get_push_new}
+use Rattle.measurer.proofs.Matchers.{get_push_new}
 use Rattle.measurer.specs.Firsts.{first_hit, has_number}
 use Rattle.measurer.specs.Noted.{noted}
 

@@ -3,6 +3,6 @@ pub mod WordOpenings
 pub mod FirstPlaces
 pub mod Gathered
 pub mod KnownHits
-pub mod Automata
+pub mod Matchers
 pub mod FirstRuns
 pub mod Noting

@@ -147,8 +147,9 @@ fn add_found(
     let goals = plan.goals.as_slice();
     let index = &tables.index;
     index.add_walks(goals, path, plan.first, plan.last, numbers)?;
-    let automata = tables.automata.as_slice();
-    add_others(alloc, automata, path, plan.first, plan.last, numbers)
+    let matchers = tables.matchers.as_slice();
+    let sets = &tables.sets;
+    add_others(alloc, matchers, sets, path, plan.first, plan.last, numbers)
 }
 
 /// Gathers the numbers of the goals that a run hits whose end is counted.

@@ -2,36 +2,46 @@
 ghost use Rattle.std.specs.Prelude.{◌≡◌, ◌+◌, ℕ, Some, Option, IfOk, IfSome, length, slice_get};
 ghost use Rattle.patterns.specs.Letters.{form};
 ghost use Rattle.automata.specs.Standing.{IsOf};
-ghost use Rattle.gap_words.specs.GapWords.{IsGapWordOf};
 ghost use Rattle.goals.specs.GoalForm.{GoalForm, HasItsPattern};
-ghost use Rattle.measurer.specs.Measured.{AreAutomata, IsFor, IsPassingAutomaton};
+ghost use Rattle.measurer.specs.Measured.{AreMatchers, IsFor, IsMatcherOf, IsPassingAutomaton};
 ghost use Rattle.measurer.specs.Openings.{IsOpening};
 
 use crate::openings::opening_of;
 use automata::{Nfa, build};
 use containers::Vector;
 use fq_core::Memory;
-use gap_words::GapWord;
+use gap_words::{GapSets, GapWord};
 use goals::{Goal, PassingPattern, Plan};
 use patterns::{Letter, Pattern};
 use std::alloc::Global;
 use word_index::{WordIndex, is_plain};
 
-/// The automaton of a goal, with the goal's number, from 1, the edge that each match takes first, where that is known and
-/// matches may begin anywhere, and the goal's pattern as a row of letters and gaps, where it is one.
+/// What tells the matches of a pattern.
 #[derive(Debug, Drop)]
-pub struct GoalAutomaton {
-    pub(crate) number: u32,
-    pub(crate) opening: Option<u32>,
-    pub(crate) gaps: Option<GapWord>,
-    pub(crate) automaton: Nfa<Letter>,
+pub enum Matcher {
+    /// The row of letters and gaps that it is.
+    Gaps(GapWord),
+    /// Its automaton, and the edge that each match takes first, where that is known and matches may begin anywhere.
+    Automaton {
+        opening: Option<u32>,
+        automaton: Nfa<Letter>,
+    },
 }
 
-/// An index of the goals whose words have no quoted letter, and the automata of the other goals and of the passing clause.
+/// What tells the matches of a goal, with the goal's number, from 1.
+#[derive(Debug, Drop)]
+pub struct GoalMatcher {
+    pub(crate) number: u32,
+    pub(crate) matcher: Matcher,
+}
+
+/// An index of the goals whose words have no quoted letter, what tells the matches of the other goals, with the sets of edges
+/// that their gaps go over, and the automaton of the passing clause.
 #[derive(Debug, Drop)]
 pub struct Tables {
     pub(crate) index: WordIndex,
-    pub(crate) automata: Vector<GoalAutomaton>,
+    pub(crate) sets: GapSets,
+    pub(crate) matchers: Vector<GoalMatcher>,
     pub(crate) passing: Option<Nfa<Letter>>,
 }
 
@@ -40,9 +50,12 @@ pub(crate) fn tables_of(alloc: Global, plan: &Plan) -> Result<Tables, Memory>
     ensures { IfOk result (λ tables. IsFor plan.now tables) }
 {
     patterns_are_of_words(&plan.goals);
+    let sets = gap_sets_of(alloc, &plan.goals)?;
+    let matchers = matchers_of(alloc, &plan.goals, &sets, plan.first, plan.last)?;
     Ok(Tables {
         index: WordIndex::new(alloc, &plan.goals)?,
-        automata: automata_of(alloc, &plan.goals, plan.first, plan.last)?,
+        sets,
+        matchers,
         passing: passing_automaton(alloc, &plan.passing)?,
     })
 }
@@ -87,18 +100,56 @@ fn passing_automaton(
     }
 }
 
-/// The automaton of the goal at a place.
-fn goal_automaton(
+/// Adds the sets of edges that gaps of a goal go over, unless an index takes it.
+fn add_gap_sets(alloc: Global, goal: &Goal, sets: &mut GapSets) -> Result<(), Memory> {
+    if is_plain(goal.word()) {
+        return Ok(());
+    }
+    let pattern = goal.pattern(alloc)?;
+    sets.add(alloc, &pattern)
+}
+
+/// The sets of edges that gaps of these goals go over.
+fn gap_sets_of(alloc: Global, goals: &[Goal]) -> Result<GapSets, Memory> {
+    let mut sets = GapSets::new(alloc);
+    for goal in goals {
+        add_gap_sets(alloc, goal, &mut sets)?;
+    }
+    Ok(sets)
+}
+
+/// What tells the matches of a pattern whose matches take this edge first, where there is one.
+fn matcher_of(
+    alloc: Global,
+    pattern: &Pattern<Letter>,
+    opening: Option<u32>,
+    sets: &GapSets,
+    first: bool,
+    last: bool,
+) -> Result<Matcher, Memory>
+    requires { IsOpening opening first (form pattern.now) }
+    ensures { IfOk result (λ matcher. IsMatcherOf sets.now first last (form pattern.now) matcher) }
+{
+    match GapWord::of(alloc, pattern, sets)? {
+        Some(word) => Ok(Matcher::Gaps(word)),
+        None => {
+            let automaton = automaton_of(alloc, pattern, first, last)?;
+            Ok(Matcher::Automaton { opening, automaton })
+        }
+    }
+}
+
+/// What tells the matches of the goal at a place.
+fn goal_matcher(
     alloc: Global,
     place: usize,
     goal: &Goal,
+    sets: &GapSets,
     first: bool,
     last: bool,
-) -> Result<GoalAutomaton, Memory>
+) -> Result<GoalMatcher, Memory>
     ensures number { IfOk result (λ own. own.number ≡ place + 1) }
-    ensures automaton { IfOk result (λ own. IsOf own.automaton (form goal.now.pattern) first last) }
-    ensures opening { IfOk result (λ own. IsOpening own.opening first (form goal.now.pattern)) }
-    ensures gaps { IfOk result (λ own. IfSome own.gaps (λ word. IsGapWordOf (form goal.now.pattern) word)) }
+    ensures matcher { IfOk result (λ own. IsMatcherOf sets.now first last (form goal.now.pattern) own.matcher) }
 {
     if place >= u32::MAX as usize {
         return Err(Memory);
@@ -106,29 +157,28 @@ fn goal_automaton(
     goal.pattern_is_of_word();
     let pattern = goal.pattern(alloc)?;
     let opening = opening_of(goal.word(), first);
-    Ok(GoalAutomaton {
+    Ok(GoalMatcher {
         number: place as u32 + 1,
-        opening,
-        gaps: GapWord::of(alloc, &pattern)?,
-        automaton: automaton_of(alloc, &pattern, first, last)?,
+        matcher: matcher_of(alloc, &pattern, opening, sets, first, last)?,
     })
 }
 
-/// The automata of the goals that no index takes.
-fn automata_of(
+/// What tells the matches of the goals that no index takes.
+fn matchers_of(
     alloc: Global,
     goals: &[Goal],
+    sets: &GapSets,
     first: bool,
     last: bool,
-) -> Result<Vector<GoalAutomaton>, Memory>
-    ensures { IfOk result (λ automata. AreAutomata goals.now first last (length goals.now) automata) }
+) -> Result<Vector<GoalMatcher>, Memory>
+    ensures { IfOk result (λ matchers. AreMatchers sets.now goals.now first last (length goals.now) matchers) }
 {
-    let mut automata = Vector::new(alloc);
+    let mut matchers = Vector::new(alloc);
     for (place, goal) in goals.iter().enumerate() {
         if !is_plain(goal.word()) {
-            let own = goal_automaton(alloc, place, goal, first, last)?;
-            automata.push(own)?;
+            let own = goal_matcher(alloc, place, goal, sets, first, last)?;
+            matchers.push(own)?;
         }
     }
-    Ok(automata)
+    Ok(matchers)
 }

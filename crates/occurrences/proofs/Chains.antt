@@ -1,10 +1,10 @@
--- One more place in the tables.
-use Rattle.std.proofs.Common.{◌≡◌, ◌≢◌, ℕ, zero, suc, ◌+◌, ◌-◌, ◌≤◌, ◌<◌, ◌==◌, ◌↔◌, ◌⊎◌, inl, inr, Bool, true, false, List, [], ◌∷◌, length, get_or, set, replicate, refl, sym, ◌∙◌, ap, subst, arith, eqb-true, eq-eqb, get_or-set_other, length-set}
-use Rattle.std.specs.Prelude.{slice_index, slice_index_or}
+-- One more place in the chains.
+use Rattle.std.proofs.Common.{◌≡◌, ◌≢◌, ℕ, zero, suc, ◌-◌, ◌≤◌, ◌<◌, ◌==◌, ◌⊎◌, inl, inr, Bool, true, false, List, length, get_or, set, replicate, refl, sym, ◌∙◌, ap, subst, arith, eqb-true, eq-eqb, get_or-set_other}
+use Rattle.std.specs.Prelude.{slice_index}
 use Rattle.std.proofs.lemmas.Bool.{cases_lt, false≢true}
 use Rattle.std.proofs.lemmas.Grind.{get_or-set_at}
 use Rattle.std.proofs.lemmas.List.{get_or_default}
-use Rattle.occurrences.specs.Places.{StandsIn, StandsFrom, IsNext, AreFirstsFrom, AreNextFrom, AreEndsBelow, IsFirstOrNone, IsFirstFrom, AreTables}
+use Rattle.occurrences.specs.Places.{IsNext, AreFirstsFrom, AreNextFrom}
 
 get_or-same : (n i a : ℕ) → get_or (replicate n a) i a ≡ a
 get_or-same zero i a = refl
@@ -85,26 +85,4 @@ module _ (numbers : List ℕ) where
         let old = h k (omega arith) lt in
         let later = old.0 in
         (omega arith, subst (λ p. IsNext numbers (slice_index numbers k) (suc k) p) (sym kept) old.1)
-  ]
-
-  pub no_ends : (table : List ℕ) (size : ℕ) → table ≡ replicate size 0 → AreEndsBelow numbers 0 table
-  no_ends table size filled x start =
-      let here : get_or table x 0 ≡ 0 = ap (λ xs. get_or xs x 0) filled ∙ get_or-same size x 0 in
-      (λ lt. absurd (omega arith), λ (k, (from, (below, is))). absurd (omega arith))
-
-  pub one_end : (table : List ℕ) (n : ℕ) → slice_index numbers n < length table → AreEndsBelow numbers n table → AreEndsBelow numbers (n + 1) (set table (slice_index numbers n) (n + 1))
-  one_end table n room h x start = elim (same_or_not x (slice_index numbers n)) [
-    | inl same ↦
-        let written = get_or-set_at table (slice_index numbers n) x (n + 1) 0 same room in (
-          λ lt. (n, (omega arith, (omega arith, sym same))),
-          λ (k, (from, (below, is))). omega arith,
-        )
-    | inr ne ↦
-        let kept : get_or (set table (slice_index numbers n) (n + 1)) x 0 ≡ get_or table x 0 = get_or-set_other table (slice_index numbers n) x (n + 1) 0 ne in (
-          λ lt. let r = (h x start).0 (omega arith) in (r.0, (r.1.0, (omega (arith, r.1.1.0), r.1.1.1))),
-          λ (k, (from, (below, is))). elim (cases_lt k n) [
-            | inl less ↦ let r = (h x start).1 (k, (from, (less, is))) in omega arith
-            | inr here ↦ let e : k ≡ n = omega arith in absurd (ne (sym is ∙ ap (slice_index numbers) e))
-          ],
-        )
   ]

@@ -1,8 +1,8 @@
 // Tables of the places of numbers.
-ghost use Rattle.std.specs.Prelude.{◌≡◌, ◌↔◌, ℕ, List, true, IfOk, slice_index_or};
-ghost use Rattle.occurrences.specs.Places.{AreTables, IsFirstOrNone, StandsFrom};
+ghost use Rattle.std.specs.Prelude.{◌≡◌, ◌↔◌, ◌≤◌, ℕ, List, true, IfOk, length};
+ghost use Rattle.occurrences.specs.Places.{AreTables, IsBoundary, IsFirstOrNone, StandsFrom};
 
-use crate::tables::{chains_of, ends_of};
+use crate::tables::groups_of;
 use fq_core::Memory;
 use std::alloc::Global;
 use std::marker::Model;
@@ -11,12 +11,10 @@ use std::marker::Model;
 #[derive(Debug, Drop)]
 pub struct Occurrences<'a> {
     numbers: &'a [u32],
-    /// The first place of each number, or the length of the list.
-    firsts: Vec<u32>,
-    /// For each place the next one of the same number, or the length of the list.
-    next: Vec<u32>,
-    /// One above the last place of each number, or 0.
-    ends: Vec<u32>,
+    /// The places of all numbers, one number after the other.
+    places: Vec<u32>,
+    /// Where the places of each number begin, and at the end where those of the last number end.
+    begins: Vec<usize>,
 }
 
 impl<'a> Model for Occurrences<'a> {
@@ -27,17 +25,27 @@ impl<'a> Model for Occurrences<'a> {
 
     ghost view = { λ it. it.numbers.now };
 
-    ghost invariant = { λ it. AreTables it.numbers.now it.firsts.items it.next.items it.ends.items };
+    ghost invariant = { λ it. AreTables it.numbers.now it.places.items it.begins.items };
 }
 
-/// What a table has at a place, or this number where it has none.
-fn entry(table: &[u32], place: usize, none: usize) -> usize
-    ensures { result ≡ slice_index_or table.now place none }
+/// The first entry of a part of a list that isn't below the start, where the entries rise, by binary search, or the end of
+/// the part.
+fn boundary(places: &[u32], begin: usize, end: usize, start: usize) -> usize
+    requires forward { begin ≤ end }
+    requires within { end ≤ length places.now }
+    ensures { IsBoundary places.now begin end start result }
 {
-    match table.get(place) {
-        None => none,
-        Some(found) => *found as usize,
+    let mut low = begin;
+    let mut high = end;
+    while low < high {
+        let middle = low + (high - low) / 2;
+        if (places[middle] as usize) < start {
+            low = middle + 1;
+        } else {
+            high = middle;
+        }
     }
+    low
 }
 
 impl<'a> Occurrences<'a> {
@@ -52,13 +60,11 @@ impl<'a> Occurrences<'a> {
         if numbers.len() >= u32::MAX as usize {
             return Err(Memory);
         }
-        let chains = chains_of(alloc, numbers)?;
-        let ends = ends_of(alloc, numbers)?;
+        let groups = groups_of(alloc, numbers)?;
         Ok(Occurrences {
             numbers,
-            firsts: chains.firsts,
-            next: chains.next,
-            ends,
+            places: groups.places,
+            begins: groups.begins,
         })
     }
 
@@ -69,26 +75,29 @@ impl<'a> Occurrences<'a> {
         self.numbers
     }
 
-    /// Whether a number stands at a place from this one on. It takes constant time.
+    /// Whether a number stands at a place from this one on. It takes time in proportion to the logarithm of the number of its
+    /// places.
     pub fn stands_from(&self, number: u32, start: usize) -> bool
         ensures { (result ≡ true) ↔ StandsFrom self.now number start }
     {
-        start < entry(&self.ends, number as usize, 0)
+        self.first_from(number, start).is_some()
     }
 
-    /// The first place of a number from this one on. It takes constant time where there is none, and else goes over the
-    /// earlier places of the number.
+    /// The first place of a number from this one on. It takes time in proportion to the logarithm of the number of its
+    /// places.
     pub fn first_from(&self, number: u32, start: usize) -> Option<usize>
         ensures { IsFirstOrNone self.now number start result }
     {
-        if !self.stands_from(number, start) {
+        let number = number as usize;
+        if number + 1 >= self.begins.len() {
             return None;
         }
-        let count = self.numbers.len();
-        let mut place = entry(&self.firsts, number as usize, count);
-        while place < count && place < start {
-            place = self.next[place] as usize;
+        let end = self.begins[number + 1];
+        let found = boundary(&self.places, self.begins[number], end, start);
+        if found < end {
+            Some(self.places[found] as usize)
+        } else {
+            None
         }
-        if place < count { Some(place) } else { None }
     }
 }

@@ -25,7 +25,7 @@ static RUNS: [(&[u32], &[u32], &[u64]); 10] = [
     (&[3, 1, 1, 2, 1], &[2, 2, 1, 3], &[0, 0, 1, 1, 1]),
 ];
 
-static BODIES: [&str; 15] = [
+static BODIES: [&str; 23] = [
     "@LINE(2)->@LINE(3)",
     "ID->ID",
     "@LINE(3)->@LINE(2)->@LINE(5)",
@@ -41,6 +41,14 @@ static BODIES: [&str; 15] = [
     "PRED(@LINE(2),{x == 1})->PRED(@LINE(3),{x == 1})",
     "PRED(PRED(@LINE(2),{x == 1}),{x == 2})",
     "\"PRED(ID,{x == 1})\".NODES(PRED(@LINE(3),{x == 1}))",
+    "ID.\"NOT(@LINE(5))*\".ID",
+    "@LINE(2).\"NOT(@LINE(2))*\".@LINE(3)",
+    "@LINE(2).\"@LINE(2)*\".{x == 1}.\"NOT(@LINE(2))*\".@LINE(5)",
+    "\"@LINE(3)*\".@LINE(2)->@LINE(3)",
+    "ID.\"ID<=1\".ID",
+    "@LINE(2).\"NOT(@LINE(5))==1\".ID",
+    "@LINE(2).\"ID>=2\".\"@LINE(2)*\"",
+    "{x == 1}.\"@LINE(3)==2\".\"NOT(@LINE(3))<=1\".NODES(ID)",
 ];
 
 // What stands before the body of a query, and behind it.

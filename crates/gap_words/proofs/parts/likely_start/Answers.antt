@@ -1,6 +1,6 @@
 use Rattle.std.proofs.Common.{arith}
 use Rattle.gap_words.specs.declared.piece.Piece.TheVariants.{Edge}
-use Rattle.gap_words.proofs.Ends.{edge_first, node_first}
+use Rattle.gap_words.proofs.Starts.{edge_first, node_first}
 use Rattle.gap_words.proofs.parts.likely_start.Goals as goal
 
 pub returns-in-Edge : goal.returns-in-Edge

@@ -1,5 +1,5 @@
 use Rattle.std.proofs.Common.{arith}
-use Rattle.gap_words.proofs.Ends.{any_start, no_start}
+use Rattle.gap_words.proofs.Starts.{any_start, no_start}
 use Rattle.gap_words.proofs.parts.state_at.Goals as goal
 
 pub returns-then-start-count : goal.returns-then-start-count

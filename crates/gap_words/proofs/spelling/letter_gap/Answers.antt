@@ -1,4 +1,4 @@
-use Rattle.std.proofs.Common.{None, sym, subst}
+use Rattle.std.proofs.Common.{sym, subst}
 use Rattle.patterns.specs.Match as plain
 use Rattle.gap_words.specs.Parts.{IsPieceOf}
 use Rattle.gap_words.specs.declared.piece.Piece.TheVariants.{Gap}
@@ -6,4 +6,6 @@ use Rattle.gap_words.proofs.Spelled.{gap_piece}
 use Rattle.gap_words.proofs.spelling.letter_gap.Goals as goal
 
 pub returns-in-Some : goal.returns-in-Some
-returns-in-Some c = subst (λ l. IsPieceOf (plain.repeat (plain.letter l) 0 None) (Gap c.in-Some.bound)) (sym c.in-Edges.is) (gap_piece c.in-Edges.edges c.in-Some.bound c.in-Some.ensures)
+returns-in-Some c =
+    subst (λ l. IsPieceOf c.args.sets.now (plain.repeat (plain.letter l) c.args.least c.args.most) (Gap (record { set = c.in-Some.set; least = c.args.least; most = c.args.most }))) (sym c.in-Edges.is)
+    (gap_piece c.args.sets.now c.in-Edges.edges (record { set = c.in-Some.set; least = c.args.least; most = c.args.most }) c.in-Some.ensures)

@@ -1,4 +1,3 @@
-use Rattle.std.proofs.Common.{◌+◌}
 use Rattle.gap_words.specs.declared.piece.Piece.TheVariants.{Edge}
 use Rattle.gap_words.proofs.Going.{at_next, at_none, letter_at}
 use Rattle.gap_words.proofs.steps.end_of.Goals as goal

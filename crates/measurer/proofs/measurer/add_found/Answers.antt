@@ -3,7 +3,7 @@ use Rattle.word_index.specs.Numbers.{Adds}
 use Rattle.word_index.specs.Tables.{IsIndexOf}
 use Rattle.word_index.specs.Walks.{HasGoalWalk}
 use Rattle.word_index.proofs.Steps.{adds_both, on_ok}
-use Rattle.measurer.specs.Measured.{AreAutomata}
+use Rattle.measurer.specs.Measured.{AreMatchers}
 use Rattle.measurer.proofs.measurer.add_found.Goals as goal
 
 pub add_walks-requires : goal.add_walks-requires
@@ -13,5 +13,5 @@ pub returns : goal.returns
 returns c =
     let walks = subst (λ g. Adds (HasGoalWalk g c.args.plan.now.first c.args.plan.now.last c.args.path.now) c.args.numbers.now c.add_walks.new.numbers) c.as_slice-goals.ensures c.in_ok-add_walks.ensures in
     let others = c.add_others.ensures c.args.plan.now.goals
-    (subst (λ a. AreAutomata c.args.plan.now.goals c.args.plan.now.first c.args.plan.now.last (length c.args.plan.now.goals) a) (sym c.as_slice-automata.ensures) c.requires.automata) in
+    (subst (λ a. AreMatchers c.args.tables.now.sets c.args.plan.now.goals c.args.plan.now.first c.args.plan.now.last (length c.args.plan.now.goals) a) (sym c.as_slice-matchers.ensures) c.requires.matchers) in
     on_ok c.add_others.result _ _ (λ h. adds_both _ _ _ _ _ walks h) others

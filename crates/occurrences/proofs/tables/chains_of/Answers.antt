@@ -1,4 +1,4 @@
-use Rattle.std.proofs.Common.{◌≡◌, ◌-◌, ◌<◌, ◌≤◌, length, get_or, subst, sym, arith, length-set}
+use Rattle.std.proofs.Common.{◌≡◌, ◌-◌, get_or, arith, length-set}
 use Rattle.std.proofs.lemmas.List.{get_or_read}
 use Rattle.occurrences.proofs.Chains.{one_first, one_next, first_read}
 use Rattle.occurrences.proofs.tables.chains_of.Goals as goal
