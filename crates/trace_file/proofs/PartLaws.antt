@@ -4,18 +4,11 @@ use Rattle.std.specs.Prelude.{Option}
 use Rattle.std.specs.Str.{bytes_eq}
 use Rattle.std.proofs.lemmas.List.{drop_more, map-append}
 use Rattle.std.proofs.lemmas.List.Elements.{All-head, All-map, All-tail}
-use Rattle.containers.specs.Lists.{all_there}
-use Rattle.input_text.proofs.LineLaws.{after}
 use Rattle.trace_file.specs.Form.{cut_at}
 
 -- the texts behind these references
 abbrev pub texts : List (Bor (List ℕ)) → List (List ℕ)
 texts row = map (λ (text : Bor (List ℕ)). text.now) row
-
--- a text that writes nothing
-pub missing : (f : List ℕ → Option ℕ) (row : List (Bor (List ℕ))) (i : ℕ) (d : Bor (List ℕ)) (made : List ℕ) (total : Option (List ℕ)) → i < length row
-    → f (get_or row i d).now ≡ None → total ≡ after made (all_there (map f (texts (drop i row)))) → None ≡ total
-missing f row i d made total within none all = sym (all ∙ rw (drop_more row i d within, none) refl)
 
 module _ (mark : List ℕ) where
   -- the part is another word
