@@ -1,0 +1,5 @@
+pub mod Stands
+pub mod Numbered
+pub mod StatementsStand
+pub mod NumberedStatements
+pub mod Units

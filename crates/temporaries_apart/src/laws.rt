@@ -1,0 +1,7 @@
+//! Laws of the definitions of typing. Each function does nothing: its contract is the law.
+ghost use Rattle.temporaries_apart.specs.Laws.{TemporariesAreApart};
+
+/// The temporaries of a typed function stand behind its variables, within its frame, and no two are the same.
+pub fn temporaries_are_apart()
+    ensures { TemporariesAreApart }
+{}
