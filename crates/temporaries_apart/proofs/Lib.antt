@@ -3,3 +3,4 @@ pub mod Numbered
 pub mod StatementsStand
 pub mod NumberedStatements
 pub mod Units
+pub mod Reading

@@ -32,11 +32,24 @@ pub ascend_then : (from mid to : ℕ) (xs ys : List ℕ) → Ascend from mid xs 
 ascend_then from mid to [] ys h k = ascend_earlier from mid to ys h k
 ascend_then from mid to (x ∷ xs) ys h k = (h.0, ascend_then (x + 1) mid to xs ys h.1 k)
 
+-- a row that ascends is two, one behind the other
+pub ascend_split : (from to : ℕ) (xs ys : List ℕ) → Ascend from to (xs ++ ys) → (mid : ℕ) × Ascend from mid xs × Ascend mid to ys
+ascend_split from to [] ys h = (from, (let l : from ≤ from = omega arith in l), h)
+ascend_split from to (x ∷ xs) ys h = (let r = ascend_split (x + 1) to xs ys h.1 in (r.0, (h.0, r.1), r.2))
+
 -- ---- names
 
 pub record Stands (end from to : ℕ) (n : Named) : Type 0 where
   pub ascend : Ascend from to n.temporaries
   pub below : AllByRecursion (IsBelow end) n.variables
+
+pub all_front : {A : Type 0} (P : A → Type 0) (xs ys : List A) → AllByRecursion P (xs ++ ys) → AllByRecursion P xs
+all_front P [] ys h = tt
+all_front P (x ∷ xs) ys h = (h.0, all_front P xs ys h.1)
+
+pub all_behind : {A : Type 0} (P : A → Type 0) (xs ys : List A) → AllByRecursion P (xs ++ ys) → AllByRecursion P ys
+all_behind P [] ys h = h
+all_behind P (x ∷ xs) ys h = all_behind P xs ys h.1
 
 module _ (end : ℕ) where
   pub none_stands : (from to : ℕ) → from ≤ to → Stands end from to no_names
@@ -50,6 +63,12 @@ module _ (end : ℕ) where
     ascend = ascend_then from mid to a.temporaries b.temporaries h.ascend k.ascend;
     below = all_append (IsBelow end) a.variables b.variables h.below k.below;
   }
+
+  -- the parts of what stands do, one behind the other
+  pub stands_split : (from to : ℕ) (a b : Named) → Stands end from to (names_then a b) → (mid : ℕ) × Stands end from mid a × Stands end mid to b
+  stands_split from to a b h =
+      let r = ascend_split from to a.temporaries b.temporaries h.ascend in
+      (r.0, record { ascend = r.1; below = all_front (IsBelow end) a.variables b.variables h.below }, record { ascend = r.2; below = all_behind (IsBelow end) a.variables b.variables h.below })
 
   pub at_stands : (cell to : ℕ) (a : Named) → Stands end (cell + 1) to a → Stands end cell to (names_at cell a)
   at_stands cell to a h = record { ascend = (omega arith, h.ascend); below = h.below }
