@@ -1,5 +1,5 @@
 -- With more turns the same is done, if there were enough.
-use Rattle.std.proofs.Common.{◌≡◌, ℕ, zero, suc, ◌+◌, ◌<◌, ◌≤◌, Bool, true, false, List, [], ◌∷◌, ◌++◌, map, take, drop, Option, Some, None, Result, Ok, Err, refl, sym, ap, subst, arith}
+use Rattle.std.proofs.Common.{◌∙◌, ◌≡◌, ℕ, zero, suc, ◌+◌, ◌<◌, ◌≤◌, Bool, true, false, List, [], ◌∷◌, ◌++◌, map, drop, Option, Some, None, Result, Ok, Err, refl, sym, ap, subst, arith}
 use Rattle.std.specs.Prelude.{nat_le, slice_get, cond}
 use Rattle.c_values.specs.Kind.{converted}
 use Rattle.c_values.specs.Operations.{unary_value}
@@ -7,25 +7,24 @@ use Rattle.c_values.specs.declared.kinds.Kind.{Kind}
 use Rattle.c_values.specs.declared.operators.BinaryOp.{BinaryOp}
 use Rattle.c_values.specs.declared.operators.UnaryOp.{UnaryOp}
 use Rattle.c_meaning.specs.Steps.{value_before}
-use Rattle.c_meaning.specs.declared.input.Input.{Input}
 use Rattle.cfa.specs.Values.{after_value}
 use Rattle.cfa.specs.declared.parts.InputFunction.{InputFunction}
 use Rattle.cfa.specs.declared.parts.Variable.{Variable}
 use Rattle.cfa.specs.declared.state.Trap.{Trap}
 use Rattle.typed_trees.specs.declared.expression.Callee.{Callee}
-use Rattle.typed_trees.specs.declared.expression.Callee.TheVariants.{Defined, Input as InputCallee}
+use Rattle.typed_trees.specs.declared.expression.Callee.TheVariants.{Defined, Input}
 use Rattle.typed_trees.specs.declared.unit.Typed.{Typed}
 use Rattle.typed_trees.specs.declared.unit.TypedFunction.{TypedFunction}
 use Rattle.tree_meaning.specs.Outcomes.{Store, End, Done, Gives, Ends, OutOfTurns, ◌andthen◌, unless_trap, Way, GoesOn, Breaks, Continues, Returns, Meaning, Evaluation, skip, is_true, turn_of}
 use Rattle.tree_meaning.specs.Activations.{Activation, start_of, length_of, element_at, read, stored, cleared, with_activation, first_cells}
-use Rattle.tree_meaning.specs.Expressions.{Rest, Meant, Placed, evaluate, both_parts, constant_meant, convert_meant, placed_at, load_meant, operated, unary_meant, binary_meant, part_meant, truth, if_true, both_does, if_false, either_does, chosen, choice_does}
+use Rattle.tree_meaning.specs.Expressions.{First, Rest, Meant, Placed, evaluate, both_parts, constant_meant, convert_meant, placed_at, load_meant, operated, unary_meant, binary_meant, part_meant, truth, if_true, both_does, if_false, either_does, chosen, choice_does}
 use Rattle.tree_meaning.specs.Statements.{then_next, block, one_of, arms, combined, assign, put, declare, fill, declare_array, return_value, unless_false}
 use Rattle.tree_meaning.specs.Loops.{after_body, pass, passes, while_loop, again_if, do_passes, do_loop, test_or, step_or, for_loop}
 use Rattle.tree_meaning.specs.Switch.{Group, has_label, groups_from, groups_or, groups_at, after_switch, switch_on}
 use Rattle.tree_meaning.specs.Calls.{Calls, first_parts, word_values, unless_deep, called, call_defined, answer, call_of, Bodies, give_result, run_function, calling}
 
 abbrev pub more : ℕ → Store → Store
-more d s = record { cells = s.cells; taken = s.taken; turns = s.turns + d }
+more d s = record { cells = s.cells; answers = s.answers; turns = s.turns + d }
 
 -- what is done with more turns, where so many were there; turns never rise
 abbrev pub Grown : {A : Type 0} → (d turns : ℕ) → Done A → Done A → Type 0
@@ -55,10 +54,10 @@ pub grown_turn : {A : Type 0} (d q r : ℕ) (s : Store) (k k' : Store → Done A
 grown_turn d zero r s k k' is sum h = tt
 grown_turn d (suc q) zero s k k' is sum h = absurd (omega (arith, is, sum))
 grown_turn d (suc q) (suc r) s k k' is sum h =
-    let s' : Store = record { cells = s.cells; taken = s.taken; turns = q } in
+    let s' : Store = record { cells = s.cells; answers = s.answers; turns = q } in
     let same : q + d ≡ r = omega (arith, is, sum) in
-    let more_is : more d s' ≡ record { cells = s.cells; taken = s.taken; turns = r } = ap (λ t. record { cells = s.cells; taken = s.taken; turns = t }) same in
-    let first : Grown d q (k s') (k' (record { cells = s.cells; taken = s.taken; turns = r })) = subst (λ (z : Store). Grown d q (k s') (k' z)) more_is (h s' (omega (arith, is))) in
+    let more_is : more d s' ≡ record { cells = s.cells; answers = s.answers; turns = r } = ap (λ t. record { cells = s.cells; answers = s.answers; turns = t }) same in
+    let first : Grown d q (k s') (k' (record { cells = s.cells; answers = s.answers; turns = r })) = subst (λ (z : Store). Grown d q (k s') (k' z)) more_is (h s' (omega (arith, is))) in
     grown_less d q s.turns _ _ (omega (arith, is)) first
 
 -- ---- what two meanings do, where calls within one another are bounded by two numbers
@@ -82,32 +81,35 @@ module _ (d n n' : ℕ) where
 
   -- ---- expressions
 
+  abbrev pub FirstGrows : First → First → Type 0
+  FirstGrows m m' = (vs : List ℕ) → Grows (m vs) (m' vs)
+
   pub record MeantGrow (m m' : Meant) : Type 0 where
     pub kind : m.kind ≡ m'.kind
     pub parts : m.parts ≡ m'.parts
-    pub first : Grows m.first m'.first
+    pub first : FirstGrows m.first m'.first
     pub rest : m.rest ≡ m'.rest
 
   pub record PlacedGrow (p p' : Placed) : Type 0 where
     pub variable : p.variable ≡ p'.variable
     pub parts : p.parts ≡ p'.parts
-    pub first : Grows p.first p'.first
+    pub first : FirstGrows p.first p'.first
     pub cell : p.cell ≡ p'.cell
 
   pub evaluate_grows : (m m' : Meant) → MeantGrow m m' → Grows (evaluate m) (evaluate m')
   evaluate_grows m m' h =
-      subst (λ (r : Rest). Grows (evaluate m) (λ s. m'.first s andthen λ vs s'. unless_trap (r vs s'.cells) (λ v. Gives v s'))) h.rest
-      (then_grows m.first m'.first (λ vs s'. unless_trap (m.rest vs s'.cells) (λ v. Gives v s')) (λ vs s'. unless_trap (m.rest vs s'.cells) (λ v. Gives v s')) h.first
+      subst (λ (r : Rest). Grows (evaluate m) (λ s. m'.first [] s andthen λ vs s'. unless_trap (r vs s'.cells) (λ v. Gives v s'))) h.rest
+      (then_grows (m.first []) (m'.first []) (λ vs s'. unless_trap (m.rest vs s'.cells) (λ v. Gives v s')) (λ vs s'. unless_trap (m.rest vs s'.cells) (λ v. Gives v s')) (h.first [])
       (λ vs s e. grown_trap d s.turns (m.rest vs s.cells) (λ v. Gives v s) (λ v. Gives v (more d s)) (λ v. (refl, omega arith))))
 
   pub constant_grows : (v : ℕ) (kind : Kind) → MeantGrow (constant_meant v kind) (constant_meant v kind)
-  constant_grows v kind = record { kind = refl; parts = refl; first = give_grows []; rest = refl }
+  constant_grows v kind = record { kind = refl; parts = refl; first = λ vs. give_grows vs; rest = refl }
 
   pub convert_grows : (m m' : Meant) (kind : Kind) → MeantGrow m m' → MeantGrow (convert_meant m kind) (convert_meant m' kind)
   convert_grows m m' kind h = record { kind = refl; parts = h.parts; first = h.first; rest = λ i vs cells. after_value (h.rest i vs cells) (λ v. Ok (converted (h.kind i) kind v)) }
 
   pub whole_grows : (a : Activation) (v : Variable) → PlacedGrow (placed_at a v None) (placed_at a v None)
-  whole_grows a v = record { variable = refl; parts = refl; first = give_grows []; cell = refl }
+  whole_grows a v = record { variable = refl; parts = refl; first = λ vs. give_grows vs; cell = refl }
 
   pub element_grows : (a : Activation) (v : Variable) (m m' : Meant) → MeantGrow m m' → PlacedGrow (placed_at a v (Some m)) (placed_at a v (Some m'))
   element_grows a v m m' h = record { variable = refl; parts = h.parts; first = h.first; cell = λ i vs cells. after_value (h.rest i vs cells) (λ j. element_at a v (h.kind i) j) }
@@ -118,21 +120,19 @@ module _ (d n n' : ℕ) where
   pub unary_grows : (op : UnaryOp) (m m' : Meant) (kind : Kind) → MeantGrow m m' → MeantGrow (unary_meant op m kind) (unary_meant op m' kind)
   unary_grows op m m' kind h = record { kind = refl; parts = h.parts; first = h.first; rest = λ i vs cells. after_value (h.rest i vs cells) (λ v. Ok (unary_value op (h.kind i) v)) }
 
-  pub both_parts_grow : (m m' k k' : Store → Done (List ℕ)) → Grows m m' → Grows k k' → Grows (both_parts m k) (both_parts m' k')
-  both_parts_grow m m' k k' h g =
-      then_grows m m' (λ vs s. k s andthen λ ws s''. Gives (vs ++ ws) s'') (λ vs s. k' s andthen λ ws s''. Gives (vs ++ ws) s'') h
-      (λ vs. then_grows k k' (λ ws s. Gives (vs ++ ws) s) (λ ws s. Gives (vs ++ ws) s) g (λ ws. give_grows (vs ++ ws)))
+  pub both_parts_grow : (m m' k k' : First) → FirstGrows m m' → FirstGrows k k' → FirstGrows (both_parts m k) (both_parts m' k')
+  both_parts_grow m m' k k' h g vs = then_grows (m vs) (m' vs) k k' (h vs) g
 
   pub binary_grows : (op : BinaryOp) (x x' y y' : Meant) (kind : Kind) → MeantGrow x x' → MeantGrow y y' → MeantGrow (binary_meant op x y kind) (binary_meant op x' y' kind)
   binary_grows op x x' y y' kind h g = record {
     kind = refl;
     parts = λ i. h.parts i + g.parts i;
     first = both_parts_grow x.first x'.first y.first y'.first h.first g.first;
-    rest = λ i vs cells. after_value (h.rest i (take (h.parts i) vs) cells) (λ v. after_value (g.rest i (drop (h.parts i) vs) cells) (λ w. operated op (h.kind i) (g.kind i) v w));
+    rest = λ i vs cells. after_value (h.rest i vs cells) (λ v. after_value (g.rest i (drop (h.parts i) vs) cells) (λ w. operated op (h.kind i) (g.kind i) v w));
   }
 
   pub part_grows : (m m' : Evaluation) (kind : Kind) → Grows m m' → MeantGrow (part_meant m kind) (part_meant m' kind)
-  part_grows m m' kind h = record { kind = refl; parts = refl; first = then_grows m m' (λ v s. Gives (v ∷ []) s) (λ v s. Gives (v ∷ []) s) h (λ v. give_grows (v ∷ [])); rest = refl }
+  part_grows m m' kind h = record { kind = refl; parts = refl; first = λ vs. then_grows m m' (λ v s. Gives (vs ++ v ∷ []) s) (λ v s. Gives (vs ++ v ∷ []) s) h (λ v. give_grows (vs ++ v ∷ [])); rest = refl }
 
   truth_grows : (m m' : Evaluation) → Grows m m' → Grows (λ s. m s andthen λ v s'. Gives (truth (is_true v)) s') (λ s. m' s andthen λ v s'. Gives (truth (is_true v)) s')
   truth_grows m m' h = then_grows m m' (λ v s. Gives (truth (is_true v)) s) (λ v s. Gives (truth (is_true v)) s) h (λ v. give_grows (truth (is_true v)))
@@ -169,20 +169,17 @@ module _ (d n n' : ℕ) where
   abbrev pub CallsGrow : Calls → Calls → Type 0
   CallsGrow calls calls' = (callee : ℕ) (a : Activation) (words : List ℕ) → Grows (calls callee a words) (calls' callee a words)
 
-  first_parts_grow : (xs ys : List Meant) → AllGrow xs ys → Grows (first_parts xs) (first_parts ys)
-  first_parts_grow [] [] h = give_grows []
-  first_parts_grow [] (y ∷ ys) h = absurd h
-  first_parts_grow (x ∷ xs) [] h = absurd h
-  first_parts_grow (x ∷ xs) (y ∷ ys) h =
-      then_grows x.first y.first (λ vs s'. first_parts xs s' andthen λ vss s''. Gives (vs ∷ vss) s'') (λ vs s'. first_parts ys s' andthen λ vss s''. Gives (vs ∷ vss) s'') h.0.first
-      (λ vs. then_grows (first_parts xs) (first_parts ys) (λ vss s. Gives (vs ∷ vss) s) (λ vss s. Gives (vs ∷ vss) s) (first_parts_grow xs ys h.1) (λ vss. give_grows (vs ∷ vss)))
+  first_parts_grow : (xs ys : List Meant) → AllGrow xs ys → FirstGrows (first_parts xs) (first_parts ys)
+  first_parts_grow [] [] h vs = give_grows vs
+  first_parts_grow [] (y ∷ ys) h vs = absurd h
+  first_parts_grow (x ∷ xs) [] h vs = absurd h
+  first_parts_grow (x ∷ xs) (y ∷ ys) h vs = then_grows (x.first vs) (y.first vs) (first_parts xs) (first_parts ys) (h.0.first vs) (first_parts_grow xs ys h.1)
 
-  values_same : (xs ys : List Meant) (vss : List (List ℕ)) (cells : List ℕ) → AllGrow xs ys → word_values xs vss cells ≡ word_values ys vss cells
-  values_same [] [] vss cells h = refl
-  values_same [] (y ∷ ys) vss cells h = absurd h
-  values_same (x ∷ xs) [] vss cells h = absurd h
-  values_same (x ∷ xs) (y ∷ ys) [] cells h = λ i. value_before (h.0.rest i [] cells) (values_same xs ys [] cells h.1 i)
-  values_same (x ∷ xs) (y ∷ ys) (vs ∷ vss) cells h = λ i. value_before (h.0.rest i vs cells) (values_same xs ys vss cells h.1 i)
+  values_same : (xs ys : List Meant) (vs : List ℕ) (cells : List ℕ) → AllGrow xs ys → word_values xs vs cells ≡ word_values ys vs cells
+  values_same [] [] vs cells h = refl
+  values_same [] (y ∷ ys) vs cells h = absurd h
+  values_same (x ∷ xs) [] vs cells h = absurd h
+  values_same (x ∷ xs) (y ∷ ys) vs cells h = (λ i. value_before (h.0.rest i vs cells) (word_values xs (drop (h.0.parts i) vs) cells)) ∙ ap (value_before (y.rest vs cells)) (values_same xs ys (drop y.parts vs) cells h.1)
 
   deep_grown : (turns : ℕ) (b : Bool) (x y : Done ℕ) → Grown d turns x y → Grown d turns (unless_deep b x) (unless_deep b y)
   deep_grown turns true x y h = refl
@@ -190,22 +187,22 @@ module _ (d n n' : ℕ) where
 
   defined_grows : (calls calls' : Calls) → CallsGrow calls calls' → (a : Activation) (callee : ℕ) (xs ys : List Meant) (arrays : List Variable) → AllGrow xs ys → Grows (call_defined calls a callee xs arrays) (call_defined calls' a callee ys arrays)
   defined_grows calls calls' g a callee xs ys arrays h =
-      then_grows (first_parts xs) (first_parts ys)
+      then_grows (first_parts xs []) (first_parts ys [])
       (λ vss s. unless_deep (nat_le 64 a.depth) (unless_trap (word_values xs vss s.cells) (λ values. calls callee (called a arrays s) values s)))
       (λ vss s. unless_deep (nat_le 64 a.depth) (unless_trap (word_values ys vss s.cells) (λ values. calls' callee (called a arrays s) values s)))
-      (first_parts_grow xs ys h)
+      (first_parts_grow xs ys h [])
       (λ vss s e. deep_grown s.turns (nat_le 64 a.depth) _ _
       (subst (λ r. Grown d s.turns (unless_trap (word_values xs vss s.cells) (λ values. calls callee (called a arrays s) values s)) (unless_trap r (λ values. calls' callee (called a arrays s) values (more d s)))) (values_same xs ys vss s.cells h)
       (grown_trap d s.turns (word_values xs vss s.cells) (λ values. calls callee (called a arrays s) values s) (λ values. calls' callee (called a arrays s) values (more d s)) (λ values. g callee (called a arrays s) values s e))))
 
-  answer_grows : (input : Input) (f : Option InputFunction) → Grows (answer input f) (answer input f)
-  answer_grows input None s e = refl
-  answer_grows input (Some f) s e = (refl, omega arith)
+  answer_grows : (f : Option InputFunction) → Grows (answer f) (answer f)
+  answer_grows None s e = refl
+  answer_grows (Some f) s e = (refl, omega arith)
 
-  pub call_grows : (t : Typed) (input : Input) (calls calls' : Calls) → CallsGrow calls calls' → (a : Activation) (callee : Callee) (xs ys : List Meant) (arrays : List Variable) → AllGrow xs ys
-      → Grows (call_of t input calls a callee xs arrays) (call_of t input calls' a callee ys arrays)
-  call_grows t input calls calls' g a (Defined i) xs ys arrays h = defined_grows calls calls' g a i xs ys arrays h
-  call_grows t input calls calls' g a (InputCallee i) xs ys arrays h = answer_grows input (slice_get t.inputs i)
+  pub call_grows : (t : Typed) (calls calls' : Calls) → CallsGrow calls calls' → (a : Activation) (callee : Callee) (xs ys : List Meant) (arrays : List Variable) → AllGrow xs ys
+      → Grows (call_of t calls a callee xs arrays) (call_of t calls' a callee ys arrays)
+  call_grows t calls calls' g a (Defined i) xs ys arrays h = defined_grows calls calls' g a i xs ys arrays h
+  call_grows t calls calls' g a (Input i) xs ys arrays h = answer_grows (slice_get t.inputs i)
 
   -- ---- statements
 
@@ -265,8 +262,8 @@ module _ (d n n' : ℕ) where
 
   pub assign_grows : (p p' : Placed) (op : Option (BinaryOp × Kind)) (x x' : Meant) → PlacedGrow p p' → MeantGrow x x' → Grows (assign p op x) (assign p' op x')
   assign_grows p p' op x x' h g =
-      then_grows p.first p'.first (λ is s1. x.first s1 andthen λ vs s2. assigned p.variable op p.cell x.kind x.rest is vs s2) (λ is s1. x'.first s1 andthen λ vs s2. assigned p'.variable op p'.cell x'.kind x'.rest is vs s2) h.first
-      (λ is. then_grows x.first x'.first (assigned p.variable op p.cell x.kind x.rest is) (assigned p'.variable op p'.cell x'.kind x'.rest is) g.first
+      then_grows (p.first []) (p'.first []) (λ is s1. x.first [] s1 andthen λ vs s2. assigned p.variable op p.cell x.kind x.rest is vs s2) (λ is s1. x'.first [] s1 andthen λ vs s2. assigned p'.variable op p'.cell x'.kind x'.rest is vs s2) (h.first [])
+      (λ is. then_grows (x.first []) (x'.first []) (assigned p.variable op p.cell x.kind x.rest is) (assigned p'.variable op p'.cell x'.kind x'.rest is) (g.first [])
       (λ vs. ends is vs))
     where
       ends : (is vs : List ℕ) → Grows (assigned p.variable op p.cell x.kind x.rest is vs) (assigned p'.variable op p'.cell x'.kind x'.rest is vs)

@@ -1,5 +1,5 @@
 -- The values of expressions that fit are values of their kinds.
-use Rattle.std.proofs.Common.{◌≡◌, ℕ, Bool, true, false, List, take, drop, Option, Some, None, Result, Ok, Err, refl, sym, ap, subst, ◌∙◌, rules, pos}
+use Rattle.std.proofs.Common.{◌≡◌, ℕ, Bool, true, false, List, drop, Option, Some, None, Result, Ok, Err, refl, sym, ap, subst, ◌∙◌, rules, pos}
 use Rattle.std.specs.Prelude.{IsTrue, ◌&&◌, ◌||◌, ◌==◌, slice_index, ok_or}
 use Rattle.std.proofs.lemmas.Bool.{eqb-true}
 use Rattle.c_values.specs.Kind.{IsKind, is_kind, IsValue, is_value, converted}
@@ -9,7 +9,6 @@ use Rattle.c_values.specs.declared.operators.BinaryOp.{BinaryOp}
 use Rattle.c_values.specs.declared.operators.UnaryOp.{UnaryOp}
 use Rattle.c_values.proofs.Consequences.{unary_values_are_values, binary_values_are_values}
 use Rattle.c_values.proofs.Fitting.{and_left, and_right, IsValue-converted, IsValue-wrapped}
-use Rattle.c_meaning.specs.declared.input.Input.{Input}
 use Rattle.cfa.specs.Kinds.{same_kind, same_sign}
 use Rattle.cfa.specs.Values.{after_value, operator_trap}
 use Rattle.cfa.specs.declared.state.Trap.{Trap}
@@ -74,43 +73,43 @@ pub record Known (f : Fit) (m : Meant) : Type 0 where
   pub of_kind : IsKind f.kind
   pub values : Valued f.kind m.rest
 
-module _ (n : Nameable) (t : Typed) (input : Input) (calls : Calls) (a : Activation) where
+module _ (n : Nameable) (t : Typed) (calls : Calls) (a : Activation) where
   unfoldable form_fits : TypedExprForm → Kind → Bool
   form_fits = fold-TypedExprForm (Kind → Bool) CallFit Fit Bool (form_step n) (call_step n) (expr_step n) (place_step n)
 
   abbrev low : TypedExpr → Meant
-  low = meant t input calls a
+  low = meant t calls a
 
   abbrev KnownIf : TypedExpr → Type 0
   KnownIf x = IsTrue (expression_fits n x) → Known (expression_fit n x) (low x)
 
   abbrev FormKnown : TypedExprForm → Type 0
-  FormKnown f = (kind : Kind) → IsKind kind → IsTrue (form_fits f kind) → ((meant_form t input calls a f kind).kind ≡ kind) × Valued kind (meant_form t input calls a f kind).rest
+  FormKnown f = (kind : Kind) → IsKind kind → IsTrue (form_fits f kind) → ((meant_form t calls a f kind).kind ≡ kind) × Valued kind (meant_form t calls a f kind).rest
 
-  form_is : (x : TypedExprForm-F TypedExprForm TypedCall TypedExpr TypedPlace) (m : Kind → Meant) (fits : Kind → Bool) → meant_form t input calls a (roll-TypedExprForm x) ≡ m → form_fits (roll-TypedExprForm x) ≡ fits
+  form_is : (x : TypedExprForm-F TypedExprForm TypedCall TypedExpr TypedPlace) (m : Kind → Meant) (fits : Kind → Bool) → meant_form t calls a (roll-TypedExprForm x) ≡ m → form_fits (roll-TypedExprForm x) ≡ fits
       → ((kind : Kind) → IsKind kind → IsTrue (fits kind) → ((m kind).kind ≡ kind) × Valued kind (m kind).rest) → FormKnown (roll-TypedExprForm x)
   form_is x m fits e f h kind k is =
       subst (λ (g : Kind → Meant). ((g kind).kind ≡ kind) × Valued kind (g kind).rest) (sym e) (h kind k (subst (λ (g : Kind → Bool). IsTrue (g kind)) f is))
 
   constant_at : (v : ℕ) → FormKnown (roll-TypedExprForm (TypedExprForm-F.Constant v))
   unfolding form_fits
-  constant_at v = form_is (TypedExprForm-F.Constant v) _ (λ kind. is_value kind v) (constant_is t input calls a v) (search (rules, the_lemmas)) (λ kind k h. (refl, λ vs cells w e. subst (IsValue kind) (ok_is v w e) h))
+  constant_at v = form_is (TypedExprForm-F.Constant v) _ (λ kind. is_value kind v) (constant_is t calls a v) (search (rules, the_lemmas)) (λ kind k h. (refl, λ vs cells w e. subst (IsValue kind) (ok_is v w e) h))
 
   load_at : (p : TypedPlace) → FormKnown (roll-TypedExprForm (TypedExprForm-F.Load p))
   unfolding form_fits place_fits
   load_at p =
-      form_is (TypedExprForm-F.Load p) _ (λ kind. place_fits n p) (load_is t input calls a p) (search (rules, the_lemmas))
+      form_is (TypedExprForm-F.Load p) _ (λ kind. place_fits n p) (load_is t calls a p) (search (rules, the_lemmas))
       (λ kind k h. (
         refl,
         λ vs cells w e.
-            let r = after_is ((placed t input calls a p).cell vs cells) (λ cell. Ok (read cells kind cell)) w e in
+            let r = after_is ((placed t calls a p).cell vs cells) (λ cell. Ok (read cells kind cell)) w e in
             subst (IsValue kind) (ok_is _ w r.2) (IsValue-wrapped kind (pos (slice_index cells r.0)) k),
       ))
 
   convert_at : (x : TypedExpr) → KnownIf x → FormKnown (roll-TypedExprForm (TypedExprForm-F.Convert x))
   unfolding form_fits expression_fit
   convert_at x h =
-      form_is (TypedExprForm-F.Convert x) _ (λ kind. (expression_fit n x).fits) (convert_is t input calls a x) (search (rules, the_lemmas))
+      form_is (TypedExprForm-F.Convert x) _ (λ kind. (expression_fit n x).fits) (convert_is t calls a x) (search (rules, the_lemmas))
       (λ kind k i. (
         refl,
         λ vs cells w e.
@@ -121,7 +120,7 @@ module _ (n : Nameable) (t : Typed) (input : Input) (calls : Calls) (a : Activat
   unary_at : (op : UnaryOp) (x : TypedExpr) → KnownIf x → FormKnown (roll-TypedExprForm (TypedExprForm-F.Unary op x))
   unfolding form_fits expression_fit
   unary_at op x h =
-      form_is (TypedExprForm-F.Unary op x) _ (λ kind. (expression_fit n x).fits && same_kind kind (unary_kind op (expression_fit n x).kind)) (unary_is t input calls a op x) (search (rules, the_lemmas))
+      form_is (TypedExprForm-F.Unary op x) _ (λ kind. (expression_fit n x).fits && same_kind kind (unary_kind op (expression_fit n x).kind)) (unary_is t calls a op x) (search (rules, the_lemmas))
       (λ kind k i. (
         refl,
         λ vs cells w e.
@@ -136,11 +135,11 @@ module _ (n : Nameable) (t : Typed) (input : Input) (calls : Calls) (a : Activat
   unfolding form_fits expression_fit
   binary_at op x y h g =
       form_is (TypedExprForm-F.Binary op x y) _
-      (λ kind. (expression_fit n x).fits && (expression_fit n y).fits && operands_meet op (expression_fit n x).kind (expression_fit n y).kind && same_kind kind (binary_kind op (expression_fit n x).kind)) (binary_is t input calls a op x y) (search (rules, the_lemmas))
+      (λ kind. (expression_fit n x).fits && (expression_fit n y).fits && operands_meet op (expression_fit n x).kind (expression_fit n y).kind && same_kind kind (binary_kind op (expression_fit n x).kind)) (binary_is t calls a op x y) (search (rules, the_lemmas))
       (λ kind k i. (refl, λ vs cells w e. valued kind i vs cells w e))
     where
       valued : (kind : Kind) → IsTrue ((expression_fit n x).fits && (expression_fit n y).fits && operands_meet op (expression_fit n x).kind (expression_fit n y).kind && same_kind kind (binary_kind op (expression_fit n x).kind))
-          → (vs cells : List ℕ) (w : ℕ) → after_value ((low x).rest (take (low x).parts vs) cells) (λ v. after_value ((low y).rest (drop (low x).parts vs) cells) (λ u. operated op (low x).kind (low y).kind v u)) ≡ Ok w → IsValue kind w
+          → (vs cells : List ℕ) (w : ℕ) → after_value ((low x).rest vs cells) (λ v. after_value ((low y).rest (drop (low x).parts vs) cells) (λ u. operated op (low x).kind (low y).kind v u)) ≡ Ok w → IsValue kind w
       valued kind i vs cells w e =
           let left = expression_fit n x in
           let right = expression_fit n y in
@@ -150,9 +149,9 @@ module _ (n : Nameable) (t : Typed) (input : Input) (calls : Calls) (a : Activat
           let both = and_left (left.fits && right.fits) meet first in
           let l = h (and_left left.fits right.fits both) in
           let r = g (and_right left.fits right.fits both) in
-          let one = after_is ((low x).rest (take (low x).parts vs) cells) (λ v. after_value ((low y).rest (drop (low x).parts vs) cells) (λ u. operated op (low x).kind (low y).kind v u)) w e in
+          let one = after_is ((low x).rest vs cells) (λ v. after_value ((low y).rest (drop (low x).parts vs) cells) (λ u. operated op (low x).kind (low y).kind v u)) w e in
           let two = after_is ((low y).rest (drop (low x).parts vs) cells) (λ u. operated op (low x).kind (low y).kind one.0 u) w one.2 in
-          let v_is : IsValue (low x).kind one.0 = subst (λ q. IsValue q one.0) (sym l.kind) (l.values (take (low x).parts vs) cells one.0 one.1) in
+          let v_is : IsValue (low x).kind one.0 = subst (λ q. IsValue q one.0) (sym l.kind) (l.values vs cells one.0 one.1) in
           let u_is : IsValue (low y).kind two.0 = subst (λ q. IsValue q two.0) (sym r.kind) (r.values (drop (low x).parts vs) cells two.0 two.1) in
           let meets : is_shift op ≡ false → (low y).kind ≡ (low x).kind = λ s. r.kind ∙ meet_is op left.kind right.kind (and_right (left.fits && right.fits) meet first) s ∙ sym l.kind in
           let made = binary_values_are_values op (low x).kind (low y).kind one.0 two.0 w v_is u_is meets (outcome_is (binary_value op (low x).kind (low y).kind one.0 two.0) (operator_trap op (low x).kind two.0) w two.2) in
@@ -162,16 +161,16 @@ module _ (n : Nameable) (t : Typed) (input : Input) (calls : Calls) (a : Activat
   part_known kind k vs cells w e = subst (IsValue kind) (ok_is _ w e) (IsValue-wrapped kind (pos (slice_index vs 0)) k)
 
   both_at : (x y : TypedExpr) (cell : ℕ) → FormKnown (roll-TypedExprForm (TypedExprForm-F.Both x y cell))
-  both_at x y cell = form_is (TypedExprForm-F.Both x y cell) _ _ (both_is t input calls a x y cell) refl (λ kind k h. (refl, part_known kind k))
+  both_at x y cell = form_is (TypedExprForm-F.Both x y cell) _ _ (both_is t calls a x y cell) refl (λ kind k h. (refl, part_known kind k))
 
   either_at : (x y : TypedExpr) (cell : ℕ) → FormKnown (roll-TypedExprForm (TypedExprForm-F.Either x y cell))
-  either_at x y cell = form_is (TypedExprForm-F.Either x y cell) _ _ (either_is t input calls a x y cell) refl (λ kind k h. (refl, part_known kind k))
+  either_at x y cell = form_is (TypedExprForm-F.Either x y cell) _ _ (either_is t calls a x y cell) refl (λ kind k h. (refl, part_known kind k))
 
   choice_at : (c x y : TypedExpr) (cell : ℕ) → FormKnown (roll-TypedExprForm (TypedExprForm-F.Choice c x y cell))
-  choice_at c x y cell = form_is (TypedExprForm-F.Choice c x y cell) _ _ (choice_is t input calls a c x y cell) refl (λ kind k h. (refl, part_known kind k))
+  choice_at c x y cell = form_is (TypedExprForm-F.Choice c x y cell) _ _ (choice_is t calls a c x y cell) refl (λ kind k h. (refl, part_known kind k))
 
   call_at : (c : TypedCall) → FormKnown (roll-TypedExprForm (TypedExprForm-F.Call c))
-  call_at c = form_is (TypedExprForm-F.Call c) _ _ (call_form_is t input calls a c) refl (λ kind k h. (refl, part_known kind k))
+  call_at c = form_is (TypedExprForm-F.Call c) _ _ (call_form_is t calls a c) refl (λ kind k h. (refl, part_known kind k))
 
   expression_at : (x : TypedExpr-F TypedExprForm TypedCall TypedExpr TypedPlace) → FormKnown x.form → KnownIf (roll-TypedExpr x)
   unfolding form_fits expression_fit
@@ -181,7 +180,7 @@ module _ (n : Nameable) (t : Typed) (input : Input) (calls : Calls) (a : Activat
       let k = and_left (is_kind x.kind) (span_fits n x.span) (and_left (is_kind x.kind && span_fits n x.span) (form_fits x.form x.kind) all) in
       let r = h x.kind k (and_right (is_kind x.kind && span_fits n x.span) (form_fits x.form x.kind) all) in
       subst (λ (q : Fit). Known q (low (roll-TypedExpr x))) (sym e)
-      (subst (λ (m : Meant). Known (record { kind = x.kind; fits = is_kind x.kind && span_fits n x.span && form_fits x.form x.kind }) m) (sym (expression_is t input calls a x)) (record { kind = r.0; of_kind = k; values = r.1 }))
+      (subst (λ (m : Meant). Known (record { kind = x.kind; fits = is_kind x.kind && span_fits n x.span && form_fits x.form x.kind }) m) (sym (expression_is t calls a x)) (record { kind = r.0; of_kind = k; values = r.1 }))
 
   pub known : (x : TypedExpr) → KnownIf x
   known x = ind-TypedExpr FormKnown (λ (q : TypedCall). Unit {0}) KnownIf (λ (p : TypedPlace). Unit {0})
@@ -206,4 +205,4 @@ unfolding expression_fit
 fit_kind n x = search (rules, the_lemmas)
 
 pub values_are_of_kinds : ValuesAreOfKinds
-values_are_of_kinds n t input calls a x vs cells v fits e = subst (λ k. IsValue k v) (fit_kind n x) ((known n t input calls a x fits).values vs cells v e)
+values_are_of_kinds n t calls a x vs cells v fits e = subst (λ k. IsValue k v) (fit_kind n x) ((known n t calls a x fits).values vs cells v e)

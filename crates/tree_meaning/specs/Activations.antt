@@ -2,7 +2,7 @@
 -- parameters and its variables, zeros at first, which last until it returns (ISO/IEC 9899:2011, 6.2.4p5, p6). The cells of
 -- the file's variables come first, and then those of each activation, that of the last call at the end. The number of a
 -- variable's cell is the one that typing gave it.
-use Rattle.std.specs.Prelude.{ℕ, ◌+◌, ◌-◌, List, ◌∷◌, ◌++◌, length, take, drop, replicate, Option, Some, None, Result, Ok, Err, if◌then◌else◌, pos, slice_index, slice_set}
+use Rattle.std.specs.Prelude.{ℕ, zero, suc, ◌+◌, ◌-◌, List, ◌∷◌, ◌++◌, length, take, replicate, Option, Some, None, Result, Ok, Err, if◌then◌else◌, pos, slice_index, slice_set}
 use Rattle.c_values.specs.Kind.{wrapped}
 use Rattle.c_values.specs.declared.kinds.Kind.{Kind}
 use Rattle.cfa.specs.Values.{is_index}
@@ -25,10 +25,10 @@ first_cells count words = 0 ∷ (words ++ replicate (count - (length words + 1))
 
 -- an activation's cells are put behind the others, and are removed again
 abbrev pub with_activation : Store → List ℕ → Store
-with_activation s cells = record { cells = s.cells ++ cells; taken = s.taken; turns = s.turns }
+with_activation s cells = record { cells = s.cells ++ cells; answers = s.answers; turns = s.turns }
 
 abbrev pub without_activation : ℕ → Store → Store
-without_activation base s = record { cells = take base s.cells; taken = s.taken; turns = s.turns }
+without_activation base s = record { cells = take base s.cells; answers = s.answers; turns = s.turns }
 
 -- the place of a variable's first cell: an array parameter is the array that is lent for it (6.7.6.3p7)
 abbrev pub start_of : Activation → VariablePlace → ℕ
@@ -54,8 +54,12 @@ read cells kind cell = as_kind kind (slice_index cells cell)
 
 -- a value is put into a cell
 abbrev pub stored : Store → ℕ → ℕ → Store
-stored s cell v = record { cells = slice_set s.cells cell v; taken = s.taken; turns = s.turns }
+stored s cell v = record { cells = slice_set s.cells cell v; answers = s.answers; turns = s.turns }
 
 -- so many cells, from one on, are set to 0
+unfoldable pub zeros_at : ℕ → ℕ → List ℕ → List ℕ
+zeros_at zero first cells = cells
+zeros_at (suc count) first cells = zeros_at count (first + 1) (slice_set cells first 0)
+
 abbrev pub cleared : Store → ℕ → ℕ → Store
-cleared s first count = record { cells = take first s.cells ++ (replicate count 0 ++ drop (first + count) s.cells); taken = s.taken; turns = s.turns }
+cleared s first count = record { cells = zeros_at count first s.cells; answers = s.answers; turns = s.turns }

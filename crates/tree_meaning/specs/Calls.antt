@@ -1,17 +1,16 @@
 -- What calls do (ISO/IEC 9899:2011, 6.5.2.2).
-use Rattle.std.specs.Prelude.{ℕ, ◌+◌, zero, suc, Bool, true, false, List, [], ◌∷◌, map, length, nat_le, Option, Some, None, Result, Ok, slice_get, slice_index}
-use Rattle.c_meaning.specs.Steps.{answer_of, value_before}
-use Rattle.c_meaning.specs.declared.input.Input.{Input}
+use Rattle.std.specs.Prelude.{ℕ, ◌+◌, zero, suc, Bool, true, false, List, [], ◌∷◌, map, drop, length, nat_le, Option, Some, None, Result, Ok, slice_get, slice_index}
+use Rattle.c_meaning.specs.Steps.{value_before}
 use Rattle.cfa.specs.declared.parts.InputFunction.{InputFunction}
 use Rattle.cfa.specs.declared.parts.Variable.{Variable}
 use Rattle.cfa.specs.declared.state.Trap.{Trap}
 use Rattle.typed_trees.specs.declared.expression.Callee.{Callee}
-use Rattle.typed_trees.specs.declared.expression.Callee.TheVariants.{Defined, Input as InputCallee}
+use Rattle.typed_trees.specs.declared.expression.Callee.TheVariants.{Defined, Input}
 use Rattle.typed_trees.specs.declared.unit.Typed.{Typed}
 use Rattle.typed_trees.specs.declared.unit.TypedFunction.{TypedFunction}
 use Rattle.tree_meaning.specs.Outcomes.{Store, Done, Gives, Ends, BlockedEnd, TooDeepEnd, OutOfTurns, ◌andthen◌, unless_trap, Way, Meaning, Evaluation, turn}
-use Rattle.tree_meaning.specs.Activations.{Activation, first_cells, with_activation, without_activation, start_of}
-use Rattle.tree_meaning.specs.Expressions.{Meant}
+use Rattle.tree_meaning.specs.Activations.{Activation, as_kind, first_cells, with_activation, without_activation, start_of}
+use Rattle.tree_meaning.specs.Expressions.{First, Meant}
 
 -- what running a function does, by its number, in an activation of its own and with the words of its parameters; it gives
 -- what is in the cell of the result
@@ -20,14 +19,13 @@ Calls = ℕ → Activation → List ℕ → Evaluation
 
 -- ---- arguments (p10): the first part of each word in order, and then the values of all
 
-abbrev pub first_parts : List Meant → Store → Done (List (List ℕ))
-first_parts [] s = Gives [] s
-first_parts (x ∷ xs) s = x.first s andthen λ vs s'. first_parts xs s' andthen λ vss s''. Gives (vs ∷ vss) s''
+abbrev pub first_parts : List Meant → First
+first_parts [] vs s = Gives vs s
+first_parts (x ∷ xs) vs s = x.first vs s andthen first_parts xs
 
-abbrev pub word_values : List Meant → List (List ℕ) → List ℕ → Result (List ℕ) Trap
-word_values [] vss cells = Ok []
-word_values (x ∷ xs) [] cells = value_before (x.rest [] cells) (word_values xs [] cells)
-word_values (x ∷ xs) (vs ∷ vss) cells = value_before (x.rest vs cells) (word_values xs vss cells)
+abbrev pub word_values : List Meant → List ℕ → List ℕ → Result (List ℕ) Trap
+word_values [] vs cells = Ok []
+word_values (x ∷ xs) vs cells = value_before (x.rest vs cells) (word_values xs (drop x.parts vs) cells)
 
 -- ---- a function that is defined
 
@@ -42,18 +40,18 @@ called a arrays s = record { depth = a.depth + 1; base = length s.cells; arrays 
 -- A call is too deep where 64 activations stand, before its words have their values.
 abbrev pub call_defined : Calls → Activation → ℕ → List Meant → List Variable → Evaluation
 call_defined calls a callee words arrays s =
-    first_parts words s andthen λ vss s'.
-    unless_deep (nat_le 64 a.depth) (unless_trap (word_values words vss s'.cells) (λ values. calls callee (called a arrays s') values s'))
+    first_parts words [] s andthen λ vs s'.
+    unless_deep (nat_le 64 a.depth) (unless_trap (word_values words vs s'.cells) (λ values. calls callee (called a arrays s') values s'))
 
 -- ---- an input function gives the next answer, as a value of its kind, and 0 behind the last one
 
-abbrev pub answer : Input → Option InputFunction → Evaluation
-answer input None s = Ends BlockedEnd
-answer input (Some f) s = Gives (answer_of input f.result s.taken) (record { cells = s.cells; taken = s.taken + 1; turns = s.turns })
+abbrev pub answer : Option InputFunction → Evaluation
+answer None s = Ends BlockedEnd
+answer (Some f) s = Gives (as_kind f.result (slice_index s.answers 0)) (record { cells = s.cells; answers = drop 1 s.answers; turns = s.turns })
 
-abbrev pub call_of : Typed → Input → Calls → Activation → Callee → List Meant → List Variable → Evaluation
-call_of t input calls a (Defined callee) words arrays s = call_defined calls a callee words arrays s
-call_of t input calls a (InputCallee number) words arrays s = answer input (slice_get t.inputs number) s
+abbrev pub call_of : Typed → Calls → Activation → Callee → List Meant → List Variable → Evaluation
+call_of t calls a (Defined callee) words arrays s = call_defined calls a callee words arrays s
+call_of t calls a (Input number) words arrays s = answer (slice_get t.inputs number) s
 
 -- ---- calls within calls
 

@@ -23,7 +23,7 @@ module _ (t : Typed) (f : TypedFunction) where
   first_activation = record { depth = 1; base = length first_values; arrays = [] }
 
   abbrev pub first_store : Input → ℕ → Store
-  first_store input turns = record { cells = first_values ++ first_cells f.cells (fitted_words input.words (word_kinds f)); taken = 0; turns = turns }
+  first_store input turns = record { cells = first_values ++ first_cells f.cells (fitted_words input.words (word_kinds f)); answers = input.answers; turns = turns }
 
   abbrev pub end_of : End → TreeEnd
   end_of (TrapEnd trap) = ends.Trapped trap
@@ -38,7 +38,7 @@ module _ (t : Typed) (f : TypedFunction) where
 
   -- how the function ends on an input, with so many turns
   abbrev pub function_end : Input → ℕ → TreeEnd
-  function_end input turns = run_end (body_does t input (calls_within t input (turns + 1)) f first_activation (first_store input turns))
+  function_end input turns = run_end (body_does t (calls_within t (turns + 1)) f first_activation (first_store input turns))
 
 -- how a unit's function of a number ends; one that isn't there is blocked
 abbrev pub end_if : Typed → Option TypedFunction → Input → ℕ → TreeEnd

@@ -1,7 +1,7 @@
 -- What expressions do and which values they have (ISO/IEC 9899:2011, 6.5). An expression is evaluated in two parts: first
 -- its outermost calls, `&&`, `||` and `?:`, from left to right; then the rest, which does nothing by itself, has its value
 -- with theirs in their places.
-use Rattle.std.specs.Prelude.{ℕ, ◌+◌, Bool, true, false, List, [], ◌∷◌, ◌++◌, take, drop, Option, Some, None, Result, Ok, slice_index}
+use Rattle.std.specs.Prelude.{ℕ, ◌+◌, Bool, true, false, List, [], ◌∷◌, ◌++◌, drop, Option, Some, None, Result, Ok, slice_index}
 use Rattle.c_values.specs.Kind.{converted}
 use Rattle.c_values.specs.Operations.{unary_value, binary_value}
 use Rattle.c_values.specs.declared.kinds.Kind.{Kind}
@@ -14,29 +14,32 @@ use Rattle.std.specs.Prelude.{ok_or}
 use Rattle.tree_meaning.specs.Outcomes.{Store, Done, Gives, ◌andthen◌, unless_trap, Evaluation, is_true}
 use Rattle.tree_meaning.specs.Activations.{Activation, start_of, element_at, as_kind, read}
 
--- A value by those of the outermost calls, `&&`, `||` and `?:`, in order, and by what the cells hold; or the trap that ends
--- the evaluation.
+-- what the outermost calls, `&&`, `||` and `?:` do: each puts its value behind those that are there
+abbrev pub First : Type 0
+First = List ℕ → Store → Done (List ℕ)
+
+-- A value by theirs, which stand first in a list, and by what the cells hold; or the trap that ends the evaluation.
 abbrev pub Rest : Type 0
 Rest = List ℕ → List ℕ → Result ℕ Trap
 
--- an expression's kind, how many outermost calls, `&&`, `||` and `?:` it has, what they do and give, and the rest
+-- an expression's kind, how many outermost calls, `&&`, `||` and `?:` it has, what they do, and the rest
 pub record Meant : Type 0 where
   pub kind : Kind
   pub parts : ℕ
-  pub first : Store → Done (List ℕ)
+  pub first : First
   pub rest : Rest
 
 -- the whole evaluation
 abbrev pub evaluate : Meant → Evaluation
-evaluate m s = m.first s andthen λ vs s'. unless_trap (m.rest vs s'.cells) (λ v. Gives v s')
+evaluate m s = m.first [] s andthen λ vs s'. unless_trap (m.rest vs s'.cells) (λ v. Gives v s')
 
 -- nothing is done first
-abbrev pub no_parts : Store → Done (List ℕ)
-no_parts s = Gives [] s
+abbrev pub no_parts : First
+no_parts vs s = Gives vs s
 
 -- one thing after another
-abbrev pub both_parts : (Store → Done (List ℕ)) → (Store → Done (List ℕ)) → Store → Done (List ℕ)
-both_parts left right s = left s andthen λ vs s'. right s' andthen λ ws s''. Gives (vs ++ ws) s''
+abbrev pub both_parts : First → First → First
+both_parts left right vs s = left vs s andthen right
 
 -- ---- primary expressions and conversions (6.5.1, 6.3.1.3)
 
@@ -52,7 +55,7 @@ convert_meant x kind = record { kind = kind; parts = x.parts; first = x.first; r
 pub record Placed : Type 0 where
   pub variable : Variable
   pub parts : ℕ
-  pub first : Store → Done (List ℕ)
+  pub first : First
   pub cell : Rest
 
 abbrev pub placed_at : Activation → Variable → Option Meant → Placed
@@ -75,14 +78,14 @@ binary_meant op x y kind = record {
   kind = kind;
   parts = x.parts + y.parts;
   first = both_parts x.first y.first;
-  rest = λ vs cells. after_value (x.rest (take x.parts vs) cells) (λ v. after_value (y.rest (drop x.parts vs) cells) (λ w. operated op x.kind y.kind v w));
+  rest = λ vs cells. after_value (x.rest vs cells) (λ v. after_value (y.rest (drop x.parts vs) cells) (λ w. operated op x.kind y.kind v w));
 }
 
 -- ---- `&&`, `||`, `?:` and calls: each is an outermost part of its own
 
 -- what does something for a value, of a kind
 abbrev pub part_meant : Evaluation → Kind → Meant
-part_meant does kind = record { kind = kind; parts = 1; first = λ s. does s andthen λ v s'. Gives (v ∷ []) s'; rest = λ vs cells. Ok (as_kind kind (slice_index vs 0)) }
+part_meant does kind = record { kind = kind; parts = 1; first = λ vs s. does s andthen λ v s'. Gives (vs ++ v ∷ []) s'; rest = λ vs cells. Ok (as_kind kind (slice_index vs 0)) }
 
 abbrev pub truth : Bool → ℕ
 truth true = 1

@@ -18,5 +18,5 @@ TurnsSuffice = (t : Typed) (entry : ℕ) (input : Input) (turns more : ℕ) → 
 -- an expression that fits has a value of its kind, whatever its outermost parts give and the cells hold
 abbrev pub ValuesAreOfKinds : Type 0
 ValuesAreOfKinds =
-    (n : Nameable) (t : Typed) (input : Input) (calls : Calls) (a : Activation) (x : TypedExpr) (vs cells : List ℕ) (v : ℕ)
-    → IsTrue (expression_fits n x) → (meant t input calls a x).rest vs cells ≡ Ok v → IsValue x.kind v
+    (n : Nameable) (t : Typed) (calls : Calls) (a : Activation) (x : TypedExpr) (vs cells : List ℕ) (v : ℕ)
+    → IsTrue (expression_fits n x) → (meant t calls a x).rest vs cells ≡ Ok v → IsValue x.kind v

@@ -2,11 +2,11 @@
 use Rattle.std.specs.Prelude.{ℕ, zero, suc, Bool, not, ◌==◌, List, Result, Ok, Err}
 use Rattle.cfa.specs.declared.state.Trap.{Trap}
 
--- What stands while functions run: what the cells hold, how many answers of input functions are taken, and how many turns
--- are left.
+-- What stands while functions run: what the cells hold, the answers that input functions have yet to give, and how many
+-- turns are left.
 pub record Store : Type 0 where
   pub cells : List ℕ
-  pub taken : ℕ
+  pub answers : List ℕ
   pub turns : ℕ
 
 -- the ends of a run other than that it returns
@@ -59,12 +59,12 @@ is_true v = not (v == 0)
 
 -- with other cells
 abbrev pub with_cells : Store → List ℕ → Store
-with_cells s cells = record { cells = cells; taken = s.taken; turns = s.turns }
+with_cells s cells = record { cells = cells; answers = s.answers; turns = s.turns }
 
 -- Takes a turn, if one is left. Beginning a loop's body and calling a function that is defined take one each.
 abbrev pub turn_of : {A : Type 0} → ℕ → Store → (Store → Done A) → Done A
 turn_of zero s next = OutOfTurns
-turn_of (suc n) s next = next (record { cells = s.cells; taken = s.taken; turns = n })
+turn_of (suc n) s next = next (record { cells = s.cells; answers = s.answers; turns = n })
 
 abbrev pub turn : {A : Type 0} → Store → (Store → Done A) → Done A
 turn s next = turn_of s.turns s next

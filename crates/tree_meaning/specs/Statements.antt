@@ -48,8 +48,8 @@ combined own (Some op) kind cells cell v = after_value (operated op.0 op.1 kind 
 -- The first part of the place's index, once, and the first part of the value; then the index, and then the value.
 abbrev pub assign : Placed → Option (BinaryOp × Kind) → Meant → Meaning
 assign p op x s =
-    p.first s andthen λ is s1.
-    x.first s1 andthen λ vs s2.
+    p.first [] s andthen λ is s1.
+    x.first [] s1 andthen λ vs s2.
     unless_trap (p.cell is s2.cells) (λ cell.
     unless_trap (after_value (x.rest vs s2.cells) (combined p.variable.kind op x.kind s2.cells cell)) (λ v. Gives GoesOn (stored s2 cell v)))
 

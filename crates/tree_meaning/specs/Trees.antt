@@ -2,7 +2,6 @@
 use Rattle.std.specs.Prelude.{ℕ, map}
 use Rattle.std.specs.Option.{option_map}
 use Rattle.c_values.specs.declared.kinds.Kind.{Kind}
-use Rattle.c_meaning.specs.declared.input.Input.{Input}
 use Rattle.typed_trees.specs.declared.expression.TypedCall.{TypedCall, fold-TypedCall}
 use Rattle.typed_trees.specs.declared.expression.TypedExpr.{TypedExpr, fold-TypedExpr}
 use Rattle.typed_trees.specs.declared.expression.TypedExprForm.{TypedExprForm, fold-TypedExprForm}
@@ -22,8 +21,8 @@ use Rattle.tree_meaning.specs.Loops.{while_loop, do_loop, for_loop}
 use Rattle.tree_meaning.specs.Switch.{Group, switch_on}
 use Rattle.tree_meaning.specs.Calls.{Calls, call_of, calling}
 
--- in a unit, by the answers of input functions and by what calls do, in an activation
-module _ (t : Typed) (input : Input) (calls : Calls) (a : Activation) where
+-- in a unit, by what calls do, in an activation
+module _ (t : Typed) (calls : Calls) (a : Activation) where
   -- ---- expressions
 
   abbrev pub form_step : TypedExprForm-F (Kind → Meant) Evaluation Meant Placed → Kind → Meant
@@ -38,7 +37,7 @@ module _ (t : Typed) (input : Input) (calls : Calls) (a : Activation) where
   form_step (TypedExprForm-F.Call call) kind = part_meant call kind
 
   abbrev pub call_step : TypedCall-F (Kind → Meant) Evaluation Meant Placed → Evaluation
-  call_step c = call_of t input calls a c.callee c.words c.arrays
+  call_step c = call_of t calls a c.callee c.words c.arrays
 
   abbrev pub expr_step : TypedExpr-F (Kind → Meant) Evaluation Meant Placed → Meant
   expr_step x = x.form x.kind
@@ -101,9 +100,9 @@ module _ (t : Typed) (input : Input) (calls : Calls) (a : Activation) where
   does = fold-TypedStatement Meaning Group Meaning statement_form group_step statement_step
 
 -- what the statements of a function's body do
-abbrev pub body_does : Typed → Input → Calls → TypedFunction → Activation → Meaning
-body_does t input calls f a = block (map (does t input calls a) f.body)
+abbrev pub body_does : Typed → Calls → TypedFunction → Activation → Meaning
+body_does t calls f a = block (map (does t calls a) f.body)
 
 -- what calls do, at most so many within one another
-abbrev pub calls_within : Typed → Input → ℕ → Calls
-calls_within t input n = calling (body_does t input) t.functions n
+abbrev pub calls_within : Typed → ℕ → Calls
+calls_within t n = calling (body_does t) t.functions n
