@@ -1,0 +1,4 @@
+pub mod Grows
+pub mod TreeForms
+pub mod GrowTrees
+pub mod ValueKinds

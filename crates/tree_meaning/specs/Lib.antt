@@ -1,0 +1,10 @@
+pub mod Outcomes
+pub mod Activations
+pub mod Expressions
+pub mod Statements
+pub mod Loops
+pub mod Switch
+pub mod Calls
+pub mod Trees
+pub mod Ends
+pub mod Laws
