@@ -10,7 +10,6 @@ pub mod GenerationLaws
 pub mod GivesLaws
 pub mod GoalLaws
 pub mod MeasuredLaws
-pub mod OneDue
 pub mod PlannedLaws
 pub mod RangeLaws
 pub mod ReadsLaws

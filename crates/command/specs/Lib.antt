@@ -4,7 +4,6 @@ pub mod Certified
 pub mod Checking
 pub mod Codes
 pub mod Due
-pub mod Determined
 pub mod Entries
 pub mod Generating
 pub mod Inputs

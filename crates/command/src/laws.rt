@@ -1,10 +1,7 @@
 //! Laws of the definitions of measuring, of statuses and of what is due. Each function does nothing else: its contract is the
 //! law.
 ghost use Rattle.command.specs.Codes.{NoneIsUsage, RefusalsHaveTheirCodes};
-ghost use Rattle.command.specs.Determined.{AtMostOneIsDue};
 ghost use Rattle.command.specs.Laws.{CoveredByTheFirst, MissedByAll, OneStatusForEachCode};
-
-use hits::laws::one_list_of_hits;
 
 /// A covered goal's answer names an input that hits the goal, and none with a lower number hits it.
 pub fn covered_by_the_first()
@@ -20,15 +17,6 @@ pub fn missed_by_all()
 pub fn one_status_for_each_code()
     ensures { OneStatusForEachCode }
 {}
-
-/// What is due of a command that measures or lists is determined by its words and by what its files hold.
-pub fn at_most_one_is_due()
-    ensures { AtMostOneIsDue }
-{
-    c_front::laws::one_outcome();
-    predicates::laws::one_outcome();
-    one_list_of_hits();
-}
 
 /// Each refusal of a file, of the sources, of the query, of the inputs and of a certificate has one of the codes of its stage,
 /// and none of these ends in the status of wrong usage.

@@ -27,8 +27,10 @@ use Rattle.goals.specs.Plans.{causes, cover_tree, first_cause, passing_tree, pla
 use Rattle.goals.specs.declared.plan.Plan.{Plan}
 use Rattle.hits.specs.Laws.{OneListOfHits}
 use Rattle.input_text.specs.Inputs.{inputs_of}
+use Rattle.report.specs.GraphText.{graph_text}
 use Rattle.report.specs.Texts.{goals_text}
 use Rattle.command_words.specs.Reading.{Text}
+use Rattle.command_words.specs.Request as asks
 use Rattle.command_words.specs.Request.{Asked, measure, generate, goals, runs, prove, check, sample, Listing, Measuring, Running, request_of}
 use Rattle.due_laws.specs.Determined.{AtMostOneIsDue, IsTold, are_told}
 use Rattle.command.specs.Due.{IsDueOf}
@@ -384,6 +386,11 @@ module _ (front_law : (texts : List SourceText) → front.HasOneOutcome texts) (
       one_by IsSame is_same (entry_of graph m.entry) no_such_entry (Given graph) (λ entry.
       one_of_inputs r still m.inputs t.1 (length entry.function.parameters) m.sources (Listed graph entry) (λ given x y e f. e ∙ sym f))) said other c d
 
+  pub printed_once : (sources : List Text) → IsTrue (are_told r sources) → AnyTwo IsSame (IsDueOf r (asks.graph sources))
+  printed_once sources h said other c d =
+      let Printed : GraphParts → Said → Type 0 = λ graph x. x ≡ answered (graph_text graph) in
+      one_of_sources r still front_law sources h IsSame is_same Printed (λ graph x y e f. e ∙ sym f) said other c d
+
 pub at_most_one : ((texts : List SourceText) → front.HasOneOutcome texts) → predicates.OneOutcome → OneListOfHits → AtMostOneIsDue
 at_most_one front_law predicates_law hits_law r words still told said other a b = by (request_of words) told a b
   where
@@ -394,6 +401,7 @@ at_most_one front_law predicates_law hits_law r words still told said other a b 
     asked_once (generate m) h c d = absurd (cc)
     asked_once (prove m) h c d = absurd (cc)
     asked_once (check m) h c d = absurd (cc)
+    asked_once (asks.graph sources) h c d = printed_once front_law predicates_law hits_law r still sources h said other c d
     asked_once (sample number) h c d = absurd (cc)
 
     by : (o : Option Asked) → IfSome o (IsTold r) → MatchOption o (said ≡ usage) (λ asked. IsDueOf r asked said) → MatchOption o (other ≡ usage) (λ asked. IsDueOf r asked other) → said ≡ other

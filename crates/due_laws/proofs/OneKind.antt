@@ -42,12 +42,13 @@ use Rattle.suite.specs.declared.generated.Generated.{Generated}
 use Rattle.unwinder.specs.Unwinding.{AreTooLarge, IsUnwindFault}
 use Rattle.unwinding_size.specs.Sizes.{size_sum}
 use Rattle.command_words.specs.Reading.{Text}
+use Rattle.command_words.specs.Request as asks
 use Rattle.command_words.specs.Request.{Asked, measure, generate, goals, runs, prove, check, sample, Checking, Generating, Proving, request_of}
 use Rattle.command.specs.Asked.{sample_file}
 use Rattle.command.specs.Certificates.{AreCertificateOf}
 use Rattle.command.specs.Certificates as certificates
 use Rattle.command.specs.Checking.{IsChecked, IsCompared, said_of_verdict}
-use Rattle.due_laws.specs.Determined.{AreAlike, AreOfOneKind, AtMostOneKindIsDue, SaysNoCertificate, are_told, files_of, is_answer}
+use Rattle.due_laws.specs.Determined.{AreAlike, AreOfOneKind, AtMostOneKindIsDue, SaysNoCertificate, answers, are_told, files_of}
 use Rattle.command.specs.Due.{IsDueOf}
 use Rattle.command.specs.Generating.{IsGeneration, concluded, generated_report, is_open}
 use Rattle.command.specs.OneGoal.{IsGoalRefused, IsGoalTooLarge, IsGoalWithin}
@@ -59,7 +60,7 @@ use Rattle.command.specs.Refusal.{said_by}
 use Rattle.command.specs.Said.{Said, status_with}
 use Rattle.command.specs.Sampling.{IsDueOfSample, IsSampled, default_bounds, default_budget, sample_source}
 use Rattle.command.specs.Stages.{OfCertificate, OfEntry, OfGoal, OfQuery, OfTexts, Says, no_such_entry, no_such_goal, usage}
-use Rattle.due_laws.proofs.OneDue.{AnyTwo, Once, TellsSame, both_told, listed_once, measured_once, not_seen, one_by, one_of_query, one_of_sources, one_saying, one_seen, recorded_once, same_refusal, unread_is}
+use Rattle.due_laws.proofs.OneDue.{AnyTwo, Once, TellsSame, both_told, listed_once, measured_once, not_seen, one_by, one_of_query, one_of_sources, one_saying, one_seen, printed_once, recorded_once, same_refusal, unread_is}
 
 one_kind : TellsSame AreOfOneKind
 one_kind x y e = inl e
@@ -155,7 +156,7 @@ module _ (count : OneCount) (size : OneSize) (few : NotTooMany) (graph : GraphPa
 -- ---- what is said of generation
 
 module _ (count : OneCount) (size : OneSize) (few : NotTooMany) where
-  open_or_done : (b : Bool) → IsTrue (is_answer (status_with b))
+  open_or_done : (b : Bool) → IsTrue (answers (Some (status_with b)))
   open_or_done true = refl
   open_or_done false = refl
 
@@ -168,16 +169,16 @@ module _ (count : OneCount) (size : OneSize) (few : NotTooMany) where
   one_generation names graph entry p plan bounds ends budget text x y (inr a) (inr b) =
       inr (answers x a.0 a.1.0 a.1.2, answers y b.0 b.1.0 b.1.2)
     where
-      answers : (said : Said) (made : Generated) (shown : List Shown) → said ≡ concluded made (text made) shown → IsTrue (is_answer said.status)
-      answers said made shown e = subst (λ (s : Said). IsTrue (is_answer s.status)) (sym e) (open_or_done (is_open made.answers))
+      answers : (said : Said) (made : Generated) (shown : List Shown) → said ≡ concluded made (text made) shown → IsTrue (answers said.status)
+      answers said made shown e = subst (λ (s : Said). IsTrue (answers s.status)) (sym e) (open_or_done (is_open made.answers))
 
   -- ---- what is said of one goal
 
   answer_said : (graph : GraphParts) (entry : EntryFunction) (p : Predicates) (plan : Plan) (bounds : Bounds) (ends : Ends) (number : ℕ) (goal : GoalForm) (decided : Decided) (said : Said)
-      → IsSaidOf graph entry p plan bounds ends number goal decided said → IsTrue (is_answer said.status)
-  answer_said graph entry p plan bounds ends number goal (Covered input) said is = subst (λ (s : Said). IsTrue (is_answer s.status)) (sym is.3) refl
-  answer_said graph entry p plan bounds ends number goal (Refuted formula derivation) said is = subst (λ (s : Said). IsTrue (is_answer s.status)) (sym is) refl
-  answer_said graph entry p plan bounds ends number goal (Undecided formula history) said is = subst (λ (s : Said). IsTrue (is_answer s.status)) (sym is) refl
+      → IsSaidOf graph entry p plan bounds ends number goal decided said → IsTrue (answers said.status)
+  answer_said graph entry p plan bounds ends number goal (Covered input) said is = subst (λ (s : Said). IsTrue (answers s.status)) (sym is.3) refl
+  answer_said graph entry p plan bounds ends number goal (Refuted formula derivation) said is = subst (λ (s : Said). IsTrue (answers s.status)) (sym is) refl
+  answer_said graph entry p plan bounds ends number goal (Undecided formula history) said is = subst (λ (s : Said). IsTrue (answers s.status)) (sym is) refl
 
   one_proof : (graph : GraphParts) (entry : EntryFunction) (p : Predicates) (plan : Plan) (bounds : Bounds) (ends : Ends) (number : ℕ) (goal : GoalForm) (names : List Text) (budget : ℕ)
       → AnyTwo AreOfOneKind (IsProved graph entry p plan bounds ends number goal names budget)
@@ -344,6 +345,7 @@ module _ (front_law : (texts : List SourceText) → front.HasOneOutcome texts) (
     one_asked (generate m) h said other c d = one_generate m h said other c d
     one_asked (prove m) h said other c d = one_prove m h said other c d
     one_asked (check m) h said other c d = one_checked m h said other c d
+    one_asked (asks.graph sources) h said other c d = printed_once front_law predicates_law hits_law r still sources h said other c d
     one_asked (sample number) h said other c d = one_sample number said other c d
 
 pub at_most_one_kind : ((texts : List SourceText) → front.HasOneOutcome texts) → predicates.OneOutcome → OneListOfHits → OneCount → OneSize → NotTooMany → AtMostOneKindIsDue

@@ -1,7 +1,7 @@
 -- The words and the files determine what is due of the commands that measure and list. What is due of generate, prove and sample
 -- leaves open which inputs and derivations are found, but not whether something is refused, nor by which line; what is due of
 -- check leaves open how the goal's formula is made.
-use Rattle.std.specs.Prelude.{◌≡◌, ◌⊎◌, ℕ, Bool, true, false, ◌&&◌, List, [], ◌∷◌, ◌++◌, IfSome, IsTrue, MatchOption}
+use Rattle.std.specs.Prelude.{◌≡◌, ◌⊎◌, ℕ, Bool, true, false, ◌&&◌, List, [], ◌∷◌, ◌++◌, Option, None, Some, IfSome, IsTrue, MatchOption}
 use Rattle.std.specs.List.{list_all}
 use Rattle.std.specs.Option.{is_some}
 use Rattle.certificate.specs.declared.difference.Difference.{Difference}
@@ -9,6 +9,7 @@ use Rattle.cnf.specs.declared.formula.Formula.{Formula}
 use Rattle.fq_core.specs.declared.refusal.Place.TheVariants as place
 use Rattle.fq_io.specs.Counts.{Rose}
 use Rattle.command_words.specs.Reading.{Text}
+use Rattle.command_words.specs.Request as asks
 use Rattle.command_words.specs.Request.{Asked, measure, generate, goals, runs, prove, check, sample, request_of}
 use Rattle.command.specs.declared.status.Status.{Status}
 use Rattle.command.specs.declared.status.Status.TheVariants as status
@@ -25,6 +26,7 @@ measures_or_lists (runs m) = true
 measures_or_lists (generate m) = false
 measures_or_lists (prove m) = false
 measures_or_lists (check m) = false
+measures_or_lists (asks.graph sources) = true
 measures_or_lists (sample number) = false
 
 -- the files that a command reads
@@ -35,6 +37,7 @@ files_of (runs m) = m.sources ++ m.inputs ∷ []
 files_of (generate m) = m.sources
 files_of (prove m) = m.sources
 files_of (check m) = m.sources ++ m.certificate ∷ []
+files_of (asks.graph sources) = sources
 files_of (sample number) = []
 
 -- these files tell what they hold
@@ -67,9 +70,14 @@ is_answer status.WriteFault = false
 is_answer status.Memory = false
 is_answer status.CertificateRejected = false
 
+-- so ends what is said
+abbrev pub answers : Option Status → Bool
+answers None = false
+answers (Some s) = is_answer s
+
 -- the same is said, or both are answers: where one is a refusal, the other is the same one
 abbrev pub AreOfOneKind : Said → Said → Type 0
-AreOfOneKind said other = (said ≡ other) ⊎ (IsTrue (is_answer said.status) × IsTrue (is_answer other.status))
+AreOfOneKind said other = (said ≡ other) ⊎ (IsTrue (answers said.status) × IsTrue (answers other.status))
 
 -- it is said that the certificate's formula isn't the one that was made of the goal
 pub record SaysOtherFormula (said : Said) : Type 0 where
@@ -90,6 +98,7 @@ abbrev pub AreAlike : Asked → Said → Said → Type 0
 AreAlike (measure m) said other = said ≡ other
 AreAlike (goals m) said other = said ≡ other
 AreAlike (runs m) said other = said ≡ other
+AreAlike (asks.graph sources) said other = said ≡ other
 AreAlike (generate m) said other = AreOfOneKind said other
 AreAlike (prove m) said other = AreOfOneKind said other
 AreAlike (sample number) said other = AreOfOneKind said other
