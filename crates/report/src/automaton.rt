@@ -25,11 +25,7 @@ fn push_sizes(text: &mut Vec<u8>, graph: &Graph) -> Result<(), AllocError>
     Ok(())
 }
 
-fn push_function(
-    text: &mut Vec<u8>,
-    number: usize,
-    function: &Function,
-) -> Result<(), AllocError>
+fn push_function(text: &mut Vec<u8>, number: usize, function: &Function) -> Result<(), AllocError>
     ensures { OnOk result (text.new.items ≡ text.old.items ++ function_line number function.now) }
 {
     text.extend_from_slice(b"function ")?;
@@ -53,11 +49,7 @@ fn push_functions(text: &mut Vec<u8>, functions: &[Function]) -> Result<(), Allo
     Ok(())
 }
 
-fn push_input(
-    text: &mut Vec<u8>,
-    number: usize,
-    function: &InputFunction,
-) -> Result<(), AllocError>
+fn push_input(text: &mut Vec<u8>, number: usize, function: &InputFunction) -> Result<(), AllocError>
     ensures { OnOk result (text.new.items ≡ text.old.items ++ input_line number function.now) }
 {
     text.extend_from_slice(b"input ")?;
@@ -118,9 +110,9 @@ fn push_edges(text: &mut Vec<u8>, graph: &Graph) -> Result<(), AllocError>
 }
 
 /// The automaton: how many functions, input functions, nodes and edges it has; each function with its name, entry and exit;
-/// each input function with its name; each node with its function's name, its place and how many loops it lies in; and each
-/// edge with its two nodes, the file, line and column at which it stands, the kind of its statement, what is done along it and
-/// its marks. Each line begins with the number of what it tells, from 0.
+/// each input function with its name; each node with its function's name, its file and line, and how many loops it lies in;
+/// and each edge with the nodes from and to which it leads, the file, line and column (in bytes, from 1) of its first byte,
+/// the kind of its statement, what is done along it, and its marks. All of them are numbered from 0.
 pub fn graph_text(alloc: Global, graph: &Graph) -> Result<Vec<u8>, Memory>
     ensures { IfOk result (λ text. text.items ≡ graph_text graph.now) }
 {

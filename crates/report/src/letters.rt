@@ -20,7 +20,12 @@ fn text_at(texts: &[Name], number: u32) -> &[u8]
 }
 
 /// Appends a line of a file.
-pub fn push_place(text: &mut Vec<u8>, files: &[Name], file: u32, line: u32) -> Result<(), AllocError>
+pub fn push_place(
+    text: &mut Vec<u8>,
+    files: &[Name],
+    file: u32,
+    line: u32,
+) -> Result<(), AllocError>
     ensures { OnOk result (text.new.items ≡ text.old.items ++ place_text files.now file line) }
 {
     text.extend_from_slice(text_at(files, file))?;

@@ -1,12 +1,12 @@
 //! The printed answers: what was measured and what was found by generation, as a text and as JSON; the goals of a query; the
-//! runs of inputs; and the lines of one goal and of a sample.
+//! runs of inputs; an automaton; and the lines of one goal and of a sample.
 //!
 //! It stands on `goals` for plans and answers, on `path_runner` for how runs end, on `cfa` for places, on `input_text` for
 //! inputs as JSON, and on `serde_json` for JSON. The layers above use that each call answers exactly the text of specs/:
-//! [`measured_text`], [`goals_text`] and [`runs_text`] those of specs/Texts.antt, and [`measured_json`] that of
-//! specs/Json.antt; [`generated_text`], [`proved_text`], [`undecided_text`], [`refuted_text`] and [`sample_text`] those of
-//! specs/Generated.antt, and [`generated_json`] that of specs/GeneratedJson.antt. Start at measured.rt and
-//! generated.rt.
+//! [`measured_text`], [`goals_text`] and [`runs_text`] those of specs/Texts.antt, [`graph_text`] that of
+//! specs/GraphText.antt, and [`measured_json`] that of specs/Json.antt; [`generated_text`], [`proved_text`],
+//! [`undecided_text`], [`refuted_text`] and [`sample_text`] those of specs/Generated.antt, and [`generated_json`] that of
+//! specs/GeneratedJson.antt. Start at measured.rt and generated.rt.
 #![tactic(auto)]
 
 mod automaton;
