@@ -9,6 +9,7 @@ use Rattle.tree_meaning.specs.declared.ends.TreeEnd.TheVariants.{OutOfTurns}
 use Rattle.tree_meaning.specs.Activations.{Activation}
 use Rattle.tree_meaning.specs.Calls.{Calls}
 use Rattle.tree_meaning.specs.Ends.{tree_end}
+use Rattle.tree_meaning.specs.Expressions.{Meant}
 use Rattle.tree_meaning.specs.Trees.{meant}
 
 -- where so many turns are enough, more give the same end
@@ -20,3 +21,13 @@ abbrev pub ValuesAreOfKinds : Type 0
 ValuesAreOfKinds =
     (n : Nameable) (t : Typed) (calls : Calls) (a : Activation) (x : TypedExpr) (vs cells : List ℕ) (v : ℕ)
     → IsTrue (expression_fits n x) → (meant t calls a x).rest vs cells ≡ Ok v → IsValue x.kind v
+
+-- two meanings of an expression that differ at most in what their outermost parts do
+pub record SameRest (m m' : Meant) : Type 0 where
+  pub kind : m.kind ≡ m'.kind
+  pub parts : m.parts ≡ m'.parts
+  pub rest : m.rest ≡ m'.rest
+
+-- the rest of an expression does not depend on what calls do
+abbrev pub RestsAreSteady : Type 0
+RestsAreSteady = (t t' : Typed) (calls calls' : Calls) (a : Activation) (x : TypedExpr) → SameRest (meant t calls a x) (meant t' calls' a x)
