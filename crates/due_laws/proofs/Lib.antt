@@ -1,3 +1,4 @@
+pub mod Accepted
 mod Agreement
 mod OneDue
 mod OneKind

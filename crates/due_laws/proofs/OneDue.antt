@@ -128,18 +128,18 @@ module _ (law : predicates.OneOutcome) (graph : GraphParts) (bytes : List ℕ) w
   one_refused x y (queries.at_goals q p a b c) (queries.at_goals r s d e f) =
       same_some x y (sym (moved (λ (t : Query). first_cause (causes graph t) ≡ Some x) q r a d c) ∙ f)
 
-  not_planned : (x : Refusal) (p : Predicates) (plan : Plan) → queries.IsRefused graph bytes x → IsPlanned graph bytes p plan → ⊥
+  pub not_planned : (x : Refusal) (p : Predicates) (plan : Plan) → queries.IsRefused graph bytes x → IsPlanned graph bytes p plan → ⊥
   not_planned x p plan (queries.at_query a) b = not_asked bytes b.query x b.asked a
   not_planned x p plan (queries.at_predicates q a c) b =
       (law graph b.query.predicates).not_both p x.code x.place b.predicates (moved (λ (s : Query). outcome.IsRefused graph s.predicates x.code x.place) q b.query a b.asked c)
   not_planned x p plan (queries.at_goals q r a c d) b =
       some_none x (sym (moved (λ (t : Query). first_cause (causes graph t) ≡ Some x) q b.query a b.asked d) ∙ b.no_cause)
 
-  record SamePlans (p r : Predicates) (plan other : Plan) : Type 0 where
-    same_predicates : p ≡ r
-    same_plan : plan ≡ other
+  pub record SamePlans (p r : Predicates) (plan other : Plan) : Type 0 where
+    pub same_predicates : p ≡ r
+    pub same_plan : plan ≡ other
 
-  one_plan : (p r : Predicates) (plan other : Plan) → IsPlanned graph bytes p plan → IsPlanned graph bytes r other → SamePlans p r plan other
+  pub one_plan : (p r : Predicates) (plan other : Plan) → IsPlanned graph bytes p plan → IsPlanned graph bytes r other → SamePlans p r plan other
   one_plan p r plan other a b = record {
     same_predicates = (law graph b.query.predicates).one_answer p r (moved (λ (s : Query). ArePredicatesOf graph s.predicates p) a.query b.query a.asked b.asked a.predicates) b.predicates;
     same_plan = a.is ∙ ap (λ (q : Query). plan_of q) (one_asked bytes a.query b.query a.asked b.asked) ∙ sym b.is;
@@ -226,7 +226,7 @@ module _ (r : Reads) (still : Rose r.faults_before r.faults_after → ⊥) where
   not_read (other ∷ front) file back x [] h unread read = absurd read
   not_read (other ∷ front) file back x (t ∷ ts) h unread read = not_read front file back x ts (rest_told other (front ++ file ∷ back) h) unread read.1
 
-  not_all_read : (files : List Text) (x : Refusal) (texts : List SourceText) → AreTold files → IsReadUpTo r files x → AreRead r.holds files texts → ⊥
+  pub not_all_read : (files : List Text) (x : Refusal) (texts : List SourceText) → AreTold files → IsReadUpTo r files x → AreRead r.holds files texts → ⊥
   not_all_read files x texts h a read =
       not_read a.front a.file a.back x texts (subst AreTold a.parts h) a.unread (subst (λ (fs : List Text). AreRead r.holds fs texts) a.parts read)
 
@@ -268,12 +268,12 @@ module _ (r : Reads) (still : Rose r.faults_before r.faults_after → ⊥) where
         let same = (law b.texts).one_refusal x.code y.code x.place y.place (subst (λ (ts : List SourceText). automata.IsRefused ts x.code x.place) texts a.cause) b.cause in
         same_refusal x y same.0 same.1
 
-    no_automaton : (x : Refusal) (graph : GraphParts) → AreRefused r.holds files x → HaveAutomaton r.holds files graph → ⊥
+    pub no_automaton : (x : Refusal) (graph : GraphParts) → AreRefused r.holds files x → HaveAutomaton r.holds files graph → ⊥
     no_automaton x graph a b =
         let texts = one_reading files h a.texts b.texts a.read b.read in
         (law b.texts).not_both graph x.code x.place b.automaton (subst (λ (ts : List SourceText). automata.IsRefused ts x.code x.place) texts a.cause)
 
-    one_automaton : Once (HaveAutomaton r.holds files)
+    pub one_automaton : Once (HaveAutomaton r.holds files)
     one_automaton g k a b =
         let texts = one_reading files h a.texts b.texts a.read b.read in
         (law b.texts).one_answer g k (subst (λ (ts : List SourceText). IsAutomatonOf ts g) texts a.automaton) b.automaton

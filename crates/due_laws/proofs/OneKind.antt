@@ -145,7 +145,7 @@ module _ (count : OneCount) (size : OneSize) (few : NotTooMany) (graph : GraphPa
     one_goal_refused x y (inr a) (inl b) = absurd (not_unwound (of_one a.1) a.1.small y b)
     one_goal_refused x y (inr a) (inr b) = by_one x y (refusal 82 (place.Limit 8388608)) a.0 b.0
 
-    not_goal_refused : IsGoalWithin graph f p plan bounds goal → (x : Refusal) → IsGoalRefused graph f p plan bounds goal x → ⊥
+    pub not_goal_refused : IsGoalWithin graph f p plan bounds goal → (x : Refusal) → IsGoalRefused graph f p plan bounds goal x → ⊥
     not_goal_refused h x (inl a) = not_unwound (of_within h) h.small x a
     not_goal_refused h x (inr a) =
         let same = count graph bounds f h.pairs a.1.pairs h.steps a.1.steps h.reached a.1.reached in
@@ -199,17 +199,17 @@ module _ (r : Reads) (still : Rose r.faults_before r.faults_after → ⊥) (m : 
   checked : TellsSame AreChecked
   checked x y e = inl e
 
-  record SamePair (f g : Formula) (d e : Derivation) : Type 0 where
-    formula : f ≡ g
-    derivation : d ≡ e
+  pub record SamePair (f g : Formula) (d e : Derivation) : Type 0 where
+    pub formula : f ≡ g
+    pub derivation : d ≡ e
 
-  one_certificate : (f g : Formula) (d e : Derivation) → AreCertificateOf r m.certificate f d → AreCertificateOf r m.certificate g e → SamePair f g d e
+  pub one_certificate : (f g : Formula) (d e : Derivation) → AreCertificateOf r m.certificate f d → AreCertificateOf r m.certificate g e → SamePair f g d e
   one_certificate f g d e a b =
       let bytes = one_seen r still m.certificate a.bytes b.bytes h a.seen b.seen in
       let both = one_pair b.bytes f g d e (subst (λ (held : List ℕ). IsCertificate held f d) bytes a.is) b.is in
       record { formula = both.0; derivation = both.1 }
 
-  not_certificate : (x : Refusal) (f : Formula) (d : Derivation) → certificates.IsRefused r m.certificate x → AreCertificateOf r m.certificate f d → ⊥
+  pub not_certificate : (x : Refusal) (f : Formula) (d : Derivation) → certificates.IsRefused r m.certificate x → AreCertificateOf r m.certificate f d → ⊥
   not_certificate x f d (certificates.at_read a) b = not_seen r still certificates.most_certificate m.certificate x b.bytes h a b.seen b.short
   not_certificate x f d (certificates.at_form bytes seen short a) b =
       let same = one_seen r still m.certificate bytes b.bytes h seen b.seen in
@@ -246,7 +246,7 @@ module _ (r : Reads) (still : Rose r.faults_before r.faults_after → ⊥) (m : 
   apart : (f : Formula) (d : Derivation) (k l : ℕ) → k < l → IsVerdict f d (verdict.BadStep k) → IsVerdict f d (verdict.BadStep l) → ⊥
   apart f d k l less a b = a.3 (b.2 (k - 1) (omega (arith, less, a.0)))
 
-  one_verdict : (f : Formula) (d : Derivation) → Once (IsVerdict f d)
+  pub one_verdict : (f : Formula) (d : Derivation) → Once (IsVerdict f d)
   one_verdict f d verdict.Yes verdict.Yes a b = refl
   one_verdict f d verdict.Yes (verdict.BadStep line) a b = absurd (b.3 (a.0 (line - 1) (omega (arith, b.0, b.1))))
   one_verdict f d verdict.Yes verdict.NoEmptyClause a b = absurd (b.1 a.1)

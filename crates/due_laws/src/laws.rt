@@ -1,4 +1,5 @@
 //! Laws of what is due. Each function does nothing else: its contract is the law.
+ghost use Rattle.due_laws.specs.Accepted.{CertificatesAreAccepted};
 ghost use Rattle.due_laws.specs.Agreement.{CountsAddUp, CoveredIsNeverRefuted};
 ghost use Rattle.due_laws.specs.Determined.{AtMostOneIsDue, AtMostOneKindIsDue};
 
@@ -35,3 +36,16 @@ pub fn covered_is_never_refuted()
 pub fn counts_add_up()
     ensures { CountsAddUp }
 {}
+
+/// What `prove` writes of a goal that it refuted is a certificate, and `check` accepts it, or says that its formula is another
+/// one than it makes itself.
+pub fn certificates_are_accepted()
+    ensures { CertificatesAreAccepted }
+{
+    c_front::laws::one_outcome();
+    predicates::laws::one_outcome();
+    one_list_of_hits();
+    one_count();
+    one_size();
+    not_too_many();
+}

@@ -8,6 +8,7 @@ use Rattle.c_meaning.specs.declared.ends.Ends.{Ends}
 use Rattle.c_meaning.specs.declared.input.Input.{Input}
 use Rattle.c_values.specs.Kind.{IsValue}
 use Rattle.c_values.specs.declared.kinds.Kind.{Kind}
+use Rattle.certificate.specs.Certificates.{IsPair}
 use Rattle.cfa.specs.Contexts.{Pair}
 use Rattle.cfa.specs.declared.parts.Function.{Function}
 use Rattle.cfa.specs.declared.parts.GraphParts.{GraphParts}
@@ -60,11 +61,11 @@ module _ (parts : GraphParts) (f : Function) (p : Predicates) (plan : Plan) (bou
   abbrev pub NoneHits : GoalForm → Type 0
   NoneHits goal = (input : Input) → IsInputFor f input → InputHitsWithin parts f p plan ends bounds.turns bounds.frames bounds.answers goal input → ⊥
 
-  -- what is said of a goal with a budget of so many moves
+  -- what is said of a goal with a budget of so many moves; a certificate can write what refutes it
   abbrev pub IsDecided : GoalForm → ℕ → Decided → Type 0
   IsDecided goal budget (Covered input) = IsMadeFor goal input
   IsDecided goal budget (Refuted formula derivation) =
-      IsExact parts p f bounds ends plan goal formula × IsRefutation formula.formula budget derivation × NoneHits goal
+      IsExact parts p f bounds ends plan goal formula × IsRefutation formula.formula budget derivation × NoneHits goal × IsPair formula.formula derivation
   IsDecided goal budget (Undecided formula history) =
       IsExact parts p f bounds ends plan goal formula × IsSpent formula.formula budget history
 

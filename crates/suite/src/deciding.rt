@@ -4,7 +4,6 @@ ghost use Rattle.std.specs.Option.{IsSomeAnd};
 ghost use Rattle.c_values.specs.declared.kinds.Kind.{Kind as OneKind};
 ghost use Rattle.cfa.specs.Predicates.{IsPredicates};
 ghost use Rattle.cfa.specs.declared.parts.Function.{Function as OneFunction};
-ghost use Rattle.cnf.specs.Checks.{Checks};
 ghost use Rattle.goal_formula.specs.Exact.{IsExact};
 ghost use Rattle.goal_formula.specs.Sizes.{IsFormulaFault, goal_size};
 ghost use Rattle.goals.specs.GoalForm.{GoalForm};
@@ -18,9 +17,8 @@ use crate::replaying::replay;
 use c_meaning::Input;
 use c_values::Kind;
 use cfa::{Graph, Predicates};
-use cnf::{Derivation, Formula};
+use confirmation::confirm;
 use containers::Vector;
-use derivation_check::{Checker, Verdict};
 use fq_core::{Fault, Memory};
 use goal_formula::{GoalFormula, formula, input_of};
 use goals::Plan;
@@ -63,22 +61,6 @@ fn made_input(
     })
 }
 
-/// Has the checker look at a derivation, whose answer is known: it checks over the formula.
-fn confirm(alloc: Global, formula: &Formula, derivation: &Derivation) -> Result<(), Memory>
-    requires { Checks formula.now derivation.now }
-{
-    // The checker numbers lines in 32 bits.
-    if derivation.lines.len() >= 0x1_0000_0000 {
-        return Err(Memory);
-    }
-    let mut checker = Checker::prepare(alloc, formula, derivation)?;
-    match checker.check() {
-        Verdict::Yes => Ok(()),
-        Verdict::BadStep { line: _line } => unreachable!(),
-        Verdict::NoEmptyClause => unreachable!(),
-    }
-}
-
 /// What the search of a goal's formula finds.
 fn searched(
     alloc: Global,
@@ -114,7 +96,7 @@ fn searched(
 ///
 /// An input that is made has a run within the bounds that hits the goal, exactly the answers that this run reads, and values
 /// of their kinds as words. A goal is refuted by a derivation that checks over a formula that is exact for it, with at most one
-/// line more than the budget: then no input at all has such a run. It stays undecided only where a search of such a formula
+/// line more than the budget: then no input at all has such a run. A certificate can write the two. It stays undecided only where a search of such a formula
 /// made as many moves as the budget allows and isn't finished, and only with a budget below 3 to the most variables of its
 /// formula. The unwinding stays as it was.
 ///
