@@ -2,6 +2,7 @@
 
 import hashlib
 import os
+import re
 import shutil
 import subprocess
 import tempfile
@@ -115,6 +116,38 @@ def second_run_builds_nothing(tree):
     tree.calls()
     ran = tree.run()
     yield ran.stdout == "one a b c\n" and ran.stderr == ""
+    yield tree.calls() == []
+
+
+def with_documents(tree):
+    """Puts the documents that the launcher answers from into the tree."""
+    for name in ("docs/COMMANDS.md", "docs/REFUSALS.md", "docs/QUERY.md", "docs/C_PROFILE.md", "crates/fq_core/specs/Code.antt"):
+        os.makedirs(os.path.dirname(tree.path(name)), exist_ok=True)
+        shutil.copy(os.path.join(HERE, "..", name), tree.path(name))
+
+
+def help_needs_no_program(tree):
+    with_documents(tree)
+    ran = tree.call(tree.path("bin/fshell"), "--help")
+    yield ran.returncode == 0 and ran.stderr == "" and tree.calls() == []
+    yield "  fshell goals QUERY SOURCE...\n" in ran.stdout and "  --frames (1 to 64; default 8)\n" in ran.stdout
+    yield "docs/QUERY.md" in ran.stdout
+    yield tree.call(tree.path("bin/fshell"), "--help", "goals").stdout == "one --help goals\n"
+
+
+def refusals_are_explained(tree):
+    with_documents(tree)
+    ran = tree.call(tree.path("bin/fshell"), "--explain", "66")
+    yield ran.returncode == 0 and ran.stdout == "66 PredicateNowhere: a predicate is typable in no node's scope\n"
+    with open(tree.path("crates/fq_core/specs/Code.antt")) as file:
+        codes = re.findall(r"\((\d+), codes \"(\w+)\"\)", file.read())
+    yield len(codes) > 50
+    for number, name in codes:
+        said = tree.call(tree.path("bin/fshell"), "--explain", number).stdout
+        yield said.startswith(f"{number} {name}: ") and said.count("\n") == 1 and "`QUERY.md`;" not in said
+    for number in ("1", "99", "066", "", "6 6", "a"):
+        ran = tree.call(tree.path("bin/fshell"), "--explain", number)
+        yield ran.returncode == 2 and ran.stdout == "" and ran.stderr.startswith("fshell: no refusal has the code ")
     yield tree.calls() == []
 
 
@@ -371,7 +404,7 @@ CASES = [first_run_builds, second_run_builds_nothing, newer_source_is_built, oth
          changed_sources_are_never_answered_by_the_release, what_is_no_source_leaves_the_release,
          damaged_release_is_never_run, release_that_cannot_start_is_not_run, release_without_its_sum_is_not_run,
          prove_compares_with_the_release, release_is_checked, release_by_another_kit_is_noted, old_program_is_not_released,
-         gate_runs_all, all_edits_are_tried]
+         gate_runs_all, all_edits_are_tried, help_needs_no_program, refusals_are_explained]
 
 
 def failures():
