@@ -1,4 +1,5 @@
-pub mod Accepted
+mod Accepted
 mod Agreement
 mod OneDue
 mod OneKind
+mod Printed

@@ -2,6 +2,7 @@
 ghost use Rattle.due_laws.specs.Accepted.{CertificatesAreAccepted};
 ghost use Rattle.due_laws.specs.Agreement.{CountsAddUp, CoveredIsNeverRefuted};
 ghost use Rattle.due_laws.specs.Determined.{AtMostOneIsDue, AtMostOneKindIsDue};
+ghost use Rattle.due_laws.specs.Printed.{PrintedInputsAreRead};
 
 use hits::laws::one_list_of_hits;
 use reached_laws::laws::{not_too_many, one_count, one_size};
@@ -49,3 +50,8 @@ pub fn certificates_are_accepted()
     one_size();
     not_too_many();
 }
+
+/// The inputs in the JSON report of a generation, read as an array of inputs, are those that were made.
+pub fn printed_inputs_are_read()
+    ensures { PrintedInputsAreRead }
+{}
