@@ -154,15 +154,16 @@ def goal_of(words: str) -> Goal:
     return Goal(int(number), "", None, text)
 
 
-def _head(report: Report, line: str) -> None:
-    """Reads the first line of a report."""
-    words = re.fullmatch(r"goals \d+((?: (?:inputs|turns|frames|answers|budget) \d+)*)(?: ends (trapped|any))?", line)
+def _head(report: Report, line: str) -> int:
+    """Reads the first line of a report; gives the number of its goals."""
+    words = re.fullmatch(r"goals (\d+)((?: (?:inputs|turns|frames|answers|budget) \d+)*)(?: ends (trapped|any))?", line)
     if not words:
         raise ValueError(line)
-    pairs = words[1].split()
+    pairs = words[2].split()
     report.bounds = {name: int(value) for name, value in zip(pairs[::2], pairs[1::2]) if name != "inputs"}
-    report.ends = words[2] or "returned"
+    report.ends = words[3] or "returned"
     report.command = "generate" if report.bounds else "measure" if "inputs" in pairs else "goals"
+    return int(words[1])
 
 
 def _line(report: Report, line: str) -> None:
@@ -183,13 +184,17 @@ def _line(report: Report, line: str) -> None:
 
 
 def report_of_text(text: str) -> Report:
-    """The report that a text of the program is; ValueError where it is none."""
-    lines = text.removesuffix("\n").split("\n")
-    report = Report("runs")
-    if not text.startswith("input ") and text:
-        _head(report, lines.pop(0))
-    for line in lines if text else []:
+    """The report that a text of the program is; ValueError where it is none, or isn't whole."""
+    lines = text.split("\n")
+    if lines.pop() != "":
+        raise ValueError("its last line isn't whole")
+    report, count = Report("runs"), 0
+    if lines and not lines[0].startswith("input "):
+        count = _head(report, lines.pop(0))
+    for line in lines:
         _line(report, line)
+    if len(report.goals) != count:
+        raise ValueError(f"it has {len(report.goals)} of {count} goals")
     return report
 
 
