@@ -236,7 +236,7 @@ def write_whole(path: str, text: str) -> None:
     name = ""
     try:
         descriptor, name = tempfile.mkstemp(prefix=".new.", dir=folder)
-        with os.fdopen(descriptor, "w", encoding="utf-8", newline="") as file:
+        with os.fdopen(descriptor, "w", encoding="utf-8", errors="surrogateescape", newline="") as file:
             file.write(text)
             os.fchmod(file.fileno(), 0o666 & ~_mask())
         os.replace(name, path)
@@ -265,7 +265,7 @@ def _mask() -> int:
 def give(text: str, path: str | None) -> None:
     """Writes a text to a file, or to standard output where none is named."""
     if path is None:
-        sys.stdout.write(text)
+        sys.stdout.buffer.write(text.encode(errors="surrogateescape"))
         sys.stdout.flush()
     else:
         write_whole(path, text)

@@ -38,7 +38,7 @@ class Source:
         self.name = name
         self.text = data.decode("latin-1")
         self.lines = [0] + [found.end() for found in re.finditer("\n", self.text)]
-        self.directives: list[str] = []
+        self.directives: list[Token] = []
         self.tokens = list(self._cut())
         self.starts = [token.start for token in self.tokens]
 
@@ -52,17 +52,12 @@ class Source:
             if not token:
                 raise program.Failure(f"{self.name}: no token begins at byte {at}")
             if directive:
-                self.directives.append(directive[0])
+                self.directives.append(Token(directive[0], at, directive.end()))
             elif not token.group("blank"):
                 found.append(Token(token[0], token.start(), token.end()))
             is_first = "\n" in token[0] or (is_first and bool(directive or token.group("blank")))
             at = token.end()
         return found
-
-    def macros(self) -> list[str]:
-        """The names that directives define."""
-        named = (re.match(r"#(?:\s|/\*.*?\*/)*define(?:\s|/\*.*?\*/)+(\w+)", one, re.DOTALL) for one in self.directives)
-        return [found[1] for found in named if found]
 
     def offset(self, line: int, column: int) -> int:
         """The number of the byte at a line and a column."""
