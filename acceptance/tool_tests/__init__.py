@@ -90,14 +90,17 @@ def tried(what, function):
     return [f"wrong at {wrong}"] if wrong else []
 
 
-def failures(modules):
-    """The number of cases of these modules, and a line for each that fails; those that are skipped are told."""
+def failures(modules, alone=False):
+    """The number of cases of these modules, and a line for each that fails; those that are skipped are told. Alone are those
+    that need nothing but Python and the program."""
     count, wrong, skipped = 0, [], {}
     for module in modules:
         cases = [(case.name, case.needs, functools.partial(differences, case)) for case in getattr(module, "CASES", [])]
         cases += [(function.__name__, needs, functools.partial(tried, function.__name__, function))
                   for needs, function in getattr(module, "TRIED", [])]
         for name, needs, of_case in cases:
+            if alone and set(needs) - {"graph"}:
+                continue
             lacking = [need for need in needs if not is_there(need)]
             for need in lacking:
                 skipped[need] = skipped.get(need, 0) + 1
