@@ -206,7 +206,7 @@ def words() -> argparse.Namespace:
     )
     parser.add_argument("--left", action="store_true", help="only prints the goals that are left, a line each")
     parser.add_argument("--one", type=int, metavar="N", help="only decides goal N")
-    given = parser.parse_args()
+    given = parser.parse_intermixed_args()
     if 0 < len(given.words) < 3:
         parser.error("ENTRY QUERY SOURCE.. or none of them")
     return given

@@ -125,7 +125,7 @@ def words() -> argparse.Namespace:
         "--only", choices=("covered", "missed", "refuted", "undecided"), help="goals of this verdict alone"
     )
     parser.add_argument("--steps", help="as for runs")
-    given = parser.parse_args()
+    given = parser.parse_intermixed_args()
     if given.inputs and not given.entry:
         parser.error("--inputs needs --entry")
     return given

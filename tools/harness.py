@@ -183,7 +183,7 @@ def words() -> argparse.Namespace:
     parser.add_argument("sources", nargs="+", metavar="SOURCE")
     parser.add_argument("-o", metavar="OUT", dest="out", help="the C file that is written; else standard output")
     parser.add_argument("--steps", metavar="N", help="as for runs")
-    return parser.parse_args()
+    return parser.parse_intermixed_args()
 
 
 def main() -> int:

@@ -148,7 +148,7 @@ def words() -> argparse.Namespace:
     parser.add_argument(
         "--ends", choices=program.ENDS, default="returned", help="for traces: the ends of runs that count"
     )
-    given = parser.parse_args()
+    given = parser.parse_intermixed_args()
     if given.to == "traces" and not (given.entry and given.source):
         parser.error("--to traces needs --entry and --source")
     return given

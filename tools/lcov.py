@@ -133,7 +133,7 @@ def words() -> argparse.Namespace:
     parser.add_argument("--ends", choices=program.ENDS, default="returned", help="the ends of runs that count")
     parser.add_argument("--steps", metavar="N", help="as for runs")
     parser.add_argument("--refuted", metavar="FILE", help="leaves out what this report refutes")
-    return parser.parse_args()
+    return parser.parse_intermixed_args()
 
 
 def main() -> int:

@@ -5,6 +5,7 @@ macro, the text is that word's.
 """
 
 import bisect
+import os
 import re
 from collections.abc import Sequence
 from dataclasses import dataclass
@@ -95,9 +96,9 @@ def plain(text: str) -> str:
 class Faces:
     """What the edges of an automaton are in its sources."""
 
-    def __init__(self, graph: Graph, sources: Sequence[str]) -> None:
+    def __init__(self, graph: Graph, sources: Sequence[str], place: str = ".") -> None:
         self.graph = graph
-        self.sources = {name: Source(name, program.read(name)) for name in sources}
+        self.sources = {name: Source(name, program.read(os.path.join(place, name))) for name in sources}
         self.guards: dict[str, list[int]] = {}
         self.starts: dict[tuple[str, str], list[tuple[int, int]]] = {}
         for edge in graph.edges:

@@ -83,10 +83,14 @@ def is_there(need):
     return importlib.util.find_spec(need) is not None if need == "jinja2" else shutil.which(need) is not None
 
 
-def tried(what, function):
+def tried(function):
     """What is wrong of a case that is a function: it yields, or answers, whether each thing that it looks at is right."""
     with tempfile.TemporaryDirectory() as folder:
-        wrong = [number for number, right in enumerate(function(folder), 1) if not right]
+        wrong = []
+        try:
+            wrong += [number for number, right in enumerate(function(folder), 1) if not right]
+        except Exception as fault:  # so that the other cases are run
+            return [f"it broke off: {fault!r}"]
     return [f"wrong at {wrong}"] if wrong else []
 
 
@@ -96,7 +100,7 @@ def failures(modules, alone=False):
     count, wrong, skipped = 0, [], {}
     for module in modules:
         cases = [(case.name, case.needs, functools.partial(differences, case)) for case in getattr(module, "CASES", [])]
-        cases += [(function.__name__, needs, functools.partial(tried, function.__name__, function))
+        cases += [(function.__name__, needs, functools.partial(tried, function))
                   for needs, function in getattr(module, "TRIED", [])]
         for name, needs, of_case in cases:
             if alone and set(needs) - {"graph"}:
