@@ -136,7 +136,7 @@ class Faces:
     def statement(self, edge: Edge) -> str:
         """The text of the innermost statement of an edge: of `if`, loops and `switch` the head alone."""
         source = self.sources[edge.file]
-        first = self._statement_start(source, edge)
+        first = self.statement_start(edge)
         if first is None:
             return source.line_text(edge.line)
         text = source.tokens[first].text
@@ -147,8 +147,9 @@ class Faces:
         end = source.end_of(first, [";", "{"])
         return source.between(first, max(first, end - 1))
 
-    def _statement_start(self, source: Source, edge: Edge) -> int | None:
+    def statement_start(self, edge: Edge) -> int | None:
         """The number of the first token of an edge's innermost statement, where it is found."""
+        source = self.sources[edge.file]
         if not edge.is_guard:
             return source.index(edge.line, edge.column)
         at = source.index(edge.line, edge.column)
