@@ -84,9 +84,9 @@ def path_value(asked: Asked, number: int, path: Path) -> dict[str, object]:
     """A path as JSON."""
     values = [path.values().get(test.node) for test in asked.decision.tests]
     value: dict[str, object] = {"values": values, "outcome": path.outcome, "state": asked.state(number)}
-    return value | (
-        {"input": asked.inputs[number]} if number in asked.inputs else {"goals": asked.goals.get(number, [])}
-    )
+    if number in asked.inputs:
+        return value | {"input": asked.inputs[number]}
+    return value | {"goals": asked.goals.get(number, [])}
 
 
 def value_of(faces: Faces, asked: Asked, given: list[Input]) -> dict[str, object]:
