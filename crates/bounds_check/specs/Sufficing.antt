@@ -13,7 +13,8 @@ use Rattle.reached.specs.declared.step.Step.{Step}
 use Rattle.search.specs.Nexts.{IsFound, IsRefutation}
 use Rattle.search.specs.declared.found.Found.TheVariants.{Spent}
 use Rattle.search.specs.declared.moves.History.{History}
-use Rattle.bounds_check.specs.Leaving.{IsForLeaving, Leaves, NoneLeaves, most_variables}
+use Rattle.unwinding_size.specs.Sizes.{size_sum}
+use Rattle.bounds_check.specs.Leaving.{IsForLeaving, Leaves, NoneLeaves, most_variables, no_predicates}
 use Rattle.bounds_check.specs.declared.suffice.Suffice.{Suffice}
 use Rattle.bounds_check.specs.declared.suffice.Suffice.TheVariants.{Left, Open, Yes}
 
@@ -33,6 +34,14 @@ pub record IsLeft (parts : GraphParts) (f : Function) (bounds : Bounds) (input :
   pub few_answers : length input.answers ≤ bounds.answers
   pub answers_fit : All (λ n. n < 2 ^ 64) input.answers
   pub ends : EndsWithoutZero input.answers
+
+-- The pairs that are reached within the bounds and their size sum are within their limits.
+pub record IsWithinLimits (parts : GraphParts) (f : Function) (bounds : Bounds) : Type 0 where
+  pub pairs : List Pair
+  pub steps : List (List Step)
+  pub reached : AreReached parts bounds f pairs steps
+  pub few_pairs : length pairs ≤ 50000
+  pub small : size_sum parts no_predicates f pairs steps ≤ 4194304
 
 -- what is said of an answer with a budget of so many moves
 abbrev pub IsSuffice : GraphParts → Function → Bounds → ℕ → Suffice → Type 0

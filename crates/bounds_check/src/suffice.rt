@@ -3,7 +3,7 @@ use c_meaning::Input;
 use cnf::{Derivation, Formula};
 use search::History;
 
-/// Whether bounds suffice, as far as a budget tells: then no input has a run that leaves them.
+/// Whether bounds suffice, which is that no input has a run that leaves them, as far as a budget tells.
 #[derive(Drop)]
 pub enum Suffice {
     /// They do: a formula whose models are the inputs that leave the bounds, and a derivation that shows that no assignment

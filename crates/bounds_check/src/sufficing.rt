@@ -6,7 +6,7 @@ ghost use Rattle.cfa.specs.declared.parts.Function.{Function as OneFunction};
 ghost use Rattle.cnf.specs.Checks.{Checks};
 ghost use Rattle.unwinder.specs.Unwinding.{IsUnwindFault};
 ghost use Rattle.bounds_check.specs.Leaving.{IsExactForLeaving, no_predicates};
-ghost use Rattle.bounds_check.specs.Sufficing.{IsOpenWhereShort, IsSuffice};
+ghost use Rattle.bounds_check.specs.Sufficing.{IsOpenWhereShort, IsSuffice, IsWithinLimits};
 
 use crate::leaving::left_input;
 use crate::staying::open_formula;
@@ -87,6 +87,7 @@ fn leaving_formula(
     requires answers { bounds.answers ≤ 256 }
     ensures exact { IfOk result (λ formula. (f : OneFunction) → slice_get graph.now.functions entry ≡ Some f → IsExactForLeaving graph.now f bounds formula) }
     ensures small { IfOk result (λ formula. formula.formula.variables ≤ 2 ^ 30) }
+    ensures limits { IfOk result (λ _. (f : OneFunction) → slice_get graph.now.functions entry ≡ Some f → IsWithinLimits graph.now f bounds) }
     ensures refused { IfErr result (λ fault. (f : OneFunction) → slice_get graph.now.functions entry ≡ Some f → IsUnwindFault graph.now no_predicates bounds f fault) }
 {
     let none = Predicates {
@@ -128,6 +129,7 @@ pub fn bounds_suffice(
     requires answers { bounds.answers ≤ 256 }
     ensures suffice { IfOk result (λ suffice. (f : OneFunction) → slice_get graph.now.functions entry ≡ Some f → IsSuffice graph.now f bounds budget suffice) }
     ensures enough { IfOk result (λ suffice. (f : OneFunction) → slice_get graph.now.functions entry ≡ Some f → IsOpenWhereShort graph.now f bounds budget suffice) }
+    ensures limits { IfOk result (λ _. (f : OneFunction) → slice_get graph.now.functions entry ≡ Some f → IsWithinLimits graph.now f bounds) }
     ensures refused { IfErr result (λ fault. (f : OneFunction) → slice_get graph.now.functions entry ≡ Some f → IsUnwindFault graph.now no_predicates bounds f fault) }
 {
     let formula = leaving_formula(alloc, graph, entry, bounds)?;

@@ -33,3 +33,10 @@ returns-in-Ok-clause-exact c = λ f own.
     let Unwound-of : Predicates → Type 0 = λ p. IsUnwound c.args.graph.now p f c.args.entry c.args.bounds counted.Any u in
     exact c.args.graph.now f c.args.entry c.args.bounds u c.well_formed-2.ensures own (subst Unwound-of none (c.in_ok-unwound.ensures.accepted f own)) c.in-Ok.formula
     (subst (λ (ks : List Kind). SaysOpen u.circuit u.entries ks u.bounds.answers c.in-Ok.formula) kinds c.in-Ok.ensures)
+
+pub returns-in-Ok-clause-limits : goal.returns-in-Ok-clause-limits
+returns-in-Ok-clause-limits c = λ f own.
+    let none : ◌≡◌ {A = Predicates} (record { texts = c.new.result; meanings = c.new-2.result }) no_predicates = λ i. record { texts = c.new.ensures i; meanings = c.new-2.ensures i } in
+    let Unwound-of : Predicates → Type 0 = λ p. IsUnwound c.args.graph.now p f c.args.entry c.args.bounds counted.Any c.in_ok-unwound.unwound in
+    let it = subst Unwound-of none (c.in_ok-unwound.ensures.accepted f own) in
+    record { pairs = it.pairs; steps = it.steps; reached = it.reached; few_pairs = it.few_pairs; small = it.small }
