@@ -1,0 +1,4 @@
+pub mod Laws
+pub mod Leaving
+pub mod Parts
+pub mod Sufficing
