@@ -64,8 +64,8 @@ CASES = [
         "path 3: F T F is false, refuted, goal 3",
         "path 4: F T T is true, refuted, goal 2",
         "condition 1: a: inputs 1 and 2, by paths 1 and 2",
-        "condition 2: a: no pair within the bounds, since they refute paths 4",
-        "condition 3: b: no pair within the bounds, since they refute paths 3 4",
+        "condition 2: a: no pair within the bounds, by refuted paths 4",
+        "condition 3: b: no pair within the bounds, by refuted paths 3 4",
         goals_of(2),
     ], "3 of 1 decisions: 1 shown, 2 without a pair, 0 undecided"),
     worked("a negation", "!(a && !b)", "0 0 0\n1 0 0\n1 1 0\n", [
