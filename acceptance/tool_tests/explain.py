@@ -194,7 +194,7 @@ def conditions_are_cut_out(folder):
     for number, (condition, statement) in enumerate(due.items()):
         text = f"int g(int x, int y) {{ return x; }}\nint f(int a, int b, int c) {{\n  int t[2];\n  {statement}\n  return 0;\n}}\n"
         put(folder, {"a.c": text})
-        faces = run(folder, ["explain", "in @FUNC(f) cover @DECISIONEDGE", "a.c"]).stdout
+        faces = run(folder, ["explain", "in @FUNC(f) cover @CONDITIONEDGE", "a.c"]).stdout
         yield f" {' '.join(condition.replace('/* x */', '').split())} is true, in " in faces
 
 
