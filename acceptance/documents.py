@@ -108,7 +108,7 @@ def disorders(all_texts):
     if [crate for crate, _ in sections(all_texts["docs/PROVED.md"])] != crates:
         yield "docs/PROVED.md: the sections aren't the crates of crates.txt in their order"
     for layer, names in ordered.items():
-        row = re.search(rf"^\| {layer} \|(.*)\|(.*)\|.*\|$", all_texts["docs/ARCHITECTURE.md"], re.MULTILINE)
+        row = re.search(rf"^\| {layer} \|(.*)\|(.*)\|$", all_texts["docs/ARCHITECTURE.md"], re.MULTILINE)
         if not row or re.findall(r"\w+", row.group(1) + row.group(2)) != names:
             yield f"docs/ARCHITECTURE.md: the layer {layer} doesn't have its crates of crates.txt"
 
