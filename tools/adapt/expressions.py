@@ -1,0 +1,301 @@
+"""Writes expressions: what has an effect becomes statements before, in an order that C allows, and what is left is a value."""
+
+from dataclasses import dataclass, replace
+from typing import Any, Callable, Optional
+
+from pycparser import c_ast
+
+from . import kinds
+from .calls import Calls
+from .constants import COMPARED, LOGICAL, SHIFTS, number
+from .effects import STEPS
+from .jumps import walk
+from .kinds import Array, Int, Pointer, Struct
+from .names import Enumerator, Function, Variable
+from .output import unmarked
+from .places import Place
+from .refusals import Refused
+from .values import LEVELS, PRIMARY, UNARY, Value
+
+
+class Expressions(Calls):
+    """The expressions of one function."""
+
+    # ---- values
+
+    def value(self, node: Any) -> Value:
+        """The value of an expression; its effects are written before. What it reads stays as it is until it is used,
+        unless C leaves open whether it does, which is refused."""
+        if isinstance(node, c_ast.Constant):
+            return self.constant(node)
+        if isinstance(node, c_ast.ID):
+            return self.named(node)
+        if isinstance(node, (c_ast.StructRef, c_ast.ArrayRef)):
+            return self.read(node)
+        if isinstance(node, c_ast.UnaryOp):
+            return self.unary(node)
+        if isinstance(node, c_ast.BinaryOp):
+            return self.binary(node)
+        if isinstance(node, c_ast.TernaryOp):
+            return self.chosen(node)
+        if isinstance(node, c_ast.Assignment):
+            return self.assigned(node)
+        if isinstance(node, c_ast.ExprList):
+            for one in node.exprs[:-1]:
+                self.effect(one)
+            return self.value(node.exprs[-1])
+        if isinstance(node, c_ast.Cast):
+            return self.cast(node)
+        if isinstance(node, c_ast.FuncCall):
+            return self.call_value(node)
+        raise Refused(node.coord, f"an expression ({type(node).__name__})", "write it with the operators of integers")
+
+    def constant(self, node: Any) -> Value:
+        if node.type == "string":
+            raise Refused(node.coord, "a string", "name it as an array of char, and use its elements")
+        value, kind = number(node)
+        text = node.value
+        if "char" in node.type:
+            simple = text[1:-1] in ("\\n", "\\t", "\\r", "\\0", "\\\\", "\\'", '\\"') or (len(text) == 3 and 32 <= ord(text[1]) < 127)
+            text = text if simple else str(value)
+        elif text[:2] in ("0X", "0b", "0B"):
+            text = hex(value) + text[len(text.rstrip("uUlL")) :]
+        return Value(self.at(node) + text, kind, UNARY if text.startswith("-") else PRIMARY, truth=text in ("0", "1"))
+
+    def named(self, node: Any) -> Value:
+        meaning = self.names.meaning.get(id(node))
+        if isinstance(meaning, Enumerator):
+            text = meaning.out
+            return Value(self.at(node) + text, kinds.INT, UNARY if text.startswith("-") else PRIMARY)
+        if isinstance(meaning, Function):
+            raise Refused(node.coord, f"the address of the function {node.name}", "call it by its name, in a switch over a number")
+        return self.read(node)
+
+    def read(self, node: Any) -> Value:
+        place = self.places.place(node)
+        if not isinstance(place.type, Int):
+            what = "an array" if isinstance(place.type, Array) else "a struct"
+            raise Refused(node.coord, f"{what} stands where an integer is needed", "name an element or a member")
+        text, calls = self.leaf(place)
+        return Value(self.at(node) + text, place.type, PRIMARY, truth=place.type.boolean, calls=calls)
+
+    def unary(self, node: Any) -> Value:
+        if node.op == "sizeof":
+            return Value(self.at(node) + f"{self.constants.size_of(node.expr)}ul", kinds.SIZE, PRIMARY)
+        if node.op == "*":
+            return self.read(node)
+        if node.op in STEPS:
+            return self.stepped(node)
+        if node.op == "!":
+            null = self.null(node.expr)
+            if null is not None:
+                return Value(self.at(node) + null, kinds.INT, PRIMARY, truth=True)
+        if node.op not in ("+", "-", "~", "!"):
+            raise Refused(node.coord, "an address", "hand over the address of a named object to a function alone")
+        one = self.value(node.expr)
+        inner = one.within(UNARY)
+        blank = " " if unmarked(inner).startswith(node.op) else ""
+        kind = kinds.INT if node.op == "!" else kinds.promoted(one.kind)
+        return Value(self.at(node) + node.op + blank + inner, kind, UNARY, truth=node.op == "!", calls=one.calls)
+
+    def null(self, node: Any) -> Optional[str]:
+        """What a test for a null pointer gives of a parameter to which each call hands an object."""
+        meaning = self.names.meaning.get(id(node)) if isinstance(node, c_ast.ID) else None
+        if not isinstance(meaning, Variable) or not (isinstance(meaning.type, Pointer) or meaning.binding == "lent"):
+            return None
+        if meaning.home != "parameter" or not (meaning.function and meaning.function.calls):
+            raise Refused(node.coord, f"a test of the pointer {meaning.name}, which no call hands over", "call it with the address of an object")
+        return "0"
+
+    def binary(self, node: Any) -> Value:
+        if node.op in LOGICAL:
+            return self.logical(node)
+        if node.op in ("==", "!="):
+            for one, other in ((node.left, node.right), (node.right, node.left)):
+                if isinstance(self.constants.type_of(one), (Pointer, Array)) and self.is_null(other) and self.null(one):
+                    return Value(self.at(node) + str(int(node.op == "!=")), kinds.INT, PRIMARY, truth=True)
+        if node.op == "/" and self.is_size(node.left) and self.is_size(node.right):
+            return Value(self.at(node) + f"{self.constants.value(node)}ul", kinds.SIZE, PRIMARY)
+        self.unsequenced(node, [node.left, node.right])
+        left, right = self.value(node.left), self.value(node.right)
+        kind = kinds.INT if node.op in COMPARED else kinds.promoted(left.kind) if node.op in SHIFTS else kinds.common(left.kind, right.kind)
+        level = LEVELS[node.op]
+        text = f"{left.within(level)} {node.op} {right.within(level + 1)}"
+        return Value(text, kind, level, truth=node.op in COMPARED, calls=left.calls or right.calls)
+
+    def is_null(self, node: Any) -> bool:
+        while isinstance(node, c_ast.Cast):
+            node = node.expr
+        return self.constants.value(node) == 0
+
+    @staticmethod
+    def is_size(node: Any) -> bool:
+        return isinstance(node, c_ast.UnaryOp) and node.op == "sizeof"
+
+    def logical(self, node: Any) -> Value:
+        if not self.needs_statements(node.right):
+            left, right = self.value(node.left), self.value(node.right)
+            level = LEVELS[node.op]
+            text = f"{left.within(level)} {node.op} {right.within(level + 1)}"
+            return Value(text, kinds.INT, level, truth=True, calls=left.calls or right.calls)
+        both = node.op == "&&"
+        truth = self.temporary(kinds.INT, "0" if both else "1", "truth")
+        test = self.when if both else self.unless
+        test(node, lambda: self.emit(f"{truth} = {int(both)};"))
+        return Value(truth, kinds.INT, PRIMARY, truth=True)
+
+    def when(self, node: Any, then: Callable[[], None]) -> None:
+        """Writes that something is done where a condition holds."""
+        if isinstance(node, c_ast.BinaryOp) and node.op == "&&" and self.needs_statements(node.right):
+            self.when(node.left, lambda: self.when(node.right, then))
+            return
+        self.braced(f"if ({self.value(node).text})", then)
+
+    def unless(self, node: Any, then: Callable[[], None]) -> None:
+        """Writes that something is done where a condition doesn't hold."""
+        if isinstance(node, c_ast.BinaryOp) and node.op == "||" and self.needs_statements(node.right):
+            self.unless(node.left, lambda: self.unless(node.right, then))
+            return
+        self.braced(f"if (!{self.value(node).within(UNARY)})", then)
+
+    def braced(self, head: str, then: Callable[[], None]) -> None:
+        self.emit(head + " {")
+        then()
+        self.emit("}")
+
+    def chosen(self, node: Any) -> Value:
+        kind = self.constants.type_of(node)
+        if not isinstance(kind, Int):
+            raise Refused(node.coord, "a choice between what are no integers", "use if")
+        if not (self.needs_statements(node.iftrue) or self.needs_statements(node.iffalse)):
+            test, yes, no = self.value(node.cond), self.value(node.iftrue), self.value(node.iffalse)
+            text = f"{test.within(1)} ? {yes.text} : {no.within(0)}"
+            return Value(text, kind, 0, truth=yes.truth and no.truth, calls=test.calls or yes.calls or no.calls)
+        made = self.temporary(kind, "0")
+        self.either(node, lambda one: self.emit(f"{made} = {self.value(one).text};"))
+        return Value(made, kind, PRIMARY)
+
+    def either(self, node: Any, do: Callable[[Any], None]) -> None:
+        """Writes that something is done with the one or the other part of `?:`."""
+        self.emit(f"if ({self.value(node.cond).text}) {{")
+        do(node.iftrue)
+        self.emit("} else {")
+        do(node.iffalse)
+        self.emit("}")
+
+    def cast(self, node: Any) -> Value:
+        to = self.names.types.get(id(node.to_type))
+        if not isinstance(to, Int):
+            raise Refused(node.coord, "a conversion to what is no integer", "convert to an integer type")
+        one = self.value(node.expr)
+        if to.boolean:
+            return self.truth(one)
+        return Value(f"{self.at(node)}({to.text}) {one.within(UNARY)}", to, UNARY, calls=one.calls)
+
+    # ---- effects
+
+    def assigned(self, node: Any) -> Value:
+        """An assignment as a value: it is written, and the target read again (6.5.16p3)."""
+        if not isinstance(self.constants.type_of(node.lvalue), Int):
+            raise Refused(node.coord, "a struct is assigned within an expression", "assign it in a statement of its own")
+        text, kind = self.assign(node, True)
+        return Value(text, kind, PRIMARY, truth=kind.boolean)
+
+    def assign(self, node: Any, stable: bool = False) -> tuple[str, Int]:
+        """Writes an assignment to an integer; the target's text and type."""
+        place = self.places.place(node.lvalue)
+        if not isinstance(place.type, Int):
+            raise Refused(node.coord, "an assignment to an array", "assign its elements")
+        index = c_ast.ExprList([one for one, _ in place.indexes] + ([node.lvalue] if node.op != "=" else []))
+        self.unsequenced(node, [index, node.rvalue])
+        self.not_twice(node, place, node.rvalue)
+        kind = place.type
+        target, calls = self.leaf(place, stable)
+        given = self.value(node.rvalue)
+        if kind.boolean and node.op != "=":
+            level = LEVELS[node.op[:-1]]
+            whole = Value(f"{target} {node.op[:-1]} {given.within(level + 1)}", kinds.INT, level)
+            self.emit(f"{target} = {self.truth(whole).text};")
+        else:
+            self.emit(f"{target} {node.op} {self.converted(given, kind).text};")
+        return target, kind
+
+    def not_twice(self, node: Any, place: Place, value: Any) -> None:
+        """An object that isn't an element may not be assigned once more by the value."""
+        one = (place.variable, place.path, bool(place.indexes))
+        writes = self.effected.of(value).writes
+        if not one[2] and one in writes and not writes[one]:
+            raise Refused(node.coord, f"{place.variable.name} is assigned twice, in an order that C leaves open", "use two statements")
+
+    def stepped(self, node: Any) -> Value:
+        """`++` and `--` as a value: the old one, which is kept, or the new one, which is read (6.5.2.4, 6.5.3.1)."""
+        place = self.places.place(node.expr)
+        if not isinstance(place.type, Int) or place.type.boolean:
+            raise Refused(node.coord, "a step of what is no integer", "assign its value")
+        before = not node.op.startswith("p")
+        target, _ = self.leaf(place, True)
+        step = f"{target}{node.op[-2:]};"
+        if before:
+            self.emit(step)
+            return Value(self.at(node) + target, place.type, PRIMARY)
+        if id(node) in self.behind:
+            self.after.append(step)
+            return Value(self.at(node) + target, place.type, PRIMARY)
+        old = self.temporary(place.type, target)
+        self.emit(step)
+        return Value(old, place.type, PRIMARY)
+
+    def effect(self, node: Any) -> None:
+        """Writes an expression for its effect alone."""
+        if isinstance(node, c_ast.ExprList):
+            for one in node.exprs:
+                self.effect(one)
+        elif isinstance(node, c_ast.Assignment):
+            if isinstance(self.constants.type_of(node.lvalue), Struct):
+                self.assign_whole(self.places.place(node.lvalue), node.rvalue, node)
+            else:
+                self.plain_effect(node, lambda: self.assign(node))
+        elif isinstance(node, c_ast.UnaryOp) and node.op in STEPS:
+            place = self.places.place(node.expr)
+            if not isinstance(place.type, Int) or place.type.boolean:
+                raise Refused(node.coord, "a step of what is no integer", "assign its value")
+            self.emit(f"{self.leaf(place)[0]}{node.op[-2:]};")
+        elif isinstance(node, c_ast.FuncCall):
+            self.call_effect(node)
+        elif isinstance(node, c_ast.TernaryOp):
+            self.either(node, self.effect)
+        elif isinstance(node, c_ast.BinaryOp) and node.op in LOGICAL:
+            (self.when if node.op == "&&" else self.unless)(node.left, lambda: self.effect(node.right))
+        elif isinstance(node, c_ast.Cast) and self.names.types.get(id(node.to_type)) == kinds.VOID:
+            self.effect(node.expr)
+        elif self.effected.of(node).writes or self.has_calls(node):
+            left = self.value(node)
+            if left.calls:
+                self.temporary(left.kind, left.text)
+
+    def has_calls(self, node: Any) -> bool:
+        return any(isinstance(one, c_ast.FuncCall) for one in walk(node))
+
+    def plain_effect(self, node: Any, write: Callable[[], Any]) -> None:
+        """A statement without calls and sequence points: steps of objects that it names only once are taken behind it."""
+        nodes = walk(node)
+        inner = [one for one in nodes if isinstance(one, c_ast.UnaryOp) and one.op in ("p++", "p--")]
+        sequenced = (c_ast.FuncCall, c_ast.TernaryOp, c_ast.ExprList)
+        if inner and not any(isinstance(one, sequenced) or (isinstance(one, c_ast.BinaryOp) and one.op in LOGICAL) for one in nodes):
+            named = [self.object_of(one) for one in nodes if isinstance(one, (c_ast.ID, c_ast.StructRef))]
+            for one in inner:
+                target = self.object_of(one.expr)
+                if target is not None and named.count(target) == 1:
+                    self.behind.add(id(one))
+        write()
+        for text in self.after:
+            self.emit(text)
+        self.after.clear()
+
+    def object_of(self, node: Any) -> Any:
+        """The integer that a name or a member stands for, where it is no element."""
+        try:
+            place = self.places.place(node)
+        except Refused:
+            return None
+        return (place.variable, place.path) if isinstance(place.type, Int) and not place.indexes else None

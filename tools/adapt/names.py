@@ -1,0 +1,358 @@
+"""What each name of the units stands for, and the type of each declaration: scopes as C has them (6.2.1)."""
+
+from collections import ChainMap
+from dataclasses import dataclass, field
+from typing import Any, Optional, Union
+
+from pycparser import c_ast, c_generator
+
+from . import kinds
+from .constants import Constants
+from .kinds import Array, Int, Other, Pointer, Struct, Type
+from .reading import Unit, is_system
+from .refusals import Refusals, Refused
+
+
+@dataclass(eq=False)
+class Variable:
+    """An object. `home` is file, static (within a function), local or parameter; `binding` is how a parameter that is a
+    pointer is written: the variable and the members of the one object that it points to, "copy", or "lent"."""
+
+    name: str
+    type: Type
+    coord: Any
+    home: str
+    init: Any = None
+    function: Optional["Function"] = None
+    defined: bool = False
+    const: bool = False
+    binding: Any = None
+    out: str = ""
+    unit: Any = None
+
+    @property
+    def shared(self) -> bool:
+        return self.home in ("file", "static")
+
+
+@dataclass(eq=False)
+class Function:
+    name: str
+    result: Type
+    parameters: list[Variable]
+    coord: Any
+    variadic: bool = False
+    static: bool = False
+    definition: Any = None
+    out: str = ""
+    calls: list[tuple[Optional["Function"], Any]] = field(default_factory=list)
+    taken: bool = False
+
+
+@dataclass
+class Enumerator:
+    """A constant of an `enum`. `out` is its text in what is written: its name, or its number."""
+
+    name: str
+    value: int
+    out: str
+
+
+Meaning = Union[Variable, Function, Enumerator, Type]
+
+
+class Names:
+    """The names of all units. `meaning` is by the id of an ID or Decl node, `types` by that of a Typename."""
+
+    def __init__(self, refusals: Refusals) -> None:
+        self.refusals = refusals
+        self.linked: dict[str, Any] = {}
+        self.meaning: dict[int, Any] = {}
+        self.types: dict[int, Type] = {}
+        self.functions: list[Function] = []
+        self.variables: list[Variable] = []
+        self.enumerators: dict[str, Any] = {}
+        self.constants = Constants(self)
+        self.function: Optional[Function] = None
+        self.scope: ChainMap[str, Any] = ChainMap()
+        self.tags: ChainMap[str, Any] = ChainMap()
+        self.items: list[tuple[Unit, Any]] = []
+
+    def unit(self, unit: Unit) -> None:
+        self.scope, self.tags, self.current = ChainMap(), ChainMap(), unit
+        for item in unit.tree.ext:
+            with self.refusals.gathered():
+                self.item(item)
+            self.items.append((unit, item))
+
+    # ---- types
+
+    def type_of(self, node: Any) -> Type:
+        """The type that a declarator or a Typename gives."""
+        if isinstance(node, (c_ast.Typename, c_ast.TypeDecl)):
+            if "volatile" in node.quals:
+                raise Refused(node.coord, "a volatile object", "read it by an input function in its place")
+            return self.type_of(node.type)
+        if isinstance(node, c_ast.IdentifierType):
+            return self.named(node)
+        if isinstance(node, c_ast.ArrayDecl):
+            of = self.type_of(node.type)
+            if node.dim is None:
+                return Array(of, None)
+            self.expression(node.dim)
+            length = self.constants.value(node.dim)
+            if length is None or length < 1:
+                raise Refused(node.coord, "an array whose length is no positive constant", "give it a constant length")
+            return Array(of, length)
+        if isinstance(node, c_ast.PtrDecl):
+            to = node.type
+            if isinstance(to, c_ast.FuncDecl):
+                return Pointer(kinds.FUNCTION)
+            return Pointer(self.type_of(to))
+        if isinstance(node, c_ast.Struct):
+            return self.struct(node)
+        if isinstance(node, c_ast.Enum):
+            return self.enum(node)
+        if isinstance(node, c_ast.Union):
+            return kinds.UNION
+        if isinstance(node, c_ast.FuncDecl):
+            return kinds.FUNCTION
+        raise Refused(node.coord, f"a type ({type(node).__name__})", "use an integer, an array or a struct")
+
+    def usable(self, node: Any) -> Type:
+        """The type, or one that is refused where it is used."""
+        try:
+            return self.type_of(node)
+        except Refused as refused:
+            return Other(refused.cause, refused.advice)
+
+    def named(self, node: Any) -> Type:
+        found = self.scope.get(node.names[0]) if len(node.names) == 1 else None
+        if isinstance(found, (Int, Array, Struct, Pointer, Other)):
+            return found
+        if {"float", "double", "_Complex"} & set(node.names):
+            return kinds.FLOAT
+        return kinds.plain(list(node.names)) or (kinds.VOID if node.names == ["void"] else Other(f"the type {' '.join(node.names)}"))
+
+    def struct(self, node: Any) -> Struct:
+        tag = node.name or f"at line {node.coord.line}"
+        made = self.tags.get(tag) if node.name else None
+        if made is None or (node.decls is not None and node.name and tag not in self.tags.maps[0]):
+            made = Struct(tag)
+            if node.name:
+                self.tags[tag] = made
+        if node.decls is None or made.members is not None:
+            return made
+        members = []
+        for one in node.decls:
+            if not isinstance(one, c_ast.Decl) or one.bitsize is not None or one.name is None:
+                what = "a bit-field" if getattr(one, "bitsize", None) is not None else "a member without a name"
+                made.fault = made.fault or (one.coord or node.coord, what, "use a member of its own")
+                continue
+            try:
+                members.append((one.name, self.type_of(one.type)))
+            except Refused as refused:
+                made.fault = made.fault or (refused.coord, refused.cause, refused.advice)
+        made.members = members
+        return made
+
+    def enum(self, node: Any) -> Type:
+        if node.values is None:
+            return self.tags.get(node.name, kinds.UINT)
+        last, least = -1, 0
+        for one in node.values.enumerators:
+            if one.value is not None:
+                self.expression(one.value)
+                known = self.constants.value(one.value)
+                if known is None:
+                    raise Refused(one.coord, f"the value of {one.name} is no constant that is known", "give it a number")
+                last = known
+            else:
+                last += 1
+            least = min(least, last)
+            taken = self.function is not None or one.name in self.enumerators and self.enumerators[one.name] != one.coord
+            self.scope[one.name] = Enumerator(one.name, last, str(last) if taken else one.name)
+            self.enumerators.setdefault(one.name, one.coord)
+            self.meaning[id(one)] = self.scope[one.name]
+        kind = kinds.INT if least < 0 else kinds.UINT
+        if node.name:
+            self.tags[node.name] = kind
+        return kind
+
+    # ---- declarations
+
+    def item(self, item: Any) -> None:
+        if isinstance(item, c_ast.Typedef):
+            self.typedef(item)
+        elif isinstance(item, c_ast.Decl):
+            self.declaration(item)
+        elif isinstance(item, c_ast.FuncDef):
+            self.definition(item)
+
+    def typedef(self, node: Any) -> None:
+        fixed = kinds.FIXED.get(node.name) if is_system(str(node.coord.file)) else None
+        self.scope[node.name] = fixed or self.usable(node.type)
+
+    def declaration(self, node: Any) -> None:
+        if isinstance(node.type, (c_ast.Struct, c_ast.Enum, c_ast.Union)) and node.name is None:
+            self.type_of(node.type)
+        elif isinstance(node.type, c_ast.FuncDecl):
+            self.meaning[id(node)] = self.declared_function(node)
+        else:
+            self.meaning[id(node)] = self.variable(node)
+
+    def key(self, node: Any, static: bool) -> Any:
+        """What links declarations of the file: the name, and of static ones the file, which for a header is its own."""
+        return (node.name, node.coord.file) if static else node.name
+
+    def variable(self, node: Any) -> Variable:
+        of = self.usable(node.type)
+        if isinstance(of, Array) and of.length is None and node.init is not None:
+            self.initialiser(node.init)
+            of = Array(of.of, self.constants.length_of(node.init, of.of))
+        local = self.function is not None and "extern" not in node.storage
+        static = "static" in node.storage
+        home = "static" if local and static else "local" if local else "file"
+        old = self.scope.maps[-1].get(node.name) if home == "file" else None
+        key = self.key(node, static or (isinstance(old, Variable) and (node.name, node.coord.file) in self.linked))
+        if home == "file" and isinstance(self.linked.get(key), Variable):
+            made = self.linked[key]
+            if static and made.unit is not self.current and not made.const:
+                raise Refused(node.coord, f"{node.name} is another object in each source", "define it in one source, or make it const")
+            if isinstance(made.type, Array) and made.type.length is None:
+                made.type = of
+        else:
+            const = "const" in (node.quals or []) or "const" in self.quals(node.type)
+            made = Variable(node.name, of, node.coord, home, function=self.function, const=const, unit=self.current)
+            self.variables.append(made)
+            if home == "file":
+                self.linked[key] = made
+        made.defined = made.defined or "extern" not in node.storage or node.init is not None
+        self.scope[node.name] = made
+        if node.init is not None:
+            made.init = node.init
+            self.initialiser(node.init)
+        return made
+
+    @staticmethod
+    def quals(node: Any) -> list[str]:
+        """The qualifiers of what an array has, or of the object itself."""
+        while isinstance(node, c_ast.ArrayDecl):
+            node = node.type
+        return list(getattr(node, "quals", None) or [])
+
+    def initialiser(self, node: Any) -> None:
+        if isinstance(node, c_ast.InitList):
+            for one in node.exprs or []:
+                self.initialiser(one)
+        elif isinstance(node, c_ast.NamedInitializer):
+            for one in node.name:
+                if not isinstance(one, c_ast.ID):
+                    self.expression(one)
+            self.initialiser(node.expr)
+        else:
+            self.expression(node)
+
+    def declared_function(self, node: Any) -> Function:
+        result = node.type.type
+        old = self.scope.maps[-1].get(node.name)
+        static = "static" in node.storage or (isinstance(old, Function) and old.static)
+        key = self.key(node, static)
+        made = old if isinstance(old, Function) else self.linked.get(key)
+        parameters = self.parameters(node)
+        if not isinstance(made, Function):
+            made = Function(node.name, self.usable(result), parameters, node.coord, static=static)
+            self.linked[key] = made
+            self.functions.append(made)
+        elif made.definition is None and (parameters or not made.parameters):
+            made.parameters = parameters
+        made.variadic = made.variadic or any(isinstance(one, c_ast.EllipsisParam) for one in self.written(node))
+        self.scope.maps[-1][node.name] = made
+        return made
+
+    @staticmethod
+    def written(node: Any) -> list[Any]:
+        return list(node.type.args.params) if node.type.args else []
+
+    def parameters(self, node: Any) -> list[Variable]:
+        made = []
+        for one in self.written(node):
+            if isinstance(one, c_ast.EllipsisParam):
+                continue
+            of = self.usable(one.type)
+            if of == kinds.VOID:
+                continue
+            variable = Variable(one.name or "", of, one.coord or node.coord, "parameter")
+            self.meaning[id(one)] = variable
+            made.append(variable)
+        return made
+
+    def definition(self, node: Any) -> None:
+        made = self.declared_function(node.decl)
+        self.meaning[id(node)] = made
+        if made.definition is not None:
+            self.same_again(made, node)
+            return
+        made.definition, made.coord, self.function = node, node.decl.coord, made
+        made.parameters = self.parameters(node.decl)
+        self.scope, self.tags = self.scope.new_child(), self.tags.new_child()
+        for parameter in made.parameters:
+            parameter.function = made
+            self.scope[parameter.name] = parameter
+        self.scope["__func__"] = Other("a string")
+        self.children(node.body)
+        self.scope, self.tags = self.scope.parents, self.tags.parents
+        self.function = None
+
+    def same_again(self, made: Function, node: Any) -> None:
+        """A second definition must be that of a header, read anew."""
+        texts = [c_generator.CGenerator().visit(one) for one in (made.definition, node)]
+        if made.definition.decl.coord.file != node.decl.coord.file or texts[0] != texts[1]:
+            raise Refused(node.decl.coord, f"{made.name} is defined again, or otherwise in another source", "define it once")
+
+    # ---- statements and expressions
+
+    def statement(self, node: Any) -> None:
+        with self.refusals.gathered():
+            if isinstance(node, c_ast.DeclList):
+                for one in node.decls:
+                    self.statement(one)
+            elif isinstance(node, (c_ast.Decl, c_ast.Typedef)):
+                self.item(node)
+            elif isinstance(node, (c_ast.Compound, c_ast.For, c_ast.While, c_ast.DoWhile, c_ast.If, c_ast.Switch)):
+                self.scope, self.tags = self.scope.new_child(), self.tags.new_child()
+                self.children(node)
+                self.scope, self.tags = self.scope.parents, self.tags.parents
+            else:
+                self.expression(node)
+
+    def children(self, node: Any) -> None:
+        for _, child in node.children():
+            self.statement(child)
+
+    def expression(self, node: Any) -> None:
+        if isinstance(node, c_ast.ID):
+            self.meaning[id(node)] = self.scope.get(node.name)
+            if isinstance(self.meaning[id(node)], Function):
+                self.meaning[id(node)].taken = True
+        elif isinstance(node, c_ast.FuncCall):
+            self.call(node)
+        elif isinstance(node, c_ast.StructRef):
+            self.expression(node.name)
+        elif isinstance(node, c_ast.Typename):
+            self.types[id(node)] = self.type_of(node.type)
+        elif isinstance(node, c_ast.InitList):
+            self.initialiser(node)
+        else:
+            self.children(node)
+
+    def call(self, node: Any) -> None:
+        called = self.scope.get(node.name.name) if isinstance(node.name, c_ast.ID) else None
+        if isinstance(called, Function):
+            self.meaning[id(node)] = called
+            called.calls.append((self.function, node))
+        else:
+            self.expression(node.name)
+        if node.args:
+            for one in node.args.exprs:
+                self.expression(one)
