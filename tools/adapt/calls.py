@@ -42,7 +42,8 @@ class Calls(Writer):
         if function.variadic:
             raise Refused(node.coord, f"{function.name} takes any number of arguments", "give it a fixed number of parameters")
         given = arguments(node)
-        self.unsequenced(node, given)
+        own = [not isinstance(one.binding, Place) and one.binding != "lent" for one in function.parameters]
+        self.unsequenced(node, [argument for argument, wanted in zip(given, own) if wanted])
         self.apart(node, function)
         texts: list[str] = []
         after: list[str] = []

@@ -21,9 +21,12 @@ def walk(node: Any) -> list[Any]:
     return found
 
 
+PARSER = c_parser.CParser()
+
+
 def snippet(text: str, coord: Any) -> list[Any]:
     """The statements of a text, at a place."""
-    items = c_parser.CParser().parse(f"void f(void) {{ {text} }}").ext[0].body.block_items
+    items = PARSER.parse(f"void f(void) {{ {text} }}").ext[0].body.block_items
     for item in items:
         for node in walk(item):
             node.coord = coord

@@ -4,7 +4,7 @@ import argparse
 import os
 import sys
 import tempfile
-from typing import Optional
+from typing import Any, Optional
 
 from .refusals import Refusals, Stop
 
@@ -23,8 +23,12 @@ def words(given: Optional[list[str]]) -> argparse.Namespace:
     return parser.parse_args(given)
 
 
-def adapt(given: argparse.Namespace, refusals: Refusals) -> dict[str, str]:
-    """The text of each file that is written, by its original."""
+def flags_of(given: argparse.Namespace) -> list[str]:
+    return [f"-I{one}" for one in given.folders] + [f"-D{one}" for one in given.macros]
+
+
+def adapt(given: argparse.Namespace, refusals: Refusals) -> tuple[dict[str, str], Any]:
+    """The text of each file that is written, by its original, and who wrote it."""
     from .effects import Effected
     from .jumps import Jumps, walk
     from .names import Names
@@ -34,10 +38,9 @@ def adapt(given: argparse.Namespace, refusals: Refusals) -> dict[str, str]:
     from .units import Units
     from pycparser import c_ast
 
-    flags = [f"-I{one}" for one in given.folders] + [f"-D{one}" for one in given.macros]
-    units = [read(path, flags, refusals) for path in given.sources]
+    units = [read(path, flags_of(given), refusals) for path in given.sources]
     if any(unit.tree is None for unit in units):
-        return {}
+        return {}, None
     taken = {word for unit in units for word in unit.words}
     numbers = iter(range(1, 1000000))
 
@@ -64,7 +67,7 @@ def adapt(given: argparse.Namespace, refusals: Refusals) -> dict[str, str]:
         if path in files and (files[path].pieces or path in given.sources):
             with open(path, encoding="utf-8", errors="surrogateescape") as file:
                 made[path] = files[path].text(file.read().split("\n"))
-    return made
+    return made, writer
 
 
 def put(folder: str, texts: dict[str, str]) -> list[str]:
@@ -85,20 +88,29 @@ def put(folder: str, texts: dict[str, str]) -> list[str]:
     return paths
 
 
+def compare(asked: argparse.Namespace, writer: Any, paths: list[str]) -> int:
+    """Says how many runs agree; the status."""
+    from .compare import compared
+
+    differences = compared(writer, asked.sources, paths, flags_of(asked), asked.compare)
+    print("\n".join([*differences, f"compared {asked.compare} runs, {len(differences)} differ"]))
+    return 1 if differences else 0
+
+
 def main(given: Optional[list[str]] = None) -> int:
     asked = words(given)
     sys.setrecursionlimit(20000)
     refusals = Refusals()
     try:
         print(FIRST, flush=True)
-        texts = adapt(asked, refusals)
+        texts, writer = adapt(asked, refusals)
         if refusals.found:
             print("\n".join(refusals.lines()), file=sys.stderr)
             print(f"{len(refusals.found)} refused, nothing is written", file=sys.stderr)
             return 3
         paths = put(asked.out, texts)
         print("wrote " + " ".join(paths))
-        return 0
+        return compare(asked, writer, paths) if asked.compare else 0
     except ModuleNotFoundError as missing:
         print(f"adapt: {missing.name} isn't there (Debian's package python3-pycparser)", file=sys.stderr)
     except (Stop, OSError) as stop:
