@@ -5,7 +5,7 @@ from typing import Any, Optional
 from pycparser import c_ast
 
 from . import kinds
-from .effects import Effects, Object, objects, pointee
+from .effects import Effects, Object, may_be, objects, pointee
 from .initialisers import filled
 from .kinds import Array, Int, Leaf, Pointer, Struct
 from .names import Function, Variable
@@ -116,7 +116,9 @@ class Calls(Writer):
                 if not by_value or theirs[2]:
                     seen.append((mine, written, copied))
         for at, (one, written, copied) in enumerate(seen):
-            within = copied and (one in summary.writes or (written and one in summary.reads))
+            shared = one[0] is not None and one[0].shared
+            within = copied and shared and (one in summary.writes or (written and one in summary.reads))
+            within = within or (copied and any(may_be(one, two) for two in summary.writes))
             other = any(one == two and (written or too) and (copied or also) for two, too, also in seen[at + 1 :])
             if within or other:
                 name = one[0].name if one[0] else ""
@@ -159,12 +161,12 @@ class Calls(Writer):
         if isinstance(source, c_ast.CompoundLiteral):
             values = self.literal(target, source)
         else:
-            values = self.integers(*self.whole(source, node))
+            values = self.integers(*self.whole(source, target))
         for (_, to), (_, of) in zip(self.integers(target, index), values):
             for one, value in zip(to, of):
                 self.emit(f"{one} = {value};")
 
-    def whole(self, source: Any, node: Any) -> tuple[Place, Optional[Value]]:
+    def whole(self, source: Any, target: Place) -> tuple[Place, Optional[Value]]:
         """The object in which a struct's value stands."""
         if isinstance(source, c_ast.FuncCall):
             function = self.called(source)
@@ -179,7 +181,8 @@ class Calls(Writer):
             self.assign_whole(self.places.place(source.lvalue), source.rvalue, source)
             source = source.lvalue
         place = self.places.place(source)
-        return place, self.index(place, True)
+        reads = self.effected.of(c_ast.ExprList([one for one, _ in place.indexes])).reads
+        return place, self.index(place, True, any(one in reads for one in objects(target)))
 
     def literal(self, target: Place, source: Any) -> list[tuple[Leaf, list[str]]]:
         """The values of a compound literal, kept where the target itself may be among what they read."""

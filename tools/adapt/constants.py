@@ -130,6 +130,9 @@ class Constants:
 
     def size_of(self, node: Any) -> int:
         """What `sizeof` gives of a type or an expression."""
+        meaning = self.names.meaning.get(id(node)) if isinstance(node, c_ast.ID) else None
+        if getattr(meaning, "home", "") == "parameter" and not isinstance(meaning.type, (Int, Struct)):
+            return 8
         of = self.names.types.get(id(node)) if isinstance(node, c_ast.Typename) else self.type_of(node)
         known = kinds.size(of) if of is not None else None
         if known is None:

@@ -5,7 +5,6 @@ from typing import Any, Optional
 
 from pycparser import c_ast
 
-from .jumps import walk
 from .kinds import Array, Int, Pointer, Struct, leaves
 from .names import Function, Names, Variable
 from .places import Place, Places, arguments
@@ -37,7 +36,15 @@ class Effects:
                 for theirs in (b.reads, b.writes):
                     if one in theirs and (by_call or theirs[one] or not one[2]):
                         return one
+                    if any(may_be(one, two) and (by_call or too) for two, too in theirs.items()):
+                        return one
         return None
+
+
+def may_be(one: Object, two: Object) -> bool:
+    """Whether arrays may be the same although their names differ: a parameter may stand for any that outlives its call."""
+    pair = [each[0] for each in (one, two) if each[2] and each[0] and (each[0].shared or each[0].binding == "lent")]
+    return len(pair) == 2 and pair[0] is not pair[1] and "lent" in (pair[0].binding, pair[1].binding)
 
 
 def objects(place: Place) -> list[Object]:
@@ -67,7 +74,7 @@ class Effected:
         whole, made = self.of(function.definition.body), Effects()
         for ours, theirs in ((made.reads, whole.reads), (made.writes, whole.writes)):
             for one, _ in theirs.items():
-                if one[0] is None or one[0].shared or (one[0].home == "parameter" and one[0].type is not None and self.outlives(one)):
+                if one[0] is None or one[0].shared or (one[0].home == "parameter" and self.outlives(one)):
                     ours[one] = True
         return made
 
@@ -144,10 +151,9 @@ class Effected:
         whole = objects(place)
         own = objects(Place(parameter, (), (), pointee(parameter)))
         for mine, theirs in zip(whole, own):
-            if mine[2] == theirs[2] == True and not isinstance(parameter.type, Struct):
-                found.reads.update({mine: True} if theirs in summary.reads else {})
-            else:
-                found.reads.setdefault(mine, False)
+            lent = isinstance(parameter.type, Array)
+            if not lent or theirs in summary.reads:
+                found.reads[mine] = found.reads.get(mine, False) or not isinstance(parameter.type, Struct)
             if theirs in summary.writes and not isinstance(parameter.type, Struct):
                 found.writes[mine] = True
 

@@ -1,6 +1,5 @@
 """Writes expressions: what has an effect becomes statements before, in an order that C allows, and what is left is a value."""
 
-from dataclasses import dataclass, replace
 from typing import Any, Callable, Optional
 
 from pycparser import c_ast
@@ -98,6 +97,11 @@ class Expressions(Calls):
         kind = kinds.INT if node.op == "!" else kinds.promoted(one.kind)
         return Value(self.at(node) + node.op + blank + inner, kind, UNARY, truth=node.op == "!", calls=one.calls)
 
+    def test(self, node: Any) -> Value:
+        """The value of a condition, which may be a pointer."""
+        null = self.null(node)
+        return self.value(node) if null is None else Value(self.at(node) + str(int(null == "0")), kinds.INT, PRIMARY, truth=True)
+
     def null(self, node: Any) -> Optional[str]:
         """What a test for a null pointer gives of a parameter to which each call hands an object."""
         meaning = self.names.meaning.get(id(node)) if isinstance(node, c_ast.ID) else None
@@ -134,7 +138,7 @@ class Expressions(Calls):
 
     def logical(self, node: Any) -> Value:
         if not self.needs_statements(node.right):
-            left, right = self.value(node.left), self.value(node.right)
+            left, right = self.test(node.left), self.test(node.right)
             level = LEVELS[node.op]
             text = f"{left.within(level)} {node.op} {right.within(level + 1)}"
             return Value(text, kinds.INT, level, truth=True, calls=left.calls or right.calls)
@@ -149,14 +153,14 @@ class Expressions(Calls):
         if isinstance(node, c_ast.BinaryOp) and node.op == "&&" and self.needs_statements(node.right):
             self.when(node.left, lambda: self.when(node.right, then))
             return
-        self.braced(f"if ({self.value(node).text})", then)
+        self.braced(f"if ({self.test(node).text})", then)
 
     def unless(self, node: Any, then: Callable[[], None]) -> None:
         """Writes that something is done where a condition doesn't hold."""
         if isinstance(node, c_ast.BinaryOp) and node.op == "||" and self.needs_statements(node.right):
             self.unless(node.left, lambda: self.unless(node.right, then))
             return
-        self.braced(f"if (!{self.value(node).within(UNARY)})", then)
+        self.braced(f"if (!{self.test(node).within(UNARY)})", then)
 
     def braced(self, head: str, then: Callable[[], None]) -> None:
         self.emit(head + " {")
@@ -168,7 +172,7 @@ class Expressions(Calls):
         if not isinstance(kind, Int):
             raise Refused(node.coord, "a choice between what are no integers", "use if")
         if not (self.needs_statements(node.iftrue) or self.needs_statements(node.iffalse)):
-            test, yes, no = self.value(node.cond), self.value(node.iftrue), self.value(node.iffalse)
+            test, yes, no = self.test(node.cond), self.value(node.iftrue), self.value(node.iffalse)
             text = f"{test.within(1)} ? {yes.text} : {no.within(0)}"
             return Value(text, kind, 0, truth=yes.truth and no.truth, calls=test.calls or yes.calls or no.calls)
         made = self.temporary(kind, "0")
@@ -177,7 +181,7 @@ class Expressions(Calls):
 
     def either(self, node: Any, do: Callable[[Any], None]) -> None:
         """Writes that something is done with the one or the other part of `?:`."""
-        self.emit(f"if ({self.value(node.cond).text}) {{")
+        self.emit(f"if ({self.test(node.cond).text}) {{")
         do(node.iftrue)
         self.emit("} else {")
         do(node.iffalse)
@@ -210,9 +214,10 @@ class Expressions(Calls):
         self.unsequenced(node, [index, node.rvalue])
         self.not_twice(node, place, node.rvalue)
         kind = place.type
-        target, calls = self.leaf(place, stable)
+        twice = kind.boolean and node.op != "="
+        target, _ = self.leaf(place, stable or twice)
         given = self.value(node.rvalue)
-        if kind.boolean and node.op != "=":
+        if twice:
             level = LEVELS[node.op[:-1]]
             whole = Value(f"{target} {node.op[:-1]} {given.within(level + 1)}", kinds.INT, level)
             self.emit(f"{target} = {self.truth(whole).text};")

@@ -70,11 +70,11 @@ class Jumps:
             return
         region, rest = items[begin:to], items[to:]
         used = {one.name for item in rest for one in walk(item) if isinstance(one, c_ast.ID)}
-        late = [item for item in region if isinstance(item, c_ast.Decl) and item.name in used]
+        late = [item for item in region if isinstance(item, c_ast.Typedef) or (isinstance(item, c_ast.Decl) and (item.name in used or not item.name))]
         alone = len(region) == 1 and isinstance(region[0], LEFT_BY_BREAK)
         if late or (not alone and any(leaves_by(item) for item in region)):
             first = next(one for one in walk(region[0]) if isinstance(one, c_ast.Goto) and one.name == name)
-            advice = f"declare {late[0].name} before the first goto" if late else "use a flag: a break or continue stands between it and its label"
+            advice = f"declare {late[0].name or 'its types'} before the first goto" if late else "use a flag: a break or continue stands between it and its label"
             self.refusals.add(first.coord, f"goto {name}", advice)
             self.replaced(c_ast.Compound(region), name, None, 0)
             return

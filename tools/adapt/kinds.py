@@ -141,6 +141,8 @@ def fault_of(of: Type) -> Optional[tuple[str, str]]:
     """Why an object of the type can't be written, if so: the cause and what to do."""
     if isinstance(of, Array):
         return ("an array without a length", "give its length") if of.length is None else fault_of(of.of)
+    if isinstance(of, Pointer) and of.to == FUNCTION:
+        return "a pointer to a function", "call functions by their names, in a switch over a number"
     if isinstance(of, Pointer):
         return "a pointer", "name the object itself, or hand its address over as a parameter"
     if isinstance(of, Struct):

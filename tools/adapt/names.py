@@ -170,6 +170,8 @@ class Names:
             else:
                 last += 1
             least = min(least, last)
+            if kinds.fit(last, kinds.INT) != last:
+                raise Refused(one.coord, f"{one.name} is no int", "use a macro or a const object")
             taken = self.function is not None or one.name in self.enumerators and self.enumerators[one.name] != one.coord
             self.scope[one.name] = Enumerator(one.name, last, str(last) if taken else one.name)
             self.enumerators.setdefault(one.name, one.coord)
@@ -293,6 +295,8 @@ class Names:
         if made.definition is not None:
             self.same_again(made, node)
             return
+        if node.param_decls:
+            raise Refused(node.decl.coord, f"{made.name} declares its parameters behind the parentheses", "declare them between these")
         made.definition, made.coord, self.function = node, node.decl.coord, made
         made.parameters = self.parameters(node.decl)
         self.scope, self.tags = self.scope.new_child(), self.tags.new_child()
@@ -306,6 +310,8 @@ class Names:
 
     def same_again(self, made: Function, node: Any) -> None:
         """A second definition must be that of a header, read anew."""
+        if any(one.function is made and one.home == "static" and not one.const for one in self.variables):
+            raise Refused(node.decl.coord, f"{made.name} has another static object in each source", "define it in one source")
         texts = [c_generator.CGenerator().visit(one) for one in (made.definition, node)]
         if made.definition.decl.coord.file != node.decl.coord.file or texts[0] != texts[1]:
             raise Refused(node.decl.coord, f"{made.name} is defined again, or otherwise in another source", "define it once")
@@ -339,6 +345,12 @@ class Names:
             self.call(node)
         elif isinstance(node, c_ast.StructRef):
             self.expression(node.name)
+        elif isinstance(node, c_ast.ArrayRef) and isinstance(node.name, c_ast.Constant) and node.name.type == "string":
+            of = self.constants.type_of(node.name)
+            text = Variable("text", of, node.coord, "static", node.name, self.function, True, True)
+            self.variables.append(text)
+            self.meaning[id(node.name)] = text
+            self.expression(node.subscript)
         elif isinstance(node, c_ast.Typename):
             self.types[id(node)] = self.type_of(node.type)
         elif isinstance(node, c_ast.InitList):

@@ -5,12 +5,12 @@ to the one object of the file that each call hands over, or, where there are sev
 """
 
 from dataclasses import dataclass
-from typing import Any, Optional
+from typing import Any
 
 from pycparser import c_ast
 
 from .jumps import walk
-from .kinds import Array, Int, Path, Pointer, Struct, Type, fault_of
+from .kinds import Array, Path, Pointer, Struct, Type, fault_of
 from .names import Function, Names, Variable
 from .refusals import Refused
 
@@ -69,7 +69,7 @@ class Places:
         first = index is None or self.names.constants.value(index) == 0
         if isinstance(node, c_ast.UnaryOp) and node.op == "&" and first:
             return self.place(node.expr)
-        meaning = self.names.meaning.get(id(node)) if isinstance(node, c_ast.ID) else None
+        meaning = self.names.meaning.get(id(node)) if isinstance(node, (c_ast.ID, c_ast.Constant)) else None
         if isinstance(meaning, Variable) and isinstance(meaning.type, Pointer) and first:
             if isinstance(meaning.binding, Place):
                 return meaning.binding
@@ -78,8 +78,8 @@ class Places:
                 if fault:
                     raise Refused(node.coord, f"{meaning.name} points to {fault[0]}", fault[1])
                 return Place(meaning, (), (), meaning.type.to)
-        if isinstance(node, c_ast.Constant) and node.type == "string":
-            raise Refused(node.coord, "a string that is indexed", "name it: static const char NAME[] = ...")
+        if isinstance(meaning, Variable) and isinstance(node, c_ast.Constant) and isinstance(meaning.type, Array):
+            return Place(meaning, (), ((index, meaning.type.length or 0),), meaning.type.of)
         if not isinstance(node, (c_ast.ID, c_ast.StructRef, c_ast.ArrayRef)):
             raise Refused(node.coord, "arithmetic with a pointer", "use an index")
         base = self.place(node)
@@ -173,7 +173,3 @@ class Places:
 
 def arguments(call: Any) -> list[Any]:
     return list(call.args.exprs) if call.args else []
-
-
-def leaf_kind(of: Type) -> Optional[Int]:
-    return of if isinstance(of, Int) else None

@@ -103,6 +103,8 @@ def scanned(unit: Unit, text: str, refusals: Refusals) -> str:
                 opened.append((file, line, found.start() + 1))
             elif found.group() == "}" and opened:
                 unit.closings[opened.pop()] = line
+        if re.match(r"\s*#\s*pragma\s+pack", row) and not is_system(file):
+            refusals.add(Coord(file, line), "structs are packed", "leave the pragma out, and write sizes as numbers")
         made.append("" if row.startswith("#") else row)
         line += 1
     unit.files.append(unit.path)

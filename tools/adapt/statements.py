@@ -111,7 +111,7 @@ class Statements(Expressions):
         if node.iffalse is None and self.needs_statements(node.cond):
             self.when(node.cond, lambda: self.inner(node.iftrue))
             return
-        self.emit(f"if ({self.value(node.cond).text}) {{")
+        self.emit(f"if ({self.test(node.cond).text}) {{")
         self.body(node.iftrue)
         other = node.iffalse
         if isinstance(other, c_ast.If) and not self.needs_statements(other.cond):
@@ -168,7 +168,7 @@ class Statements(Expressions):
 
     def write_While(self, node: Any) -> None:
         if not self.needs_statements(node.cond):
-            self.emit(f"while ({self.value(node.cond).text}) {{")
+            self.emit(f"while ({self.test(node.cond).text}) {{")
         else:
             self.emit("for (;;) {")
             self.leave(node.cond)
@@ -178,12 +178,12 @@ class Statements(Expressions):
         if not self.needs_statements(node.cond):
             self.emit("do {")
             self.body(node.stmt)
-            self.emit(f"while ({self.value(node.cond).text});")
+            self.emit(f"while ({self.test(node.cond).text});")
             return
         if continues(node.stmt):
             raise Refused(node.coord, "a continue in a do loop whose condition has an effect", "take the effect out of the condition")
-        self.emit("for (;;) {")
-        self.inner(node.stmt)
+        self.emit("for (;;) { {")
+        self.body(node.stmt)
         self.go(node.cond)
         self.leave(node.cond)
         self.emit("}")
@@ -202,7 +202,7 @@ class Statements(Expressions):
             self.leave(node.cond)
             self.body(node.stmt)
         else:
-            test = "" if node.cond is None else self.value(node.cond).text
+            test = "" if node.cond is None else self.test(node.cond).text
             self.emit(f"for ({init or ''}; {test}; {step or ''}) {{")
             self.body(node.stmt)
         if local:
