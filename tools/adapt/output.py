@@ -30,16 +30,13 @@ class File:
         """The file's text. Each piece stands on its line, or behind the pieces before it where these are further."""
         lines: list[list[str]] = []
         for line, piece in self.pieces:
-            at = line
-            parts = LINE.split(piece)
-            for number, part in zip([0] + [int(one) for one in parts[1::2]], parts[0::2]):
-                at = max(at, number, len(lines), 1)
-                while len(lines) < at:
+            parts, begun = LINE.split(piece), False
+            for number, part in zip([line] + [int(one) for one in parts[1::2]], parts[0::2]):
+                while len(lines) < max(number, 1):
                     lines.append([])
-                if part.strip() and number:
-                    lines[-1].append(part)
-                elif part.strip():
-                    lines[-1].append(("" if not lines[-1] else " ") + part)
+                if part.strip():
+                    lines[-1].append(part if begun or not lines[-1] else " " + part)
+                    begun = True
         made = [joined(parts, original[at] if at < len(original) else "") for at, parts in enumerate(lines)]
         for at, line in enumerate(original):
             while len(made) <= at:

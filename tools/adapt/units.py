@@ -114,7 +114,7 @@ class Units(Statements):
             texts = ["0"] * leaf.count
             for (path, spot), one in made.given.items():
                 if path == leaf.path:
-                    texts[flat(spot, leaf.dims)] = self.first(one, leaf.kind, len(leaves) == 1)
+                    texts[flat(spot, leaf.dims)] = self.first(one, leaf.kind, len(leaves) == 1 and not static)
             while len(texts) > 1 and texts[-1] == "0":
                 texts.pop()
             name = self.spelling.leaf(variable, leaf.path)
