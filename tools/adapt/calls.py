@@ -39,8 +39,6 @@ class Calls(Writer):
         function = self.called(node)
         if function.definition is None:
             return self.outer_call(node, function), []
-        if function.variadic:
-            raise Refused(node.coord, f"{function.name} takes any number of arguments", "give it a fixed number of parameters")
         given = arguments(node)
         own = [not isinstance(one.binding, Place) and one.binding != "lent" for one in function.parameters]
         self.unsequenced(node, [argument for argument, wanted in zip(given, own) if wanted])
@@ -142,8 +140,8 @@ class Calls(Writer):
             self.emit(f"{self.at(node)}{function.name}({self.value(arguments(node)[0]).text});")
             return
         text, after = self.call(node)
-        left_out = function.definition is None and not isinstance(function.result, Int)
-        self.emit(";" if left_out else text + ";")
+        if function.definition is not None or isinstance(function.result, Int):
+            self.emit(text + ";")
         for one in after:
             self.emit(one)
 

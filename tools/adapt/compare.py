@@ -21,20 +21,20 @@ DRIVER = """
 #include <stdio.h>
 #include <stdlib.h>
 #include <unistd.h>
-static long long answers[64]; static int answer_count, answer_taken;
-long long adapt_answer(void) { return answer_taken < answer_count ? answers[answer_taken++] : 0; }
+static long long adapt_answers[64]; static int adapt_answer_count, adapt_answer_taken;
+long long adapt_answer(void) { return adapt_answer_taken < adapt_answer_count ? adapt_answers[adapt_answer_taken++] : 0; }
 static char **adapt_words;
 static long long adapt_word(void) { return strtoll(*adapt_words++, 0, 10); }
-int main(int count, char **words) {
-  alarm(2); setvbuf(stdout, 0, _IOLBF, 0); adapt_words = words + 1;
-  answer_count = (int) adapt_word();
-  for (int i = 0; i < answer_count; i++) answers[i] = adapt_word();
-  while (adapt_words < words + count) {
+int main(int adapt_argc, char **adapt_argv) {
+  alarm(2); setvbuf(stdout, 0, _IOLBF, 0); adapt_words = adapt_argv + 1;
+  adapt_answer_count = (int) adapt_word();
+  for (int adapt_i = 0; adapt_i < adapt_answer_count; adapt_i++) adapt_answers[adapt_i] = adapt_word();
+  while (adapt_words < adapt_argv + adapt_argc) {
     switch (adapt_word()) {
 %s
     }
 %s
-    printf(" %%d\\n", answer_taken);
+    printf(" %%d\\n", adapt_answer_taken);
   }
   return 0;
 }
@@ -91,8 +91,8 @@ class Comparison:
     def calls(self) -> str:
         lines = []
         for number, one in enumerate(self.entries):
-            words = "".join(f" long long a{at} = adapt_word();" for at in range(len(one.parameters)))
-            given = ", ".join(f"({p.type.text if isinstance(p.type, Int) and not p.type.boolean else '_Bool'}) a{at}" for at, p in enumerate(one.parameters))
+            words = "".join(f" long long adapt_{at} = adapt_word();" for at in range(len(one.parameters)))
+            given = ", ".join(f"({p.type.text if isinstance(p.type, Int) and not p.type.boolean else '_Bool'}) adapt_{at}" for at, p in enumerate(one.parameters))
             call = f"{one.out}({given})"
             shown = f'printf("%lld", (long long) {call});' if isinstance(one.result, Int) else f"{call};"
             lines.append(f"    case {number}: {{{words} {shown} break; }}")

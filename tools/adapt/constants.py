@@ -144,7 +144,7 @@ class Constants:
         if isinstance(init, c_ast.Constant):
             return len(codes(init.value)) + 1
         at, most = 0, 0
-        per = 1 if all(isinstance(one, (c_ast.InitList, c_ast.NamedInitializer)) or isinstance(of, Int) for one in init.exprs or []) else 0
+        per = 1 if all(isinstance(one, (c_ast.InitList, c_ast.NamedInitializer)) or isinstance(of, (Int, kinds.Pointer)) for one in init.exprs or []) else 0
         if not per:
             raise Refused(init.coord, "an array without a length whose values have no braces of their own", "give its length")
         for one in init.exprs or []:

@@ -99,8 +99,10 @@ class Expressions(Calls):
 
     def test(self, node: Any) -> Value:
         """The value of a condition, which may be a pointer."""
-        null = self.null(node)
-        return self.value(node) if null is None else Value(self.at(node) + str(int(null == "0")), kinds.INT, PRIMARY, truth=True)
+        with self.names.refusals.gathered():
+            null = self.null(node)
+            return self.value(node) if null is None else Value(self.at(node) + "1", kinds.INT, PRIMARY, truth=True)
+        return Value("0", kinds.INT, PRIMARY)
 
     def null(self, node: Any) -> Optional[str]:
         """What a test for a null pointer gives of a parameter to which each call hands an object."""

@@ -139,7 +139,7 @@ class Places:
                 if meaning.binding == "unknown":
                     continue
             try:
-                targets.append(self.place(given) if parameter in lent else self.handed(given))
+                targets.append(self.whole_array(given) if parameter in lent else self.handed(given))
             except Refused as refused:
                 self.names.refusals.add(refused.coord, refused.cause, refused.advice)
         if parameter in lent:
@@ -164,8 +164,15 @@ class Places:
         parameter.type, parameter.binding = Array(of, lengths.pop()), "lent"
         return True
 
+    def whole_array(self, node: Any) -> Place:
+        if not isinstance(node, (c_ast.ID, c_ast.StructRef, c_ast.ArrayRef)):
+            raise Refused(node.coord, "a part of an array is handed over, or no array", "hand over the whole array by its name, and an index")
+        return self.place(node)
+
     def handed(self, node: Any) -> Place:
         """The object whose address an argument is."""
+        if self.names.constants.value(node) is not None:
+            raise Refused(node.coord, "a null pointer is handed over", "hand over the address of a named object")
         if isinstance(node, c_ast.Cast):
             raise Refused(node.coord, "a pointer is converted", USE)
         return self.pointed(node)

@@ -7,7 +7,7 @@ import subprocess
 from dataclasses import dataclass, field
 from typing import Any, NamedTuple
 
-from .refusals import Refusals, Stop
+from .refusals import JUDGED, Refusals, Stop
 
 HEADERS = os.path.join(os.path.dirname(os.path.abspath(__file__)), "headers")
 ERRORS = ("implicit-function-declaration", "int-conversion", "incompatible-pointer-types", "pointer-sign", "discarded-qualifiers", "return-type")
@@ -56,7 +56,8 @@ def is_system(file: str) -> bool:
 
 def run_compiler(path: str, flags: list[str], more: list[str]) -> subprocess.CompletedProcess[str]:
     words = [compiler(), "-std=gnu11", "-nostdinc", *more, *flags, "-isystem", HEADERS, path]
-    return subprocess.run(words, capture_output=True, text=True, errors="replace", check=False)
+    plain = {**os.environ, "LC_ALL": "C"}
+    return subprocess.run(words, capture_output=True, text=True, errors="replace", check=False, env=plain)
 
 
 def told_errors(path: str, told: str, refusals: Refusals) -> None:
@@ -64,7 +65,7 @@ def told_errors(path: str, told: str, refusals: Refusals) -> None:
     for line in told.splitlines():
         found = re.match(r"(.*?):(\d+):(?:\d+:)? (?:fatal )?error: (.*)", line)
         if found:
-            refusals.add(Coord(found.group(1), int(found.group(2))), f"the compiler says: {found.group(3)}", "correct it")
+            refusals.add(Coord(found.group(1), int(found.group(2))), f"{JUDGED}: {found.group(3)}", "correct it")
     if not refusals.found:
         first = told.splitlines()[:1]
         raise Stop(f"{path} can't be read: {first[0] if first else 'the compiler failed'}")

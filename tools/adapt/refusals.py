@@ -4,6 +4,9 @@ from typing import Any, Iterator
 from contextlib import contextmanager
 
 
+JUDGED = "the compiler says"
+
+
 class Stop(Exception):
     """The tool can't go on: an input or a program of the machine is missing. Its text is one line."""
 
@@ -35,4 +38,7 @@ class Refusals:
             self.add(refused.coord, refused.cause, refused.advice)
 
     def lines(self) -> list[str]:
-        return [f"{file}:{line}: {text}" for file, line, text in sorted(self.found)]
+        """A line each; where the compiler refused a line, what it says of it alone."""
+        judged = {(file, line) for file, line, text in self.found if text.startswith(JUDGED)}
+        kept = [one for one in sorted(self.found) if one[:2] not in judged or one[2].startswith(JUDGED)]
+        return [f"{file}:{line}: {text}" for file, line, text in kept]

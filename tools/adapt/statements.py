@@ -154,7 +154,7 @@ class Statements(Expressions):
         self.statement(node.stmt)
 
     def write_Goto(self, node: Any) -> None:
-        raise Refused(node.coord, f"goto {node.name}", "use a loop, or a flag")
+        return  # (refused where the jumps were rewritten)
 
     # ---- loops
 

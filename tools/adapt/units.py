@@ -76,9 +76,10 @@ class Units(Statements):
             self.prototype(meaning, item)
         elif isinstance(meaning, Variable):
             early = self.uses.get(meaning, len(self.names.items) + 1) < self.defined_at(meaning)
-            if (early or self.defined_at(meaning) == number) and self.once(meaning):
-                self.variable(meaning)
+            if meaning.defined and (early or self.defined_at(meaning) == number) and self.once(meaning):
+                self.variable(meaning, False, self.defined_at(meaning) == number)
             elif not meaning.defined and meaning in self.uses and self.once(meaning):
+                self.check_type(meaning)
                 raise Refused(item.coord, f"no source defines {meaning.name}", "give the source that defines it")
 
     def defined_at(self, variable: Variable) -> int:
@@ -98,11 +99,15 @@ class Units(Statements):
 
     # ---- variables
 
-    def variable(self, variable: Variable, static: bool = False) -> None:
-        """Writes an object of the file with its first values."""
+    @staticmethod
+    def check_type(variable: Variable) -> None:
         fault = kinds.fault_of(variable.type)
         if fault:
             raise Refused(variable.coord, f"{variable.name}: {fault[0]}", fault[1])
+
+    def variable(self, variable: Variable, static: bool = False, here: bool = False) -> None:
+        """Writes an object of the file with its first values, on their lines where they stand here."""
+        self.check_type(variable)
         made = filled(self.constants, variable.type, variable.init)
         for _, _, source in made.wholes:
             raise Refused(source.coord, "a struct as the first value of a part", "give its members one by one")
@@ -114,7 +119,7 @@ class Units(Statements):
             texts = ["0"] * leaf.count
             for (path, spot), one in made.given.items():
                 if path == leaf.path:
-                    texts[flat(spot, leaf.dims)] = self.first(one, leaf.kind, len(leaves) == 1 and not static)
+                    texts[flat(spot, leaf.dims)] = self.first(one, leaf.kind, here and len(leaves) == 1)
             while len(texts) > 1 and texts[-1] == "0":
                 texts.pop()
             name = self.spelling.leaf(variable, leaf.path)
@@ -156,6 +161,8 @@ class Units(Statements):
 
     def heading(self, function: Function) -> str:
         result = function.result
+        if function.variadic and function.definition is not None:
+            raise Refused(function.coord, f"{function.name} takes any number of arguments", "give it a fixed number of parameters")
         if not isinstance(result, (Int, Struct)) and result != kinds.VOID:
             cause, advice = kinds.fault_of(result) or ("a pointer", "")
             raise Refused(function.coord, f"{function.name} gives {cause}", advice)
@@ -170,7 +177,7 @@ class Units(Statements):
             return
         if isinstance(function.result, Struct):
             self.variable(self.spelling.special(function, "result", function.result, self.special), True)
-        for parameter in {parameter for parameter, _ in self.outs(function)}:
+        for parameter in dict.fromkeys(parameter for parameter, _ in self.outs(function)):
             own = self.spelling.special(function, parameter.name, pointee(parameter), self.special)
             backs = [leaf for one, leaf in self.outs(function) if one is parameter]
             for leaf in backs:

@@ -120,7 +120,8 @@ class Writer:
             one = self.value(node)
             if stable or (self.check and len(place.indexes) > 1):
                 one = self.steady(node, one)
-            if self.check and len(place.indexes) > 1:
+            known = self.constants.value(node)
+            if self.check and len(place.indexes) > 1 and not (known is not None and 0 <= known < length):
                 below = f"{one.within(8)} >= 0 && " if one.kind.signed else ""
                 self.emit(f"assert({unmarked(below)}{unmarked(one.within(8))} < {length});")
             if whole is None:
