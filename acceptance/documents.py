@@ -19,7 +19,7 @@ import tempfile
 import programs
 
 PLACES = ("README.md", "CHANGELOG.md", "docs/*.md", "acceptance/*.md", "bench/*.md")
-FOLDERS = "acceptance|bench|bin|crates|docs|examples"
+FOLDERS = "acceptance|bench|bin|crates|docs|examples|tools"
 SECONDS = 60
 
 

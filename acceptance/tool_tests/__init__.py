@@ -1,0 +1,116 @@
+"""What the tools of tools/ answer: each module here has the cases of one.
+
+A case is run in a fresh folder that holds its files alone. Where it needs what isn't there (the program's command `graph`, a
+package, a compiler), it is skipped, with a line for each such need.
+"""
+
+import dataclasses
+import functools
+import importlib.util
+import os
+import shutil
+import subprocess
+import tempfile
+
+import programs
+
+SECONDS = 120
+EXAMPLES = os.path.join(programs.ROOT, "examples")
+
+
+def example(path):
+    """The text of a file of examples/."""
+    with open(os.path.join(EXAMPLES, path), encoding="utf-8") as file:
+        return file.read()
+
+
+@dataclasses.dataclass
+class Case:
+    """Files, the words after bin/, and what is due. A text that is None isn't compared; `written` has the files that must
+    stand afterwards beside the given ones, or `written` is None."""
+
+    name: str
+    words: list
+    files: dict = dataclasses.field(default_factory=dict)
+    status: int = 0
+    stdout: str | None = ""
+    stderr: str | None = ""
+    written: dict | None = dataclasses.field(default_factory=dict)
+    needs: tuple = ()
+
+
+def run(folder, words, **more):
+    """How a tool ends that is run in a folder."""
+    return subprocess.run([os.path.join(programs.ROOT, "bin", words[0]), *words[1:]], cwd=folder, stdin=subprocess.DEVNULL,
+                          capture_output=True, text=True, timeout=SECONDS, **more)
+
+
+def put(folder, files):
+    for name, text in files.items():
+        os.makedirs(os.path.dirname(os.path.join(folder, name)), exist_ok=True)
+        with open(os.path.join(folder, name), "w", encoding="utf-8", newline="") as file:
+            file.write(text)
+
+
+def held(folder):
+    """The texts of all files of a folder by their names."""
+    found = {}
+    for name in sorted(os.listdir(folder)):
+        with open(os.path.join(folder, name), encoding="utf-8", newline="") as file:
+            found[name] = file.read()
+    return found
+
+
+def differences(case):
+    """What differs from what is due, a line each."""
+    with tempfile.TemporaryDirectory() as folder:
+        put(folder, case.files)
+        ended = run(folder, case.words)
+        found = [] if ended.returncode == case.status else [f"status {ended.returncode}, not {case.status}"]
+        for name, got, due in (("stdout", ended.stdout, case.stdout), ("stderr", ended.stderr, case.stderr)):
+            if due is not None and got != due:
+                found.append(f"{name} {got[:600]!r}, not {due[:600]!r}")
+        if case.written is not None and held(folder) != {**case.files, **case.written}:
+            found.append(f"the files {held(folder)!r}"[:900])
+    return found
+
+
+@functools.cache
+def is_there(need):
+    """Whether something is there that cases need: the program's command graph, a Python package, or a command."""
+    if need == "graph":
+        return "Usage" not in subprocess.run([programs.LAUNCHER, "graph", "/no"], capture_output=True, text=True).stderr
+    return importlib.util.find_spec(need) is not None if need == "jinja2" else shutil.which(need) is not None
+
+
+def tried(function):
+    """What is wrong of a case that is a function: it yields, or answers, whether each thing that it looks at is right."""
+    with tempfile.TemporaryDirectory() as folder:
+        wrong = []
+        try:
+            wrong += [number for number, right in enumerate(function(folder), 1) if not right]
+        except Exception as fault:  # so that the other cases are run
+            return [f"it broke off: {fault!r}"]
+    return [f"wrong at {wrong}"] if wrong else []
+
+
+def failures(modules, alone=False):
+    """The number of cases of these modules, and a line for each that fails; those that are skipped are told. Alone are those
+    that need nothing but Python and the program."""
+    count, wrong, skipped = 0, [], {}
+    for module in modules:
+        cases = [(case.name, case.needs, functools.partial(differences, case)) for case in getattr(module, "CASES", [])]
+        cases += [(function.__name__, needs, functools.partial(tried, function))
+                  for needs, function in getattr(module, "TRIED", [])]
+        for name, needs, of_case in cases:
+            if alone and set(needs) - {"graph"}:
+                continue
+            lacking = [need for need in needs if not is_there(need)]
+            for need in lacking:
+                skipped[need] = skipped.get(need, 0) + 1
+            if not lacking:
+                count += 1
+                wrong += [f"{module.__name__.split('.')[-1]}: {name}: {line}" for line in of_case()]
+    for need, number in skipped.items():
+        print(f"skipped: {number} cases of the tools need {need}, which isn't there")
+    return count, wrong

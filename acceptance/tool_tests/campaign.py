@@ -1,0 +1,175 @@
+"""The cases of bin/campaign: verdicts by hand, and folders that are killed, cut and changed."""
+
+import json
+import os
+import random
+import signal
+import subprocess
+import time
+
+import programs
+from tool_tests import SECONDS, Case, example, put, run
+
+FEE = {"fee.c": example("criteria/fee.c"), "in.txt": example("criteria/in.txt")}
+PAIRS = 'cover @DEF(sum) . "NOT(@DEF(sum))*" . @USE(sum)'
+# the pairs from line 18 back into the loop, and to itself
+REFUTED = [9, 10]
+# which a budget of 1 is too small for
+SLOW = "int f(int a, int b) {\n  if (a > 1 && b > 1 && a * b == 7919 * 7907) {\n    return 1;\n  }\n  return 0;\n}\n"
+PARALLEL = ("parallel",)
+CASES = [
+    Case("campaign: a query that is refused", ["campaign", "fee", "cover", "fee.c", "-o", "new"], FEE, 2, "",
+         "campaign: fshell goals: error 61 QuerySyntax query\n", needs=PARALLEL),
+    Case("campaign: a source that isn't there", ["campaign", "fee", "cover ID", "no.c", "-o", "new"], FEE, 2, "",
+         "campaign: no.c: No such file or directory\n", needs=PARALLEL),
+    Case("campaign: inputs that aren't read", ["campaign", "fee", "cover ID", "fee.c", "-o", "new", "--inputs", "fee.c"], FEE, 2, "",
+         "campaign: fee.c: no inputs are read: '/*' is no number\n", needs=PARALLEL),
+    Case("campaign: a folder that is no campaign's", ["campaign", "-o", "new"], FEE, 2, "",
+         "campaign: new/campaign.json: No such file or directory\n", needs=PARALLEL),
+]
+
+
+def campaign(folder, *words, **more):
+    """How a campaign in a folder ends, with two jobs."""
+    return run(folder, ["campaign", "-o", "new", "--jobs", "2", *words], **more)
+
+
+def report(folder):
+    with open(os.path.join(folder, "new", "report.json"), encoding="utf-8") as file:
+        return json.load(file)
+
+
+def verdicts(folder):
+    return [goal["answer"] for goal in report(folder)["goals"]]
+
+
+def due(known):
+    return ["refuted within the bounds" if number in REFUTED else "covered" for number in range(1, known + 1)]
+
+
+def accepted(folder, goal):
+    """Whether check accepts the certificate of a goal."""
+    words = ["fshell", "check", "fee", PAIRS, str(goal), f"new/certificates/{goal}.cert", "fee.c"]
+    return run(folder, words).stdout == f"goal {goal} refuted turns 4 frames 8 answers 16\n"
+
+
+def is_right(folder):
+    """Whether a campaign's files say what is right: verdicts, certificates, and a suite that covers as much as all inputs."""
+    rest = ["fee.c", "--ends", "returned"]
+    counts = {name: run(folder, ["fshell", "measure", "fee", PAIRS, f"new/{name}.json", *rest]).stdout.splitlines()[-1]
+              for name in ("inputs", "suite")}
+    return (verdicts(folder) == due(12) and all(accepted(folder, goal) for goal in REFUTED)
+            and set(counts.values()) == {"covered 10 of 12"})
+
+
+def a_campaign_decides_all_goals(folder):
+    put(folder, FEE)
+    ended = campaign(folder, "fee", PAIRS, "fee.c")
+    yield ended.returncode == 0 and is_right(folder)
+    yield ended.stdout.endswith("covered 10 of 10 goals that aren't refuted\n")
+    yield report(folder)["counts"] == {"covered": 10, "refuted within the bounds": 2, "undecided": 0}
+    # once more, by its folder alone, and from another folder
+    elsewhere = os.path.join(folder, "elsewhere")
+    os.mkdir(elsewhere)
+    again = run(elsewhere, ["campaign", "-o", "../new"])
+    yield (again.returncode, again.stdout) == (0, ended.stdout)
+
+
+def given_inputs_are_completed(folder):
+    """The given inputs stay the first ones, and only one more is made for the goal that they miss."""
+    put(folder, FEE)
+    ended = campaign(folder, "fee", "cover @CONDITIONEDGE", "fee.c", "--inputs", "in.txt")
+    yield ended.returncode == 0 and "inputs 5, of which 4 were given" in ended.stdout
+    yield run(folder, ["inputs", "new/inputs.json"]).stdout.startswith(FEE["in.txt"])
+    yield [goal.get("input") for goal in report(folder)["goals"]] == [2, 1, 3, 1, 5, 1, 2, 1, 2, 1]
+
+
+def undecided_goals_and_the_gate(folder):
+    put(folder, {"slow.c": SLOW})
+    query = "cover @CONDITIONEDGE"
+    ended = campaign(folder, "f", query, "slow.c", "--budget", "1")
+    yield ended.returncode == 1 and report(folder)["counts"] == {"covered": 0, "undecided": 6}
+    yield "goal 5: undecided, its budget was spent: e4@slow.c:2\n" in ended.stdout
+    yield campaign(folder, "--at-least", "0").returncode == 0
+    yield campaign(folder, "--at-least", "0.1").returncode == 1
+    # a greater budget tries the open goals again
+    ended = campaign(folder, "--budget", "100000", "--at-least", "100")
+    yield ended.returncode == 0 and report(folder)["counts"] == {"covered": 6, "undecided": 0}
+
+
+def another_campaigns_folder_is_left_alone(folder):
+    put(folder, FEE)
+    campaign(folder, "fee", "cover @LINE(11)", "fee.c")
+    before = report(folder)
+    ended = campaign(folder, "fee", "cover @LINE(15)", "fee.c")
+    yield (ended.returncode, ended.stderr) == (2, "campaign: new is another campaign's: it has another query\n")
+    ended = campaign(folder, "fee", "cover @LINE(11)", "fee.c", "--turns", "5")
+    yield (ended.returncode, ended.stderr) == (2, "campaign: new is another campaign's: it has another bound\n")
+    put(folder, {"fee.c": FEE["fee.c"] + "\n"})
+    ended = campaign(folder)
+    yield ended.returncode == 2 and "a source has changed" in ended.stderr
+    yield report(folder) == before
+
+
+def files_that_were_removed_or_cut_are_made_anew(folder):
+    put(folder, FEE)
+    campaign(folder, "fee", PAIRS, "fee.c")
+    path = os.path.join(folder, "new", "certificates")
+    for harm in (lambda: os.remove(f"{path}/9.cert"), lambda: os.truncate(f"{path}/9.cert", 20), lambda: os.truncate(f"{path}/9.cert", 51),
+                 lambda: os.remove(f"{path}/10.sum"), lambda: put(path, {"9.cert": "fshell certificate 1\n"})):
+        harm()
+        yield campaign(folder).returncode == 0 and is_right(folder)
+    found = os.path.join(folder, "new", "found")
+    one = os.listdir(found)[0]
+    for text in ("", "goal 1 cov", f"goal {one} covered args 0 0 0\n"):
+        put(found, {one: text})
+        yield campaign(folder).returncode == 0 and is_right(folder)
+
+
+def killed_at_any_moment_it_goes_on(folder):
+    """At twenty moments all processes of a campaign are killed; some of what it has found is taken away before it goes on."""
+    put(folder, FEE)
+    chance = random.Random(1)
+    words = [os.path.join(programs.ROOT, "bin", "campaign"), "-o", "new", "--jobs", "2"]
+    first = ["fee", PAIRS, "fee.c"]
+    for moment in range(20):
+        started = subprocess.Popen([*words, *first], cwd=folder, start_new_session=True, stdin=subprocess.DEVNULL,
+                                   stdout=subprocess.DEVNULL, stderr=subprocess.DEVNULL)
+        time.sleep(0.1 + 0.06 * moment)
+        try:
+            os.killpg(started.pid, signal.SIGKILL)
+        except ProcessLookupError:
+            pass
+        started.wait()
+        kept = [os.path.join(at, name) for at, _, names in os.walk(os.path.join(folder, "new")) for name in names if name[0].isdigit()]
+        for path in chance.sample(sorted(kept), min(len(kept), 3)):
+            os.remove(path) if chance.random() < 0.5 else os.truncate(path, os.path.getsize(path) // 2)
+    ended = subprocess.run([*words, *first], cwd=folder, capture_output=True, text=True, timeout=SECONDS)
+    yield ended.returncode == 0 and is_right(folder)
+    yield not any(name.startswith(".new") for _, _, names in os.walk(os.path.join(folder, "new")) for name in names)
+
+
+def two_machines_share_the_work(folder):
+    """Two logins, for which a script stands that runs what ssh would."""
+    ssh = '#!/bin/sh\necho "$1" >>"$(dirname "$0")/log"\nshift\n[ "$1" != -- ] || shift\nexec sh -c "$*"\n'
+    put(folder, {**FEE, "ssh": ssh, "logins": f"2/{folder}/ssh one\n2/{folder}/ssh two\n"})
+    os.chmod(os.path.join(folder, "ssh"), 0o755)
+    yield campaign(folder, "fee", PAIRS, "fee.c", "--sshloginfile", "logins").returncode == 0 and is_right(folder)
+    with open(os.path.join(folder, "log"), encoding="ascii") as file:
+        yield set(file.read().split()) == {"one", "two"}
+
+
+def goals_are_decided_one_by_one(folder):
+    """As an array job does it: the goals that are left, one by one, and then the campaign alone."""
+    put(folder, FEE)
+    left = campaign(folder, "fee", PAIRS, "fee.c", "--left").stdout.split()
+    yield left == [str(number) for number in range(1, 13)]
+    yield all(campaign(folder, "--one", goal).returncode == 0 for goal in left)
+    yield campaign(folder, "--left").stdout == ""
+    yield campaign(folder).returncode == 0 and is_right(folder)
+
+
+TRIED = [(PARALLEL, function) for function in (
+    a_campaign_decides_all_goals, given_inputs_are_completed, undecided_goals_and_the_gate, another_campaigns_folder_is_left_alone,
+    files_that_were_removed_or_cut_are_made_anew, killed_at_any_moment_it_goes_on, two_machines_share_the_work,
+    goals_are_decided_one_by_one)]

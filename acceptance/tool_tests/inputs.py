@@ -1,0 +1,80 @@
+"""The cases of bin/inputs, by hand from docs/FORMATS.md."""
+
+from tool_tests import Case, example, run, put
+
+MADE = """goals 3 turns 4 frames 8 answers 16 budget 5000000
+input 1 args 1 answers 5 9
+input 2 args -3
+input 3 args 7
+goal 1 covered 1 e11@both.c:9
+goal 2 covered 2 e1@both.c:4
+goal 3 refuted e2@both.c:4
+suite 1 2
+covered 2 refuted 1 undecided 0 of 3
+"""
+AS_JSON = ('{"bounds":{"answers":16,"budget":5000000,"frames":8,"turns":4},"covered":1,"goals":[{"answer":"covered","input":1,'
+           '"text":"e8@count.c:7"}],"inputs":[{"answers":[],"args":[3]}],"refuted":0,"suite":[1],"undecided":0}\n')
+THREE = '[{"args": [1], "answers": [5, 9]},\n {"args": [-3]},\n {"args": [7]}]\n'
+READ = " no inputs are read: "
+
+
+def wrong(name, text, why):
+    """A file that isn't read: one line, and nothing is written."""
+    return Case(name, ["inputs", "f", "-o", "new"], {"f": text}, 2, "", f"inputs: f:{READ}{why}\n")
+
+
+CASES = [
+    Case("a report becomes JSON", ["inputs", "made"], {"made": MADE}, stdout=THREE),
+    Case("a report's suite alone", ["inputs", "--suite", "made"], {"made": MADE},
+         stdout='[{"args": [1], "answers": [5, 9]},\n {"args": [-3]}]\n'),
+    Case("a report as JSON becomes lines", ["inputs", "made"], {"made": AS_JSON}, stdout="3\n"),
+    Case("lines of prove and of least", ["inputs", "a"],
+         {"a": "goal 1 covered args 3\ngoal 2 least args 4294967295 0\ngoal 3 undecided\ngoal 4 open\n"}, stdout="3\n4294967295 0\n"),
+    Case("traces lose their edges", ["inputs", "a"], {"a": "fshell traces 1\nargs 5 edges 1 3\nargs 1 answers 2 edges\n"},
+         stdout='[{"args": [5]},\n {"args": [1], "answers": [2]}]\n'),
+    Case("several files become one, each input once", ["inputs", "a", "b", "-o", "new"],
+         {"a": "1 2\n\n3\t4\r\n", "b": '[{"args": [3, 4], "note": "x"}, {"args": [5, 6]}]'},
+         stderr="new: 3 inputs of 4 that were read\n", written={"new": "1 2\n3 4\n5 6\n"}),
+    Case("the greatest and the least number", ["inputs", "a"], {"a": "18446744073709551615 -9223372036854775808\n"},
+         stdout="18446744073709551615 -9223372036854775808\n"),
+    Case("an empty file has no inputs", ["inputs", "a", "--to", "json"], {"a": ""}, stdout="[]\n"),
+    Case("an input without arguments is JSON", ["inputs", "a"], {"a": '[{"args": []}]'}, stdout='[{"args": []}]\n'),
+    Case("answers aren't written as lines", ["inputs", "made", "--to", "lines", "-o", "new"], {"made": MADE}, 2, "",
+         "inputs: an input with answers or without arguments isn't written as a line; --to json writes it\n"),
+    Case("traces by runs", ["inputs", "in.txt", "--to", "traces", "--entry", "f", "--source", "a.c"],
+         {"in.txt": example("first/in.txt"), "a.c": example("first/a.c")},
+         stdout="fshell traces 1\nargs 5 edges 1 3\nargs 11 edges 0 2\nargs 12 edges 0 2\n"),
+    Case("a run that trapped has a trace where it counts",
+         ["inputs", "in", "--to", "traces", "--entry", "f", "--source", "a.c", "--ends", "trapped"],
+         {"in": "0\n1\n", "a.c": "int f(int x) { return 1 / x; }\n"}, stdout="fshell traces 1\nargs 0 edges\nargs 1 edges 0\n"),
+    Case("a run that trapped has none where it doesn't", ["inputs", "in", "--to", "traces", "--entry", "f", "--source", "a.c"],
+         {"in": "0\n1\n", "a.c": "int f(int x) { return 1 / x; }\n"}, stdout="fshell traces 1\nargs 1 edges 0\n"),
+    Case("the program's refusal is told", ["inputs", "in", "--to", "traces", "--entry", "g", "--source", "a.c", "-o", "new"],
+         {"in": "0\n", "a.c": "int f(int x) { return x; }\n"}, 2, "", "inputs: fshell runs: error 36 NoSuchEntry\n"),
+    Case("a file that isn't there", ["inputs", "no"], {}, 2, "", "inputs: no: No such file or directory\n"),
+    Case("a folder in which nothing can be written", ["inputs", "a", "-o", "no/new"], {"a": "1\n"}, 2, "",
+         "inputs: no/new: No such file or directory\n"),
+    wrong("a word that is no number", "1 two\n", "'two' is no number"),
+    wrong("a number out of range", "18446744073709551616\n", "18446744073709551616 is no whole number from -2^63 to 2^64 - 1"),
+    wrong("a number with a point", '[{"args": [1.0]}]', "1.0 is no whole number from -2^63 to 2^64 - 1"),
+    wrong("an object without arguments", '[{"answers": [1]}]', "an input has no list args"),
+    wrong("a report of measure", "goals 1 inputs 1\ninput 1 returned 1\ngoal 1 covered 1 e0@a.c:2\nsuite 1\ncovered 1 of 1\n",
+          "it is an answer of measure, which has no inputs"),
+    wrong("a certificate", example("certificates/worked.cert"), "it is a certificate, which has no inputs"),
+    wrong("a trace file that is cut short", "fshell traces 1\nargs 5 ed", "'args 5 ed' isn't known"),
+]
+
+
+def made_inputs_are_measured(folder):
+    """What generate made, kept as a file, covers what generate says."""
+    query = "cover @CONDITIONEDGE"
+    put(folder, {"both.c": example("counting/both.c")})
+    made = run(folder, ["fshell", "generate", "both", query, "both.c"]).stdout
+    put(folder, {"made": made})
+    yield run(folder, ["inputs", "made", "-o", "in"]).returncode == 0
+    measured = run(folder, ["fshell", "measure", "both", query, "in", "both.c"]).stdout
+    yield [line for line in measured.splitlines() if line.startswith("goal ")] == [
+        line for line in made.splitlines() if line.startswith("goal ")]
+
+
+TRIED = [((), made_inputs_are_measured)]

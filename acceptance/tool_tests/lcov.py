@@ -1,0 +1,184 @@
+"""The cases of bin/lcov: counts by hand, genhtml's totals, and gcc's --coverage of programs."""
+
+import os
+import re
+import subprocess
+
+from tool_tests import Case, example, put, run
+from tool_tests.explain import NEVER, ONE, TWO
+
+GRAPH = ("graph",)
+# the path of a source is that of the folder, which no text here can name
+ALL_OF_NEVER = """goals 6 turns 4 frames 8 answers 16 budget 5000000
+input 1 args 11
+input 2 args 0
+goal 1 covered 1 e0@never.c:2
+goal 2 covered 2 e1@never.c:2
+goal 3 refuted e2@never.c:2
+goal 4 covered 1 e3@never.c:2
+goal 5 refuted e4@never.c:3
+goal 6 covered 1 e5@never.c:5
+suite 1 2
+covered 4 refuted 2 undecided 0 of 6
+"""
+COUNT = """TN:
+SF:count.c
+FN:1,count
+FNDA:2,count
+FNF:1
+FNH:1
+BRDA:3,0,0,8
+BRDA:3,0,1,2
+BRDA:6,1,0,1
+BRDA:6,1,1,1
+BRF:4
+BRH:4
+DA:2,2
+DA:3,10
+DA:4,8
+DA:6,2
+DA:7,1
+DA:9,1
+LF:6
+LH:6
+end_of_record
+"""
+OF_NEVER = """TN:
+SF:never.c
+FN:1,f
+FNDA:2,f
+FNF:1
+FNH:1
+BRDA:2,0,0,1
+BRDA:2,0,1,1
+BRDA:2,1,1,1
+BRF:3
+BRH:3
+DA:2,2
+DA:5,2
+LF:2
+LH:2
+end_of_record
+"""
+
+
+def of_two(first, rest, last):
+    """The record of the two sources, with the counts of what comes before the assertion, and of what comes behind it."""
+    return f"""TN:
+SF:one.c
+FN:3,g
+FNDA:{first},g
+FNF:1
+FNH:{min(first, 1)}
+BRF:0
+BRH:0
+DA:4,{first}
+LF:1
+LH:{min(first, 1)}
+end_of_record
+TN:
+SF:two.c
+FN:1,f
+FNDA:{first},f
+FNF:1
+FNH:{min(first, 1)}
+BRDA:3,0,0,{rest}
+BRDA:3,0,1,{first if first else '-'}
+BRDA:3,1,0,-
+BRDA:3,1,1,-
+BRF:4
+BRH:{min(first, 1)}
+DA:2,{first}
+DA:3,{first}
+DA:4,0
+DA:6,{first}
+DA:7,{first}
+DA:8,{last}
+DA:9,{last}
+LF:7
+LH:{4 * min(first, 1) + 2 * min(last, 1)}
+end_of_record
+"""
+
+
+NOTES = """2 of 2 runs count: lines 2 of 2, functions 1 of 1, branches 3 of 3
+left out, since no input reaches it within turns 4 frames 8 answers 16: never.c:2:17 true
+left out, since no input reaches it within turns 4 frames 8 answers 16: never.c:3
+"""
+BOTH = {"one.c": ONE, "two.c": TWO, "in": "-1\n1\n"}
+CASES = [
+    Case("lcov: a report of another query", ["lcov", "f", "in", "never.c", "-o", "new", "--refuted", "report"],
+         {"never.c": NEVER, "in": "0\n", "report": "goals 1 turns 4 frames 8 answers 16 budget 5\n"
+          "goal 1 refuted e0@never.c:2 . e2@never.c:2\nsuite\ncovered 0 refuted 1 undecided 0 of 1\n"}, 2, "",
+         'lcov: the report isn\'t of the query "cover ID": e0@never.c:2 . e2@never.c:2\n', needs=GRAPH),
+    Case("lcov: a report of measure", ["lcov", "f", "in", "never.c", "-o", "new", "--refuted", "report"],
+         {"never.c": NEVER, "in": "0\n", "report": "goals 0 inputs 0\nsuite\ncovered 0 of 0\n"}, 2, "",
+         "lcov: --refuted wants a report of generate\n", needs=GRAPH),
+    Case("lcov: inputs that are refused", ["lcov", "f", "in", "never.c", "-o", "new"], {"never.c": NEVER, "in": "x\n"}, 2, "",
+         "lcov: fshell runs: error 51 Shape input 1\n", needs=GRAPH),
+    Case("lcov: a folder in which nothing can be written", ["lcov", "f", "in", "never.c", "-o", "no/new"], {"never.c": NEVER, "in": "0\n"},
+         2, "", "lcov: no/new: No such file or directory\n", needs=GRAPH),
+]
+
+
+def written(folder, files, *words):
+    """What lcov writes of files, with the folder's path left out, and what it says."""
+    put(folder, files)
+    ended = run(folder, ["lcov", *words, "-o", "out"])
+    with open(os.path.join(folder, "out"), encoding="utf-8") as file:
+        return file.read().replace(f"SF:{os.path.realpath(folder)}/", "SF:"), ended.stdout
+
+
+def counts_are_those_by_hand(folder):
+    yield written(folder, {"count.c": example("counting/count.c"), "in": "3\n5\n"}, "count", "in", "count.c") == (
+        COUNT, "2 of 2 runs count: lines 6 of 6, functions 1 of 1, branches 4 of 4\n")
+    yield written(folder, BOTH, "f", "in", "one.c", "two.c") == (
+        of_two(1, 0, 1), "1 of 2 runs count: lines 7 of 8, functions 2 of 2, branches 1 of 4\n")
+    yield written(folder, BOTH, "f", "in", "one.c", "two.c", "--ends", "trapped") == (
+        of_two(2, 0, 1), "2 of 2 runs count: lines 7 of 8, functions 2 of 2, branches 1 of 4\n")
+
+
+def refuted_goals_are_left_out(folder):
+    files = {"never.c": NEVER, "in": "11\n0\n", "report": ALL_OF_NEVER}
+    yield written(folder, files, "f", "in", "never.c", "--refuted", "report") == (OF_NEVER, NOTES)
+
+
+def genhtml_has_these_totals(folder):
+    """genhtml takes the file without a warning, and its totals are those that were told."""
+    for files, words in (({"count.c": example("counting/count.c"), "in": "3\n5\n"}, ["count", "in", "count.c"]),
+                         (BOTH, ["f", "in", "one.c", "two.c"])):
+        told = written(folder, files, *words)[1]
+        made = subprocess.run(["genhtml", "--branch-coverage", "-o", "html", "out"], cwd=folder, capture_output=True, text=True)
+        totals = re.findall(r"(lines|functions|branches)\.*: [\d.]+% \((\d+) of (\d+)", made.stdout)
+        yield made.returncode == 0 and made.stderr == "" and "warning" not in made.stdout.lower()
+        yield told.split(": ")[1].strip() == ", ".join(f"{what} {hit} of {found}" for what, hit, found in totals)
+
+
+def gcov(folder, name):
+    """gcc's counts of a source by its harness: of each line, and the counts of its branches in order of size."""
+    subprocess.run(["gcc", "-O0", "--coverage", "-fwrapv", "-w", "-o", "tests", "tests.c"], cwd=folder, check=True)
+    subprocess.run(["./tests"], cwd=folder, capture_output=True)
+    subprocess.run(["gcov", "-b", "-c", "tests-tests.gcda"], cwd=folder, capture_output=True, check=True)
+    lines, branches, at = {}, {}, 0
+    with open(os.path.join(folder, name + ".gcov"), encoding="utf-8") as file:
+        for line in file:
+            count = re.match(r" *(\d+|#####|-)\*?: *(\d+):", line)
+            if count:
+                at = int(count[2])
+                if count[1] != "-":
+                    lines[at] = int(count[1].replace("#####", "0"))
+            elif line.startswith("branch"):
+                branches.setdefault(at, []).append(int((re.findall(r"taken (\d+)", line) or [0])[0]))
+    return lines, {line: sorted(counts) for line, counts in branches.items()}
+
+
+def ours(text):
+    """The counts of a tracefile: of each line, and the counts of its branches in order of size."""
+    lines = {int(line): int(count) for line, count in re.findall(r"^DA:(\d+),(\d+)", text, re.MULTILINE)}
+    branches = {}
+    for line, count in re.findall(r"^BRDA:(\d+),\d+,\d+,(\d+|-)", text, re.MULTILINE):
+        branches.setdefault(int(line), []).append(0 if count == "-" else int(count))
+    return lines, {line: sorted(counts) for line, counts in branches.items()}
+
+
+TRIED = [(GRAPH, counts_are_those_by_hand), (GRAPH, refuted_goals_are_left_out), (("graph", "genhtml"), genhtml_has_these_totals)]

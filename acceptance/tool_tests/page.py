@@ -1,0 +1,96 @@
+"""The cases of bin/page: what stands in the page, and what a browser shows of it."""
+
+import html
+import json
+import os
+import re
+import subprocess
+
+from tool_tests import Case, put, run
+from tool_tests.explain import MADE, NEVER
+
+PAGE, BROWSER = ("graph", "jinja2"), ("graph", "jinja2", "chromium")
+QUERY = "cover @CONDITIONEDGE"
+HOSTILE = NEVER + "/* <script>document.title = 'taken'</script> </script> <b>&amp; */\n"
+MEASURED = """goals 4 inputs 1
+input 1 returned 0
+goal 1 missed e0@never.c:2
+goal 2 covered 1 e1@never.c:2
+goal 3 missed e2@never.c:2
+goal 4 missed e3@never.c:2
+suite 1
+covered 1 of 4
+"""
+WORDS = ["page", "made", "-o", "page.html", "--source", "never.c"]
+CHECK = "fshell check f 'cover @CONDITIONEDGE' 3 3.cert never.c --turns 4 --frames 8 --answers 16"
+
+
+def refused(name, words, files, line):
+    return Case(f"page: {name}", words, files, 2, "", f"page: {line}\n", needs=PAGE)
+
+
+CASES = [
+    refused("no source", ["page", "made", "-o", "new"], {"made": MADE}, "the sources of a report are named by --source"),
+    refused("no report", ["page", "never.c", "-o", "new", "--source", "never.c"], {"never.c": NEVER}, "never.c: it is no report: int f(int x) {"),
+    refused("a list of goals", ["page", "made", "-o", "new", "--source", "never.c"], {"never.c": NEVER, "made": "goals 0\n"},
+            "made: it is an answer of goals; the page shows those of measure and generate"),
+    refused("a report of other sources", WORDS, {"never.c": NEVER, "made": MADE.replace("never.c", "other.c")},
+            "made: goal 1 isn't one of these sources: e0@other.c:2"),
+    refused("a file that can't be written", ["page", "made", "-o", "no/page", "--source", "never.c"], {"never.c": NEVER, "made": MADE},
+            "no/page: No such file or directory"),
+    refused("a folder that is no campaign's", ["page", ".", "-o", "page"], {"never.c": NEVER}, "./campaign.json: No such file or directory"),
+]
+
+
+def made(folder, files, *words):
+    """The text of a page, and what the tool says."""
+    put(folder, files)
+    ended = run(folder, [*WORDS, *words])
+    with open(os.path.join(folder, "page.html"), encoding="utf-8") as file:
+        return file.read(), ended.stdout
+
+
+def page_has_each_goal(folder):
+    text, said = made(folder, {"never.c": HOSTILE, "made": MADE}, "--entry", "f", "--query", QUERY)
+    yield said == "page.html: 4 goals, 3 covered, 0 missed, 0 undecided, 1 refuted\n"
+    data = json.loads(re.search(r'id="data">(.*?)</script>', text, re.DOTALL)[1])
+    yield [goal["v"] for goal in data["goals"]] == ["covered", "covered", "refuted", "covered"]
+    yield data["goals"][2]["c"][1] == CHECK
+    yield data["paths"] == [{"1": [0, 3, 5], "2": [1, 5]}]
+    # text of the sources is escaped wherever it stands
+    yield "<script>document.title" not in text and html.escape("<script>document.title = 'taken'</script>") in text.replace("&#39;", "&#x27;")
+    yield text.count("</script>") == 2
+
+
+def browsed(folder, script, words=("--dump-dom",)):
+    """What chromium makes of a page in which a script then clicks."""
+    with open(os.path.join(folder, "page.html"), encoding="utf-8") as file:
+        text = file.read()
+    put(folder, {"clicked.html": text.replace("</body>", f"<script>{script}</script></body>")})
+    words = ["chromium", "--headless", "--no-sandbox", "--disable-gpu", *words, f"file://{folder}/clicked.html"]
+    return subprocess.run(words, capture_output=True, text=True, timeout=60).stdout
+
+
+def a_browser_shows_clicked_goals(folder):
+    made(folder, {"never.c": HOSTILE, "made": MADE}, "--entry", "f", "--query", QUERY)
+    shown = browsed(folder, "document.querySelector('[data-goals=\"2\"]').click()")
+    panel = shown[shown.index('<div id="goal">'):]
+    yield "goal 3" in panel and "x &lt; 5 is true" in panel and html.escape(CHECK, quote=False) in panel
+    yield "<title>FShell: 4 goals</title>" in shown
+    shown = browsed(folder, "document.querySelector('#list div:nth-child(4)').click()")
+    panel = shown[shown.index('<div id="goal">'):]
+    yield "covered by input 1" in panel and "args 1073741824" in panel and "its path, 3 steps" in panel
+    yield re.findall(r'class="line on-path" id="l0:(\d+)"', shown) == ["2", "5"]
+    shown = browsed(folder, "document.querySelector('[data-hides=no-covered]').click()")
+    yield shown[shown.index('<div id="list">'):].count("<div><span") == 1 and '<body class="no-covered">' in shown
+
+
+def several_reports_are_one_page(folder):
+    put(folder, {"by_hand": MEASURED, "in": "0\n"})
+    text, said = made(folder, {"never.c": NEVER, "made": MADE}, "by_hand", "--entry", "f", "--inputs", "in")
+    yield said == "page.html: 8 goals, 4 covered, 3 missed, 0 undecided, 1 refuted\n"
+    data = json.loads(re.search(r'id="data">(.*?)</script>', text, re.DOTALL)[1])
+    yield data["reports"] == ["made", "by_hand"] and data["inputs"][1] == ["args 0"]
+
+
+TRIED = [(PAGE, page_has_each_goal), (PAGE, several_reports_are_one_page), (BROWSER, a_browser_shows_clicked_goals)]

@@ -1,0 +1,277 @@
+"""bin/campaign: has all goals of a query decided, in a folder, on as many processors and machines as there are.
+
+The given inputs are measured first. Each goal that is left is decided by `prove`, under GNU parallel, and its certificate
+checked by `check` in a process of its own; after each round the new inputs are measured over all goals, so that goals which are
+hit by the way aren't searched. The folder then has inputs.json, suite.json (the reduced suite), certificates/, report.txt and
+report.json. A campaign that was stopped goes on with `-o DIR` alone. The status is 0, or 1 where a goal is undecided; with
+--at-least P it is 1 where less than P percent of the goals that aren't refuted are covered.
+"""
+
+import argparse
+import fcntl
+import json
+import os
+import shutil
+import subprocess
+import sys
+from typing import IO
+
+from tools import inputs, program
+from tools.folder import STEPS, Asked, Folder, read_sums
+from tools.program import Failure, Goal, Input, Report
+
+DEFAULTS = {"turns": 4, "frames": 8, "answers": 16}
+LARGEST_ROUND = 1024
+
+
+class Campaign:
+    """A campaign that goes on in its folder."""
+
+    def __init__(self, folder: Folder, jobs: int, logins: str | None) -> None:
+        self.folder, self.jobs, self.logins = folder, jobs, logins
+        self.asked = folder.asked()
+        self.tried: set[int] = set()
+        self.inputs: list[Input] = []
+
+    def measured(self) -> Report:
+        """The report of all inputs over all goals."""
+        self.inputs = inputs.once(self.folder.given() + list(self.folder.found().values()))
+        asked = self.asked
+        ends = [] if asked.ends == "returned" else ["--ends", asked.ends]
+        with program.as_file(inputs.json_text(self.inputs)) as path:
+            return program.report(
+                ["measure", asked.entry, asked.query, path, *asked.sources, "--steps", STEPS, *ends], asked.place
+            )
+
+    def left(self, report: Report) -> list[int]:
+        """The goals of which nothing is known yet; an input that doesn't hit its goal is forgotten."""
+        missed = [goal.number for goal in report.goals if goal.verdict == "missed"]
+        for goal in set(missed) & set(self.folder.found()):
+            os.remove(self.folder.at("found", str(goal)))
+        known = set(self.folder.refuted(self.asked)) | set(self.folder.open(self.asked.budget)) | self.tried
+        return [goal for goal in missed if goal not in known]
+
+    def search(self, goals: list[int]) -> None:
+        """Has goals decided under GNU parallel."""
+        me = [
+            sys.executable,
+            os.path.join(program.ROOT, "bin", "campaign"),
+            "-o",
+            os.path.abspath(self.folder.path),
+            "--one",
+            "{}",
+        ]
+        known = os.environ.get("FSHELL")
+        given = ["env", f"FSHELL={os.path.abspath(known)}", *me] if known else me
+        words = ["parallel", "--will-cite", "--jobs", str(self.jobs), "--joblog", "+" + self.folder.at("joblog")]
+        words += ["--sshloginfile", self.logins] if self.logins else []
+        words += ["--bar"] if sys.stderr.isatty() else []
+        text = "".join(f"{goal}\n" for goal in goals)
+        ended = subprocess.run([*words, "-q", *given], input=text, text=True, stdout=subprocess.DEVNULL, stderr=subprocess.PIPE
+                               if not sys.stderr.isatty() else None, check=False)  # fmt: skip
+        self.tried.update(goals)
+        if ended.returncode:
+            lines = (ended.stderr or "").strip().splitlines()
+            print(lines[-1] if lines else f"{ended.returncode} goals weren't decided", file=sys.stderr)
+
+    def run(self) -> Report:
+        """Goes on until something is known of each goal."""
+        size = self.jobs
+        while True:
+            report = self.measured()
+            left = self.left(report)
+            print(f"{report.count('covered')} of {len(report.goals)} goals covered, {len(left)} left", file=sys.stderr)
+            if not left:
+                return report
+            self.search(left[:size])
+            size = min(2 * size, LARGEST_ROUND)
+
+
+# ---- the report
+
+
+class Told:
+    """What is told of a campaign at its end."""
+
+    def __init__(self, campaign: Campaign, report: Report) -> None:
+        self.campaign, self.report, self.asked = campaign, report, campaign.asked
+        self.refuted = set(campaign.folder.refuted(self.asked))
+        self.open = campaign.folder.open(self.asked.budget)
+        self.suffice = self.bounds_suffice() if self.refuted else None
+
+    def bounds_suffice(self) -> bool | None:
+        """Whether the program says that no run leaves the bounds; None where it has no such command."""
+        if not program.has_command("bounds"):
+            return None
+        words = ["bounds", self.asked.entry, *self.asked.sources, "--budget", str(self.asked.budget)]
+        bounds = [word for name, value in self.asked.bounds.items() for word in (f"--{name}", str(value))]
+        return program.answer([*words, *bounds], self.asked.place).startswith("bounds suffice")
+
+    def verdict(self, goal: Goal) -> str:
+        if goal.verdict == "covered":
+            return "covered"
+        if goal.number in self.refuted:
+            return "unreachable" if self.suffice else "refuted within the bounds"
+        return "undecided"
+
+    def line(self, goal: Goal) -> str:
+        """The line of a goal."""
+        verdict = self.verdict(goal)
+        behind = f" by input {goal.input}" if goal.input else ""
+        if goal.number in self.refuted and not goal.input:
+            behind = f", certificates/{goal.number}.cert"
+        elif verdict == "undecided":
+            behind = f", {self.open.get(goal.number, 'prove failed')}"
+        return f"goal {goal.number}: {verdict}{behind}: {goal.text}"
+
+    def counts(self) -> dict[str, int]:
+        found = [self.verdict(goal) for goal in self.report.goals]
+        return {name: found.count(name) for name in dict.fromkeys(("covered", *found, "undecided"))}
+
+    def reachable(self) -> int:
+        """How many goals aren't refuted."""
+        return sum(self.verdict(goal) in ("covered", "undecided") for goal in self.report.goals)
+
+    def text(self) -> str:
+        asked, counts = self.asked, self.counts()
+        bounds = " ".join(f"{name} {value}" for name, value in asked.bounds.items())
+        given, made = len(self.campaign.folder.given()), len(self.campaign.inputs)
+        lines = [
+            f"campaign of {asked.entry}: {asked.query}",
+            f"bounds {bounds}, ends {asked.ends}, budget {asked.budget}",
+        ]
+        lines += [self.line(goal) for goal in self.report.goals]
+        lines += [f"inputs {made}, of which {given} were given; the reduced suite has {len(self.report.suite)}"]
+        lines += [f"goals {len(self.report.goals)}: " + ", ".join(f"{count} {name}" for name, count in counts.items())]
+        lines += [f"covered {counts['covered']} of {self.reachable()} goals that aren't refuted"]
+        return "\n".join(lines) + "\n"
+
+    def json(self) -> str:
+        goals = [
+            {"answer": self.verdict(goal), "text": goal.text}
+            | ({"input": goal.input} if goal.input else {})
+            | (
+                {"certificate": f"certificates/{goal.number}.cert"}
+                if goal.number in self.refuted and not goal.input
+                else {}
+            )
+            for goal in self.report.goals
+        ]
+        asked = self.asked
+        value: dict[str, object] = {
+            "entry": asked.entry,
+            "query": asked.query,
+            "sources": asked.sources,
+            "bounds": asked.bounds,
+            "ends": asked.ends,
+        }
+        value |= {"budget": asked.budget, "goals": goals, "counts": self.counts(), "suite": self.report.suite}
+        return json.dumps(value) + "\n"
+
+    def write(self) -> None:
+        """Writes the files of a campaign's end."""
+        folder, made = self.campaign.folder, self.campaign.inputs
+        program.write_whole(folder.at("inputs.json"), inputs.json_text(made))
+        program.write_whole(folder.at("suite.json"), inputs.json_text([made[one - 1] for one in self.report.suite]))
+        program.write_whole(folder.at("report.json"), self.json())
+        program.write_whole(folder.at("report.txt"), self.text())
+
+    def status(self, at_least: float | None) -> int:
+        counts = self.counts()
+        if at_least is None:
+            return program.OPEN if counts["undecided"] else program.DONE
+        return program.OPEN if 100 * counts["covered"] < at_least * self.reachable() else program.DONE
+
+
+# ---- words
+
+
+def words() -> argparse.Namespace:
+    parser = argparse.ArgumentParser(
+        prog="campaign", description=__doc__, formatter_class=argparse.RawTextHelpFormatter
+    )
+    parser.add_argument("words", nargs="*", metavar="ENTRY QUERY SOURCE..", help="none where a campaign goes on")
+    parser.add_argument("-o", metavar="DIR", dest="folder", required=True, help="the campaign's folder")
+    for name, value in DEFAULTS.items():
+        parser.add_argument(f"--{name}", type=int, default=value, help=f"as for generate ({value})")
+    parser.add_argument("--ends", choices=program.ENDS, default="returned", help="the ends of runs that count")
+    parser.add_argument("--budget", type=int, help="as for prove (5000000); a greater one tries undecided goals again")
+    parser.add_argument("--inputs", metavar="FILE", help="inputs that are measured first")
+    parser.add_argument(
+        "--jobs", type=int, default=os.cpu_count() or 1, help="goals that are decided side by side, on each machine"
+    )
+    parser.add_argument("--sshloginfile", metavar="FILE", help="the machines, as GNU parallel reads them")
+    parser.add_argument(
+        "--at-least", type=float, metavar="P", help="the status is 1 where less than P percent are covered"
+    )
+    parser.add_argument("--left", action="store_true", help="only prints the goals that are left, a line each")
+    parser.add_argument("--one", type=int, metavar="N", help="only decides goal N")
+    given = parser.parse_intermixed_args()
+    if 0 < len(given.words) < 3:
+        parser.error("ENTRY QUERY SOURCE.. or none of them")
+    return given
+
+
+def begun(given: argparse.Namespace, folder: Folder) -> None:
+    """Makes the folder, or takes the one that is there."""
+    if given.words:
+        sources, place = tuple(given.words[2:]), os.getcwd()
+        bounds = {name: getattr(given, name) for name in DEFAULTS}
+        asked = Asked(
+            given.words[0],
+            given.words[1],
+            sources,
+            place,
+            read_sums(sources, place),
+            bounds,
+            given.ends,
+            given.budget or 5_000_000,
+        )
+        program.answer(["goals", asked.query, *sources])
+        folder.begin(asked, inputs.of_file(given.inputs) if given.inputs else [])
+        return
+    asked = folder.asked()
+    if read_sums(asked.sources, asked.place) != asked.sums:
+        raise Failure(f"{folder.path}: a source has changed since the campaign began; begin another one")
+    if given.budget:
+        folder.begin(Asked(**{**vars(asked), "budget": given.budget}), [])
+
+
+def locked(folder: Folder) -> IO[str]:
+    """The folder's lock, which is held as long as this file is open; a failure where another process has it."""
+    file = open(folder.at("lock"), "w", encoding="ascii")
+    try:
+        fcntl.flock(file, fcntl.LOCK_EX | fcntl.LOCK_NB)
+    except OSError:
+        raise Failure(f"{folder.path}: another process works in it") from None
+    return file
+
+
+def has_parallel() -> bool:
+    """Whether the command parallel is GNU's."""
+    if not shutil.which("parallel"):
+        return False
+    return (
+        "GNU parallel" in subprocess.run(["parallel", "--version"], capture_output=True, text=True, check=False).stdout
+    )
+
+
+def main() -> int:
+    given = words()
+    folder = Folder(given.folder)
+    if given.one:
+        folder.decide(given.one)
+        return program.DONE
+    if not given.left and not has_parallel():
+        raise Failure("GNU parallel isn't there (Debian: apt-get install parallel)")
+    begun(given, folder)
+    with locked(folder):
+        folder.clean()
+        campaign = Campaign(folder, given.jobs, given.sshloginfile)
+        if given.left:
+            print("".join(f"{goal}\n" for goal in campaign.left(campaign.measured())), end="")
+            return program.DONE
+        told = Told(campaign, campaign.run())
+        told.write()
+    print(told.text(), end="")
+    return told.status(given.at_least)

@@ -1,0 +1,150 @@
+"""bin/explain: says what the goals of a query or of a report are, and where runs ended that didn't return.
+
+WHAT is a query, or a file with a report of `measure`, `generate`, `goals` or `runs` as text or JSON; `-` stands for standard
+input. SOURCE.. are the sources that the report is about. Each goal is told with what its letters are: the place as
+FILE:LINE:COLUMN, the function, the condition with its outcome or what else is done, and the statement; of a covered goal also
+its input. A report of `measure` has no inputs and no paths of runs in it: with --entry and --inputs they are told too.
+"""
+
+import argparse
+import json
+import re
+import sys
+from collections.abc import Iterator
+
+from tools import graph as graphs
+from tools import inputs, program
+from tools.graph import Graph, Letter, Node
+from tools.program import Failure, Goal, Input, Report, Run
+from tools.sources import Faces
+
+OPENED = {"trapped", "blocked", "too-deep"}
+
+
+def is_query(word: str) -> bool:
+    """Whether a word is a query rather than a file's name."""
+    return re.match(r"\s*(in|cover)\b.", word, re.IGNORECASE | re.DOTALL) is not None
+
+
+def report_of(word: str) -> Report:
+    """The report in a file or on standard input; one that isn't read is a failure."""
+    try:
+        text = (sys.stdin.buffer.read() if word == "-" else program.read(word)).decode()
+        return program.report_of_json(json.loads(text)) if text.startswith("{") else program.report_of_text(text)
+    except (ValueError, KeyError, TypeError) as fault:
+        raise Failure(f"{word}: it is no report: {str(fault)[:80]}") from None
+
+
+def letter_line(faces: Faces, letter: Letter) -> str:
+    """A letter of a goal in one line."""
+    if letter.edge:
+        return f"e{letter.edge.number} {faces.face(letter.edge)}"
+    if letter.node:
+        return f"n{letter.node.number} {node_line(faces, letter.node)}"
+    if letter.text.startswith("!"):
+        return f"{letter.text[1:]} doesn't hold"
+    return f"{letter.text} holds" if letter.text.startswith("{") else f"a row of steps that match {letter.text}"
+
+
+def node_line(faces: Faces, node: Node) -> str:
+    """What a node is, in one line."""
+    function = faces.graph.function(node.function)
+    if node.number in (function.entry, function.exit):
+        what = "the entry" if node.number == function.entry else "the exit"
+    else:
+        what = f"control before {faces.sources[node.file].line_text(node.line)}"
+    return f"{node.place} {node.function}: {what}"
+
+
+def end_line(faces: Faces, run: Run, entry: str) -> str:
+    """Where the run of an input ended that was trapped, blocked or too deep, in one line."""
+    last = faces.graph.edges[run.edges[-1]].target if run.edges else faces.graph.function(entry).entry
+    leaving = faces.graph.leaving[last]
+    if not leaving:
+        return node_line(faces, faces.graph.nodes[last])
+    edge = leaving[0]
+    test = f"{faces.condition(edge)}, in " if edge.is_guard else ""
+    return f"{edge.place} {faces.graph.owner(edge)}: {test}{faces.statement(edge)}"
+
+
+class Explained:
+    """The lines of an explanation."""
+
+    def __init__(self, faces: Faces, entry: str, report: Report, given: list[Input], runs: list[Run]) -> None:
+        self.faces, self.entry, self.report = faces, entry, report
+        self.inputs = report.inputs or given
+        self.runs = runs
+
+    def goal(self, goal: Goal) -> Iterator[str]:
+        """The lines of a goal."""
+        verdict = f"covered by input {goal.input}" if goal.input else goal.verdict
+        yield f"goal {goal.number}: {verdict}" if verdict else f"goal {goal.number}:"
+        try:
+            letters = graphs.letters(self.faces.graph, goal.text)
+        except (ValueError, IndexError):
+            raise Failure(f"goal {goal.number} isn't one of these sources: {goal.text[:80]}") from None
+        yield from (f"  {letter_line(self.faces, letter)}" for letter in letters)
+        if goal.input and goal.input <= len(self.inputs):
+            yield f"  input {goal.input}: {self.inputs[goal.input - 1].line()}"
+
+    def run(self, run: Run) -> Iterator[str]:
+        """The line of a run, where it was trapped, blocked or too deep."""
+        if run.end.split(" ")[0] not in OPENED:
+            return
+        entry = self.entry or (
+            self.faces.graph.nodes[self.faces.graph.edges[run.edges[0]].source].function if run.edges else ""
+        )
+        if not entry:
+            raise Failure("a run has no edges; --entry says where it began")
+        yield f"input {run.number} {run.end} at {end_line(self.faces, run, entry)}"
+
+    def lines(self) -> Iterator[str]:
+        for goal in self.report.goals:
+            yield from self.goal(goal)
+        for run in self.runs:
+            yield from self.run(run)
+        lost = [run for run in self.report.runs if run.end.split(" ")[0] in OPENED]
+        if lost and not self.runs:
+            yield f"{len(lost)} runs were trapped, blocked or too deep; --entry and --inputs tell where"
+
+
+def counts(report: Report) -> str:
+    """How many goals have which verdict, in one line."""
+    verdicts = [name for name in ("covered", "missed", "refuted", "undecided") if report.count(name)]
+    told = ", ".join(f"{report.count(name)} {name}" for name in verdicts)
+    return f"{len(report.goals)} goals" + (f": {told}" if told else "")
+
+
+def words() -> argparse.Namespace:
+    parser = argparse.ArgumentParser(prog="explain", description=__doc__, formatter_class=argparse.RawTextHelpFormatter)
+    parser.add_argument("what", metavar="WHAT")
+    parser.add_argument("sources", nargs="+", metavar="SOURCE")
+    parser.add_argument("--entry", default="", help="the function in which runs begin")
+    parser.add_argument("--inputs", metavar="FILE", help="the inputs of the runs")
+    parser.add_argument(
+        "--only", choices=("covered", "missed", "refuted", "undecided"), help="goals of this verdict alone"
+    )
+    parser.add_argument("--steps", help="as for runs")
+    given = parser.parse_intermixed_args()
+    if given.inputs and not given.entry:
+        parser.error("--inputs needs --entry")
+    return given
+
+
+def main() -> int:
+    given = words()
+    automaton: Graph = graphs.of_sources(given.sources)
+    report = program.report(["goals", given.what, *given.sources]) if is_query(given.what) else report_of(given.what)
+    read, runs = [], report.runs if report.command == "runs" else []
+    if given.inputs:
+        read = inputs.of_file(given.inputs)
+        steps = ["--steps", given.steps] if given.steps else []
+        runs = program.report(["runs", given.entry, given.inputs, *given.sources, *steps]).runs
+    if given.only:
+        report.goals = [goal for goal in report.goals if goal.verdict == given.only]
+    explained = Explained(Faces(automaton, given.sources), given.entry, report, read, runs)
+    text = "".join(line + "\n" for line in explained.lines())
+    print(text, end="")
+    if report.goals:
+        print(counts(report))
+    return program.DONE

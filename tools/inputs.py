@@ -1,0 +1,168 @@
+"""bin/inputs: makes a file of inputs from reports, traces and files of inputs.
+
+Each FILE is a report of `generate` as text or JSON, lines of `prove` or `least` that name an input, a trace file, or a file of
+inputs in either form. All their inputs are written as one file that `measure` reads, in order, each once. With `--to traces`
+the file has the edges of each counted run beside it, as `runs` tells them.
+"""
+
+import argparse
+import json
+import re
+import sys
+from collections.abc import Iterator
+
+from tools import program
+from tools.program import Failure, Input
+
+_WORD = re.compile(r"-?[0-9]+")
+_ONE = re.compile(r"goal \d+ (?:covered|least) (args(?: -?\d+)*(?: answers(?: -?\d+)+)?)")
+_TRACE = re.compile(r"(args(?: -?\d+)*(?: answers(?: -?\d+)+)?) edges(?: \d+)*")
+LEAST, GREATEST = -(2**63), 2**64 - 1
+
+
+def number(value: object) -> int:
+    """A whole number in range; ValueError where it is none."""
+    if isinstance(value, bool) or not isinstance(value, int) or not LEAST <= value <= GREATEST:
+        raise ValueError(f"{value} is no whole number from -2^63 to 2^64 - 1")
+    return value
+
+
+def of_object(value: object) -> Input:
+    """The input that an object of the JSON form is."""
+    if not isinstance(value, dict) or not isinstance(value.get("args"), list):
+        raise ValueError("an input has no list args")
+    answers = value.get("answers", [])
+    if not isinstance(answers, list):
+        raise ValueError("answers is no list")
+    return Input(tuple(map(number, value["args"])), tuple(map(number, answers)))
+
+
+def of_json(text: str, kept: bool) -> list[Input]:
+    """The inputs of a JSON file, or of a report of `generate` as JSON."""
+    value = json.loads(text)
+    if isinstance(value, list):
+        return [of_object(one) for one in value]
+    if not isinstance(value, dict) or "bounds" not in value:
+        raise ValueError("it is no report of generate")
+    return of_report(program.report_of_json(value), kept)
+
+
+def of_report(report: program.Report, kept: bool) -> list[Input]:
+    """The inputs of a report of `generate`, or those of its suite alone."""
+    if report.command != "generate":
+        raise ValueError(f"it is an answer of {report.command}, which has no inputs")
+    return [report.inputs[one - 1] for one in report.suite] if kept else report.inputs
+
+
+def of_lines(lines: list[str]) -> Iterator[Input]:
+    """The inputs of a file in lines."""
+    for line in lines:
+        words = re.split(r"[ \t\r]+", line.strip(" \t\r"))
+        if words != [""]:
+            wrong = [word for word in words if not _WORD.fullmatch(word)]
+            if wrong:
+                raise ValueError(f"{wrong[0]!r} is no number")
+            yield Input(tuple(number(int(word)) for word in words))
+
+
+def matched(form: re.Pattern[str], lines: list[str]) -> Iterator[Input]:
+    """The inputs of lines of one form."""
+    for line in lines:
+        found = form.fullmatch(line)
+        if found:
+            yield program.input_of(found[1])
+        elif form is _TRACE or not line.startswith("goal "):
+            raise ValueError(f"{line[:60]!r} isn't known")
+
+
+def of_text(text: str, kept: bool) -> list[Input]:
+    """The inputs of a file's text, whichever form it has."""
+    if text.lstrip(" \t\r\n")[:1] in ("[", "{"):
+        return of_json(text, kept)
+    lines = text.removesuffix("\n").split("\n")
+    if lines[0] == "fshell traces 1":
+        return list(matched(_TRACE, lines[1:]))
+    if re.match(r"goals \d", lines[0]):
+        return of_report(program.report_of_text(text), kept)
+    if re.match(r"goal \d+ (?:covered|least|refuted|undecided|open)", lines[0]):
+        return list(matched(_ONE, lines))
+    if lines[0].startswith("fshell certificate"):
+        raise ValueError("it is a certificate, which has no inputs")
+    return list(of_lines(lines))
+
+
+def of_file(path: str, kept: bool = False) -> list[Input]:
+    """The inputs of a file; one that isn't read is a failure."""
+    try:
+        return of_text(program.read(path).decode(), kept)
+    except (ValueError, KeyError, TypeError, IndexError, RecursionError) as fault:
+        raise Failure(f"{path}: no inputs are read: {fault}") from None
+
+
+def once(inputs: list[Input]) -> list[Input]:
+    """The inputs in order, each once."""
+    return list(dict.fromkeys(inputs))
+
+
+# ---- written files
+
+
+def lines_text(inputs: list[Input]) -> str:
+    """A file in lines."""
+    if any(one.answers or not one.args for one in inputs):
+        raise Failure("an input with answers or without arguments isn't written as a line; --to json writes it")
+    return "".join(" ".join(map(str, one.args)) + "\n" for one in inputs)
+
+
+def json_text(inputs: list[Input]) -> str:
+    """A file in JSON, a line for each input."""
+    objects = [{"args": one.args, **({"answers": one.answers} if one.answers else {})} for one in inputs]
+    return "[" + ",\n ".join(map(json.dumps, objects)) + "]\n"
+
+
+def best_text(inputs: list[Input]) -> str:
+    """A file in lines where that is enough, else in JSON."""
+    return json_text(inputs) if any(one.answers or not one.args for one in inputs) else lines_text(inputs)
+
+
+def traces_text(inputs: list[Input], entry: str, sources: list[str], ends: str) -> str:
+    """A trace file of the inputs whose runs are counted."""
+    with program.as_file(json_text(inputs)) as path:
+        runs = program.report(["runs", entry, path, *sources]).runs
+    lines = [
+        " ".join([one.line(), "edges", *map(str, run.edges)]) for one, run in zip(inputs, runs) if run.is_counted(ends)
+    ]
+    return "\n".join(["fshell traces 1", *lines]) + "\n"
+
+
+def words() -> argparse.Namespace:
+    parser = argparse.ArgumentParser(prog="inputs", description=__doc__, formatter_class=argparse.RawTextHelpFormatter)
+    parser.add_argument("files", nargs="+", metavar="FILE")
+    parser.add_argument("-o", metavar="OUT", dest="out", help="the file that is written; else standard output")
+    parser.add_argument(
+        "--to", choices=("lines", "json", "traces"), help="the form; else lines where they are enough, or JSON"
+    )
+    parser.add_argument("--suite", action="store_true", help="of a report, the inputs of its suite alone")
+    parser.add_argument("--entry", help="for traces: the function in which runs begin")
+    parser.add_argument("--source", action="append", default=[], help="for traces: a source, in their order")
+    parser.add_argument(
+        "--ends", choices=program.ENDS, default="returned", help="for traces: the ends of runs that count"
+    )
+    given = parser.parse_intermixed_args()
+    if given.to == "traces" and not (given.entry and given.source):
+        parser.error("--to traces needs --entry and --source")
+    return given
+
+
+def main() -> int:
+    given = words()
+    read = [one for path in given.files for one in of_file(path, given.suite)]
+    inputs = once(read)
+    if given.to == "traces":
+        text = traces_text(inputs, given.entry, given.source, given.ends)
+    else:
+        text = {"lines": lines_text, "json": json_text, None: best_text}[given.to](inputs)
+    program.give(text, given.out)
+    if given.out:
+        print(f"{given.out}: {len(inputs)} inputs of {len(read)} that were read", file=sys.stderr)
+    return program.DONE

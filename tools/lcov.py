@@ -1,0 +1,156 @@
+"""bin/lcov: writes what the counted runs of inputs took as an lcov tracefile, for genhtml and for services that read one.
+
+A line is one on which a step stands; it counts as often as the place of control on it that runs left most often. A branch is a
+guard, so each part of a condition has two, and each label of a `switch`: the one where it holds, then the other.
+With --refuted FILE, a report of `generate ENTRY "cover ID" SOURCE..`, a branch that is refuted there, and a line on which each
+step is, is left out, with a note: no input reaches it within the report's bounds.
+"""
+
+import argparse
+import os
+import sys
+from collections import Counter
+from collections.abc import Iterator
+
+from tools import graph as graphs
+from tools import program
+from tools.explain import report_of
+from tools.graph import Edge, Graph
+from tools.program import Failure, Report, Run
+
+
+class Coverage:
+    """What runs took of an automaton."""
+
+    def __init__(self, graph: Graph, entry: str, runs: list[Run], refuted: set[int]) -> None:
+        self.graph = graph
+        self.taken = Counter(edge for run in runs for edge in run.edges)
+        self.entered = Counter(
+            edge.name for edge in graph.edges if edge.operation == "call" for _ in range(self.taken[edge.number])
+        )
+        self.entered[entry] += len(runs)
+        self.refuted = {edge for edge in refuted if not self.taken[edge]}
+        self.excluded: list[str] = []
+
+    def steps(self, file: str) -> Iterator[Edge]:
+        """The edges of a file, but for returns, whose calls stand at the same place."""
+        return (edge for edge in self.graph.edges if edge.file == file and edge.operation != "return")
+
+    def lines(self, file: str) -> dict[int, int]:
+        """How often runs came to each line of a file."""
+        passed: dict[int, Counter[int]] = {}
+        reached = set()
+        for edge in self.steps(file):
+            passed.setdefault(edge.line, Counter())[edge.source] += self.taken[edge.number]
+            if edge.number not in self.refuted:
+                reached.add(edge.line)
+        self.excluded += [f"{file}:{line}" for line in sorted(passed) if line not in reached]
+        return {line: max(passed[line].values()) for line in sorted(passed) if line in reached}
+
+    def branches(self, file: str) -> list[tuple[int, int, int, int | None]]:
+        """The line, the test's number, 0 or 1 and the count of each guard of a file; no count where the test wasn't made."""
+        found = []
+        tests = sorted(
+            (pair for pair in self.graph.guards() if pair[0].file == file),
+            key=lambda pair: (pair[0].line, pair[0].column),
+        )
+        for number, pair in enumerate(tests):
+            is_made = any(self.taken[edge.number] for edge in pair)
+            for branch, edge in enumerate(pair):
+                if edge.number in self.refuted:
+                    self.excluded.append(f"{edge.place} {'true' if edge.truth else 'false'}")
+                else:
+                    found.append((edge.line, number, branch, self.taken[edge.number] if is_made else None))
+        return found
+
+    def functions(self, file: str) -> list[tuple[int, str, int]]:
+        """The line, the name and the number of entries of each function of a file."""
+        places = [(self.graph.nodes[one.entry], one.name) for one in self.graph.functions]
+        return [(node.line, name, self.entered[name]) for node, name in places if node.file == file]
+
+
+class Totals:
+    """How many lines, functions and branches there are, and how many were reached."""
+
+    def __init__(self) -> None:
+        self.found: Counter[str] = Counter()
+        self.hit: Counter[str] = Counter()
+
+    def add(self, what: str, counts: list[int | None]) -> tuple[int, int]:
+        """Adds those of a file, and gives their numbers."""
+        numbers = len(counts), sum(bool(count) for count in counts)
+        self.found[what] += numbers[0]
+        self.hit[what] += numbers[1]
+        return numbers
+
+    def text(self) -> str:
+        return ", ".join(
+            f"{what} {self.hit[what]} of {self.found[what]}" for what in ("lines", "functions", "branches")
+        )
+
+
+def record(coverage: Coverage, file: str, totals: Totals) -> Iterator[str]:
+    """The lines of a source's record."""
+    functions, branches, lines = coverage.functions(file), coverage.branches(file), coverage.lines(file)
+    yield "TN:"
+    yield f"SF:{os.path.abspath(file)}"
+    yield from (f"FN:{line},{name}" for line, name, _ in functions)
+    yield from (f"FNDA:{count},{name}" for _, name, count in functions)
+    found, hit = totals.add("functions", [count for _, _, count in functions])
+    yield from (f"FNF:{found}", f"FNH:{hit}")
+    for line, number, branch, count in branches:
+        yield f"BRDA:{line},{number},{branch},{'-' if count is None else count}"
+    found, hit = totals.add("branches", [count for *_, count in branches])
+    yield from (f"BRF:{found}", f"BRH:{hit}")
+    yield from (f"DA:{line},{count}" for line, count in lines.items())
+    found, hit = totals.add("lines", list(lines.values()))
+    yield from (f"LF:{found}", f"LH:{hit}", "end_of_record")
+
+
+def refuted_edges(graph: Graph, report: Report) -> set[int]:
+    """The edges that a report refutes; a failure where it is none of single edges of this automaton."""
+    if report.command != "generate":
+        raise Failure("--refuted wants a report of generate")
+    found = set()
+    for goal in report.goals:
+        try:
+            letters = graphs.letters(graph, goal.text)
+        except (ValueError, IndexError):
+            raise Failure(f"the report isn't of these sources: {goal.text[:80]}") from None
+        if len(letters) != 1 or not letters[0].edge:
+            raise Failure(f'the report isn\'t of the query "cover ID": {goal.text[:80]}')
+        if goal.verdict == "refuted":
+            found.add(letters[0].edge.number)
+    return found
+
+
+def words() -> argparse.Namespace:
+    parser = argparse.ArgumentParser(prog="lcov", description=__doc__, formatter_class=argparse.RawTextHelpFormatter)
+    parser.add_argument("entry", metavar="ENTRY")
+    parser.add_argument("inputs", metavar="INPUTS")
+    parser.add_argument("sources", nargs="+", metavar="SOURCE")
+    parser.add_argument("-o", metavar="OUT", dest="out", help="the tracefile that is written; else standard output")
+    parser.add_argument("--ends", choices=program.ENDS, default="returned", help="the ends of runs that count")
+    parser.add_argument("--steps", metavar="N", help="as for runs")
+    parser.add_argument("--refuted", metavar="FILE", help="leaves out what this report refutes")
+    return parser.parse_intermixed_args()
+
+
+def main() -> int:
+    given = words()
+    graph = graphs.of_sources(given.sources)
+    steps = ["--steps", given.steps] if given.steps else []
+    runs = program.report(["runs", given.entry, given.inputs, *given.sources, *steps]).runs
+    counted = [run for run in runs if run.is_counted(given.ends)]
+    report = report_of(given.refuted) if given.refuted else None
+    coverage = Coverage(graph, given.entry, counted, refuted_edges(graph, report) if report else set())
+    totals = Totals()
+    files = [source for source in dict.fromkeys(given.sources) if any(coverage.steps(source))]
+    text = "".join(line + "\n" for file in files for line in record(coverage, file, totals))
+    program.give(text, given.out)
+    told = [f"{len(counted)} of {len(runs)} runs count: {totals.text()}"]
+    if report:
+        bounds = " ".join(f"{name} {report.bounds[name]}" for name in program.BOUNDS)
+        told += [f"left out, since no input reaches it within {bounds}: {one}" for one in coverage.excluded]
+    print("\n".join(told), file=sys.stderr if given.out is None else sys.stdout)
+    return program.DONE

@@ -1,0 +1,272 @@
+"""bin/page: shows reports as one HTML file: the sources with a mark at each goal, and what each goal is.
+
+A REPORT is a report of `measure` or `generate` (text or JSON), or the folder of a campaign, which has all that is needed. For a
+report the sources are named by --source; with --entry the page also has the paths of its inputs (--inputs for a report of
+`measure`), and with --query the commands that write and check the certificate of a refuted goal.
+"""
+
+import argparse
+import html
+import json
+import os
+import re
+import shlex
+import shutil
+import subprocess
+from collections import Counter
+from collections.abc import Iterator
+from dataclasses import dataclass
+from typing import Any
+
+from tools import graph as graphs
+from tools import inputs, program
+from tools.explain import letter_line, report_of
+from tools.folder import STEPS, Folder
+from tools.graph import Edge, Graph, Letter
+from tools.program import Failure, Goal, Input, Report
+from tools.sources import Faces
+
+VERDICTS = ("covered", "missed", "undecided", "refuted")
+LONGEST_PATH, LARGEST_PICTURE = 5_000, 400
+KNOWN = {"refuted within the bounds": "refuted", "unreachable": "refuted"}
+
+
+@dataclass
+class Shown:
+    """A report that is shown, with what is known beside it; the entry and the query are empty where they aren't."""
+
+    name: str
+    report: Report
+    sources: list[str]
+    entry: str
+    query: str
+    given: list[Input]
+    place: str
+    folder: str = ""
+
+
+def of_campaign(path: str) -> Shown:
+    """The report in a campaign's folder."""
+    folder = Folder(path)
+    asked = folder.asked()
+    try:
+        value = json.loads(program.read(folder.at("report.json")))
+        report = Report("generate", suite=value["suite"], bounds=value["bounds"], ends=value["ends"])
+        for number, goal in enumerate(value["goals"], 1):
+            report.goals.append(
+                Goal(number, KNOWN.get(goal["answer"], goal["answer"]), goal.get("input"), goal["text"])
+            )
+    except (ValueError, KeyError, TypeError):
+        raise Failure(f"{path} has no whole report.json") from None
+    given = inputs.of_file(folder.at("inputs.json"))
+    return Shown(path, report, list(asked.sources), asked.entry, asked.query, given, asked.place, path)
+
+
+def shown(name: str, given: argparse.Namespace) -> Shown:
+    """A report that is named, with what the words say of it."""
+    if os.path.isdir(name):
+        return of_campaign(name)
+    report = report_of(name)
+    if report.command not in ("measure", "generate"):
+        raise Failure(f"{name}: it is an answer of {report.command}; the page shows those of measure and generate")
+    if not given.source:
+        raise Failure("the sources of a report are named by --source")
+    read = report.inputs or (inputs.of_file(given.inputs) if given.inputs else [])
+    return Shown(name, report, given.source, given.entry, given.query, read, ".")
+
+
+# ---- what the page has
+
+
+def commands(one: Shown, goal: Goal) -> list[str]:
+    """The commands that write and check the certificate of a refuted goal."""
+    if not one.query:
+        return []
+    bounds = [word for name in program.BOUNDS for word in (f"--{name}", str(one.report.bounds[name]))]
+    ends = [] if one.report.ends == "returned" else ["--ends", one.report.ends]
+    kept = os.path.join(one.folder, "certificates", f"{goal.number}.cert") if one.folder else f"{goal.number}.cert"
+    asked = [one.entry or "ENTRY", one.query, str(goal.number)]
+    check = shlex.join(
+        ["fshell", "check", *asked, os.path.abspath(kept) if one.folder else kept, *one.sources, *bounds, *ends]
+    )
+    prove = shlex.join(["fshell", "prove", *asked, *one.sources, *bounds, *ends]) + f" > {shlex.quote(kept)}"
+    return [check] if one.folder else [prove, check]
+
+
+def paths(one: Shown) -> dict[int, list[int]]:
+    """The edges of the run of each input that covers a goal."""
+    if not one.entry or not one.given:
+        return {}
+    with program.as_file(inputs.json_text(one.given)) as file:
+        runs = program.report(["runs", one.entry, file, *one.sources, "--steps", STEPS], one.place).runs
+    used = {goal.input for goal in one.report.goals}
+    return {run.number: list(run.edges[:LONGEST_PATH]) for run in runs if run.number in used}
+
+
+def first_place(letters: list[Letter]) -> tuple[str, int, int] | None:
+    """The place of the first letter that has one; a node has no column."""
+    for letter in letters:
+        if letter.edge:
+            return letter.edge.file, letter.edge.line, letter.edge.column
+        if letter.node:
+            return letter.node.file, letter.node.line, 0
+    return None
+
+
+def kind_of(letters: list[Letter]) -> str:
+    """The kind of a goal: that of its statement where it is one edge."""
+    if len(letters) == 1:
+        edge = letters[0].edge
+        return edge.kind.lower() if edge else "node" if letters[0].node else "predicate"
+    return "path" if all(letter.edge for letter in letters) else "several"
+
+
+class Page:
+    """The page's data: the goals of all reports, with their places."""
+
+    def __init__(self, reports: list[Shown], graph: Graph, faces: Faces) -> None:
+        self.reports, self.graph, self.faces = reports, graph, faces
+        self.goals: list[dict[str, Any]] = []
+        self.places: dict[tuple[str, int, int], list[int]] = {}
+        self.functions: dict[str, Counter[str]] = {}
+        self.letters: dict[str, str] = {}
+        for number, one in enumerate(reports):
+            for goal in one.report.goals:
+                self.add(number, one, goal)
+
+    def add(self, number: int, one: Shown, goal: Goal) -> None:
+        """Adds a goal of a report."""
+        try:
+            letters = graphs.letters(self.graph, goal.text)
+        except (ValueError, IndexError):
+            raise Failure(f"{one.name}: goal {goal.number} isn't one of these sources: {goal.text[:80]}") from None
+        place = first_place(letters)
+        if place:
+            self.places.setdefault(place, []).append(len(self.goals))
+        owners = [owner for letter in letters if (owner := self.owner(letter))]
+        self.functions.setdefault(owners[0] if owners else "(no place)", Counter())[goal.verdict] += 1
+        found = {
+            "r": number,
+            "n": goal.number,
+            "v": goal.verdict,
+            "k": kind_of(letters),
+            "l": [self.key(letter) for letter in letters],
+        }
+        found |= {"i": goal.input} if goal.input else {}
+        found |= {"c": commands(one, goal)} if goal.verdict == "refuted" else {}
+        self.goals.append(found)
+
+    def owner(self, letter: Letter) -> str:
+        """The function of a letter, if it has a place."""
+        return self.graph.owner(letter.edge) if letter.edge else letter.node.function if letter.node else ""
+
+    def key(self, letter: Letter) -> str:
+        """A letter's name in the page's data, where its line is kept once."""
+        key = f"e{letter.edge.number}" if letter.edge else f"n{letter.node.number}" if letter.node else letter.text
+        if key not in self.letters:
+            self.letters[key] = letter_line(self.faces, letter)
+        return key
+
+    def data(self) -> str:
+        """The data as JSON that may stand within a script element."""
+        taken = [paths(one) for one in self.reports]
+        for edge in {edge for of_one in taken for path in of_one.values() for edge in path}:
+            self.key(Letter(edge=self.graph.edges[edge]))
+        names = {name: number for number, name in enumerate(self.faces.sources)}
+        value = {
+            "goals": self.goals,
+            "letters": self.letters,
+            "lines": [f"{names[edge.file]}:{edge.line}" for edge in self.graph.edges],
+            "reports": [one.name for one in self.reports],
+            "inputs": [[given.line() for given in one.given] for one in self.reports],
+            "paths": taken,
+        }
+        return json.dumps(value).replace("<", "\\u003c").replace("\u2028", "\\u2028")
+
+    def lines(self, name: str) -> Iterator[tuple[int, list[tuple[str, list[dict[str, Any]]]]]]:
+        """Each line of a source: its number, and its parts, each with the goals that are marked before it."""
+        source = self.faces.sources[name]
+        columns: dict[int, dict[int, list[int]]] = {}
+        for (file, line, column), goals in self.places.items():
+            if file == name:
+                columns.setdefault(line, {}).setdefault(column, []).extend(goals)
+        for number, text in enumerate(source.text.removesuffix("\n").split("\n"), 1):
+            marks = columns.get(number, {})
+            starts = sorted({max(column - 1, 0) for column in marks} | {0})
+            parts = []
+            for at, end in zip(starts, starts[1:] + [len(text)]):
+                goals = marks.get(at + 1, []) + (marks.get(0, []) if at == 0 else [])
+                words = text[at:end].encode("latin-1").decode("utf-8", "replace")
+                parts.append((words, [{**self.goals[goal], "at": goal} for goal in goals]))
+            yield number, parts
+
+    def picture(self, function: str) -> str:
+        """The automaton of a function as SVG, or why there is none."""
+        edges = [edge for edge in self.graph.edges if self.graph.owner(edge) == function]
+        if len(edges) > LARGEST_PICTURE:
+            return f"<p>{len(edges)} edges are too many for a picture.</p>"
+        if not shutil.which("dot"):
+            return "<p>There is no picture, since graphviz isn't there (Debian: graphviz).</p>"
+        drawn = subprocess.run(["dot", "-Tsvg"], input=self.dot(edges), capture_output=True, text=True, check=False)
+        found = re.search(r"<svg.*</svg>", drawn.stdout, re.DOTALL)
+        return found[0] if found else f"<p>{html.escape(drawn.stderr[:200])}</p>"
+
+    def dot(self, edges: list[Edge]) -> str:
+        """The text of graphviz for edges; those that are goals have their verdict's colour."""
+        colours = {"covered": "#1a7f37", "missed": "#cf222e", "refuted": "#6e7781", "undecided": "#bf8700"}
+        verdict = {goal["l"][0]: goal["v"] for goal in self.goals if len(goal["l"]) == 1}
+        rows = [
+            'digraph { node [shape=circle fontsize=10 width=0.3 fixedsize=true]; edge [fontsize=9 fontname="monospace"];'
+        ]
+        for edge in edges:
+            text = (
+                f"e{edge.number} {self.faces.deed(edge) or self.faces.statement(edge)}"[:60]
+                .replace("\\", "\\\\")
+                .replace('"', '\\"')
+            )
+            colour = colours.get(verdict.get(f"e{edge.number}", ""), "#000000")
+            rows.append(f'{edge.source} -> {edge.target} [label="{text}" color="{colour}" fontcolor="{colour}"];')
+        return "\n".join(rows + ["}"])
+
+
+def page_text(page: Page) -> str:
+    """The page."""
+    try:
+        import jinja2
+    except ImportError:
+        raise Failure("jinja2 isn't there (Debian: apt-get install python3-jinja2)") from None
+    loader = jinja2.FileSystemLoader(os.path.dirname(os.path.realpath(__file__)))
+    template = jinja2.Environment(loader=loader, autoescape=True, trim_blocks=True, lstrip_blocks=True).get_template(
+        "page.html"
+    )
+    totals = Counter(goal["v"] for goal in page.goals)
+    used = [function for function in page.functions if function != "(no place)"]
+    return template.render(
+        page=page, verdicts=VERDICTS, totals=totals, kinds=sorted({goal["k"] for goal in page.goals}),
+        pictures={function: page.picture(function) for function in used}, data=page.data(),
+    )  # fmt: skip
+
+
+def words() -> argparse.Namespace:
+    parser = argparse.ArgumentParser(prog="page", description=__doc__, formatter_class=argparse.RawTextHelpFormatter)
+    parser.add_argument("reports", nargs="+", metavar="REPORT")
+    parser.add_argument("-o", metavar="FILE", dest="out", required=True, help="the page that is written")
+    parser.add_argument("--source", action="append", default=[], help="a source, in their order")
+    parser.add_argument("--entry", default="", help="the function in which runs begin")
+    parser.add_argument("--query", default="", help="the query of the reports")
+    parser.add_argument("--inputs", metavar="FILE", help="the inputs of a report of measure")
+    return parser.parse_intermixed_args()
+
+
+def main() -> int:
+    given = words()
+    reports = [shown(name, given) for name in given.reports]
+    sources, place = reports[0].sources, reports[0].place
+    if any(one.sources != sources or one.place != place for one in reports):
+        raise Failure("the reports are of different sources")
+    graph = graphs.of_sources(sources, place)
+    page = Page(reports, graph, Faces(graph, sources, place))
+    program.write_whole(given.out, page_text(page))
+    totals = Counter(goal["v"] for goal in page.goals)
+    print(f"{given.out}: {len(page.goals)} goals, " + ", ".join(f"{totals[name]} {name}" for name in VERDICTS))
+    return program.DONE

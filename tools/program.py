@@ -1,0 +1,286 @@
+"""Runs FShell and reads its texts into small records.
+
+The program is that of the environment's FSHELL, or else what bin/fshell runs. Everything that a tool can't go on with is a
+`Failure`: one line, and the status 2.
+"""
+
+import contextlib
+import os
+import re
+import subprocess
+import sys
+import tempfile
+from collections.abc import Callable, Iterator, Sequence
+from dataclasses import dataclass, field
+
+ROOT = os.path.dirname(os.path.dirname(os.path.realpath(__file__)))
+DONE, OPEN, FAILED = 0, 1, 2
+ENDS = ("returned", "trapped", "any")
+BOUNDS = ("turns", "frames", "answers")
+
+
+class Failure(Exception):
+    """Why a tool can't go on, in one line."""
+
+
+@dataclass(frozen=True)
+class Ended:
+    """How a run of the program ended."""
+
+    status: int
+    stdout: str
+    stderr: str
+
+
+@dataclass(frozen=True)
+class Input:
+    """The arguments of an entry, and the answers that its input functions give in order."""
+
+    args: tuple[int, ...]
+    answers: tuple[int, ...] = ()
+
+    def line(self) -> str:
+        """As the program writes it behind an input's number."""
+        words = ["args", *map(str, self.args)]
+        return " ".join(words + (["answers", *map(str, self.answers)] if self.answers else []))
+
+
+@dataclass(frozen=True)
+class Goal:
+    """A goal with its verdict: covered, missed, refuted, undecided, or none where the query's goals are listed."""
+
+    number: int
+    verdict: str
+    input: int | None
+    text: str
+
+
+@dataclass(frozen=True)
+class Run:
+    """How the run of an input ends, and the edges that it took, where they are told."""
+
+    number: int
+    end: str
+    value: int | None
+    edges: tuple[int, ...] = ()
+
+    def is_counted(self, ends: str) -> bool:
+        """Whether a run that ends so counts."""
+        kind = self.end.split(" ")[0]
+        return kind == "returned" or (kind == "trapped" and ends != "returned") or (kind != "cut" and ends == "any")
+
+
+@dataclass
+class Report:
+    """What `measure`, `generate`, `goals` or `runs` answered; parts that the command doesn't have are empty."""
+
+    command: str
+    goals: list[Goal] = field(default_factory=list)
+    inputs: list[Input] = field(default_factory=list)
+    runs: list[Run] = field(default_factory=list)
+    suite: list[int] = field(default_factory=list)
+    bounds: dict[str, int] = field(default_factory=dict)
+    ends: str = "returned"
+
+    def count(self, verdict: str) -> int:
+        """How many goals have a verdict."""
+        return sum(goal.verdict == verdict for goal in self.goals)
+
+
+# ---- runs of the program
+
+
+def program() -> str:
+    """The path of the program."""
+    return os.environ.get("FSHELL") or os.path.join(ROOT, "bin", "fshell")
+
+
+def run(words: Sequence[str], folder: str | None = None) -> Ended:
+    """What the program answers to these words."""
+    try:
+        ended = subprocess.run(
+            [program(), *words], cwd=folder, stdin=subprocess.DEVNULL, capture_output=True, check=False
+        )
+    except OSError as fault:
+        raise Failure(f"the program can't be started: {fault.strerror}: {program()}") from None
+    return Ended(ended.returncode, ended.stdout.decode(), ended.stderr.decode())
+
+
+def answer(words: Sequence[str], folder: str | None = None) -> str:
+    """The text that the program writes; a refusal is a failure."""
+    ended = run(words, folder)
+    if ended.status not in (DONE, OPEN):
+        lines = ended.stderr.strip().splitlines() or [f"it ended with status {ended.status}"]
+        raise Failure(f"fshell {words[0]}: {lines[-1]}")
+    return ended.stdout
+
+
+def has_command(name: str) -> bool:
+    """Whether the program knows a command: it answers some source that isn't there otherwise than as usage."""
+    words = {"graph": ["graph", "/no/source.c"], "bounds": ["bounds", "f", "/no/source.c"]}[name]
+    return "Usage" not in run(words).stderr
+
+
+# ---- texts of the program
+
+
+def numbers(words: str) -> tuple[int, ...]:
+    """The whole numbers of a row of words."""
+    return tuple(map(int, words.split()))
+
+
+def input_of(words: str) -> Input:
+    """The input that `args .. answers ..` stands for."""
+    found = re.fullmatch(r"args((?: -?\d+)*)(?: answers((?: -?\d+)+))?", words)
+    if not found:
+        raise ValueError(words)
+    return Input(numbers(found[1]), numbers(found[2] or ""))
+
+
+def run_of(number: int, words: str) -> Run:
+    """The run that `END [edges ..]` stands for."""
+    found = re.fullmatch(r"(returned|trapped [a-z-]+|blocked|too-deep|cut)(?: (-?\d+))?( edges((?: \d+)*))?", words)
+    if not found:
+        raise ValueError(words)
+    return Run(number, found[1], None if found[2] is None else int(found[2]), numbers(found[4] or ""))
+
+
+def goal_of(words: str) -> Goal:
+    """The goal that `N [covered I|missed|refuted|undecided] TEXT` stands for."""
+    found = re.fullmatch(r"(\d+) (?:covered (\d+)|(missed|refuted|undecided)) (.*)", words, re.DOTALL)
+    if found:
+        return Goal(int(found[1]), found[3] or "covered", int(found[2]) if found[2] else None, found[4])
+    number, text = words.split(" ", 1)
+    return Goal(int(number), "", None, text)
+
+
+def _head(report: Report, line: str) -> int:
+    """Reads the first line of a report; gives the number of its goals."""
+    words = re.fullmatch(r"goals (\d+)((?: (?:inputs|turns|frames|answers|budget) \d+)*)(?: ends (trapped|any))?", line)
+    if not words:
+        raise ValueError(line)
+    pairs = words[2].split()
+    report.bounds = {name: int(value) for name, value in zip(pairs[::2], pairs[1::2]) if name != "inputs"}
+    report.ends = words[3] or "returned"
+    report.command = "generate" if report.bounds else "measure" if "inputs" in pairs else "goals"
+    return int(words[1])
+
+
+def _line(report: Report, line: str) -> None:
+    """Reads another line of a report."""
+    word, rest = (line.split(" ", 1) + [""])[:2]
+    if word == "input":
+        number, words = rest.split(" ", 1)
+        if words.startswith("args"):
+            report.inputs.append(input_of(words))
+        else:
+            report.runs.append(run_of(int(number), words))
+    elif word == "goal":
+        report.goals.append(goal_of(rest))
+    elif word == "suite":
+        report.suite = list(numbers(rest))
+    elif word != "covered":
+        raise ValueError(line)
+
+
+def report_of_text(text: str) -> Report:
+    """The report that a text of the program is; ValueError where it is none, or isn't whole."""
+    lines = text.split("\n")
+    if lines.pop() != "":
+        raise ValueError("its last line isn't whole")
+    report, count = Report("runs"), 0
+    if lines and not lines[0].startswith("input "):
+        count = _head(report, lines.pop(0))
+    for line in lines:
+        _line(report, line)
+    if len(report.goals) != count:
+        raise ValueError(f"it has {len(report.goals)} of {count} goals")
+    return report
+
+
+def report_of_json(value: dict) -> Report:
+    """The report that a JSON line of the program is; KeyError, TypeError or ValueError where it is none."""
+    report = Report("generate" if "bounds" in value else "measure")
+    report.bounds, report.ends = value.get("bounds", {}), value.get("ends", "returned")
+    for number, goal in enumerate(value["goals"], 1):
+        report.goals.append(Goal(number, goal["answer"], goal.get("input"), goal["text"]))
+    for number, one in enumerate(value["inputs"], 1):
+        if "args" in one:
+            report.inputs.append(Input(tuple(one["args"]), tuple(one["answers"])))
+        else:
+            report.runs.append(Run(number, one["end"], one.get("value")))
+    report.suite = list(value["suite"])
+    return report
+
+
+def report(words: Sequence[str], folder: str | None = None) -> Report:
+    """The report that the program answers to the words of `measure`, `generate`, `goals` or `runs`."""
+    return report_of_text(answer(words, folder))
+
+
+# ---- what the tools share
+
+
+def read(path: str) -> bytes:
+    """A file's bytes."""
+    try:
+        with open(path, "rb") as file:
+            return file.read()
+    except OSError as fault:
+        raise Failure(f"{path}: {fault.strerror}") from None
+
+
+def write_whole(path: str, text: str) -> None:
+    """Writes a file whole or not at all: a new file is moved into its place."""
+    folder = os.path.dirname(path) or "."
+    name = ""
+    try:
+        descriptor, name = tempfile.mkstemp(prefix=".new.", dir=folder)
+        with os.fdopen(descriptor, "w", encoding="utf-8", errors="surrogateescape", newline="") as file:
+            file.write(text)
+            os.fchmod(file.fileno(), 0o666 & ~_mask())
+        os.replace(name, path)
+    except OSError as fault:
+        if os.path.exists(name):
+            os.remove(name)
+        raise Failure(f"{path}: {fault.strerror}") from None
+
+
+@contextlib.contextmanager
+def as_file(text: str) -> Iterator[str]:
+    """A file with a text, as long as it is used."""
+    with tempfile.NamedTemporaryFile("w", encoding="utf-8", suffix=".json") as file:
+        file.write(text)
+        file.flush()
+        yield file.name
+
+
+def _mask() -> int:
+    """The mask of the modes of new files."""
+    mask = os.umask(0)
+    os.umask(mask)
+    return mask
+
+
+def give(text: str, path: str | None) -> None:
+    """Writes a text to a file, or to standard output where none is named."""
+    if path is None:
+        sys.stdout.buffer.write(text.encode(errors="surrogateescape"))
+        sys.stdout.flush()
+    else:
+        write_whole(path, text)
+
+
+def ended(tool: str, main: Callable[[], int]) -> int:
+    """The status of a tool; a failure is one line on standard error."""
+    try:
+        return main()
+    except Failure as failure:
+        print(f"{tool}: {' '.join(str(failure).splitlines())}", file=sys.stderr)
+    except BrokenPipeError:
+        os.dup2(os.open(os.devnull, os.O_WRONLY), sys.stdout.fileno())
+    except OSError as fault:
+        print(f"{tool}: {fault.strerror}", file=sys.stderr)
+    except KeyboardInterrupt:
+        print(f"{tool}: stopped", file=sys.stderr)
+    return FAILED

@@ -1,0 +1,180 @@
+"""The text of conditions and statements, as it stands in the sources, for the places that the automaton names.
+
+Sources are cut into tokens as docs/C_PROFILE.md says; a place is a line and the column of a byte. Where a place is the word of a
+macro, the text is that word's.
+"""
+
+import bisect
+import os
+import re
+from collections.abc import Sequence
+from dataclasses import dataclass
+
+from tools import program
+from tools.graph import Edge, Graph
+
+_TOKEN = re.compile(
+    r"(?P<blank>[ \t\v\f\r\n]+|//[^\n]*|/\*.*?\*/)|(?P<word>[A-Za-z_]\w*)|(?P<number>[0-9][\w.]*)"
+    r"|(?P<quoted>'(?:\\.|[^'\\\n])*'|\"(?:\\.|[^\"\\\n])*\")"
+    r"|(?P<mark>\.\.\.|<<=|>>=|\+\+|--|<<|>>|<=|>=|==|!=|&&|\|\||[*/%+\-&^|]=|->|.)",
+    re.DOTALL | re.ASCII,
+)
+_DIRECTIVE = re.compile(r"#(?:/\*.*?\*/|//[^\n]*|[^\n])*", re.DOTALL)
+_COMMENT = re.compile(r"/\*.*?\*/|//[^\n]*", re.DOTALL)
+_KEYWORDS = {"IF": "if", "WHILE": "while", "DO": "while", "FOR": "for", "SWITCH": "switch"}
+OPENING, CLOSING = "([{", ")]}"
+
+
+@dataclass(frozen=True)
+class Token:
+    text: str
+    start: int
+    end: int
+
+
+class Source:
+    """A source: its text, each byte a character, and its tokens without directives."""
+
+    def __init__(self, name: str, data: bytes) -> None:
+        self.name = name
+        self.text = data.decode("latin-1")
+        self.lines = [0] + [found.end() for found in re.finditer("\n", self.text)]
+        self.directives: list[Token] = []
+        self.tokens = list(self._cut())
+        self.starts = [token.start for token in self.tokens]
+
+    def _cut(self) -> list[Token]:
+        """The tokens; directives are put aside."""
+        found: list[Token] = []
+        at, is_first = 0, True
+        while at < len(self.text):
+            directive = _DIRECTIVE.match(self.text, at) if is_first and self.text[at] == "#" else None
+            token = directive or _TOKEN.match(self.text, at)
+            if not token:
+                raise program.Failure(f"{self.name}: no token begins at byte {at}")
+            if directive:
+                self.directives.append(Token(directive[0], at, directive.end()))
+            elif not token.group("blank"):
+                found.append(Token(token[0], token.start(), token.end()))
+            is_first = "\n" in token[0] or (is_first and bool(directive or token.group("blank")))
+            at = token.end()
+        return found
+
+    def offset(self, line: int, column: int) -> int:
+        """The number of the byte at a line and a column."""
+        return self.lines[line - 1] + column - 1
+
+    def index(self, line: int, column: int) -> int:
+        """The number of the token at a place, or of the first behind it."""
+        return min(bisect.bisect_left(self.starts, self.offset(line, column)), len(self.tokens) - 1)
+
+    def line_text(self, line: int) -> str:
+        """The text of a line, without blanks at its ends."""
+        end = self.lines[line] if line < len(self.lines) else len(self.text)
+        return plain(self.text[self.lines[line - 1] : end])
+
+    def between(self, first: int, last: int) -> str:
+        """The text from one token to another, both with it, in one line without comments."""
+        return plain(self.text[self.tokens[first].start : self.tokens[last].end])
+
+    def end_of(self, first: int, stops: Sequence[str]) -> int:
+        """The number of the first token from `first` on that is one of `stops`, or a mark that closes, outside of brackets."""
+        depth = 0
+        for at in range(first, len(self.tokens)):
+            text = self.tokens[at].text
+            if depth == 0 and (text in stops or text in CLOSING):
+                return at
+            depth += (text in OPENING) - (text in CLOSING)
+        return len(self.tokens)
+
+
+def plain(text: str) -> str:
+    """A text in one line, without comments, as UTF-8 has it."""
+    return " ".join(_COMMENT.sub(" ", text).split()).encode("latin-1").decode("utf-8", "replace")
+
+
+class Faces:
+    """What the edges of an automaton are in its sources."""
+
+    def __init__(self, graph: Graph, sources: Sequence[str], place: str = ".") -> None:
+        self.graph = graph
+        self.sources = {name: Source(name, program.read(os.path.join(place, name))) for name in sources}
+        self.guards: dict[str, list[int]] = {}
+        self.starts: dict[tuple[str, str], list[tuple[int, int]]] = {}
+        for edge in graph.edges:
+            if edge.is_guard:
+                numbers = self.guards.setdefault(edge.place, [])
+                if edge.source not in numbers:
+                    numbers.append(edge.source)
+            else:
+                self.starts.setdefault((edge.file, edge.kind), []).append((edge.line, edge.column))
+        for places in self.starts.values():
+            places.sort()
+
+    def condition(self, guard: Edge) -> str:
+        """The text of a guard's part of a condition, or the label of a `switch`."""
+        source = self.sources[guard.file]
+        first = source.index(guard.line, guard.column)
+        if source.tokens[first].text == "case" and guard.kind == "SWITCH":
+            return source.between(first, source.end_of(first, [":"]) - 1)
+        # where two tests begin at a place, the first is of the condition of a ?:, and the other of the whole
+        is_first = guard.source == self.guards[guard.place][0]
+        last = source.end_of(first, [",", ";", "&&", "||", "?", ":"]) if is_first else self._choice_end(source, first)
+        return source.between(first, max(first, last - 1))
+
+    def _choice_end(self, source: Source, first: int) -> int:
+        """The end of a `?:` that begins at a token: no `:` counts that is one of its own."""
+        at, own = first, 0
+        while True:
+            at = source.end_of(at, [",", ";", "?", ":"])
+            text = source.tokens[at].text if at < len(source.tokens) else ";"
+            own += (text == "?") - (text == ":")
+            if text not in "?:" or own < 0:
+                return at
+            at += 1
+
+    def statement(self, edge: Edge) -> str:
+        """The text of the innermost statement of an edge: of `if`, loops and `switch` the head alone."""
+        source = self.sources[edge.file]
+        first = self.statement_start(edge)
+        if first is None:
+            return source.line_text(edge.line)
+        text = source.tokens[first].text
+        if text in _KEYWORDS.values():
+            return source.between(first, min(source.end_of(first + 2, []), len(source.tokens) - 1))
+        if text in ("do", "{", "}", ";") or edge.kind == "LABEL":
+            return source.between(first, min(first + (edge.kind == "LABEL"), len(source.tokens) - 1))
+        end = source.end_of(first, [";", "{"])
+        return source.between(first, max(first, end - 1))
+
+    def statement_start(self, edge: Edge) -> int | None:
+        """The number of the first token of an edge's innermost statement, where it is found."""
+        source = self.sources[edge.file]
+        if not edge.is_guard:
+            return source.index(edge.line, edge.column)
+        at = source.index(edge.line, edge.column)
+        keyword = _KEYWORDS.get(edge.kind)
+        if keyword:
+            return next((one for one in range(at, -1, -1) if source.tokens[one].text == keyword), None)
+        places = self.starts.get((edge.file, edge.kind), [])
+        before = bisect.bisect_right(places, (edge.line, edge.column))
+        return source.index(*places[before - 1]) if before else None
+
+    def deed(self, edge: Edge) -> str:
+        """What is done along an edge, in a few words."""
+        if edge.is_guard:
+            return f"{self.condition(edge)} is {'true' if edge.truth else 'false'}"
+        if edge.enter:
+            return "enters the loop"
+        if edge.back:
+            return "goes back to the loop's head"
+        return {"call": f"calls {edge.name}", "return": f"{edge.name} returns", "answer": f"{edge.name} answers"}.get(
+            edge.operation, ""
+        )
+
+    def face(self, edge: Edge) -> str:
+        """An edge in one line: its place, its function, its statement and what is done."""
+        deed, statement = self.deed(edge), self.statement(edge)
+        label = f", label {edge.label}" if edge.label else ""
+        what = f"{deed}, in {statement}" if deed else statement
+        return f"{edge.place} {self.graph.owner(edge)}: {what}{label}"
