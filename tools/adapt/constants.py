@@ -148,7 +148,7 @@ class Constants:
         if not per:
             raise Refused(init.coord, "an array without a length whose values have no braces of their own", "give its length")
         for one in init.exprs or []:
-            if isinstance(one, c_ast.NamedInitializer) and not isinstance(one.name[0], c_ast.ID):
+            if isinstance(one, c_ast.NamedInitializer):
                 at = self.value(one.name[0]) or 0
             at += 1
             most = max(most, at)

@@ -249,7 +249,9 @@ class Names:
                 self.initialiser(one)
         elif isinstance(node, c_ast.NamedInitializer):
             for one in node.name:
-                if not isinstance(one, c_ast.ID):
+                if isinstance(one, c_ast.ID):  # (a member's name, or a constant)
+                    self.meaning[id(one)] = self.scope.get(one.name)
+                else:
                     self.expression(one)
             self.initialiser(node.expr)
         else:

@@ -202,11 +202,7 @@ class Units(Statements):
                     self.variable(variable, True)
         self.check_names(function)
         self.emit(self.heading(function) + " {")
-        for parameter in function.parameters:
-            for leaf in kinds.leaves(pointee(parameter)) if not isinstance(parameter.binding, Place) else []:
-                if leaf.kind.boolean and not leaf.dims:
-                    name = self.spelling.leaf(parameter, leaf.path)
-                    self.emit(f"{name} = {name} != 0;")
+        self.normal(function)
         items = node.body.block_items or []
         for one in items:
             self.statement(one)
@@ -215,6 +211,14 @@ class Units(Statements):
             self.hand_back()
         self.emit("}")
         self.function = None
+
+    def normal(self, function: Function) -> None:
+        """Writes that parameters of type bool are 0 or 1, where the function may be an entry: it has no arrays."""
+        given = [(one, leaf) for one in function.parameters if not isinstance(one.binding, Place) for leaf in kinds.leaves(pointee(one))]
+        for one, leaf in given if not any(leaf.dims for _, leaf in given) else []:
+            if leaf.kind.boolean:
+                name = self.spelling.leaf(one, leaf.path)
+                self.emit(f"{name} = {name} != 0;")
 
     def check_names(self, function: Function) -> None:
         """Refuses what would make two names of one object, or one name of two."""
