@@ -130,14 +130,14 @@ class Places:
         parameter, targets = function.parameters[at], []
         for _, call in function.calls:
             given = arguments(call)[at] if at < len(arguments(call)) else None
-            meaning = self.names.meaning.get(id(given))
-            if given is None or meaning is parameter:
+            if given is None or self.names.meaning.get(id(given)) is parameter:
                 continue
-            if isinstance(meaning, Variable) and meaning.home == "parameter" and isinstance(meaning.type, (Pointer, Array)):
-                if meaning.binding is None:
-                    return False
-                if meaning.binding == "unknown":
-                    continue
+            within = [self.names.meaning.get(id(one)) for one in walk(given)]
+            handed_on = [one.binding for one in within if isinstance(one, Variable) and one.home == "parameter" and isinstance(one.type, (Pointer, Array))]
+            if None in handed_on:
+                return False
+            if "unknown" in handed_on:
+                continue
             try:
                 targets.append(self.whole_array(given) if parameter in lent else self.handed(given))
             except Refused as refused:
