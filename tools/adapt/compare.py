@@ -56,23 +56,32 @@ def parts(of: Type, text: str = "", path: Path = (), index: tuple[int, ...] = ()
             yield from parts(member, f"{text}.{name}", path + (name,), index)
 
 
+def plain(function: Function) -> bool:
+    """Whether a function takes integers alone and gives one or nothing."""
+    return all(isinstance(one.type, Int) for one in function.parameters) and (isinstance(function.result, Int) or function.result == kinds.VOID)
+
+
+def answering(writer: Units, function: Function, answer: str) -> str:
+    """The definition of an input function, as the original declares it."""
+    node: Any = next(item for _, item in writer.names.items if writer.names.meaning.get(id(item)) is function)
+    result = f"return ({kinds.c_words(function.result)}) {answer};" if isinstance(function.result, Int) else ""
+    node.storage, node.funcspec = [], []
+    return f"{c_generator.CGenerator().visit(node)} {{ {result} }}\n"
+
+
 class Comparison:
     """The two programs of what was adapted, in a folder."""
 
     def __init__(self, writer: Units, sources: list[str], made: list[str], flags: list[str], folder: str) -> None:
         self.writer, self.folder = writer, folder
         functions = [one for one in writer.names.functions if one.definition is not None and not one.static]
-        self.entries = [one for one in functions if self.plain(one)]
+        self.entries = [one for one in functions if plain(one)]
         if not self.entries:
             raise Stop("there is no function that isn't static, takes integers alone and gives one or nothing, so nothing can be compared")
         outer = [one for one in writer.names.functions if one.definition is None and one.calls and one.name not in ("assert", "assume", "__assert_fail")]
         self.shared = [one for one in writer.names.variables if one.home == "file" and one.defined and not one.const and not kinds.fault_of(one.type)]
         self.original(sources, flags, outer)
         self.adapted(made, outer)
-
-    @staticmethod
-    def plain(function: Function) -> bool:
-        return all(isinstance(one.type, Int) for one in function.parameters) and (isinstance(function.result, Int) or function.result == kinds.VOID)
 
     def text(self, path: str) -> str:
         return f'#include "{os.path.abspath(path)}"\n'
@@ -107,30 +116,19 @@ class Comparison:
         texts, dumps = [], ""
         for number, path in enumerate(sources):
             own = [one for one in self.shared if one.unit.path == path]
-            defined = "".join(self.answering(one) for one in outer if one.coord.file and self.seen(one, path)) if number == 0 else ""
+            defined = "".join(answering(self.writer, one, "adapt_answer()") for one in outer) if number == 0 else ""
             texts.append(f"{self.text(path)}#include <stdio.h>\nlong long adapt_answer(void);\n{defined}void adapt_dump_{number}(void) {{\n{self.dump(own, False)}\n}}\n")
             dumps += f"    adapt_dump_{number}();\n"
         head = "".join(f"void adapt_dump_{number}(void);\n" for number in range(len(sources)))
         head += "#include <stdint.h>\n#include <stddef.h>\n" + "".join(self.declared(one) + "\n" for one in self.entries)
         self.compile("original", [*texts, head + DRIVER % (self.calls(), dumps)], flags + WATCHED)
 
-    def seen(self, function: Function, path: str) -> bool:
-        return True
-
-    def answering(self, function: Function) -> str:
-        """The definition of an input function, as the original declares it."""
-        node: Any = next(item for _, item in self.writer.names.items if self.writer.names.meaning.get(id(item)) is function)
-        result = "" if not isinstance(function.result, Int) else f"return ({'_Bool' if function.result.boolean else function.result.text}) adapt_answer();"
-        node.storage, node.funcspec = [], []
-        return f"{c_generator.CGenerator().visit(node)} {{ {result} }}\n"
-
     def adapted(self, made: list[str], outer: list[Function]) -> None:
         text = "#include <stdint.h>\n#include <stddef.h>\n#include <assert.h>\n" + "".join(self.text(path) for path in made)
         text += "long long adapt_answer(void);\n"
         for one in outer:
             if isinstance(one.result, Int):
-                value = "adapt_answer() != 0" if one.result.boolean else "adapt_answer()"
-                text += f"{one.result.text} {one.out}(void) {{ return ({one.result.text}) ({value}); }}\n"
+                text += f"{one.result.text} {one.out}(void) {{ return ({one.result.text}) adapt_answer(); }}\n"
         self.compile("adapted", [text + DRIVER % (self.calls(), self.dump(self.in_order(), True))], [])
 
     def in_order(self) -> list[Variable]:

@@ -58,7 +58,7 @@ class Effected:
     def __init__(self, names: Names, places: Places, inputs: set[str]) -> None:
         self.names, self.places, self.inputs = names, places, inputs
         self.of_function: dict[Function, Effects] = {function: Effects() for function in names.functions}
-        self.kept: dict[int, Effects] = {}
+        self.kept: dict[int, tuple[Any, Effects]] = {}  # by a node's id, with the node, so that no other one gets its id
         defined = [function for function in names.functions if function.definition is not None]
         changed = True
         while changed:
@@ -86,8 +86,8 @@ class Effected:
     def of(self, node: Any) -> Effects:
         """The effects of an expression or a statement."""
         if id(node) not in self.kept:
-            self.kept[id(node)] = self.made(node)
-        return self.kept[id(node)]
+            self.kept[id(node)] = node, self.made(node)
+        return self.kept[id(node)][1]
 
     def made(self, node: Any) -> Effects:
         found = Effects()

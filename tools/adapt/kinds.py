@@ -42,6 +42,14 @@ class Other:
     advice: str = "use an integer, an array or a struct"
 
 
+WORDS = {8: "char", 16: "short", 32: "int", 64: "long"}
+
+
+def c_words(kind: Int) -> str:
+    """C's own words for an integer type of these bits and sign."""
+    return ("signed " if kind.signed else "unsigned ") + WORDS[kind.bits]
+
+
 Type = Union[Int, Array, Struct, Pointer, Other]
 VOID = Other("void")
 FLOAT = Other("a floating point number", "use integers in fixed point")

@@ -19,6 +19,7 @@ def words(given: Optional[list[str]]) -> argparse.Namespace:
     parser.add_argument("-o", default="adapted", metavar="DIR", dest="out", help="the folder for what is written (adapted)")
     parser.add_argument("--input", action="append", default=[], metavar="NAME", dest="inputs", help="a function that no source defines gives an input, or nothing; its arguments don't matter")
     parser.add_argument("--check", action="store_true", help="each index of an array in an array is tested by an assert")
+    parser.add_argument("--harness", nargs=2, metavar=("ENTRY", "INPUTS"), help="write DIR/tests.c, which runs the original's ENTRY on the inputs (bin/harness)")
     parser.add_argument("--compare", type=int, default=0, metavar="N", help="compile both with gcc and run both on N random inputs")
     return parser.parse_args(given)
 
@@ -88,6 +89,23 @@ def put(folder: str, texts: dict[str, str]) -> list[str]:
     return paths
 
 
+def write_harness(asked: argparse.Namespace, writer: Any, paths: list[str]) -> None:
+    """Writes the tests of the original beside what was written."""
+    from tools import program
+
+    from .harness import text_of
+
+    if len(asked.sources) != 1:
+        raise Stop("--harness takes one source")
+    try:
+        text = text_of(writer, os.path.abspath(asked.sources[0]), paths, *asked.harness)
+    except program.Failure as failure:
+        raise Stop(str(failure)) from failure
+    name = os.path.join(asked.out, "tests.c")
+    program.give(text, name)
+    print(f"wrote {name}: compile it with {' '.join(['-fwrapv', *flags_of(asked)])}")
+
+
 def compare(asked: argparse.Namespace, writer: Any, paths: list[str]) -> int:
     """Says how many runs agree; the status."""
     from .compare import compared
@@ -110,6 +128,8 @@ def main(given: Optional[list[str]] = None) -> int:
             return 3
         paths = put(asked.out, texts)
         print("wrote " + " ".join(paths))
+        if asked.harness:
+            write_harness(asked, writer, paths)
         return compare(asked, writer, paths) if asked.compare else 0
     except ModuleNotFoundError as missing:
         print(f"adapt: {missing.name} isn't there (Debian's package python3-pycparser)", file=sys.stderr)

@@ -29,7 +29,7 @@ class Writer:
         self.function: Optional[Function] = None
         self.behind: set[int] = set()
         self.after: list[str] = []
-        self.needing: dict[int, bool] = {}
+        self.needing: dict[int, tuple[Any, bool]] = {}
 
     def value(self, node: Any) -> Value:
         raise NotImplementedError
@@ -70,8 +70,8 @@ class Writer:
             nodes = [] if node is None else walk(node)
             skipped = {id(inner) for one in nodes if isinstance(one, c_ast.UnaryOp) and one.op == "sizeof" for inner in walk(one)}
             listed = {id(one.args) for one in nodes if isinstance(one, c_ast.FuncCall)}
-            self.needing[id(node)] = any(self.needs(one) for one in nodes if id(one) not in skipped | listed)
-        return self.needing[id(node)]
+            self.needing[id(node)] = node, any(self.needs(one) for one in nodes if id(one) not in skipped | listed)
+        return self.needing[id(node)][1]
 
     def needs(self, node: Any) -> bool:
         if isinstance(node, c_ast.ArrayRef) and self.check:
