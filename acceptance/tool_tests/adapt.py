@@ -81,7 +81,9 @@ def cases(text):
         files = {"a.c": pieces[0]} if pieces[0].strip() else {}
         expected = {}
         for kind, file, body in zip(pieces[1::3], pieces[2::3], pieces[3::3]):
-            (files if kind == "file" else expected)[file or ("a.c" if kind == "becomes" else kind)] = body.strip("\n") + "\n"
+            (files if kind == "file" else expected)[file or ("a.c" if kind == "becomes" else kind)] = (
+                body.strip("\n") + "\n"
+            )
         yield name, words.split(), files, expected
 
 
@@ -89,6 +91,7 @@ def adapted(words):
     """The status of adapt, and both texts."""
     sys.path.insert(0, programs.ROOT)
     from tools.adapt.main import main
+
     out, err = io.StringIO(), io.StringIO()
     with contextlib.redirect_stdout(out), contextlib.redirect_stderr(err):
         status = main(words)
@@ -145,13 +148,19 @@ def way(folder, module, words, entry, bounds):
     names = [name for name in ("can.h" if module == "can.c" else None, module) if name]
     made = [f"made/{name}" for name in names]
     yield run(folder, ["adapt", source, *words, "-o", "made"]).stdout == FIRST + f"wrote {' '.join(made)}\n"
-    report = subprocess.run([PROGRAM, "generate", entry, QUERY, *made, *bounds], cwd=folder, capture_output=True, text=True)
+    report = subprocess.run(
+        [PROGRAM, "generate", entry, QUERY, *made, *bounds], cwd=folder, capture_output=True, text=True
+    )
     yield report.returncode == 0 and int(report.stdout.splitlines()[-1].split()[1]) > 10
     put(folder, {"report.txt": report.stdout})
     yield run(folder, ["inputs", "report.txt", "-o", "in.json"]).returncode == 0
     yield run(folder, ["adapt", source, *words, "-o", "made", "--harness", entry, "in.json"]).returncode == 0
-    compiled = subprocess.run(["gcc", "-fwrapv", "-w", "-o", "tests", "made/tests.c"], cwd=folder, capture_output=True, text=True)
-    tests = subprocess.run(["./tests"], cwd=folder, capture_output=True, text=True) if compiled.returncode == 0 else None
+    compiled = subprocess.run(
+        ["gcc", "-fwrapv", "-w", "-o", "tests", "made/tests.c"], cwd=folder, capture_output=True, text=True
+    )
+    tests = (
+        subprocess.run(["./tests"], cwd=folder, capture_output=True, text=True) if compiled.returncode == 0 else None
+    )
     yield tests is not None and tests.returncode == 0 and tests.stdout.count("\nok ") > 2
     if is_there("jinja2") and is_there("graph"):
         shown = [word for name in made for word in ("--source", name)]

@@ -8,7 +8,7 @@ from . import kinds
 from .effects import Effects, Object, may_be, objects, pointee
 from .initialisers import filled
 from .kinds import Array, Int, Leaf, Pointer, Struct
-from .names import Function, Variable
+from .declarators import Function, Variable
 from .output import unmarked
 from .places import Place, arguments
 from .refusals import Refused
@@ -53,8 +53,14 @@ class Calls(Writer):
         """A call of a function that no source defines: an input function, or one that was named as such."""
         if function.name in self.inputs:
             for argument in arguments(node):
-                if isinstance(self.constants.type_of(argument), (Pointer, Array)) and not isinstance(argument, c_ast.Constant):
-                    raise Refused(argument.coord, f"an object is handed to {function.name}, which no source defines", "give the source that defines it")
+                if isinstance(self.constants.type_of(argument), (Pointer, Array)) and not isinstance(
+                    argument, c_ast.Constant
+                ):
+                    raise Refused(
+                        argument.coord,
+                        f"an object is handed to {function.name}, which no source defines",
+                        "give the source that defines it",
+                    )
                 if not isinstance(argument, c_ast.Constant):
                     self.effect(argument)
         elif function.parameters or function.variadic or not isinstance(function.result, Int):
@@ -62,13 +68,17 @@ class Calls(Writer):
             raise Refused(node.coord, f"no source defines {function.name}", advice)
         return f"{self.at(node)}{function.out}()"
 
-    def argument(self, argument: Any, parameter: Variable, function: Function, texts: list[str], after: list[str]) -> None:
+    def argument(
+        self, argument: Any, parameter: Variable, function: Function, texts: list[str], after: list[str]
+    ) -> None:
         """What stands for an argument, and what follows the call for it."""
         if isinstance(parameter.type, Int):
             texts.append(self.converted(self.value(argument), parameter.type).text)
         elif isinstance(parameter.binding, Place):
             return
-        elif isinstance(parameter.type, Struct) and not isinstance(argument, (c_ast.ID, c_ast.StructRef, c_ast.ArrayRef, c_ast.UnaryOp)):
+        elif isinstance(parameter.type, Struct) and not isinstance(
+            argument, (c_ast.ID, c_ast.StructRef, c_ast.ArrayRef, c_ast.UnaryOp)
+        ):
             local = Variable("whole", parameter.type, argument.coord, "local", out=self.spelling.fresh("whole"))
             place = Place(local, (), (), parameter.type)
             self.declared(local)
@@ -89,7 +99,11 @@ class Calls(Writer):
         texts = []
         for leaf, elements in self.integers(place, index):
             if leaf.dims and index is not None:
-                raise Refused(argument.coord, "an array within an element of an array is handed over", "hand over the whole array and an index")
+                raise Refused(
+                    argument.coord,
+                    "an array within an element of an array is handed over",
+                    "hand over the whole array and an index",
+                )
             texts.append(self.spelling.leaf(place.variable, place.path + leaf.path) if leaf.dims else elements[0])
         return texts
 
@@ -109,7 +123,11 @@ class Calls(Writer):
             for mine, theirs in zip(objects(place), own):
                 written = theirs in summary.writes
                 if by_value and written:
-                    raise Refused(node.coord, f"{function.name} writes an array of its parameter {parameter.name}", "copy it in the function first")
+                    raise Refused(
+                        node.coord,
+                        f"{function.name} writes an array of its parameter {parameter.name}",
+                        "copy it in the function first",
+                    )
                 copied = not theirs[2] or by_value
                 if not by_value or theirs[2]:
                     seen.append((mine, written, copied))
@@ -120,12 +138,18 @@ class Calls(Writer):
             other = any(one == two and (written or too) and (copied or also) for two, too, also in seen[at + 1 :])
             if within or other:
                 name = one[0].name if one[0] else ""
-                raise Refused(node.coord, f"{function.name} gets {name} and may also reach it by another name", "let it reach the object in one way alone")
+                raise Refused(
+                    node.coord,
+                    f"{function.name} gets {name} and may also reach it by another name",
+                    "let it reach the object in one way alone",
+                )
 
     def call_value(self, node: Any) -> Value:
         function = self.called(node)
         if not isinstance(function.result, Int):
-            raise Refused(node.coord, f"the value of {function.name} is no integer", "assign it whole, in a statement of its own")
+            raise Refused(
+                node.coord, f"the value of {function.name} is no integer", "assign it whole, in a statement of its own"
+            )
         text, after = self.call(node)
         made = Value(text, function.result, PRIMARY, function.result.boolean and function.definition is not None, True)
         if after:
@@ -170,7 +194,11 @@ class Calls(Writer):
             function = self.called(source)
             text, after = self.call(source)
             if function.definition is None:
-                raise Refused(source.coord, f"no source defines {function.name}, which gives a struct", "give the source that defines it")
+                raise Refused(
+                    source.coord,
+                    f"no source defines {function.name}, which gives a struct",
+                    "give the source that defines it",
+                )
             for one in [text + ";", *after]:
                 self.emit(one)
             own = self.spelling.special(function, "result", function.result, self.special)
@@ -194,7 +222,14 @@ class Calls(Writer):
         for leaf in kinds.leaves(target.type):
             texts = []
             for at in range(leaf.count):
-                init = next((one for (path, spot), one in made.given.items() if path == leaf.path and self.flat(spot, leaf) == at), None)
+                init = next(
+                    (
+                        one
+                        for (path, spot), one in made.given.items()
+                        if path == leaf.path and self.flat(spot, leaf) == at
+                    ),
+                    None,
+                )
                 value = "0" if init is None else unmarked(self.converted(self.value(init), leaf.kind).text)
                 texts.append(value if apart or init is None else self.temporary(leaf.kind, value))
             found.append((leaf, texts))

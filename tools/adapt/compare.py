@@ -10,7 +10,7 @@ from pycparser import c_generator
 
 from . import kinds
 from .kinds import Array, Int, Path, Struct, Type
-from .names import Function, Variable
+from .declarators import Function, Variable
 from .reading import compiler
 from .refusals import Stop
 from .initialisers import flat
@@ -40,11 +40,43 @@ int main(int adapt_argc, char **adapt_argv) {
 }
 """
 FLAGS = ["-std=gnu11", "-O0", "-w", "-fwrapv", "-ftrivial-auto-var-init=zero"]
-WATCHED = ["-fsanitize=shift-exponent,integer-divide-by-zero,bounds,null,signed-integer-overflow", "-fsanitize-undefined-trap-on-error"]
-TELLING = [0, 1, -1, 2, 3, 4, 5, 7, 8, 10, 16, 31, 64, 100, 127, 128, 200, 255, 256, -128, 32767, 65535, 2**31 - 1, -(2**31), 2**32 - 1, 2**63 - 1]
+WATCHED = [
+    "-fsanitize=shift-exponent,integer-divide-by-zero,bounds,null,signed-integer-overflow",
+    "-fsanitize-undefined-trap-on-error",
+]
+TELLING = [
+    0,
+    1,
+    -1,
+    2,
+    3,
+    4,
+    5,
+    7,
+    8,
+    10,
+    16,
+    31,
+    64,
+    100,
+    127,
+    128,
+    200,
+    255,
+    256,
+    -128,
+    32767,
+    65535,
+    2**31 - 1,
+    -(2**31),
+    2**32 - 1,
+    2**63 - 1,
+]
 
 
-def parts(of: Type, text: str = "", path: Path = (), index: tuple[int, ...] = ()) -> Iterator[tuple[str, Path, tuple[int, ...]]]:
+def parts(
+    of: Type, text: str = "", path: Path = (), index: tuple[int, ...] = ()
+) -> Iterator[tuple[str, Path, tuple[int, ...]]]:
     """The integers of an object: how C reaches each, and the members and indexes that lead to it."""
     if isinstance(of, Int):
         yield text, path, index
@@ -58,7 +90,9 @@ def parts(of: Type, text: str = "", path: Path = (), index: tuple[int, ...] = ()
 
 def plain(function: Function) -> bool:
     """Whether a function takes integers alone and gives one or nothing."""
-    return all(isinstance(one.type, Int) for one in function.parameters) and (isinstance(function.result, Int) or function.result == kinds.VOID)
+    return all(isinstance(one.type, Int) for one in function.parameters) and (
+        isinstance(function.result, Int) or function.result == kinds.VOID
+    )
 
 
 def answering(writer: Units, function: Function, answer: str) -> str:
@@ -77,9 +111,19 @@ class Comparison:
         functions = [one for one in writer.names.functions if one.definition is not None and not one.static]
         self.entries = [one for one in functions if plain(one)]
         if not self.entries:
-            raise Stop("there is no function that isn't static, takes integers alone and gives one or nothing, so nothing can be compared")
-        outer = [one for one in writer.names.functions if one.definition is None and one.calls and one.name not in ("assert", "assume", "__assert_fail")]
-        self.shared = [one for one in writer.names.variables if one.home == "file" and one.defined and not one.const and not kinds.fault_of(one.type)]
+            raise Stop(
+                "there is no function that isn't static, takes integers alone and gives one or nothing, so nothing can be compared"
+            )
+        outer = [
+            one
+            for one in writer.names.functions
+            if one.definition is None and one.calls and one.name not in ("assert", "assume", "__assert_fail")
+        ]
+        self.shared = [
+            one
+            for one in writer.names.variables
+            if one.home == "file" and one.defined and not one.const and not kinds.fault_of(one.type)
+        ]
         self.original(sources, flags, outer)
         self.adapted(made, outer)
 
@@ -101,15 +145,25 @@ class Comparison:
         lines = []
         for number, one in enumerate(self.entries):
             words = "".join(f" long long adapt_{at} = adapt_word();" for at in range(len(one.parameters)))
-            given = ", ".join(f"({p.type.text if isinstance(p.type, Int) and not p.type.boolean else '_Bool'}) adapt_{at}" for at, p in enumerate(one.parameters))
+            given = ", ".join(
+                f"({p.type.text if isinstance(p.type, Int) and not p.type.boolean else '_Bool'}) adapt_{at}"
+                for at, p in enumerate(one.parameters)
+            )
             call = f"{one.out}({given})"
             shown = f'printf("%lld", (long long) {call});' if isinstance(one.result, Int) else f"{call};"
             lines.append(f"    case {number}: {{{words} {shown} break; }}")
         return "\n".join(lines)
 
     def declared(self, function: Function) -> str:
-        kind = "_Bool" if isinstance(function.result, Int) and function.result.boolean else getattr(function.result, "text", "void")
-        words = ["_Bool" if isinstance(p.type, Int) and p.type.boolean else getattr(p.type, "text", "") for p in function.parameters]
+        kind = (
+            "_Bool"
+            if isinstance(function.result, Int) and function.result.boolean
+            else getattr(function.result, "text", "void")
+        )
+        words = [
+            "_Bool" if isinstance(p.type, Int) and p.type.boolean else getattr(p.type, "text", "")
+            for p in function.parameters
+        ]
         return f"{kind} {function.out}({', '.join(words) or 'void'});"
 
     def original(self, sources: list[str], flags: list[str], outer: list[Function]) -> None:
@@ -117,14 +171,20 @@ class Comparison:
         for number, path in enumerate(sources):
             own = [one for one in self.shared if one.unit.path == path]
             defined = "".join(answering(self.writer, one, "adapt_answer()") for one in outer) if number == 0 else ""
-            texts.append(f"{self.text(path)}#include <stdio.h>\nlong long adapt_answer(void);\n{defined}void adapt_dump_{number}(void) {{\n{self.dump(own, False)}\n}}\n")
+            texts.append(
+                f"{self.text(path)}#include <stdio.h>\nlong long adapt_answer(void);\n{defined}void adapt_dump_{number}(void) {{\n{self.dump(own, False)}\n}}\n"
+            )
             dumps += f"    adapt_dump_{number}();\n"
         head = "".join(f"void adapt_dump_{number}(void);\n" for number in range(len(sources)))
-        head += "#include <stdint.h>\n#include <stddef.h>\n" + "".join(self.declared(one) + "\n" for one in self.entries)
+        head += "#include <stdint.h>\n#include <stddef.h>\n" + "".join(
+            self.declared(one) + "\n" for one in self.entries
+        )
         self.compile("original", [*texts, head + DRIVER % (self.calls(), dumps)], flags + WATCHED)
 
     def adapted(self, made: list[str], outer: list[Function]) -> None:
-        text = "#include <stdint.h>\n#include <stddef.h>\n#include <assert.h>\n" + "".join(self.text(path) for path in made)
+        text = "#include <stdint.h>\n#include <stddef.h>\n#include <assert.h>\n" + "".join(
+            self.text(path) for path in made
+        )
         text += "long long adapt_answer(void);\n"
         for one in outer:
             if isinstance(one.result, Int):
@@ -141,14 +201,21 @@ class Comparison:
             paths.append(os.path.join(self.folder, f"{name}_{number}.c"))
             with open(paths[-1], "w", encoding="utf-8", errors="surrogateescape") as file:
                 file.write(text)
-        ended = subprocess.run([compiler(), *FLAGS, *flags, "-o", os.path.join(self.folder, name), *paths], capture_output=True, text=True, check=False)
+        ended = subprocess.run(
+            [compiler(), *FLAGS, *flags, "-o", os.path.join(self.folder, name), *paths],
+            capture_output=True,
+            text=True,
+            check=False,
+        )
         if ended.returncode:
             told = [line for line in ended.stderr.splitlines() if "error:" in line or "undefined" in line]
             raise Stop(f"the {name} can't be compiled: {(told or ended.stderr.splitlines() or ['?'])[0]}")
 
     def run(self, name: str, words: list[str]) -> tuple[int, list[str]]:
         try:
-            ended = subprocess.run([os.path.join(self.folder, name), *words], capture_output=True, text=True, timeout=SECONDS, check=False)
+            ended = subprocess.run(
+                [os.path.join(self.folder, name), *words], capture_output=True, text=True, timeout=SECONDS, check=False
+            )
         except subprocess.TimeoutExpired:
             return -14, []
         return ended.returncode, ended.stdout.split("\n")
@@ -164,7 +231,13 @@ class Comparison:
     def inputs(self, seed: int) -> list[str]:
         """The words of one run: answers, and calls with their arguments."""
         chance = random.Random(seed)
-        small = lambda: chance.choice(TELLING[:12]) if chance.random() < 0.7 else chance.choice(TELLING) if chance.random() < 0.8 else chance.randrange(-(2**63), 2**63)  # noqa: E731
+        small = (
+            lambda: chance.choice(TELLING[:12])
+            if chance.random() < 0.7
+            else chance.choice(TELLING)
+            if chance.random() < 0.8
+            else chance.randrange(-(2**63), 2**63)
+        )  # noqa: E731
         words = [ANSWERS] + [small() for _ in range(ANSWERS)]
         for _ in range(CALLS):
             which = chance.randrange(len(self.entries))

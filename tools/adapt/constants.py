@@ -39,7 +39,15 @@ def codes(text: str) -> list[int]:
     """The values of the characters between the quotes of a constant or a string, each as a `char`."""
     found = []
     for hexadecimal, octal, simple, plain in ESCAPE.findall(text[text.index(text[-1]) + 1 : -1]):
-        code = int(hexadecimal, 16) if hexadecimal else int(octal, 8) if octal else ESCAPES[simple] if simple else ord(plain)
+        code = (
+            int(hexadecimal, 16)
+            if hexadecimal
+            else int(octal, 8)
+            if octal
+            else ESCAPES[simple]
+            if simple
+            else ord(plain)
+        )
         found.append(fit(code, kinds.Int(8, True, "char")))
     return found
 
@@ -55,11 +63,23 @@ def number(node: Any) -> tuple[int, Int]:
     if "int" not in node.type:
         raise Refused(node.coord, f"the constant {text}", "use integers in fixed point")
     digits, suffix = re.fullmatch(r"(0[xX][0-9a-fA-F]+|0[bB][01]+|\d+)([uUlL]*)", text).groups()  # type: ignore[union-attr]
-    base = 16 if digits[:2] in ("0x", "0X") else 2 if digits[:2] in ("0b", "0B") else 8 if digits[0] == "0" and len(digits) > 1 else 10
+    base = (
+        16
+        if digits[:2] in ("0x", "0X")
+        else 2
+        if digits[:2] in ("0b", "0B")
+        else 8
+        if digits[0] == "0" and len(digits) > 1
+        else 10
+    )
     value = int(digits, base)
     long, unsigned = "l" in suffix.lower(), "u" in suffix.lower()
     for kind in (kinds.INT, kinds.UINT, kinds.LONG, kinds.SIZE):
-        if (kind.bits == 32 and long) or (kind.signed and unsigned) or (not kind.signed and base == 10 and not unsigned):
+        if (
+            (kind.bits == 32 and long)
+            or (kind.signed and unsigned)
+            or (not kind.signed and base == 10 and not unsigned)
+        ):
             continue
         if fit(value, kind) == value:
             return value, kind
@@ -90,7 +110,11 @@ class Constants:
     def type_of(self, node: Any) -> Type:
         """The type of an expression before any conversion of arrays."""
         if isinstance(node, c_ast.Constant):
-            return Array(kinds.Int(8, True, "char"), len(codes(node.value)) + 1) if node.type == "string" else number(node)[1]
+            return (
+                Array(kinds.Int(8, True, "char"), len(codes(node.value)) + 1)
+                if node.type == "string"
+                else number(node)[1]
+            )
         if isinstance(node, c_ast.ID) and hasattr(self.names.meaning.get(id(node)), "value"):
             return kinds.INT
         if isinstance(node, (c_ast.ID, c_ast.StructRef, c_ast.ArrayRef)):
@@ -144,9 +168,18 @@ class Constants:
         if isinstance(init, c_ast.Constant):
             return len(codes(init.value)) + 1
         at, most = 0, 0
-        per = 1 if all(isinstance(one, (c_ast.InitList, c_ast.NamedInitializer)) or isinstance(of, (Int, kinds.Pointer)) for one in init.exprs or []) else 0
+        per = (
+            1
+            if all(
+                isinstance(one, (c_ast.InitList, c_ast.NamedInitializer)) or isinstance(of, (Int, kinds.Pointer))
+                for one in init.exprs or []
+            )
+            else 0
+        )
         if not per:
-            raise Refused(init.coord, "an array without a length whose values have no braces of their own", "give its length")
+            raise Refused(
+                init.coord, "an array without a length whose values have no braces of their own", "give its length"
+            )
         for one in init.exprs or []:
             if isinstance(one, c_ast.NamedInitializer):
                 at = self.value(one.name[0]) or 0

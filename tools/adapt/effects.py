@@ -6,7 +6,8 @@ from typing import Any, Optional
 from pycparser import c_ast
 
 from .kinds import Array, Int, Pointer, Struct, leaves
-from .names import Function, Names, Variable
+from .declarators import Function, Variable
+from .names import Names
 from .places import Place, Places, arguments
 from .refusals import Refused
 
@@ -58,7 +59,9 @@ class Effected:
     def __init__(self, names: Names, places: Places, inputs: set[str]) -> None:
         self.names, self.places, self.inputs = names, places, inputs
         self.of_function: dict[Function, Effects] = {function: Effects() for function in names.functions}
-        self.kept: dict[int, tuple[Any, Effects]] = {}  # by a node's id, with the node, so that no other one gets its id
+        self.kept: dict[
+            int, tuple[Any, Effects]
+        ] = {}  # by a node's id, with the node, so that no other one gets its id
         defined = [function for function in names.functions if function.definition is not None]
         changed = True
         while changed:
@@ -100,7 +103,9 @@ class Effected:
             self.named(node.expr, found, True, True)
         elif isinstance(node, c_ast.FuncCall):
             self.called(node, found)
-        elif isinstance(node, (c_ast.ID, c_ast.StructRef, c_ast.ArrayRef)) or (isinstance(node, c_ast.UnaryOp) and node.op == "*"):
+        elif isinstance(node, (c_ast.ID, c_ast.StructRef, c_ast.ArrayRef)) or (
+            isinstance(node, c_ast.UnaryOp) and node.op == "*"
+        ):
             self.named(node, found, False, True)
         else:
             for _, child in node.children():
@@ -131,7 +136,12 @@ class Effected:
                 found.writes[OUTSIDE] = True
             return
         summary = self.of_function[function]
-        shared = Effects(*({one: True for one in part if one[0] is None or one[0].shared} for part in (summary.reads, summary.writes)))
+        shared = Effects(
+            *(
+                {one: True for one in part if one[0] is None or one[0].shared}
+                for part in (summary.reads, summary.writes)
+            )
+        )
         found.add(shared)
         for argument, parameter in zip(arguments(node), function.parameters):
             if isinstance(parameter.type, Int):

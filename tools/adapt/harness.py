@@ -44,13 +44,22 @@ def text_of(writer: Units, source: str, made: list[str], entry: str, given: str)
         raise Stop(f"{entry} is no function of the source that takes integers alone and gives one or nothing")
     runs = program.report(["runs", entry, given, *made]).runs
     read = inputs.of_file(given)
-    outer = [one for one in writer.names.functions if one.definition is None and one.calls and one.name not in ("assert", "assume")]
+    outer = [
+        one
+        for one in writer.names.functions
+        if one.definition is None and one.calls and one.name not in ("assert", "assume")
+    ]
     heads = "".join(answering(writer, one, "fshell_answer()") for one in outer)
     words = "".join(f"{harness.word(number)}, " for one in read for number in (*one.args, *one.answers))
     kinds = [one.type.text for one in function.parameters if isinstance(one.type, Int)]
     call = f"{entry}({', '.join(f'({kind}) given[{number}]' for number, kind in enumerate(kinds))})"
     body = f"  return (unsigned long long) {call};" if isinstance(function.result, Int) else f"  {call};\n  return 0;"
-    rows: dict[str, Any] = {"words": words, "tests": "".join(harness.tests(entry, read, runs)), "values": "", "call": body}
+    rows: dict[str, Any] = {
+        "words": words,
+        "tests": "".join(harness.tests(entry, read, runs)),
+        "values": "",
+        "call": body,
+    }
     tests = harness.TESTS.format(count=len(read), arity=len(kinds), **rows)
     tests = tests.replace("*fshell_run(", "*fshell_run_here(").replace("\nint main(void) {", FORK)
     return f"{harness.HEAD.format(count=len(read), entry=entry)}\n#include {harness.literal(source)}\n{heads}#undef main\n{tests}"

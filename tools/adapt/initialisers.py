@@ -74,10 +74,21 @@ class Filled:
         """Fills a part by the next items, of which it takes several where it has no braces of its own."""
         item = items[taken]
         string = isinstance(item, c_ast.Constant) and item.type == "string"
-        if isinstance(part, Int) or string or isinstance(item, c_ast.InitList) or isinstance(self.constants.type_of(item), Struct):
+        if (
+            isinstance(part, Int)
+            or string
+            or isinstance(item, c_ast.InitList)
+            or isinstance(self.constants.type_of(item), Struct)
+        ):
             self.fill(part, spot, item)
             return taken + 1
-        count = (part.length or 0) if isinstance(part, Array) else len(part.members or []) if isinstance(part, Struct) else 0
+        count = (
+            (part.length or 0)
+            if isinstance(part, Array)
+            else len(part.members or [])
+            if isinstance(part, Struct)
+            else 0
+        )
         for at in range(count):
             if taken >= len(items) or isinstance(items[taken], c_ast.NamedInitializer):
                 break

@@ -59,7 +59,9 @@ class Jumps:
                 self.label(block, label)
         for one in walk(body):
             if isinstance(one, c_ast.Goto):
-                self.refusals.add(one.coord, f"goto {one.name}, which goes back, or into a block", "use a loop, or a flag")
+                self.refusals.add(
+                    one.coord, f"goto {one.name}, which goes back, or into a block", "use a loop, or a flag"
+                )
 
     def label(self, block: Any, label: Any) -> None:
         """Rewrites the jumps that come from earlier statements of the label's block."""
@@ -70,11 +72,20 @@ class Jumps:
             return
         region, rest = items[begin:to], items[to:]
         used = {one.name for item in rest for one in walk(item) if isinstance(one, c_ast.ID)}
-        late = [item for item in region if isinstance(item, c_ast.Typedef) or (isinstance(item, c_ast.Decl) and (item.name in used or not item.name))]
+        late = [
+            item
+            for item in region
+            if isinstance(item, c_ast.Typedef)
+            or (isinstance(item, c_ast.Decl) and (item.name in used or not item.name))
+        ]
         alone = len(region) == 1 and isinstance(region[0], LEFT_BY_BREAK)
         if late or (not alone and any(leaves_by(item) for item in region)):
             first = next(one for one in walk(region[0]) if isinstance(one, c_ast.Goto) and one.name == name)
-            advice = f"declare {late[0].name or 'its types'} before the first goto" if late else "use a flag: a break or continue stands between it and its label"
+            advice = (
+                f"declare {late[0].name or 'its types'} before the first goto"
+                if late
+                else "use a flag: a break or continue stands between it and its label"
+            )
             self.refusals.add(first.coord, f"goto {name}", advice)
             self.replaced(c_ast.Compound(region), name, None, 0)
             return

@@ -159,5 +159,7 @@ def fault_of(of: Type) -> Optional[tuple[str, str]]:
         if of.members is None:
             return f"struct {of.tag} isn't complete", "give its members before its use"
         faults = [(name, fault_of(member)) for name, member in of.members]
-        return next(((f"member {name} of struct {of.tag}: {fault[0]}", fault[1]) for name, fault in faults if fault), None)
+        return next(
+            ((f"member {name} of struct {of.tag}: {fault[0]}", fault[1]) for name, fault in faults if fault), None
+        )
     return (of.name, of.advice) if isinstance(of, Other) else None

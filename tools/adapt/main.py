@@ -12,15 +12,38 @@ FIRST = "adapt is no part of what is proved: read and compare what it writes"
 
 
 def words(given: Optional[list[str]]) -> argparse.Namespace:
-    parser = argparse.ArgumentParser(prog="bin/adapt", description="Writes C sources again in the profile of C that FShell reads, every statement on its line. " + FIRST + ".")
+    parser = argparse.ArgumentParser(
+        prog="bin/adapt",
+        description="Writes C sources again in the profile of C that FShell reads, every statement on its line. "
+        + FIRST
+        + ".",
+    )
     parser.add_argument("sources", nargs="+", metavar="SOURCE", help="C sources, which together are one program")
     parser.add_argument("-I", action="append", default=[], metavar="DIR", dest="folders", help="a folder with headers")
     parser.add_argument("-D", action="append", default=[], metavar="NAME=VALUE", dest="macros", help="a macro")
-    parser.add_argument("-o", default="adapted", metavar="DIR", dest="out", help="the folder for what is written (adapted)")
-    parser.add_argument("--input", action="append", default=[], metavar="NAME", dest="inputs", help="a function that no source defines gives an input, or nothing; its arguments don't matter")
-    parser.add_argument("--check", action="store_true", help="each index of an array in an array is tested by an assert")
-    parser.add_argument("--harness", nargs=2, metavar=("ENTRY", "INPUTS"), help="write DIR/tests.c, which runs the original's ENTRY on the inputs (bin/harness)")
-    parser.add_argument("--compare", type=int, default=0, metavar="N", help="compile both with gcc and run both on N random inputs")
+    parser.add_argument(
+        "-o", default="adapted", metavar="DIR", dest="out", help="the folder for what is written (adapted)"
+    )
+    parser.add_argument(
+        "--input",
+        action="append",
+        default=[],
+        metavar="NAME",
+        dest="inputs",
+        help="a function that no source defines gives an input, or nothing; its arguments don't matter",
+    )
+    parser.add_argument(
+        "--check", action="store_true", help="each index of an array in an array is tested by an assert"
+    )
+    parser.add_argument(
+        "--harness",
+        nargs=2,
+        metavar=("ENTRY", "INPUTS"),
+        help="write DIR/tests.c, which runs the original's ENTRY on the inputs (bin/harness)",
+    )
+    parser.add_argument(
+        "--compare", type=int, default=0, metavar="N", help="compile both with gcc and run both on N random inputs"
+    )
     return parser.parse_args(given)
 
 
@@ -81,7 +104,9 @@ def put(folder: str, texts: dict[str, str]) -> list[str]:
             raise Stop(f"two files are named {os.path.basename(original)}")
         if os.path.exists(target) and os.path.samefile(target, original):
             raise Stop(f"{target} is the original itself; name another folder (-o)")
-        with tempfile.NamedTemporaryFile("w", dir=folder, delete=False, encoding="utf-8", errors="surrogateescape") as file:
+        with tempfile.NamedTemporaryFile(
+            "w", dir=folder, delete=False, encoding="utf-8", errors="surrogateescape"
+        ) as file:
             file.write(text)
         os.chmod(file.name, 0o644)
         os.replace(file.name, target)

@@ -17,11 +17,10 @@ def unmarked(text: str) -> str:
 
 @dataclass
 class File:
-    """One file that is written. `shown` are lines that are copied where nothing else stands on them."""
+    """One file that is written."""
 
     path: str
     pieces: list[tuple[int, str]] = field(default_factory=list)
-    statements: int = 0
 
     def emit(self, line: int, text: str) -> None:
         self.pieces.append((line, text))
@@ -38,11 +37,11 @@ class File:
                     lines[-1].append(part if begun or not lines[-1] else " " + part)
                     begun = True
         made = [joined(parts, original[at] if at < len(original) else "") for at, parts in enumerate(lines)]
-        for at, line in enumerate(original):
+        for at, shown in enumerate(original):
             while len(made) <= at:
                 made.append("")
-            if not made[at] and copied(line):
-                made[at] = line
+            if not made[at] and copied(shown):
+                made[at] = shown
         return "\n".join(made).rstrip("\n") + "\n"
 
 

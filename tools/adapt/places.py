@@ -11,7 +11,8 @@ from pycparser import c_ast
 
 from .jumps import walk
 from .kinds import Array, Path, Pointer, Struct, Type, fault_of
-from .names import Function, Names, Variable
+from .declarators import Function, Variable
+from .names import Names
 from .refusals import Refused
 
 USE = "name the object itself, or hand its address over as a parameter that is only dereferenced"
@@ -133,7 +134,11 @@ class Places:
             if given is None or self.names.meaning.get(id(given)) is parameter:
                 continue
             within = [self.names.meaning.get(id(one)) for one in walk(given)]
-            handed_on = [one.binding for one in within if isinstance(one, Variable) and one.home == "parameter" and isinstance(one.type, (Pointer, Array))]
+            handed_on = [
+                one.binding
+                for one in within
+                if isinstance(one, Variable) and one.home == "parameter" and isinstance(one.type, (Pointer, Array))
+            ]
             if None in handed_on:
                 return False
             if "unknown" in handed_on:
@@ -166,7 +171,11 @@ class Places:
 
     def whole_array(self, node: Any) -> Place:
         if not isinstance(node, (c_ast.ID, c_ast.StructRef, c_ast.ArrayRef)):
-            raise Refused(node.coord, "a part of an array is handed over, or no array", "hand over the whole array by its name, and an index")
+            raise Refused(
+                node.coord,
+                "a part of an array is handed over, or no array",
+                "hand over the whole array by its name, and an index",
+            )
         return self.place(node)
 
     def handed(self, node: Any) -> Place:

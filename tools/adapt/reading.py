@@ -10,7 +10,14 @@ from typing import Any, NamedTuple
 from .refusals import JUDGED, Refusals, Stop
 
 HEADERS = os.path.join(os.path.dirname(os.path.abspath(__file__)), "headers")
-ERRORS = ("implicit-function-declaration", "int-conversion", "incompatible-pointer-types", "pointer-sign", "discarded-qualifiers", "return-type")
+ERRORS = (
+    "implicit-function-declaration",
+    "int-conversion",
+    "incompatible-pointer-types",
+    "pointer-sign",
+    "discarded-qualifiers",
+    "return-type",
+)
 FOREIGN = {
     "asm": "inline assembly; write what it does in C, or hide it by a macro",
     "__attribute__": "an attribute; hide it by a macro, with -D '__attribute__(x)='",
@@ -34,12 +41,12 @@ class Coord(NamedTuple):
 
 @dataclass
 class Unit:
-    """One source with all that it includes, as a tree. `closings` has the line of the brace that closes each `{`."""
+    """One source with all that it includes, as a tree. `closings` has for each line the lines of the braces that close its `{`."""
 
     path: str
     tree: Any
     files: list[str] = field(default_factory=list)
-    closings: dict[tuple[str, int, int], int] = field(default_factory=dict)
+    closings: dict[tuple[str, int], list[int]] = field(default_factory=dict)
     words: set[str] = field(default_factory=set)
 
 
@@ -78,7 +85,11 @@ def without_foreign(text: str, refusals: Refusals, at: Any) -> str:
         if name in FOREIGN:
             cause, advice = FOREIGN[name].split("; ", 1)
             refusals.add(at, cause, advice)
-    return re.sub(r"\b(__asm__|__asm|asm|__attribute__)\b\s*(volatile|__volatile__|goto)?\s*\((?:[^()]|\((?:[^()]|\([^()]*\))*\))*\)", " ", text)
+    return re.sub(
+        r"\b(__asm__|__asm|asm|__attribute__)\b\s*(volatile|__volatile__|goto)?\s*\((?:[^()]|\((?:[^()]|\([^()]*\))*\))*\)",
+        " ",
+        text,
+    )
 
 
 def scanned(unit: Unit, text: str, refusals: Refusals) -> str:
@@ -101,9 +112,9 @@ def scanned(unit: Unit, text: str, refusals: Refusals) -> str:
             unit.words.update(re.findall(r"[A-Za-z_]\w*", row))
         for found in WORDS.finditer(row):
             if found.group() == "{":
-                opened.append((file, line, found.start() + 1))
+                opened.append((file, line))
             elif found.group() == "}" and opened:
-                unit.closings[opened.pop()] = line
+                unit.closings.setdefault(opened.pop(), []).append(line)
         if re.match(r"\s*#\s*pragma\s+pack", row) and not is_system(file):
             refusals.add(Coord(file, line), "structs are packed", "leave the pragma out, and write sizes as numbers")
         made.append("" if row.startswith("#") else row)

@@ -4,7 +4,8 @@ import os
 from typing import Any
 
 from .kinds import Path
-from .names import Function, Names, Variable
+from .names import Names
+from .declarators import Function, Variable
 
 KEPT = {"assert", "assume"}
 
@@ -14,10 +15,13 @@ class Spelling:
         self.taken = set(words) | KEPT
         self.leaves: dict[tuple[str, Path], str] = {}
         owners: dict[str, Any] = {}
-        for one in [*names.functions, *(variable for variable in names.variables if variable.home == "file")]:
+        files: list[Any] = [*names.functions, *(variable for variable in names.variables if variable.home == "file")]
+        for one in files:
             free = owners.setdefault(one.name, one) is one
             stem = os.path.splitext(os.path.basename(str(one.coord.file)))[0]
-            one.out = one.name if free else self.fresh(f"{one.name}_{''.join(c if c.isalnum() else '_' for c in stem)}", True)
+            one.out = (
+                one.name if free else self.fresh(f"{one.name}_{''.join(c if c.isalnum() else '_' for c in stem)}", True)
+            )
         for variable in names.variables:
             if variable.home == "static":
                 function = variable.function.name + "_" if variable.function else ""

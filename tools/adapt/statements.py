@@ -1,6 +1,6 @@
 """Writes the statements of a function, each on the line that it has."""
 
-from typing import Any, Callable, Optional
+from typing import Any, Optional
 
 from pycparser import c_ast
 
@@ -8,12 +8,10 @@ from . import kinds
 from .expressions import Expressions
 from .initialisers import filled
 from .kinds import Int, Struct
-from .jumps import LOOPS, walk
-from .names import Variable
-from .output import unmarked
+from .jumps import LOOPS
+from .declarators import Variable
 from .places import Place
 from .refusals import Refused
-from .values import UNARY
 
 
 def continues(node: Any) -> bool:
@@ -24,7 +22,7 @@ def continues(node: Any) -> bool:
 
 
 class Statements(Expressions):
-    closings: dict[tuple[str, int, int], int] = {}
+    closings: dict[tuple[str, int], list[int]] = {}
 
     def statement(self, node: Any) -> None:
         """Writes one statement; what is refused in it is gathered."""
@@ -34,16 +32,26 @@ class Statements(Expressions):
             if write:
                 write(node)
             else:
-                self.file.statements += 1
                 before = len(self.file.pieces)
                 self.effect(node)
                 if before == len(self.file.pieces):
                     self.emit(";")
 
+    def go_to_end(self, node: Any) -> None:
+        """What is written next stands on the line of the brace that closes a block."""
+        lines = (
+            self.closings.get((self.original, node.coord.line), [])
+            if isinstance(node, c_ast.Compound) and node.coord
+            else []
+        )
+        behind = [line for line in lines if line >= self.line]
+        if behind and str(node.coord.file) == self.original:
+            self.line = min(behind)
+            lines.remove(self.line)
+
     def close(self, node: Any) -> None:
-        """Writes the brace that closes a block, on its line."""
-        if isinstance(node, c_ast.Compound) and node.coord is not None and str(node.coord.file) == self.original:
-            self.line = max(self.line, self.closings.get((str(node.coord.file), node.coord.line, node.coord.column or 0), 0))
+        """Writes the brace that closes a block."""
+        self.go_to_end(node)
         self.emit("}")
 
     def body(self, node: Any) -> None:
@@ -100,9 +108,16 @@ class Statements(Expressions):
                     texts[self.flat(spot, leaf)] = self.converted(self.value(one), leaf.kind).text
             while len(texts) > 1 and texts[-1] == "0":
                 texts.pop()
-            self.emit(f"{leaf.kind.text} {name}[{leaf.count}] = {{{', '.join(texts)}}};" if leaf.dims else f"{leaf.kind.text} {name} = {texts[0]};")
+            self.emit(
+                f"{leaf.kind.text} {name}[{leaf.count}] = {{{', '.join(texts)}}};"
+                if leaf.dims
+                else f"{leaf.kind.text} {name} = {texts[0]};"
+            )
         for (path, spot), of, source in made.wholes:
-            indexes = tuple((c_ast.Constant("int", str(one)), length) for one, length in zip(spot, next(kinds.leaves(variable.type)).dims))
+            indexes = tuple(
+                (c_ast.Constant("int", str(one)), length)
+                for one, length in zip(spot, next(kinds.leaves(variable.type)).dims)
+            )
             self.assign_whole(Place(variable, path, indexes, of), source, source)
 
     # ---- branches
@@ -181,7 +196,11 @@ class Statements(Expressions):
             self.emit(f"while ({self.test(node.cond).text});")
             return
         if continues(node.stmt):
-            raise Refused(node.coord, "a continue in a do loop whose condition has an effect", "take the effect out of the condition")
+            raise Refused(
+                node.coord,
+                "a continue in a do loop whose condition has an effect",
+                "take the effect out of the condition",
+            )
         self.emit("for (;;) { {")
         self.body(node.stmt)
         self.go(node.cond)

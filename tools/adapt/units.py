@@ -1,6 +1,6 @@
 """Writes the items of the units: constants, variables, functions, each into the file that it stands in."""
 
-from typing import Any, Iterator, Optional
+from typing import Any
 
 from pycparser import c_ast
 
@@ -9,10 +9,10 @@ from .effects import pointee
 from .initialisers import filled, flat
 from .jumps import walk
 from .kinds import Array, Int, Pointer, Struct, Type
-from .names import Function, Variable
+from .declarators import Function, Variable
 from .output import File, unmarked
 from .places import Place
-from .reading import Unit, is_system
+from .reading import is_system
 from .refusals import Refused
 from .statements import Statements
 
@@ -91,8 +91,16 @@ class Units(Statements):
 
     def enumerations(self, item: Any) -> None:
         for node in walk(item):
-            if isinstance(node, c_ast.Enum) and node.values is not None and self.once((str(node.coord.file), node.coord.line, node.coord.column)):
-                listed = [(self.at(one), self.names.meaning[id(one)]) for one in node.values.enumerators if id(one) in self.names.meaning]
+            if (
+                isinstance(node, c_ast.Enum)
+                and node.values is not None
+                and self.once((str(node.coord.file), node.coord.line, node.coord.column))
+            ):
+                listed = [
+                    (self.at(one), self.names.meaning[id(one)])
+                    for one in node.values.enumerators
+                    if id(one) in self.names.meaning
+                ]
                 texts = [f"{at}{one.name} = {one.value}" for at, one in listed if one.out == one.name]
                 if texts:
                     self.emit(f"enum {{ {', '.join(texts)} }};")
@@ -111,11 +119,17 @@ class Units(Statements):
         made = filled(self.constants, variable.type, variable.init)
         for _, _, source in made.wholes:
             raise Refused(source.coord, "a struct as the first value of a part", "give its members one by one")
-        words = ("static " if static or variable.name and self.is_static(variable) else "") + ("const " if variable.const else "")
+        words = ("static " if static or variable.name and self.is_static(variable) else "") + (
+            "const " if variable.const else ""
+        )
         leaves = list(kinds.leaves(variable.type))
         for leaf in leaves:
             if leaf.count > MOST_ELEMENTS:
-                raise Refused(variable.coord, f"{variable.name} has {leaf.count} elements", f"the profile takes {MOST_ELEMENTS} at most")
+                raise Refused(
+                    variable.coord,
+                    f"{variable.name} has {leaf.count} elements",
+                    f"the profile takes {MOST_ELEMENTS} at most",
+                )
             texts = ["0"] * leaf.count
             for (path, spot), one in made.given.items():
                 if path == leaf.path:
@@ -154,15 +168,23 @@ class Units(Statements):
                 continue
             fault = kinds.fault_of(pointee(one))
             if fault or one.binding is None and isinstance(one.type, Pointer):
-                raise Refused(one.coord, f"{one.name} of {function.name}: {fault[0] if fault else 'a pointer'}", fault[1] if fault else "hand over an object")
+                raise Refused(
+                    one.coord,
+                    f"{one.name} of {function.name}: {fault[0] if fault else 'a pointer'}",
+                    fault[1] if fault else "hand over an object",
+                )
             for leaf in kinds.leaves(pointee(one)):
-                texts.append(f"{leaf.kind.text} {self.spelling.leaf(one, leaf.path)}{f'[{leaf.count}]' if leaf.dims else ''}")
+                texts.append(
+                    f"{leaf.kind.text} {self.spelling.leaf(one, leaf.path)}{f'[{leaf.count}]' if leaf.dims else ''}"
+                )
         return ", ".join(texts) or "void"
 
     def heading(self, function: Function) -> str:
         result = function.result
         if function.variadic and function.definition is not None:
-            raise Refused(function.coord, f"{function.name} takes any number of arguments", "give it a fixed number of parameters")
+            raise Refused(
+                function.coord, f"{function.name} takes any number of arguments", "give it a fixed number of parameters"
+            )
         if not isinstance(result, (Int, Struct)) and result != kinds.VOID:
             cause, advice = kinds.fault_of(result) or ("a pointer", "")
             raise Refused(function.coord, f"{function.name} gives {cause}", advice)
@@ -185,7 +207,11 @@ class Units(Statements):
 
     def prototype(self, function: Function, item: Any) -> None:
         wanted = function.calls and (function.definition is not None or isinstance(function.result, Int))
-        if function.name in ("assert", "assume") or not wanted or not self.once((str(item.coord.file), item.coord.line, item.name)):
+        if (
+            function.name in ("assert", "assume")
+            or not wanted
+            or not self.once((str(item.coord.file), item.coord.line, item.name))
+        ):
             return
         if function.definition is None and not self.once((function, "declared")):
             return
@@ -206,7 +232,7 @@ class Units(Statements):
         items = node.body.block_items or []
         for one in items:
             self.statement(one)
-        self.line = max(self.line, self.closings.get((self.original, node.body.coord.line, node.body.coord.column or 0), 0))
+        self.go_to_end(node.body)
         if self.outs(function) and not (items and isinstance(items[-1], c_ast.Return)):
             self.hand_back()
         self.emit("}")
@@ -214,7 +240,12 @@ class Units(Statements):
 
     def normal(self, function: Function) -> None:
         """Writes that parameters of type bool are 0 or 1, where the function may be an entry: it has no arrays."""
-        given = [(one, leaf) for one in function.parameters if not isinstance(one.binding, Place) for leaf in kinds.leaves(pointee(one))]
+        given = [
+            (one, leaf)
+            for one in function.parameters
+            if not isinstance(one.binding, Place)
+            for leaf in kinds.leaves(pointee(one))
+        ]
         for one, leaf in given if not any(leaf.dims for _, leaf in given) else []:
             if leaf.kind.boolean:
                 name = self.spelling.leaf(one, leaf.path)
@@ -222,20 +253,42 @@ class Units(Statements):
 
     def check_names(self, function: Function) -> None:
         """Refuses what would make two names of one object, or one name of two."""
-        locals_of = {variable.name for variable in self.names.variables if variable.function is function and variable.home == "local"}
+        locals_of = {
+            variable.name
+            for variable in self.names.variables
+            if variable.function is function and variable.home == "local"
+        }
         for parameter in function.parameters:
-            if isinstance(parameter.binding, Place) and parameter.binding.variable.out in locals_of | {one.name for one in function.parameters}:
-                raise Refused(parameter.coord, f"{parameter.name} stands for {parameter.binding.variable.name}, and {function.name} has another of this name", "rename that one")
+            if isinstance(parameter.binding, Place) and parameter.binding.variable.out in locals_of | {
+                one.name for one in function.parameters
+            }:
+                raise Refused(
+                    parameter.coord,
+                    f"{parameter.name} stands for {parameter.binding.variable.name}, and {function.name} has another of this name",
+                    "rename that one",
+                )
         if function.calls:
             return
         summary = self.effected.of_function[function]
         copies = [one for one in function.parameters if one.binding == "copy" and isinstance(one.type, Pointer)]
         for at, one in enumerate(copies):
             written = any(found[0] is one for found in summary.writes)
-            shared = [(found, found in summary.writes) for found in [*summary.reads, *summary.writes] if found[0] is not None and found[0].shared]
+            shared = [
+                (found, found in summary.writes)
+                for found in [*summary.reads, *summary.writes]
+                if found[0] is not None and found[0].shared
+            ]
             if any((written or too) and within(found[0].type, pointee(one)) for found, too in shared if found[0]):
-                raise Refused(one.coord, f"nothing calls {function.name}, and {one.name} may point to an object that it uses", "call it with a named object")
+                raise Refused(
+                    one.coord,
+                    f"nothing calls {function.name}, and {one.name} may point to an object that it uses",
+                    "call it with a named object",
+                )
             for two in copies[at + 1 :]:
                 too = any(found[0] is two for found in summary.writes)
                 if (written or too) and (within(pointee(one), pointee(two)) or within(pointee(two), pointee(one))):
-                    raise Refused(two.coord, f"nothing calls {function.name}, and {one.name} and {two.name} may point to one object", "call it with named objects")
+                    raise Refused(
+                        two.coord,
+                        f"nothing calls {function.name}, and {one.name} and {two.name} may point to one object",
+                        "call it with named objects",
+                    )

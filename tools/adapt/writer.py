@@ -9,7 +9,8 @@ from . import kinds
 from .effects import STEPS, Effected
 from .jumps import walk
 from .kinds import Int, Leaf, Struct
-from .names import Function, Names, Variable
+from .declarators import Function, Variable
+from .names import Names
 from .output import File, mark, unmarked
 from .places import Place, Places
 from .refusals import Refused
@@ -68,7 +69,12 @@ class Writer:
         """Whether an expression can't be written without statements before it."""
         if id(node) not in self.needing:
             nodes = [] if node is None else walk(node)
-            skipped = {id(inner) for one in nodes if isinstance(one, c_ast.UnaryOp) and one.op == "sizeof" for inner in walk(one)}
+            skipped = {
+                id(inner)
+                for one in nodes
+                if isinstance(one, c_ast.UnaryOp) and one.op == "sizeof"
+                for inner in walk(one)
+            }
             listed = {id(one.args) for one in nodes if isinstance(one, c_ast.FuncCall)}
             self.needing[id(node)] = node, any(self.needs(one) for one in nodes if id(one) not in skipped | listed)
         return self.needing[id(node)][1]
@@ -88,7 +94,11 @@ class Writer:
         found = []
         for parameter in function.parameters if function.definition is not None else []:
             if parameter.binding == "copy" and isinstance(parameter.type, kinds.Pointer):
-                found += [(parameter, leaf) for leaf in kinds.leaves(parameter.type.to) if (parameter, leaf.path, False) in writes and not leaf.dims]
+                found += [
+                    (parameter, leaf)
+                    for leaf in kinds.leaves(parameter.type.to)
+                    if (parameter, leaf.path, False) in writes and not leaf.dims
+                ]
         return found
 
     # ---- values and places
@@ -146,7 +156,9 @@ class Writer:
             if index is None and not leaf.dims:
                 found.append((leaf, [name]))
             elif index is None or not leaf.dims:
-                found.append((leaf, [f"{name}[{n if index is None else unmarked(index.text)}]" for n in range(leaf.count)]))
+                found.append(
+                    (leaf, [f"{name}[{n if index is None else unmarked(index.text)}]" for n in range(leaf.count)])
+                )
             else:
                 base = f"{unmarked(index.within(UNARY))} * {leaf.count}"
                 found.append((leaf, [f"{name}[{base} + {n}]" for n in range(leaf.count)]))
