@@ -145,10 +145,7 @@ class Comparison:
         lines = []
         for number, one in enumerate(self.entries):
             words = "".join(f" long long adapt_{at} = adapt_word();" for at in range(len(one.parameters)))
-            given = ", ".join(
-                f"({p.type.text if isinstance(p.type, Int) and not p.type.boolean else '_Bool'}) adapt_{at}"
-                for at, p in enumerate(one.parameters)
-            )
+            given = ", ".join(f"({getattr(p.type, 'text', '')}) adapt_{at}" for at, p in enumerate(one.parameters))
             call = f"{one.out}({given})"
             shown = f'printf("%lld", (long long) {call});' if isinstance(one.result, Int) else f"{call};"
             lines.append(f"    case {number}: {{{words} {shown} break; }}")
