@@ -134,7 +134,7 @@ class Calls(Writer):
         for at, (one, written, copied) in enumerate(seen):
             shared = one[0] is not None and one[0].shared
             within = copied and shared and (one in summary.writes or (written and one in summary.reads))
-            within = within or (copied and any(may_be(one, two) for two in summary.writes))
+            within = within or (copied and any(may_be(one, two) for two in summary.writes if two[0] and two[0].shared))
             other = any(one == two and (written or too) and (copied or also) for two, too, also in seen[at + 1 :])
             if within or other:
                 name = one[0].name if one[0] else ""

@@ -29,6 +29,7 @@ class Variable:
     binding: Any = None
     out: str = ""
     unit: Any = None
+    number: int = 0  # of the item in which it is first declared
 
     @property
     def shared(self) -> bool:
@@ -46,6 +47,7 @@ class Function:
     definition: Any = None
     out: str = ""
     calls: list[tuple[Optional["Function"], Any]] = field(default_factory=list)
+    number: int = 0  # of the item that defines it
     taken: bool = False
 
 

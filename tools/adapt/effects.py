@@ -44,8 +44,8 @@ class Effects:
 
 def may_be(one: Object, two: Object) -> bool:
     """Whether arrays may be the same although their names differ: a parameter may stand for any that outlives its call."""
-    pair = [each[0] for each in (one, two) if each[2] and each[0] and (each[0].shared or each[0].binding == "lent")]
-    return len(pair) == 2 and pair[0] is not pair[1] and "lent" in (pair[0].binding, pair[1].binding)
+    pair = [each[0] for each in (one, two) if each[2] and each[0] and each[0].home != "local"]
+    return len(pair) == 2 and pair[0] is not pair[1] and "parameter" in (pair[0].home, pair[1].home)
 
 
 def objects(place: Place) -> list[Object]:

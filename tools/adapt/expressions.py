@@ -23,6 +23,13 @@ class Expressions(Assignments):
     def value(self, node: Any) -> Value:
         """The value of an expression; its effects are written before. What it reads stays as it is until it is used,
         unless C leaves open whether it does, which is refused."""
+        self.within += 1
+        try:
+            return self.inner_value(node)
+        finally:
+            self.within -= 1
+
+    def inner_value(self, node: Any) -> Value:
         if isinstance(node, c_ast.Constant):
             return self.constant(node)
         if isinstance(node, c_ast.ID):

@@ -72,6 +72,7 @@ class Names(Declarators):
         else:
             const = "const" in (node.quals or []) or "const" in self.quals(node.type)
             made = Variable(node.name, of, node.coord, home, function=self.function, const=const, unit=self.current)
+            made.number = len(self.items)
             self.variables.append(made)
             if home == "file":
                 self.linked[key] = made
@@ -150,6 +151,7 @@ class Names(Declarators):
                 "declare them between these",
             )
         made.definition, made.coord, self.function = node, node.decl.coord, made
+        made.number = len(self.items)
         made.parameters = self.parameters(node.decl)
         self.scope, self.tags = self.scope.new_child(), self.tags.new_child()
         for parameter in made.parameters:

@@ -151,7 +151,8 @@ class Places:
             return self.bound_array(parameter, targets, bool(function.calls))
         one = targets[0] if targets else None
         same = one and all((t.variable, t.path) == (one.variable, one.path) and not t.indexes for t in targets)
-        parameter.binding = one if one and same and one.variable.shared else "copy"
+        known = one and one.variable.home == "file" and one.variable.number < function.number
+        parameter.binding = one if same and known else "copy"
         return True
 
     def bound_array(self, parameter: Variable, targets: list[Place], called: bool) -> bool:

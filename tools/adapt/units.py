@@ -56,8 +56,9 @@ class Units(Statements):
                     found.setdefault(meaning, number)
         for function in self.names.functions:
             for parameter in function.parameters:
-                if isinstance(parameter.binding, Place) and parameter.binding.variable not in found:
-                    found[parameter.binding.variable] = len(self.names.items)
+                if isinstance(parameter.binding, Place):
+                    variable = parameter.binding.variable
+                    found[variable] = min(found.get(variable, function.number), function.number)
         return found
 
     def once(self, key: Any) -> bool:

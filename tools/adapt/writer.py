@@ -30,6 +30,7 @@ class Writer:
         self.function: Optional[Function] = None
         self.behind: set[int] = set()
         self.after: list[str] = []
+        self.within = 0
         self.needing: dict[int, tuple[Any, bool]] = {}
 
     def value(self, node: Any) -> Value:
@@ -38,7 +39,8 @@ class Writer:
     # ---- pieces
 
     def emit(self, text: str) -> None:
-        self.file.emit(self.line, text)
+        """Writes a piece. What a value needs before stands on the statement's own line."""
+        self.file.emit(self.line, unmarked(text) if self.within else text)
 
     def go(self, node: Any) -> None:
         """What is written next stands on the line of this statement."""
