@@ -25,9 +25,10 @@ class Coverage:
     def __init__(self, graph: Graph, entry: str, runs: list[Run], refuted: set[int]) -> None:
         self.graph = graph
         self.taken = Counter(edge for run in runs for edge in run.edges)
-        self.entered = Counter(
-            edge.name for edge in graph.edges if edge.operation == "call" for _ in range(self.taken[edge.number])
-        )
+        self.entered: Counter[str] = Counter()
+        for edge in graph.edges:
+            if edge.operation == "call":
+                self.entered[edge.name] += self.taken[edge.number]
         self.entered[entry] += len(runs)
         self.refuted = {edge for edge in refuted if not self.taken[edge]}
         self.excluded: list[str] = []

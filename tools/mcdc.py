@@ -53,9 +53,7 @@ class Text:
             return text + f"inputs {one} and {other}, by paths {first} and {second}"
         if found.state == NONE:
             paths = " ".join(str(path + 1) for path in found.needed)
-            return text + (
-                "no pair within the bounds, since they refute paths " + paths if paths else "no two paths show it"
-            )
+            return text + (f"no pair within the bounds, by refuted paths {paths}" if paths else "no two paths show it")
         return text + "undecided"
 
     def decision(self, asked: Asked) -> Iterator[str]:

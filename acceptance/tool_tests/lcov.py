@@ -181,4 +181,33 @@ def ours(text):
     return lines, {line: sorted(counts) for line, counts in branches.items()}
 
 
-TRIED = [(GRAPH, counts_are_those_by_hand), (GRAPH, refuted_goals_are_left_out), (("graph", "genhtml"), genhtml_has_these_totals)]
+PROGRAMS = {"account": "account", "checksum": "accept", "control": "control", "crc": "frame", "date": "day_of_year", "debounce": "presses",
+            "gcd": "relation", "lights": "lights", "machine": "door", "search": "place", "sort": "middle", "window": "steady"}
+
+
+def gcc_agrees(folder):
+    """On programs, with inputs that are made for all conditions: a line is covered where gcc says so, and where both count the
+    same number of branches on a line, their counts are the same."""
+    lines_seen = branches_seen = 0
+    for name, entry in PROGRAMS.items():
+        file = f"{name}.c"
+        put(folder, {file: example(f"programs/{file}")})
+        made = run(folder, ["fshell", "generate", entry, "cover @CONDITIONEDGE", file, "--budget", "300000"])
+        put(folder, {"made": made.stdout})
+        run(folder, ["inputs", "made", "-o", "in", "--to", "json"])
+        run(folder, ["lcov", entry, "in", file, "-o", "out"])
+        run(folder, ["harness", entry, "in", file, "-o", "tests.c"])
+        with open(os.path.join(folder, "out"), encoding="utf-8") as text:
+            lines, branches = ours(text.read())
+        their_lines, their_branches = gcov(folder, file)
+        both = set(lines) & set(their_lines)
+        same = [line for line in branches if len(branches[line]) == len(their_branches.get(line, []))]
+        lines_seen, branches_seen = lines_seen + len(both), branches_seen + len(same)
+        yield all(bool(lines[line]) == bool(their_lines[line]) for line in both)
+        yield all(branches[line] == their_branches[line] for line in same)
+        os.remove(os.path.join(folder, "tests-tests.gcda"))
+    yield lines_seen > 100 and branches_seen > 40
+
+
+TRIED = [(GRAPH, counts_are_those_by_hand), (GRAPH, refuted_goals_are_left_out), (("graph", "genhtml"), genhtml_has_these_totals),
+         (("graph", "gcc", "gcov"), gcc_agrees)]

@@ -1,0 +1,70 @@
+"""The cases of bin/install: what it puts under a folder works there, and its manual pages are shown without a warning."""
+
+import os
+import subprocess
+
+import programs
+from tool_tests import Case, example, put, run
+
+COMMANDS = ["fshell-" + name for name in ("measure", "goals", "runs", "generate", "prove", "check", "graph", "sample")]
+TOOLS = ["fshell-" + name for name in ("inputs", "explain", "lcov", "harness", "campaign", "page", "mcdc")]
+CASES = [
+    Case("install: a folder that can't be made", ["install", "a/b"], {"a": "a file\n"}, 2, "", "install: a/b/bin: Not a directory\n"),
+]
+
+
+def installed_tools_work(folder):
+    yield run(folder, ["install", "to"]).returncode == 0
+    put(folder, {"both.c": example("counting/both.c")})
+    yield sorted(os.listdir(os.path.join(folder, "to", "bin"))) == sorted(["fshell", *TOOLS])
+    own = {name: value for name, value in os.environ.items() if name != "FSHELL"}
+
+    def installed(name, *words):
+        path = os.path.join(folder, "to", "bin", name)
+        return subprocess.run([path, *words], cwd=folder, env=own, capture_output=True, text=True)
+
+    query = "cover @LINE(9)"
+    made = installed("fshell", "generate", "--answers", "2", "both", query, "both.c")
+    yield made.stdout.endswith("covered 1 refuted 0 undecided 0 of 1\n")
+    put(folder, {"made": made.stdout})
+    yield installed("fshell-inputs", "made").stdout == '[{"args": [1], "answers": [5, 9]}]\n'
+    yield all(installed(name, "--help").stdout.startswith("usage: ") for name in TOOLS)
+    # once more, over what is there
+    yield run(folder, ["install", "to"]).returncode == 0 and installed("fshell-inputs", "made").returncode == 0
+
+
+def completion_knows_words(folder):
+    run(folder, ["install", "to"])
+    script = ". to/share/bash-completion/completions/fshell; COMP_WORDS=({words}); COMP_CWORD={at}; _fshell; echo ${{COMPREPLY[@]}}"
+
+    def completed(words):
+        command = script.format(words=words, at=len(words.split()) - 1)
+        return subprocess.run(["bash", "-c", command], cwd=folder, capture_output=True, text=True).stdout.split()
+
+    yield completed("fshell me") == ["measure"]
+    yield completed("fshell measure --e") == ["--ends"]
+    yield completed("fshell check --") == ["--turns", "--frames", "--answers", "--ends"]
+    yield completed("fshell-campaign --ssh") == ["--sshloginfile"]
+
+
+def needs_are_told(folder):
+    ended = run(folder, ["install", "--check"], env={**os.environ, "PATH": os.path.join(folder, "nothing") + ":" + os.path.dirname(
+        subprocess.run(["sh", "-c", "command -v python3"], capture_output=True, text=True).stdout.strip())})
+    lines = ended.stdout.splitlines()
+    yield len(lines) == 6 and lines[0] == "there    Python 3.11, for all tools"
+    yield all(line.startswith(("there    ", "missing  ")) for line in lines)
+    yield ended.returncode == any(line.startswith("missing") for line in lines)
+    yield all("(Debian: apt-get install " in line for line in lines if line.startswith("missing"))
+
+
+def manual_pages_are_shown(folder):
+    run(folder, ["install", "to"])
+    pages = os.path.join(folder, "to", "share", "man", "man1")
+    yield sorted(os.listdir(pages)) == sorted(f"{name}.1" for name in ["fshell", *COMMANDS, *TOOLS])
+    for name in os.listdir(pages):
+        words = ["man", "--warnings", "-l", os.path.join(pages, name)]
+        shown = subprocess.run(words, capture_output=True, text=True, env={**os.environ, "MANWIDTH": "120", "LC_ALL": "C.UTF-8"})
+        yield (shown.returncode, shown.stderr) == (0, "") and "DESCRIPTION" in shown.stdout or name == "fshell.1" and "EXIT STATUS" in shown.stdout
+
+
+TRIED = [((), installed_tools_work), (("bash",), completion_knows_words), ((), needs_are_told), (("man",), manual_pages_are_shown)]

@@ -1,0 +1,214 @@
+"""The cases of bin/mcdc: decisions that are worked out by hand, and random ones beside all their inputs."""
+
+import itertools
+import json
+import random
+
+from tool_tests import Case, put, run
+
+GRAPH = ("graph",)
+
+
+def source(condition, statement="if ({}) {{\n    return 1;\n  }}\n  return 0;"):
+    return "int f(int a, int b, int c) {\n  " + statement.format(condition) + "\n}\n"
+
+
+def worked(name, condition, given, lines, total, **more):
+    """A decision with its inputs, and what is said of it."""
+    text = f"decision 1: a.c:2:{more.pop('column', 7)} f: if ({condition})\n"
+    text += "".join(f"  {line}\n" for line in lines) + f"conditions {total}\n"
+    return Case(f"mcdc: {name}", ["mcdc", "f", "a.c", "--inputs", "in"], {"a.c": source(condition), "in": given}, stdout=text, needs=GRAPH)
+
+
+def goals_of(line):
+    return f"goals of: cover PATHS(INTERSECT(@CONDITIONGRAPH,INTERSECT(@FUNC(f),@LINE({line}))),1)"
+
+
+CASES = [
+    worked("a and b and c", "a && b && c", "0 1 1\n1 0 1\n1 1 0\n1 1 1\n", [
+        "path 1: F - - is false, input 1: args 0 1 1",
+        "path 2: T F - is false, input 2: args 1 0 1",
+        "path 3: T T F is false, input 3: args 1 1 0",
+        "path 4: T T T is true, input 4: args 1 1 1",
+        "condition 1: a: inputs 1 and 4, by paths 1 and 4",
+        "condition 2: b: inputs 2 and 4, by paths 2 and 4",
+        "condition 3: c: inputs 3 and 4, by paths 3 and 4",
+    ], "3 of 1 decisions: 3 shown, 0 without a pair, 0 undecided"),
+    worked("(a or b) and c", "(a || b) && c", "1 0 0\n1 0 1\n0 0 1\n0 1 0\n0 1 1\n", [
+        "path 1: T - F is false, input 1: args 1 0 0",
+        "path 2: T - T is true, input 2: args 1 0 1",
+        "path 3: F F - is false, input 3: args 0 0 1",
+        "path 4: F T F is false, input 4: args 0 1 0",
+        "path 5: F T T is true, input 5: args 0 1 1",
+        "condition 1: a: inputs 2 and 3, by paths 2 and 3",
+        "condition 2: b: inputs 3 and 5, by paths 3 and 5",
+        "condition 3: c: inputs 1 and 2, by paths 1 and 2",
+    ], "3 of 1 decisions: 3 shown, 0 without a pair, 0 undecided", column=8),
+    worked("coupled conditions", "(a && b) || (a && c)", "1 1 0\n1 0 0\n1 0 1\n0 0 0\n", [
+        "path 1: T T - - is true, input 1: args 1 1 0",
+        "path 2: T F F - is false, refuted, goal 4",
+        "path 3: T F T F is false, input 2: args 1 0 0",
+        "path 4: T F T T is true, input 3: args 1 0 1",
+        "path 5: F - F - is false, input 4: args 0 0 0",
+        "path 6: F - T F is false, refuted, goal 6",
+        "path 7: F - T T is true, refuted, goal 5",
+        "condition 1: a: inputs 1 and 4, by paths 1 and 5",
+        "condition 2: b: inputs 1 and 2, by paths 1 and 3",
+        "condition 3: a: inputs 3 and 4, by paths 4 and 5",
+        "condition 4: c: inputs 2 and 3, by paths 3 and 4",
+        goals_of(2),
+    ], "4 of 1 decisions: 4 shown, 0 without a pair, 0 undecided", column=8),
+    worked("conditions that never matter", "a || (a && b)", "1 0 0\n0 0 0\n", [
+        "path 1: T - - is true, input 1: args 1 0 0",
+        "path 2: F F - is false, input 2: args 0 0 0",
+        "path 3: F T F is false, refuted, goal 3",
+        "path 4: F T T is true, refuted, goal 2",
+        "condition 1: a: inputs 1 and 2, by paths 1 and 2",
+        "condition 2: a: no pair within the bounds, by refuted paths 4",
+        "condition 3: b: no pair within the bounds, by refuted paths 3 4",
+        goals_of(2),
+    ], "3 of 1 decisions: 1 shown, 2 without a pair, 0 undecided"),
+    worked("a negation", "!(a && !b)", "0 0 0\n1 0 0\n1 1 0\n", [
+        "path 1: F - is true, input 1: args 0 0 0",
+        "path 2: T F is false, input 2: args 1 0 0",
+        "path 3: T T is true, input 3: args 1 1 0",
+        "condition 1: a: inputs 1 and 2, by paths 1 and 2",
+        "condition 2: b: inputs 2 and 3, by paths 2 and 3",
+    ], "2 of 1 decisions: 2 shown, 0 without a pair, 0 undecided", column=9),
+    Case("mcdc: no decision", ["mcdc", "f", "a.c"], {"a.c": "int f(int x) { return x; }\n"}, 2, "", "mcdc: there is no decision\n", needs=GRAPH),
+    Case("mcdc: inputs that are refused", ["mcdc", "f", "a.c", "--inputs", "in", "--suite", "new"], {"a.c": source("a"), "in": "1 x\n"}, 2, "",
+         "mcdc: in: no inputs are read: 'x' is no number\n", needs=GRAPH),
+    Case("mcdc: an entry that isn't there", ["mcdc", "g", "a.c", "--suite", "new"], {"a.c": source("a")}, 2, "",
+         "mcdc: fshell generate: error 36 NoSuchEntry\n", needs=GRAPH),
+]
+
+
+def told(folder, text, *words):
+    """What is said of a source, as JSON, and the status."""
+    put(folder, {"a.c": text})
+    ended = run(folder, ["mcdc", "f", "a.c", "--json", *words])
+    return json.loads(ended.stdout), ended.returncode
+
+
+def of(decision):
+    """A decision's paths with their outcomes, rising, and the states of its conditions."""
+    paths = {"".join({True: "T", False: "F", None: "-"}[value] for value in path["values"]): path["outcome"] for path in decision["paths"]}
+    return paths, [condition["state"] for condition in decision["conditions"]]
+
+
+def decisions_of_each_statement(folder):
+    """Loops, a ?:, values of expressions, and calls within conditions, with their outcomes by hand."""
+    both = ({"F-": False, "TF": False, "TT": True}, ["shown", "shown"])
+    nor = ({"T-": True, "FT": True, "FF": False}, ["shown", "shown"])
+    for statement, due in (
+            ("while (a && b) {{ a = 0; }}\n  return 0;", both), ("do {{ c++; }} while (c < 2 && a);\n  return 0;", None),
+            ("for (int i = 0; i < 2 && a; i++) {{ c++; }}\n  return c;", both), ("return a || b ? 3 : 4;", nor),
+            ("int d = !(a || b);\n  return d;", nor), ("if (a || b) {{ c = 1; }} else {{ c = 2; }}\n  return c;", nor),
+            ("if (c == 7) {{ return 7; }} else if (a || b) {{ return 1; }}\n  return c;", None),
+            ("return (a && b) == c;", both), ("int t[2] = {{0, 1}};\n  return t[a && b];", both)):
+        value, status = told(folder, source("", statement))
+        yield status == 0 and (due is None or of(value["decisions"][-1]) == due)
+        yield all(condition["state"] == "shown" for decision in value["decisions"] for condition in decision["conditions"])
+
+
+def calls_within_conditions(folder):
+    text = ("static int g(int x) {\n  if (x > 3) {\n    return 1;\n  }\n  return 0;\n}\n"
+            "int f(int a, int b) {\n  if (a && g(b) && b < 9) {\n    return 1;\n  }\n  return 0;\n}\n")
+    value, status = told(folder, text)
+    yield status == 0 and [decision["function"] for decision in value["decisions"]] == ["g", "f"]
+    yield of(value["decisions"][1]) == ({"F--": False, "TF-": False, "TTF": False, "TTT": True}, ["shown"] * 3)
+    # a path that is impossible behind the call
+    value, status = told(folder, text.replace("b < 9", "b > 2"))
+    yield status == 0 and of(value["decisions"][1])[1] == ["shown", "shown", "none"]
+
+
+def certificates_and_the_suite_are_written(folder):
+    put(folder, {"a.c": source("a || (a && b)")})
+    ended = run(folder, ["mcdc", "f", "a.c", "--certificates", "certs", "--suite", "suite"])
+    yield ended.returncode == 0 and ended.stdout.endswith("; 2 certificates are checked\n")
+    query = goals_of(2).removeprefix("goals of: ")
+    for goal in ("2", "3"):
+        checked = run(folder, ["fshell", "check", "f", query, goal, f"certs/decision1-goal{goal}.cert", "a.c"])
+        yield checked.stdout == f"goal {goal} refuted turns 4 frames 8 answers 16\n"
+    yield run(folder, ["fshell", "runs", "f", "suite", "a.c"]).returncode == 0
+
+
+def small_budgets_leave_it_open(folder):
+    value, status = told(folder, source("a * b == 7919 * 7907 && c"), "--budget", "1")
+    yield status == 1 and "undecided" in of(value["decisions"][0])[1]
+
+
+# ---- random decisions beside all their inputs
+
+
+def expression(chance, depth):
+    """A random expression: a name, or an operator with its operands."""
+    if depth == 0 or chance.random() < 0.2:
+        return chance.choice("abc")
+    op = chance.choice(["&&", "||", "&&", "||", "!"])
+    return ("!", expression(chance, depth - 1)) if op == "!" else (op, expression(chance, depth - 1), expression(chance, depth - 1))
+
+
+def text_of(tree):
+    if isinstance(tree, str):
+        return tree
+    return f"!({text_of(tree[1])})" if tree[0] == "!" else f"({text_of(tree[1])} {tree[0]} {text_of(tree[2])})"
+
+
+def evaluated(tree, values, leaves):
+    """The value of an expression; each leaf that is evaluated is listed with its value, and each other one with None."""
+    if isinstance(tree, str):
+        leaves.append(values[tree])
+        return values[tree]
+    if tree[0] == "!":
+        return not evaluated(tree[1], values, leaves)
+    first = evaluated(tree[1], values, leaves)
+    if first == (tree[0] == "||"):
+        leaves.extend([None] * count(tree[2]))
+        return first
+    return evaluated(tree[2], values, leaves)
+
+
+def count(tree):
+    return 1 if isinstance(tree, str) else sum(count(part) for part in tree[1:])
+
+
+def deciding(tree, row):
+    """The leaves that decide: each operand beside them, up to the top, is one that leaves the value to them, or isn't evaluated."""
+    if isinstance(tree, str):
+        return [row[0] is not None], row[0]
+    if tree[0] == "!":
+        marks, value = deciding(tree[1], row)
+        return marks, None if value is None else not value
+    split = count(tree[1])
+    (first, one), (second, other) = deciding(tree[1], row[:split]), deciding(tree[2], row[split:])
+    passes = tree[0] == "&&"
+    marks = [mark and other in (passes, None) for mark in first] + [mark and one == passes for mark in second]
+    if one is None:
+        return marks, None
+    return marks, one if one != passes else other
+
+
+def all_inputs_show(tree):
+    """For each leaf whether two of all inputs show that it decides on its own."""
+    seen = set()
+    for values in itertools.product([False, True], repeat=3):
+        leaves = []
+        outcome = evaluated(tree, dict(zip("abc", values)), leaves)
+        seen.add((tuple(leaves), tuple(deciding(tree, leaves)[0]), outcome))
+    return [any(one[1][leaf] and other[1][leaf] and one[0][leaf] != other[0][leaf] and one[2] != other[2] for one in seen for other in seen)
+            for leaf in range(count(tree))]
+
+
+def random_decisions_agree_with_all_inputs(folder):
+    chance = random.Random(53)
+    for _ in range(12):
+        tree = ("&&", expression(chance, 2), expression(chance, 2))
+        value, status = told(folder, source(text_of(tree)))
+        states = [condition["state"] for condition in value["decisions"][0]["conditions"]]
+        yield status == 0 and states == ["shown" if shown else "none" for shown in all_inputs_show(tree)]
+
+
+TRIED = [(GRAPH, function) for function in (
+    decisions_of_each_statement, calls_within_conditions, certificates_and_the_suite_are_written, small_budgets_leave_it_open,
+    random_decisions_agree_with_all_inputs)]
