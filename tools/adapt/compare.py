@@ -17,6 +17,7 @@ from .initialisers import flat
 from .units import Units
 
 CALLS, ANSWERS, SECONDS = 6, 40, 5
+TIME_IS_UP = 14  # (SIGALRM)
 DRIVER = """
 #include <stdio.h>
 #include <stdlib.h>
@@ -214,12 +215,16 @@ class Comparison:
                 [os.path.join(self.folder, name), *words], capture_output=True, text=True, timeout=SECONDS, check=False
             )
         except subprocess.TimeoutExpired:
-            return -14, []
+            return -TIME_IS_UP, [""]
         return ended.returncode, ended.stdout.split("\n")
 
     def difference(self, words: list[str]) -> str:
         """How both runs differ; nothing where they agree, up to where C gives the original's no meaning."""
         (status, lines), (other, theirs) = self.run("original", words), self.run("adapted", words)
+        if -TIME_IS_UP in (status, other):
+            both = min(len(lines), len(theirs)) - 1
+            lines, theirs = lines[: both + 1], theirs[: both + 1]
+            status = -TIME_IS_UP
         if status in (0, -6):
             return "" if (status, lines) == (other, theirs) else f"original {status} {lines}, adapted {other} {theirs}"
         whole = lines[:-1]

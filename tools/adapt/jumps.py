@@ -54,7 +54,7 @@ class Jumps:
         self.fresh, self.refusals = fresh, refusals
 
     def function(self, body: Any) -> None:
-        for block in [one for one in walk(body) if isinstance(one, c_ast.Compound)]:
+        for block in reversed([one for one in walk(body) if isinstance(one, c_ast.Compound)]):
             for label in [one for one in block.block_items or [] if isinstance(one, c_ast.Label)]:
                 self.label(block, label)
         for one in walk(body):

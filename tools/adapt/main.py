@@ -158,6 +158,8 @@ def main(given: Optional[list[str]] = None) -> int:
         return compare(asked, writer, paths) if asked.compare else 0
     except ModuleNotFoundError as missing:
         print(f"adapt: {missing.name} isn't there (Debian's package python3-pycparser)", file=sys.stderr)
+    except RecursionError:
+        print("adapt: a source is nested too deep", file=sys.stderr)
     except (Stop, OSError) as stop:
         print(f"adapt: {stop}", file=sys.stderr)
     return 2

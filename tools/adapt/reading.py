@@ -72,7 +72,8 @@ def told_errors(path: str, told: str, refusals: Refusals) -> None:
     for line in told.splitlines():
         found = re.match(r"(.*?):(\d+):(?:\d+:)? (?:fatal )?error: (.*)", line)
         if found:
-            refusals.add(Coord(found.group(1), int(found.group(2))), f"{JUDGED}: {found.group(3)}", "correct it")
+            header = "leave it out, or name its folder (-I)" if "No such file" in found.group(3) else "correct it"
+            refusals.add(Coord(found.group(1), int(found.group(2))), f"{JUDGED}: {found.group(3)}", header)
     if not refusals.found:
         first = told.splitlines()[:1]
         raise Stop(f"{path} can't be read: {first[0] if first else 'the compiler failed'}")
