@@ -85,13 +85,14 @@ def adapt(given: argparse.Namespace, refusals: Refusals) -> tuple[dict[str, str]
     writer = Units(names, places, effected, Spelling(names, taken), given.check)
     writer.inputs = inputs
     files = writer.write()
-    order = list(dict.fromkeys(path for unit in units for path in unit.files))
-    made = {}
-    for path in order:
-        if path in files and (files[path].pieces or path in given.sources):
-            with open(path, encoding="utf-8", errors="surrogateescape") as file:
-                made[path] = files[path].text(file.read().split("\n"))
-    return made, writer
+    order = dict.fromkeys(path for unit in units for path in unit.files)
+    kept = [path for path in order if path in files and (files[path].pieces or path in given.sources)]
+    return {path: files[path].text(lines_of(path)) for path in kept}, writer
+
+
+def lines_of(path: str) -> list[str]:
+    with open(path, encoding="utf-8", errors="surrogateescape") as file:
+        return file.read().split("\n")
 
 
 def put(folder: str, texts: dict[str, str]) -> list[str]:

@@ -268,8 +268,11 @@ class Units(Statements):
                     f"{parameter.name} stands for {parameter.binding.variable.name}, and {function.name} has another of this name",
                     "rename that one",
                 )
-        if function.calls:
-            return
+        if not function.calls:
+            self.check_uncalled(function)
+
+    def check_uncalled(self, function: Function) -> None:
+        """Refuses a function that nothing calls, where two of its names may be those of one object."""
         summary = self.effected.of_function[function]
         copies = [one for one in function.parameters if one.binding == "copy" and isinstance(one.type, Pointer)]
         for at, one in enumerate(copies):
