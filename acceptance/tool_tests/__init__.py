@@ -80,7 +80,7 @@ def is_there(need):
     """Whether something is there that cases need: the program's command graph, a Python package, or a command."""
     if need == "graph":
         return "Usage" not in subprocess.run([programs.LAUNCHER, "graph", "/no"], capture_output=True, text=True).stderr
-    return importlib.util.find_spec(need) is not None if need == "jinja2" else shutil.which(need) is not None
+    return importlib.util.find_spec(need) is not None if need in ("jinja2", "pycparser") else shutil.which(need) is not None
 
 
 def tried(function):

@@ -1,0 +1,192 @@
+"""The cases of bin/adapt: what it writes of small sources and what it refuses of them, by the tables of acceptance/adapt/, one for
+each row of docs/ADAPT.md; the command itself; and the modules of examples/modules, all the way.
+
+A case of a table begins with `== NAME`, behind which words for adapt may stand after a `|`. Its source follows, or several, each
+behind `-- file NAME`; then `-- becomes [NAME]` with what is written, or `-- refused` with the lines that are told. What is
+written must be accepted by the program; acceptance/with_gcc/adapted_programs also compares its runs with those of the original.
+"""
+
+import contextlib
+import functools
+import glob
+import io
+import os
+import re
+import subprocess
+import sys
+
+import programs
+from tool_tests import Case, is_there, put, run
+
+PROGRAM = os.environ.get("FSHELL", programs.LAUNCHER)
+TABLES = sorted(glob.glob(os.path.join(programs.HERE, "adapt", "*.txt")))
+MODULES = os.path.join(programs.ROOT, "examples", "modules")
+NEEDS = ("pycparser", "gcc")
+FIRST = "adapt is no part of what is proved: read and compare what it writes\n"
+SOURCE = {"a.c": "int f(int x) { return x; }\n"}
+CASES = [
+    Case("adapt: a source that isn't there", ["adapt", "none.c"], {}, 2, FIRST, "adapt: none.c can't be read\n", needs=NEEDS),
+    Case("adapt: the original itself", ["adapt", "a.c", "-o", "."], SOURCE, 2, FIRST,
+         "adapt: ./a.c is the original itself; name another folder (-o)\n", needs=NEEDS),
+    Case("adapt: all refusals at once, and nothing is written", ["adapt", "a.c"], {"a.c": "float f;\nint g(int x) {\n  int *p = &x;\n  return *p;\n}\n"},
+         3, FIRST, "a.c:1: f: a floating point number; use integers in fixed point\n"
+         "a.c:3: p: a pointer; name the object itself, or hand its address over as a parameter\n"
+         "a.c:4: the pointer p; name the object itself, or hand its address over as a parameter that is only dereferenced\n"
+         "3 refused, nothing is written\n", needs=NEEDS),
+    Case("adapt: runs that are compared", ["adapt", "a.c", "-o", "new", "--compare", "3"], SOURCE, 0,
+         FIRST + "wrote new/a.c\ncompared 3 runs, 0 differ\n", "", None, NEEDS),
+    Case("adapt: nothing to compare", ["adapt", "a.c", "-o", "new", "--compare", "3"], {"a.c": "static int f(int x) { return x; }\n"}, 2, None,
+         "adapt: there is no function that isn't static, takes integers alone and gives one or nothing, so nothing can be compared\n", None, NEEDS),
+    Case("adapt: a harness of an entry that isn't there", ["adapt", "a.c", "-o", "new", "--harness", "g", "in"], {**SOURCE, "in": "1\n"}, 2, None,
+         "adapt: g is no function of the source that takes integers alone and gives one or nothing\n", None, NEEDS),
+    Case("adapt: inputs that are refused", ["adapt", "a.c", "-o", "new", "--harness", "f", "in"], {**SOURCE, "in": "1 2\n"}, 2, None,
+         "adapt: fshell runs: error 51 Shape input 1\n", None, NEEDS),
+]  # fmt: skip
+# each module with adapt's words, an entry, and the program's options
+WAYS = [
+    ("can.c", [], "can_receive", ["--turns", "3", "--answers", "4"]),
+    ("uart.c", [], "uart_poll", ["--turns", "2", "--answers", "4"]),
+    ("pid.c", ["--input", "sensor_read", "--input", "actuator_write"], "pid_step", []),
+    ("menu.c", ["--input", "display_show"], "menu_edit", ["--turns", "3"]),
+    ("modbus.c", ["--input", "line_write"], "modbus_obey", ["--turns", "3"]),
+]
+QUERY = "cover @CONDITIONEDGE"
+
+
+def without_gcc(folder):
+    """The one line where no compiler is there."""
+    put(folder, SOURCE)
+    words = [sys.executable, os.path.join(programs.ROOT, "bin", "adapt"), "a.c"]
+    ended = subprocess.run(words, cwd=folder, env={**os.environ, "PATH": folder}, capture_output=True, text=True)
+    told = "adapt: neither gcc nor clang is there, whose preprocessor reads the sources (Debian's package gcc)\n"
+    yield (ended.returncode, ended.stderr) == (2, told)
+
+
+def without_pycparser(folder):
+    """The one line where the package isn't there."""
+    put(folder, {**SOURCE, "pycparser.py": "raise ModuleNotFoundError(name='pycparser')\n"})
+    ended = run(folder, ["adapt", "a.c"], env={**os.environ, "PYTHONPATH": folder})
+    yield (ended.returncode, ended.stderr) == (2, "adapt: pycparser isn't there (Debian's package python3-pycparser)\n")
+
+
+# ---- the tables
+
+
+def cases(text):
+    """The cases of a table: each with its name, words, files, and what is expected, by kind and file."""
+    for part in re.split(r"^== ", text, flags=re.MULTILINE)[1:]:
+        head, rest = part.split("\n", 1)
+        name, _, words = head.partition(" | ")
+        pieces = re.split(r"^-- (file|becomes|refused) ?(\S*)\n", rest, flags=re.MULTILINE)
+        files = {"a.c": pieces[0]} if pieces[0].strip() else {}
+        expected = {}
+        for kind, file, body in zip(pieces[1::3], pieces[2::3], pieces[3::3]):
+            (files if kind == "file" else expected)[file or ("a.c" if kind == "becomes" else kind)] = (
+                body.strip("\n") + "\n"
+            )
+        yield name, words.split(), files, expected
+
+
+def adapted(words):
+    """The status of adapt, and both texts."""
+    sys.path.insert(0, programs.ROOT)
+    from tools.adapt.main import main
+
+    out, err = io.StringIO(), io.StringIO()
+    with contextlib.redirect_stdout(out), contextlib.redirect_stderr(err):
+        status = main(words)
+    return status, out.getvalue(), err.getvalue()
+
+
+def outcome(words, files, folder, runs=0):
+    """What adapt makes of a case: what is written by file, or what is refused. Some runs may be compared with the original's."""
+    put(folder, files)
+    sources = [name for name in files if name.endswith(".c")]
+    status, out, err = adapted([*sources, *words, "-o", "out", *(["--compare", str(runs)] if runs else [])])
+    if status == 3:
+        return {"refused": "".join(line + "\n" for line in err.splitlines()[:-1])}
+    made = {} if not status or "nothing can be compared" in err else {"adapt": f"{status} {out} {err}"}
+    paths = out.splitlines()[1].split()[1:] if len(out.splitlines()) > 1 else []
+    for path in paths:
+        with open(path, encoding="utf-8") as file:
+            made[os.path.basename(path)] = file.read().strip("\n") + "\n"
+    accepted = subprocess.run([PROGRAM, "goals", "cover EDGES(ID)", *paths], capture_output=True, text=True)
+    return made if accepted.returncode == 0 else {**made, "the program": accepted.stderr}
+
+
+def table(path, folder, runs=0):
+    """Whether each case of a table is right."""
+    with open(path, encoding="utf-8") as file:
+        found = list(cases(file.read()))
+    here = os.getcwd()
+    for number, (name, words, files, expected) in enumerate(found):
+        own = os.path.join(folder, str(number))
+        os.makedirs(own)
+        os.chdir(own)
+        try:
+            made = outcome(words, files, own, runs)
+        finally:
+            os.chdir(here)
+        if made != expected:
+            print(f"{os.path.basename(path)}: {name}: {made!r}, not {expected!r}")
+        yield made == expected
+
+
+def of_table(path):
+    """A table as a case."""
+    made = functools.partial(table, path)
+    made.__name__ = f"the table {os.path.basename(path)}"
+    return made
+
+
+# ---- the modules
+
+
+def way(folder, module, words, entry, bounds):
+    """A module from the original through adapt and generate to a page and to tests of the original, which must pass."""
+    source = os.path.join(MODULES, module)
+    names = [name for name in ("can.h" if module == "can.c" else None, module) if name]
+    made = [f"made/{name}" for name in names]
+    yield run(folder, ["adapt", source, *words, "-o", "made"]).stdout == FIRST + f"wrote {' '.join(made)}\n"
+    report = subprocess.run(
+        [PROGRAM, "generate", entry, QUERY, *made, *bounds], cwd=folder, capture_output=True, text=True
+    )
+    yield report.returncode == 0 and int(report.stdout.splitlines()[-1].split()[1]) > 10
+    put(folder, {"report.txt": report.stdout})
+    yield run(folder, ["inputs", "report.txt", "-o", "in.json"]).returncode == 0
+    yield run(folder, ["adapt", source, *words, "-o", "made", "--harness", entry, "in.json"]).returncode == 0
+    compiled = subprocess.run(
+        ["gcc", "-fwrapv", "-w", "-o", "tests", "made/tests.c"], cwd=folder, capture_output=True, text=True
+    )
+    tests = (
+        subprocess.run(["./tests"], cwd=folder, capture_output=True, text=True) if compiled.returncode == 0 else None
+    )
+    yield tests is not None and tests.returncode == 0 and tests.stdout.count("\nok ") > 2
+    if is_there("jinja2") and is_there("graph"):
+        shown = [word for name in made for word in ("--source", name)]
+        yield run(folder, ["page", "report.txt", "-o", "page.html", *shown, "--entry", entry]).returncode == 0
+        yield os.path.getsize(os.path.join(folder, "page.html")) > 1000
+
+
+def of_module(given):
+    """A module as a case."""
+    made = functools.partial(way, module=given[0], words=given[1], entry=given[2], bounds=given[3])
+    made.__name__ = f"the module {given[0]}"
+    return made
+
+
+def a_changed_original_fails(folder):
+    """The tests of an original with another constant fail."""
+    with open(os.path.join(MODULES, "pid.c"), encoding="utf-8") as file:
+        text = file.read()
+    put(folder, {"pid.c": text, "in.txt": "700 80 0\n-5 3 1\n"})
+    words = ["adapt", "pid.c", *WAYS[2][1], "-o", "made"]
+    yield run(folder, [*words, "--harness", "pid_step", "in.txt"]).returncode == 0
+    put(folder, {"pid.c": text.replace("FIXED(-10, 0)", "FIXED(-11, 0)").replace("FIXED(1, 50)", "FIXED(1, 40)")})
+    compiled = subprocess.run(["gcc", "-fwrapv", "-w", "-o", "tests", "made/tests.c"], cwd=folder)
+    tests = subprocess.run(["./tests"], cwd=folder, capture_output=True, text=True)
+    yield compiled.returncode == 0 and tests.returncode == 1 and "\nnot ok" in tests.stdout
+
+
+TRIED = [(NEEDS, without_gcc), ((), without_pycparser), *((NEEDS, of_table(path)) for path in TABLES),
+         *((NEEDS, of_module(given)) for given in WAYS), (NEEDS, a_changed_original_fails)]  # fmt: skip

@@ -1,0 +1,138 @@
+"""Writes assignments, steps and other expressions for their effect, as statements."""
+
+from typing import Any, Callable
+
+from pycparser import c_ast
+
+from . import kinds
+from .calls import Calls
+from .constants import LOGICAL
+from .effects import STEPS
+from .jumps import walk
+from .kinds import Int, Struct
+from .places import Place
+from .refusals import Refused
+from .values import LEVELS, PRIMARY, Value
+
+
+class Assignments(Calls):
+    def when(self, node: Any, then: Callable[[], None]) -> None:
+        raise NotImplementedError
+
+    def unless(self, node: Any, then: Callable[[], None]) -> None:
+        raise NotImplementedError
+
+    def assigned(self, node: Any) -> Value:
+        """An assignment as a value: it is written, and the target read again (6.5.16p3)."""
+        if not isinstance(self.constants.type_of(node.lvalue), Int):
+            raise Refused(
+                node.coord, "a struct is assigned within an expression", "assign it in a statement of its own"
+            )
+        text, kind = self.assign(node, True)
+        return Value(text, kind, PRIMARY, truth=kind.boolean)
+
+    def assign(self, node: Any, stable: bool = False) -> tuple[str, Int]:
+        """Writes an assignment to an integer; the target's text and type."""
+        place = self.places.place(node.lvalue)
+        if not isinstance(place.type, Int):
+            raise Refused(node.coord, "an assignment to an array", "assign its elements")
+        index = c_ast.ExprList([one for one, _ in place.indexes] + ([node.lvalue] if node.op != "=" else []))
+        self.unsequenced(node, [index, node.rvalue])
+        self.not_twice(node, place, node.rvalue)
+        kind = place.type
+        twice = kind.boolean and node.op != "="
+        target, _ = self.leaf(place, stable or twice)
+        given = self.value(node.rvalue)
+        if twice:
+            level = LEVELS[node.op[:-1]]
+            whole = Value(f"{target} {node.op[:-1]} {given.within(level + 1)}", kinds.INT, level)
+            self.emit(f"{target} = {self.truth(whole).text};")
+        else:
+            self.emit(f"{target} {node.op} {self.converted(given, kind).text};")
+        return target, kind
+
+    def not_twice(self, node: Any, place: Place, value: Any) -> None:
+        """An object that isn't an element may not be assigned once more by the value."""
+        one = (place.variable, place.path, bool(place.indexes))
+        writes = self.effected.of(value).writes
+        if not one[2] and one in writes and not writes[one]:
+            raise Refused(
+                node.coord,
+                f"{place.variable.name} is assigned twice, in an order that C leaves open",
+                "use two statements",
+            )
+
+    def stepped(self, node: Any) -> Value:
+        """`++` and `--` as a value: the old one, which is kept, or the new one, which is read (6.5.2.4, 6.5.3.1)."""
+        place = self.places.place(node.expr)
+        if not isinstance(place.type, Int) or place.type.boolean:
+            raise Refused(node.coord, "a step of what is no integer", "assign its value")
+        before = not node.op.startswith("p")
+        target, _ = self.leaf(place, True)
+        step = f"{target}{node.op[-2:]};"
+        if before:
+            self.emit(step)
+            return Value(self.at(node) + target, place.type, PRIMARY)
+        if id(node) in self.behind:
+            self.after.append(step)
+            return Value(self.at(node) + target, place.type, PRIMARY)
+        old = self.temporary(place.type, target)
+        self.emit(step)
+        return Value(old, place.type, PRIMARY)
+
+    def effect(self, node: Any) -> None:
+        """Writes an expression for its effect alone."""
+        if isinstance(node, c_ast.ExprList):
+            for one in node.exprs:
+                self.effect(one)
+        elif isinstance(node, c_ast.Assignment):
+            if isinstance(self.constants.type_of(node.lvalue), Struct):
+                self.assign_whole(self.places.place(node.lvalue), node.rvalue, node)
+            else:
+                self.plain_effect(node, lambda: self.assign(node))
+        elif isinstance(node, c_ast.UnaryOp) and node.op in STEPS:
+            place = self.places.place(node.expr)
+            if not isinstance(place.type, Int) or place.type.boolean:
+                raise Refused(node.coord, "a step of what is no integer", "assign its value")
+            self.emit(f"{self.leaf(place)[0]}{node.op[-2:]};")
+        elif isinstance(node, c_ast.FuncCall):
+            self.call_effect(node)
+        elif isinstance(node, c_ast.TernaryOp):
+            self.either(node, self.effect)
+        elif isinstance(node, c_ast.BinaryOp) and node.op in LOGICAL:
+            (self.when if node.op == "&&" else self.unless)(node.left, lambda: self.effect(node.right))
+        elif isinstance(node, c_ast.Cast) and self.names.types.get(id(node.to_type)) == kinds.VOID:
+            self.effect(node.expr)
+        elif self.effected.of(node).writes or self.has_calls(node):
+            left = self.value(node)
+            if left.calls:
+                self.temporary(left.kind, left.text)
+
+    def has_calls(self, node: Any) -> bool:
+        return any(isinstance(one, c_ast.FuncCall) for one in walk(node))
+
+    def plain_effect(self, node: Any, write: Callable[[], Any]) -> None:
+        """A statement without calls and sequence points: steps of objects that it names only once are taken behind it."""
+        nodes = walk(node)
+        inner = [one for one in nodes if isinstance(one, c_ast.UnaryOp) and one.op in ("p++", "p--")]
+        sequenced = (c_ast.FuncCall, c_ast.TernaryOp, c_ast.ExprList)
+        if inner and not any(
+            isinstance(one, sequenced) or (isinstance(one, c_ast.BinaryOp) and one.op in LOGICAL) for one in nodes
+        ):
+            named = [self.object_of(one) for one in nodes if isinstance(one, (c_ast.ID, c_ast.StructRef))]
+            for one in inner:
+                target = self.object_of(one.expr)
+                if target is not None and named.count(target) == 1:
+                    self.behind.add(id(one))
+        write()
+        for text in self.after:
+            self.emit(text)
+        self.after.clear()
+
+    def object_of(self, node: Any) -> Any:
+        """The integer that a name or a member stands for, where it is no element."""
+        try:
+            place = self.places.place(node)
+        except Refused:
+            return None
+        return (place.variable, place.path) if isinstance(place.type, Int) and not place.indexes else None

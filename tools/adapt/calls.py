@@ -1,0 +1,249 @@
+"""Writes calls: what they hand over, what they hand back, and that no two names of one object meet; and whole structs."""
+
+from typing import Any, Optional
+
+from pycparser import c_ast
+
+from . import kinds
+from .effects import Effects, Object, may_be, objects, pointee
+from .initialisers import filled
+from .kinds import Array, Int, Leaf, Pointer, Struct
+from .declarators import Function, Variable
+from .output import unmarked
+from .places import Place, arguments
+from .refusals import Refused
+from .values import PRIMARY, Value
+from .writer import Writer
+
+MOST_COPIED = 256
+
+
+class Calls(Writer):
+    inputs: set[str] = set()
+    special: dict[Any, Variable] = {}
+
+    def effect(self, node: Any) -> None:
+        raise NotImplementedError
+
+    def either(self, node: Any, do: Any) -> None:
+        raise NotImplementedError
+
+    def called(self, node: Any) -> Function:
+        function = self.names.meaning.get(id(node))
+        if not isinstance(function, Function):
+            raise Refused(node.coord, "a call by a pointer", "call functions by their names, in a switch over a number")
+        return function
+
+    def call(self, node: Any) -> tuple[str, list[str]]:
+        """A call's text, and the statements that must follow it."""
+        function = self.called(node)
+        if function.definition is None:
+            return self.outer_call(node, function), []
+        given = arguments(node)
+        own = [not isinstance(one.binding, Place) and one.binding != "lent" for one in function.parameters]
+        self.unsequenced(node, [argument for argument, wanted in zip(given, own) if wanted])
+        self.apart(node, function)
+        texts: list[str] = []
+        after: list[str] = []
+        for argument, parameter in zip(given, function.parameters):
+            self.argument(argument, parameter, function, texts, after)
+        return f"{self.at(node)}{function.out}({', '.join(texts)})", after
+
+    def outer_call(self, node: Any, function: Function) -> str:
+        """A call of a function that no source defines: an input function, or one that was named as such."""
+        if function.name in self.inputs:
+            for argument in arguments(node):
+                if isinstance(self.constants.type_of(argument), (Pointer, Array)) and not isinstance(
+                    argument, c_ast.Constant
+                ):
+                    raise Refused(
+                        argument.coord,
+                        f"an object is handed to {function.name}, which no source defines",
+                        "give the source that defines it",
+                    )
+                if not isinstance(argument, c_ast.Constant):
+                    self.effect(argument)
+        elif function.parameters or function.variadic or not isinstance(function.result, Int):
+            advice = f"give the source that defines it, or name it (--input {function.name}) where its arguments don't matter and it changes no object"
+            raise Refused(node.coord, f"no source defines {function.name}", advice)
+        return f"{self.at(node)}{function.out}()"
+
+    def argument(
+        self, argument: Any, parameter: Variable, function: Function, texts: list[str], after: list[str]
+    ) -> None:
+        """What stands for an argument, and what follows the call for it."""
+        if isinstance(parameter.type, Int):
+            texts.append(self.converted(self.value(argument), parameter.type).text)
+        elif isinstance(parameter.binding, Place):
+            return
+        elif isinstance(parameter.type, Struct) and not isinstance(
+            argument, (c_ast.ID, c_ast.StructRef, c_ast.ArrayRef, c_ast.UnaryOp)
+        ):
+            local = Variable("whole", parameter.type, argument.coord, "local", out=self.spelling.fresh("whole"))
+            place = Place(local, (), (), parameter.type)
+            self.declared(local)
+            self.assign_whole(place, argument, argument)
+            texts.extend(self.handed(place, argument, None))
+        else:
+            place = self.effected.target(argument, parameter)
+            index = self.index(place, True, True)
+            texts.extend(self.handed(place, argument, index))
+            back = {leaf.path for one, leaf in self.outs(function) if one is parameter}
+            own = self.spelling.special(function, parameter.name, pointee(parameter), self.special)
+            for leaf, elements in self.integers(place, index):
+                if leaf.path in back:
+                    after.append(f"{elements[0]} = {self.spelling.leaf(own, leaf.path)};")
+
+    def handed(self, place: Place, argument: Any, index: Optional[Value]) -> list[str]:
+        """An object's integers as arguments, its arrays lent whole."""
+        texts = []
+        for leaf, elements in self.integers(place, index):
+            if leaf.dims and index is not None:
+                raise Refused(
+                    argument.coord,
+                    "an array within an element of an array is handed over",
+                    "hand over the whole array and an index",
+                )
+            texts.append(self.spelling.leaf(place.variable, place.path + leaf.path) if leaf.dims else elements[0])
+        return texts
+
+    def apart(self, node: Any, function: Function) -> None:
+        """Refuses a call in which a copied object has a second name, and one of both is written."""
+        summary = self.effected.of_function[function]
+        seen: list[tuple[Object, bool, bool]] = []
+        for argument, parameter in zip(arguments(node), function.parameters):
+            if isinstance(parameter.type, Int) or isinstance(parameter.binding, Place):
+                continue
+            by_value = isinstance(parameter.type, Struct)
+            try:
+                place = self.effected.target(argument, parameter)
+            except Refused:
+                continue
+            own = objects(Place(parameter, (), (), pointee(parameter)))
+            for mine, theirs in zip(objects(place), own):
+                written = theirs in summary.writes
+                if by_value and written:
+                    raise Refused(
+                        node.coord,
+                        f"{function.name} writes an array of its parameter {parameter.name}",
+                        "copy it in the function first",
+                    )
+                copied = not theirs[2] or by_value
+                if not by_value or theirs[2]:
+                    seen.append((mine, written, copied))
+        for at, (one, written, copied) in enumerate(seen):
+            shared = one[0] is not None and one[0].shared
+            within = copied and shared and (one in summary.writes or (written and one in summary.reads))
+            within = within or (copied and any(may_be(one, two) for two in summary.writes if two[0] and two[0].shared))
+            other = any(one == two and (written or too) and (copied or also) for two, too, also in seen[at + 1 :])
+            if within or other:
+                name = one[0].name if one[0] else ""
+                raise Refused(
+                    node.coord,
+                    f"{function.name} gets {name} and may also reach it by another name",
+                    "let it reach the object in one way alone",
+                )
+
+    def call_value(self, node: Any) -> Value:
+        function = self.called(node)
+        if not isinstance(function.result, Int):
+            raise Refused(
+                node.coord, f"the value of {function.name} is no integer", "assign it whole, in a statement of its own"
+            )
+        text, after = self.call(node)
+        made = Value(text, function.result, PRIMARY, function.result.boolean and function.definition is not None, True)
+        if after:
+            made = Value(self.temporary(made.kind, made.text), made.kind, PRIMARY, made.truth)
+            for one in after:
+                self.emit(one)
+        return self.truth(made) if function.result.boolean else made
+
+    def call_effect(self, node: Any) -> None:
+        function = self.called(node)
+        if function.name in ("assert", "assume") and function.definition is None:
+            self.emit(f"{self.at(node)}{function.name}({self.value(arguments(node)[0]).text});")
+            return
+        text, after = self.call(node)
+        if function.definition is not None or isinstance(function.result, Int):
+            self.emit(text + ";")
+        for one in after:
+            self.emit(one)
+
+    # ---- structs
+
+    def assign_whole(self, target: Place, source: Any, node: Any) -> None:
+        """Writes the assignment of a struct, member by member."""
+        if isinstance(source, c_ast.TernaryOp):
+            self.either(source, lambda one: self.assign_whole(target, one, node))
+            return
+        if sum(leaf.count for leaf in kinds.leaves(target.type)) > MOST_COPIED:
+            raise Refused(node.coord, f"a struct of more than {MOST_COPIED} integers is copied", "copy what is needed")
+        self.unsequenced(node, [c_ast.ExprList([one for one, _ in target.indexes]), source])
+        index = self.index(target, True)
+        if isinstance(source, c_ast.CompoundLiteral):
+            values = self.literal(target, source)
+        else:
+            values = self.integers(*self.whole(source, target))
+        for (_, to), (_, of) in zip(self.integers(target, index), values):
+            for one, value in zip(to, of):
+                self.emit(f"{one} = {value};")
+
+    def whole(self, source: Any, target: Place) -> tuple[Place, Optional[Value]]:
+        """The object in which a struct's value stands."""
+        if isinstance(source, c_ast.FuncCall):
+            function = self.called(source)
+            text, after = self.call(source)
+            if function.definition is None:
+                raise Refused(
+                    source.coord,
+                    f"no source defines {function.name}, which gives a struct",
+                    "give the source that defines it",
+                )
+            for one in [text + ";", *after]:
+                self.emit(one)
+            own = self.spelling.special(function, "result", function.result, self.special)
+            return Place(own, (), (), function.result), None
+        if isinstance(source, c_ast.Assignment) and source.op == "=":
+            self.assign_whole(self.places.place(source.lvalue), source.rvalue, source)
+            source = source.lvalue
+        place = self.places.place(source)
+        reads = self.effected.of(c_ast.ExprList([one for one, _ in place.indexes])).reads
+        return place, self.index(place, True, any(one in reads for one in objects(target)))
+
+    def literal(self, target: Place, source: Any) -> list[tuple[Leaf, list[str]]]:
+        """The values of a compound literal, kept where the target itself may be among what they read."""
+        made = filled(self.constants, target.type, source.init)
+        if made.wholes:
+            raise Refused(source.coord, "a struct within a compound literal", "give its members one by one")
+        self.unsequenced(source, list(made.given.values()))
+        reads: Effects = self.effected.of(source)
+        apart = not any(one in reads.reads for one in objects(target)) and not any(reads.reads.values())
+        found = []
+        for leaf in kinds.leaves(target.type):
+            texts = []
+            for at in range(leaf.count):
+                init = next(
+                    (
+                        one
+                        for (path, spot), one in made.given.items()
+                        if path == leaf.path and self.flat(spot, leaf) == at
+                    ),
+                    None,
+                )
+                value = "0" if init is None else unmarked(self.converted(self.value(init), leaf.kind).text)
+                texts.append(value if apart or init is None else self.temporary(leaf.kind, value))
+            found.append((leaf, texts))
+        return found
+
+    @staticmethod
+    def flat(spot: tuple[int, ...], leaf: Leaf) -> int:
+        number = 0
+        for one, length in zip(spot, leaf.dims):
+            number = number * length + one
+        return number
+
+    def declared(self, variable: Variable) -> None:
+        """Writes a local's declaration without values."""
+        for leaf in kinds.leaves(variable.type):
+            length = f"[{leaf.count}]" if leaf.dims else ""
+            self.emit(f"{leaf.kind.text} {self.spelling.leaf(variable, leaf.path)}{length};")

@@ -1,0 +1,255 @@
+"""Compiles the originals and what was written with gcc, and runs both on random inputs."""
+
+import os
+import random
+import subprocess
+import tempfile
+from typing import Any, Iterator
+
+from pycparser import c_generator
+
+from . import kinds
+from .kinds import Array, Int, Path, Struct, Type
+from .declarators import Function, Variable
+from .reading import compiler
+from .refusals import Stop
+from .initialisers import flat
+from .units import Units
+
+CALLS, ANSWERS, SECONDS = 6, 40, 5
+TIME_IS_UP = 14  # (SIGALRM)
+DRIVER = """
+#include <stdio.h>
+#include <stdlib.h>
+#include <unistd.h>
+static long long adapt_answers[64]; static int adapt_answer_count, adapt_answer_taken;
+long long adapt_answer(void) { return adapt_answer_taken < adapt_answer_count ? adapt_answers[adapt_answer_taken++] : 0; }
+static char **adapt_words;
+static long long adapt_word(void) { return strtoll(*adapt_words++, 0, 10); }
+int main(int adapt_argc, char **adapt_argv) {
+  alarm(2); setvbuf(stdout, 0, _IOLBF, 0); adapt_words = adapt_argv + 1;
+  adapt_answer_count = (int) adapt_word();
+  for (int adapt_i = 0; adapt_i < adapt_answer_count; adapt_i++) adapt_answers[adapt_i] = adapt_word();
+  while (adapt_words < adapt_argv + adapt_argc) {
+    switch (adapt_word()) {
+%s
+    }
+%s
+    printf(" %%d\\n", adapt_answer_taken);
+  }
+  return 0;
+}
+"""
+FLAGS = ["-std=gnu11", "-O0", "-w", "-fwrapv", "-ftrivial-auto-var-init=zero"]
+WATCHED = [
+    "-fsanitize=shift-exponent,integer-divide-by-zero,bounds,null,signed-integer-overflow",
+    "-fsanitize-undefined-trap-on-error",
+]
+TELLING = [
+    0,
+    1,
+    -1,
+    2,
+    3,
+    4,
+    5,
+    7,
+    8,
+    10,
+    16,
+    31,
+    64,
+    100,
+    127,
+    128,
+    200,
+    255,
+    256,
+    -128,
+    32767,
+    65535,
+    2**31 - 1,
+    -(2**31),
+    2**32 - 1,
+    2**63 - 1,
+]
+
+
+def parts(
+    of: Type, text: str = "", path: Path = (), index: tuple[int, ...] = ()
+) -> Iterator[tuple[str, Path, tuple[int, ...]]]:
+    """The integers of an object: how C reaches each, and the members and indexes that lead to it."""
+    if isinstance(of, Int):
+        yield text, path, index
+    elif isinstance(of, Array):
+        for at in range(of.length or 0):
+            yield from parts(of.of, f"{text}[{at}]", path, index + (at,))
+    elif isinstance(of, Struct):
+        for name, member in of.members or []:
+            yield from parts(member, f"{text}.{name}", path + (name,), index)
+
+
+def plain(function: Function) -> bool:
+    """Whether a function takes integers alone and gives one or nothing."""
+    return all(isinstance(one.type, Int) for one in function.parameters) and (
+        isinstance(function.result, Int) or function.result == kinds.VOID
+    )
+
+
+def answering(writer: Units, function: Function, answer: str) -> str:
+    """The definition of an input function, as the original declares it."""
+    node: Any = next(item for _, item in writer.names.items if writer.names.meaning.get(id(item)) is function)
+    result = f"return ({kinds.c_words(function.result)}) {answer};" if isinstance(function.result, Int) else ""
+    node.storage, node.funcspec = [], []
+    return f"{c_generator.CGenerator().visit(node)} {{ {result} }}\n"
+
+
+class Comparison:
+    """The two programs of what was adapted, in a folder."""
+
+    def __init__(self, writer: Units, sources: list[str], made: list[str], flags: list[str], folder: str) -> None:
+        self.writer, self.folder = writer, folder
+        functions = [one for one in writer.names.functions if one.definition is not None and not one.static]
+        self.entries = [one for one in functions if plain(one)]
+        if not self.entries:
+            raise Stop(
+                "there is no function that isn't static, takes integers alone and gives one or nothing, so nothing can be compared"
+            )
+        outer = [
+            one
+            for one in writer.names.functions
+            if one.definition is None and one.calls and one.name not in ("assert", "assume", "__assert_fail")
+        ]
+        self.shared = [
+            one
+            for one in writer.names.variables
+            if one.home == "file" and one.defined and not one.const and not kinds.fault_of(one.type)
+        ]
+        self.original(sources, flags, outer)
+        self.adapted(made, outer)
+
+    def text(self, path: str) -> str:
+        return f'#include "{os.path.abspath(path)}"\n'
+
+    def dump(self, variables: list[Variable], ours: bool) -> str:
+        """Prints each integer of the variables."""
+        lines = []
+        for variable in variables:
+            leaves = {leaf.path: leaf for leaf in kinds.leaves(variable.type)}
+            for text, path, index in parts(variable.type):
+                name = self.writer.spelling.leaf(variable, path)
+                own = name + (f"[{flat(index, leaves[path].dims)}]" if leaves[path].dims else "")
+                lines.append(f'  printf(" %lld", (long long) {own if ours else variable.name + text});')
+        return "\n".join(lines)
+
+    def calls(self) -> str:
+        lines = []
+        for number, one in enumerate(self.entries):
+            words = "".join(f" long long adapt_{at} = adapt_word();" for at in range(len(one.parameters)))
+            given = ", ".join(f"({getattr(p.type, 'text', '')}) adapt_{at}" for at, p in enumerate(one.parameters))
+            call = f"{one.out}({given})"
+            shown = f'printf("%lld", (long long) {call});' if isinstance(one.result, Int) else f"{call};"
+            lines.append(f"    case {number}: {{{words} {shown} break; }}")
+        return "\n".join(lines)
+
+    def declared(self, function: Function) -> str:
+        kind = (
+            "_Bool"
+            if isinstance(function.result, Int) and function.result.boolean
+            else getattr(function.result, "text", "void")
+        )
+        words = [
+            "_Bool" if isinstance(p.type, Int) and p.type.boolean else getattr(p.type, "text", "")
+            for p in function.parameters
+        ]
+        return f"{kind} {function.out}({', '.join(words) or 'void'});"
+
+    def original(self, sources: list[str], flags: list[str], outer: list[Function]) -> None:
+        texts, dumps = [], ""
+        for number, path in enumerate(sources):
+            own = [one for one in self.shared if one.unit.path == path]
+            defined = "".join(answering(self.writer, one, "adapt_answer()") for one in outer) if number == 0 else ""
+            texts.append(
+                f"{self.text(path)}#include <stdio.h>\nlong long adapt_answer(void);\n{defined}void adapt_dump_{number}(void) {{\n{self.dump(own, False)}\n}}\n"
+            )
+            dumps += f"    adapt_dump_{number}();\n"
+        head = "".join(f"void adapt_dump_{number}(void);\n" for number in range(len(sources)))
+        head += "#include <stdint.h>\n#include <stddef.h>\n" + "".join(
+            self.declared(one) + "\n" for one in self.entries
+        )
+        self.compile("original", [*texts, head + DRIVER % (self.calls(), dumps)], flags + WATCHED)
+
+    def adapted(self, made: list[str], outer: list[Function]) -> None:
+        text = "#include <stdint.h>\n#include <stddef.h>\n#include <assert.h>\n" + "".join(
+            self.text(path) for path in made
+        )
+        text += "long long adapt_answer(void);\n"
+        for one in outer:
+            if isinstance(one.result, Int):
+                text += f"{one.result.text} {one.out}(void) {{ return ({one.result.text}) adapt_answer(); }}\n"
+        self.compile("adapted", [text + DRIVER % (self.calls(), self.dump(self.in_order(), True))], [])
+
+    def in_order(self) -> list[Variable]:
+        units = list(dict.fromkeys(unit.path for unit, _ in self.writer.names.items))
+        return sorted(self.shared, key=lambda one: units.index(one.unit.path))
+
+    def compile(self, name: str, texts: list[str], flags: list[str]) -> None:
+        paths = []
+        for number, text in enumerate(texts):
+            paths.append(os.path.join(self.folder, f"{name}_{number}.c"))
+            with open(paths[-1], "w", encoding="utf-8", errors="surrogateescape") as file:
+                file.write(text)
+        ended = subprocess.run(
+            [compiler(), *FLAGS, *flags, "-o", os.path.join(self.folder, name), *paths],
+            capture_output=True,
+            text=True,
+            check=False,
+        )
+        if ended.returncode:
+            told = [line for line in ended.stderr.splitlines() if "error:" in line or "undefined" in line]
+            raise Stop(f"the {name} can't be compiled: {(told or ended.stderr.splitlines() or ['?'])[0]}")
+
+    def run(self, name: str, words: list[str]) -> tuple[int, list[str]]:
+        try:
+            ended = subprocess.run(
+                [os.path.join(self.folder, name), *words], capture_output=True, text=True, timeout=SECONDS, check=False
+            )
+        except subprocess.TimeoutExpired:
+            return -TIME_IS_UP, [""]
+        return ended.returncode, ended.stdout.split("\n")
+
+    def difference(self, words: list[str]) -> str:
+        """How both runs differ; nothing where they agree, up to where C gives the original's no meaning."""
+        (status, lines), (other, theirs) = self.run("original", words), self.run("adapted", words)
+        if -TIME_IS_UP in (status, other):
+            both = min(len(lines), len(theirs)) - 1
+            lines, theirs = lines[: both + 1], theirs[: both + 1]
+            status = -TIME_IS_UP
+        if status in (0, -6):
+            return "" if (status, lines) == (other, theirs) else f"original {status} {lines}, adapted {other} {theirs}"
+        whole = lines[:-1]
+        return "" if theirs[: len(whole)] == whole else f"original {status} {whole}, adapted {other} {theirs}"
+
+    def inputs(self, seed: int) -> list[str]:
+        """The words of one run: answers, and calls with their arguments."""
+        chance = random.Random(seed)
+        small = (
+            lambda: chance.choice(TELLING[:12])
+            if chance.random() < 0.7
+            else chance.choice(TELLING)
+            if chance.random() < 0.8
+            else chance.randrange(-(2**63), 2**63)
+        )  # noqa: E731
+        words = [ANSWERS] + [small() for _ in range(ANSWERS)]
+        for _ in range(CALLS):
+            which = chance.randrange(len(self.entries))
+            words += [which] + [small() for _ in self.entries[which].parameters]
+        return [str(one) for one in words]
+
+
+def compared(writer: Units, sources: list[str], made: list[str], flags: list[str], count: int) -> list[str]:
+    """The differences of some runs on random inputs."""
+    with tempfile.TemporaryDirectory(prefix="adapt-") as folder:
+        both = Comparison(writer, sources, made, flags, folder)
+        told = [(seed, both.difference(both.inputs(seed))) for seed in range(1, count + 1)]
+    return [f"input {seed}: {text}" for seed, text in told if text]

@@ -1,0 +1,237 @@
+"""The values of constant expressions (6.6), the types of expressions, and `sizeof`."""
+
+import re
+from typing import Any, Callable, Optional
+
+from pycparser import c_ast
+
+from . import kinds
+from .kinds import Array, Int, Struct, Type, fit
+from .refusals import Refused
+
+ESCAPES = {"n": 10, "t": 9, "r": 13, "a": 7, "b": 8, "f": 12, "v": 11, "\\": 92, "'": 39, '"': 34, "?": 63, "e": 27}
+ESCAPE = re.compile(r"\\x([0-9A-Fa-f]+)|\\([0-7]{1,3})|\\(.)|([^\\])")
+ARITHMETIC: dict[str, Callable[[int, int], int]] = {
+    "+": lambda a, b: a + b,
+    "-": lambda a, b: a - b,
+    "*": lambda a, b: a * b,
+    "&": lambda a, b: a & b,
+    "|": lambda a, b: a | b,
+    "^": lambda a, b: a ^ b,
+    "<<": lambda a, b: a << (b & 63),
+    ">>": lambda a, b: a >> (b & 63),
+    "/": lambda a, b: abs(a) // abs(b) * (1 if (a < 0) == (b < 0) else -1),
+    "%": lambda a, b: abs(a) % abs(b) * (-1 if a < 0 else 1),
+}
+COMPARED: dict[str, Callable[[int, int], bool]] = {
+    "<": lambda a, b: a < b,
+    ">": lambda a, b: a > b,
+    "<=": lambda a, b: a <= b,
+    ">=": lambda a, b: a >= b,
+    "==": lambda a, b: a == b,
+    "!=": lambda a, b: a != b,
+}
+SHIFTS = ("<<", ">>")
+LOGICAL = ("&&", "||")
+
+
+def codes(text: str) -> list[int]:
+    """The values of the characters between the quotes of a constant or a string, each as a `char`."""
+    found = []
+    for hexadecimal, octal, simple, plain in ESCAPE.findall(text[text.index(text[-1]) + 1 : -1]):
+        code = (
+            int(hexadecimal, 16)
+            if hexadecimal
+            else int(octal, 8)
+            if octal
+            else ESCAPES[simple]
+            if simple
+            else ord(plain)
+        )
+        found.append(fit(code, kinds.Int(8, True, "char")))
+    return found
+
+
+def number(node: Any) -> tuple[int, Int]:
+    """The value and the type of an integer or a character constant (6.4.4.1p5)."""
+    text = node.value
+    if "char" in node.type:
+        found = codes(text)
+        if len(found) != 1 or not text.startswith("'"):
+            raise Refused(node.coord, f"the character constant {text}", "write its number")
+        return found[0], kinds.INT
+    if "int" not in node.type:
+        raise Refused(node.coord, f"the constant {text}", "use integers in fixed point")
+    digits, suffix = re.fullmatch(r"(0[xX][0-9a-fA-F]+|0[bB][01]+|\d+)([uUlL]*)", text).groups()  # type: ignore[union-attr]
+    base = (
+        16
+        if digits[:2] in ("0x", "0X")
+        else 2
+        if digits[:2] in ("0b", "0B")
+        else 8
+        if digits[0] == "0" and len(digits) > 1
+        else 10
+    )
+    value = int(digits, base)
+    long, unsigned = "l" in suffix.lower(), "u" in suffix.lower()
+    for kind in (kinds.INT, kinds.UINT, kinds.LONG, kinds.SIZE):
+        if (
+            (kind.bits == 32 and long)
+            or (kind.signed and unsigned)
+            or (not kind.signed and base == 10 and not unsigned)
+        ):
+            continue
+        if fit(value, kind) == value:
+            return value, kind
+    raise Refused(node.coord, f"the constant {text} is too large", "use at most 64 bits")
+
+
+class Constants:
+    """Values and types, by what names stand for. `place_type` is set where places are known."""
+
+    def __init__(self, names: Any) -> None:
+        self.names = names
+        self.place_type: Callable[[Any], Type] = self.simple_place
+
+    def simple_place(self, node: Any) -> Type:
+        """The type of a name, an element or a member."""
+        if isinstance(node, c_ast.ID):
+            meaning = self.names.meaning.get(id(node))
+            return meaning.type if hasattr(meaning, "type") else kinds.VOID
+        if isinstance(node, c_ast.StructRef):
+            of = self.type_of(node.name)
+            of = getattr(of, "to", getattr(of, "of", of)) if node.type == "->" else of
+            return dict(of.members or []).get(node.field.name, kinds.VOID) if isinstance(of, Struct) else kinds.VOID
+        of = self.type_of(node.name if isinstance(node, c_ast.ArrayRef) else node.expr)
+        if isinstance(node, c_ast.ArrayRef) and isinstance(of, Int):
+            of = self.type_of(node.subscript)
+        return getattr(of, "to", getattr(of, "of", kinds.VOID))
+
+    def type_of(self, node: Any) -> Type:
+        """The type of an expression before any conversion of arrays."""
+        if isinstance(node, c_ast.Constant):
+            return (
+                Array(kinds.Int(8, True, "char"), len(codes(node.value)) + 1)
+                if node.type == "string"
+                else number(node)[1]
+            )
+        if isinstance(node, c_ast.ID) and hasattr(self.names.meaning.get(id(node)), "value"):
+            return kinds.INT
+        if isinstance(node, (c_ast.ID, c_ast.StructRef, c_ast.ArrayRef)):
+            return self.place_type(node)
+        if isinstance(node, c_ast.UnaryOp):
+            return self.type_of_unary(node)
+        if isinstance(node, c_ast.BinaryOp):
+            if node.op in COMPARED or node.op in LOGICAL:
+                return kinds.INT
+            left, right = self.type_of(node.left), self.type_of(node.right)
+            if not isinstance(left, Int) or not isinstance(right, Int):
+                return left if not isinstance(left, Int) else right
+            return kinds.promoted(left) if node.op in SHIFTS else kinds.common(left, right)
+        if isinstance(node, c_ast.TernaryOp):
+            left, right = self.type_of(node.iftrue), self.type_of(node.iffalse)
+            return kinds.common(left, right) if isinstance(left, Int) and isinstance(right, Int) else left
+        if isinstance(node, c_ast.Assignment):
+            return self.type_of(node.lvalue)
+        if isinstance(node, c_ast.ExprList):
+            return self.type_of(node.exprs[-1])
+        if isinstance(node, (c_ast.Cast, c_ast.CompoundLiteral)):
+            return self.names.types.get(id(node.to_type if isinstance(node, c_ast.Cast) else node.type), kinds.VOID)
+        called = self.names.meaning.get(id(node))
+        return called.result if isinstance(node, c_ast.FuncCall) and called is not None else kinds.VOID
+
+    def type_of_unary(self, node: Any) -> Type:
+        if node.op == "sizeof":
+            return kinds.SIZE
+        if node.op == "!":
+            return kinds.INT
+        if node.op == "&":
+            return kinds.Pointer(self.type_of(node.expr))
+        if node.op == "*":
+            return self.place_type(node)
+        of = self.type_of(node.expr)
+        return kinds.promoted(of) if isinstance(of, Int) and node.op in "+-~" else of
+
+    def size_of(self, node: Any) -> int:
+        """What `sizeof` gives of a type or an expression."""
+        meaning = self.names.meaning.get(id(node)) if isinstance(node, c_ast.ID) else None
+        if getattr(meaning, "home", "") == "parameter" and not isinstance(meaning.type, (Int, Struct)):
+            return 8
+        of = self.names.types.get(id(node)) if isinstance(node, c_ast.Typename) else self.type_of(node)
+        known = kinds.size(of) if of is not None else None
+        if known is None:
+            raise Refused(node.coord, "the size isn't known", "write its number")
+        return known
+
+    def length_of(self, init: Any, of: Type) -> int:
+        """The length of an array that has none of its own, by its initialiser (6.7.9p22)."""
+        if isinstance(init, c_ast.Constant):
+            return len(codes(init.value)) + 1
+        at, most = 0, 0
+        per = (
+            1
+            if all(
+                isinstance(one, (c_ast.InitList, c_ast.NamedInitializer)) or isinstance(of, (Int, kinds.Pointer))
+                for one in init.exprs or []
+            )
+            else 0
+        )
+        if not per:
+            raise Refused(
+                init.coord, "an array without a length whose values have no braces of their own", "give its length"
+            )
+        for one in init.exprs or []:
+            if isinstance(one, c_ast.NamedInitializer):
+                at = self.value(one.name[0]) or 0
+            at += 1
+            most = max(most, at)
+        return most
+
+    def value(self, node: Any) -> Optional[int]:
+        """The value of a constant expression; None where it is none."""
+        known = self.known(node)
+        return None if known is None else known[0]
+
+    def known(self, node: Any) -> Optional[tuple[int, Int]]:
+        if isinstance(node, c_ast.Constant) and node.type != "string":
+            return number(node)
+        if isinstance(node, c_ast.ID):
+            value = getattr(self.names.meaning.get(id(node)), "value", None)
+            return None if value is None else (value, kinds.INT)
+        if isinstance(node, c_ast.Cast):
+            to, one = self.names.types.get(id(node.to_type)), self.known(node.expr)
+            return (fit(one[0], to), to) if one and isinstance(to, Int) else None
+        if isinstance(node, c_ast.UnaryOp):
+            return self.known_unary(node)
+        if isinstance(node, c_ast.TernaryOp):
+            test, of = self.known(node.cond), self.type_of(node)
+            one = self.known(node.iftrue if test[0] else node.iffalse) if test else None
+            return (fit(one[0], of), of) if one and isinstance(of, Int) else None
+        return self.known_binary(node) if isinstance(node, c_ast.BinaryOp) else None
+
+    def known_unary(self, node: Any) -> Optional[tuple[int, Int]]:
+        if node.op == "sizeof":
+            return self.size_of(node.expr), kinds.SIZE
+        one = self.known(node.expr)
+        if one is None or node.op not in "+-~!":
+            return None
+        if node.op == "!":
+            return int(not one[0]), kinds.INT
+        kind = kinds.promoted(one[1])
+        return fit({"+": one[0], "-": -one[0], "~": ~one[0]}[node.op], kind), kind
+
+    def known_binary(self, node: Any) -> Optional[tuple[int, Int]]:
+        left, right = self.known(node.left), self.known(node.right)
+        if node.op in LOGICAL and left and bool(left[0]) == (node.op == "||"):
+            return int(bool(left[0])), kinds.INT
+        if left is None or right is None:
+            return None
+        if node.op in LOGICAL:
+            return int(bool(right[0])), kinds.INT
+        kind = kinds.promoted(left[1]) if node.op in SHIFTS else kinds.common(left[1], right[1])
+        a, b = fit(left[0], kind), right[0] if node.op in SHIFTS else fit(right[0], kind)
+        if node.op in COMPARED:
+            return int(COMPARED[node.op](a, b)), kinds.INT
+        if node.op in "/%" and b == 0:
+            return None
+        return fit(ARITHMETIC[node.op](a, b), kind), kind

@@ -1,0 +1,181 @@
+"""What names stand for, and the type that a declarator or a type name gives (6.7.2, 6.7.6)."""
+
+from collections import ChainMap
+from dataclasses import dataclass, field
+from typing import Any, Optional
+
+from pycparser import c_ast
+
+from . import kinds
+from .constants import Constants
+from .kinds import Array, Int, Other, Pointer, Struct, Type
+from .reading import Unit
+from .refusals import Refusals, Refused
+
+
+@dataclass(eq=False)
+class Variable:
+    """An object. `home` is file, static (within a function), local or parameter; `binding` is how a parameter that is a
+    pointer is written: the variable and the members of the one object that it points to, "copy", or "lent"."""
+
+    name: str
+    type: Type
+    coord: Any
+    home: str
+    init: Any = None
+    function: Optional["Function"] = None
+    defined: bool = False
+    const: bool = False
+    binding: Any = None
+    out: str = ""
+    unit: Any = None
+    number: int = 0  # of the item in which it is first declared
+
+    @property
+    def shared(self) -> bool:
+        return self.home in ("file", "static")
+
+
+@dataclass(eq=False)
+class Function:
+    name: str
+    result: Type
+    parameters: list[Variable]
+    coord: Any
+    variadic: bool = False
+    static: bool = False
+    definition: Any = None
+    out: str = ""
+    calls: list[tuple[Optional["Function"], Any]] = field(default_factory=list)
+    number: int = 0  # of the item that defines it
+    taken: bool = False
+
+
+@dataclass
+class Enumerator:
+    """A constant of an `enum`. `out` is its text in what is written: its name, or its number."""
+
+    name: str
+    value: int
+    out: str
+
+
+class Declarators:
+    """The names that are known so far. `meaning` is by the id of an ID or Decl node, `types` by that of a Typename."""
+
+    def __init__(self, refusals: Refusals) -> None:
+        self.refusals = refusals
+        self.linked: dict[str, Any] = {}
+        self.meaning: dict[int, Any] = {}
+        self.types: dict[int, Type] = {}
+        self.functions: list[Function] = []
+        self.variables: list[Variable] = []
+        self.enumerators: dict[str, Any] = {}
+        self.constants = Constants(self)
+        self.function: Optional[Function] = None
+        self.scope: ChainMap[str, Any] = ChainMap()
+        self.tags: ChainMap[str, Any] = ChainMap()
+        self.items: list[tuple[Unit, Any]] = []
+
+    def expression(self, node: Any) -> None:
+        raise NotImplementedError
+
+    def type_of(self, node: Any) -> Type:
+        """The type that a declarator or a Typename gives."""
+        if isinstance(node, (c_ast.Typename, c_ast.TypeDecl)):
+            if "volatile" in node.quals:
+                raise Refused(node.coord, "a volatile object", "read it by an input function in its place")
+            return self.type_of(node.type)
+        if isinstance(node, c_ast.IdentifierType):
+            return self.named(node)
+        if isinstance(node, c_ast.ArrayDecl):
+            of = self.type_of(node.type)
+            if node.dim is None:
+                return Array(of, None)
+            self.expression(node.dim)
+            length = self.constants.value(node.dim)
+            if length is None or length < 1:
+                raise Refused(node.coord, "an array whose length is no positive constant", "give it a constant length")
+            return Array(of, length)
+        if isinstance(node, c_ast.PtrDecl):
+            to = node.type
+            if isinstance(to, c_ast.FuncDecl):
+                return Pointer(kinds.FUNCTION)
+            return Pointer(self.type_of(to))
+        if isinstance(node, c_ast.Struct):
+            return self.struct(node)
+        if isinstance(node, c_ast.Enum):
+            return self.enum(node)
+        if isinstance(node, c_ast.Union):
+            return kinds.UNION
+        if isinstance(node, c_ast.FuncDecl):
+            return kinds.FUNCTION
+        raise Refused(node.coord, f"a type ({type(node).__name__})", "use an integer, an array or a struct")
+
+    def usable(self, node: Any) -> Type:
+        """The type, or one that is refused where it is used."""
+        try:
+            return self.type_of(node)
+        except Refused as refused:
+            return Other(refused.cause, refused.advice)
+
+    def named(self, node: Any) -> Type:
+        found = self.scope.get(node.names[0]) if len(node.names) == 1 else None
+        if isinstance(found, (Int, Array, Struct, Pointer, Other)):
+            return found
+        if {"float", "double", "_Complex"} & set(node.names):
+            return kinds.FLOAT
+        return kinds.plain(list(node.names)) or (
+            kinds.VOID if node.names == ["void"] else Other(f"the type {' '.join(node.names)}")
+        )
+
+    def struct(self, node: Any) -> Struct:
+        tag = node.name or f"at line {node.coord.line}"
+        made = self.tags.get(tag) if node.name else None
+        if made is None or (node.decls is not None and node.name and tag not in self.tags.maps[0]):
+            made = Struct(tag)
+            if node.name:
+                self.tags[tag] = made
+        if node.decls is None or made.members is not None:
+            return made
+        members = []
+        for one in node.decls:
+            if not isinstance(one, c_ast.Decl) or one.bitsize is not None or one.name is None:
+                what = "a bit-field" if getattr(one, "bitsize", None) is not None else "a member without a name"
+                made.fault = made.fault or (one.coord or node.coord, what, "use a member of its own")
+                continue
+            try:
+                members.append((one.name, self.type_of(one.type)))
+            except Refused as refused:
+                made.fault = made.fault or (refused.coord, refused.cause, refused.advice)
+        made.members = members
+        return made
+
+    def enum(self, node: Any) -> Type:
+        if node.values is None:
+            return self.tags.get(node.name, kinds.UINT)
+        last, least = -1, 0
+        for one in node.values.enumerators:
+            if one.value is not None:
+                self.expression(one.value)
+                known = self.constants.value(one.value)
+                if known is None:
+                    raise Refused(
+                        one.coord, f"the value of {one.name} is no constant that is known", "give it a number"
+                    )
+                last = known
+            else:
+                last += 1
+            least = min(least, last)
+            if kinds.fit(last, kinds.INT) != last:
+                raise Refused(one.coord, f"{one.name} is no int", "use a macro or a const object")
+            taken = (
+                self.function is not None or one.name in self.enumerators and self.enumerators[one.name] != one.coord
+            )
+            self.scope[one.name] = Enumerator(one.name, last, str(last) if taken else one.name)
+            self.enumerators.setdefault(one.name, one.coord)
+            self.meaning[id(one)] = self.scope[one.name]
+        kind = kinds.INT if least < 0 else kinds.UINT
+        if node.name:
+            self.tags[node.name] = kind
+        return kind

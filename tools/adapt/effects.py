@@ -1,0 +1,178 @@
+"""What expressions and calls read and write, and where C leaves an order open in which that matters (6.5p2, 6.5.2.2p10)."""
+
+from dataclasses import dataclass, field
+from typing import Any, Optional
+
+from pycparser import c_ast
+
+from .kinds import Array, Int, Pointer, Struct, leaves
+from .declarators import Function, Variable
+from .names import Names
+from .places import Place, Places, arguments
+from .refusals import Refused
+
+STEPS = ("++", "--", "p++", "p--")
+# a variable with the members that lead to one of its integers, and whether that is an element of an array
+Object = tuple[Optional[Variable], tuple[str, ...], bool]
+OUTSIDE: Object = (None, (), False)
+
+
+@dataclass
+class Effects:
+    """The objects that are read and written, each with whether a called function does it."""
+
+    reads: dict[Object, bool] = field(default_factory=dict)
+    writes: dict[Object, bool] = field(default_factory=dict)
+
+    def add(self, other: "Effects", called: bool = False) -> None:
+        for ours, theirs in ((self.reads, other.reads), (self.writes, other.writes)):
+            for one, by_call in theirs.items():
+                ours[one] = ours.get(one, False) or by_call or called
+
+    def clash(self, other: "Effects") -> Optional[Object]:
+        """An object for which the order of both matters. Elements that plain expressions name are different ones, or C
+        gives the whole no meaning."""
+        for a, b in ((self, other), (other, self)):
+            for one, by_call in a.writes.items():
+                for theirs in (b.reads, b.writes):
+                    if one in theirs and (by_call or theirs[one] or not one[2]):
+                        return one
+                    if any(may_be(one, two) and (by_call or too) for two, too in theirs.items()):
+                        return one
+        return None
+
+
+def may_be(one: Object, two: Object) -> bool:
+    """Whether arrays may be the same although their names differ: a parameter may stand for any that outlives its call."""
+    pair = [each[0] for each in (one, two) if each[2] and each[0] and each[0].home != "local"]
+    return len(pair) == 2 and pair[0] is not pair[1] and "parameter" in (pair[0].home, pair[1].home)
+
+
+def objects(place: Place) -> list[Object]:
+    inner = bool(place.indexes)
+    return [(place.variable, place.path + leaf.path, inner or bool(leaf.dims)) for leaf in leaves(place.type)]
+
+
+class Effected:
+    """The effects of all functions, and of expressions."""
+
+    def __init__(self, names: Names, places: Places, inputs: set[str]) -> None:
+        self.names, self.places, self.inputs = names, places, inputs
+        self.of_function: dict[Function, Effects] = {function: Effects() for function in names.functions}
+        self.kept: dict[
+            int, tuple[Any, Effects]
+        ] = {}  # by a node's id, with the node, so that no other one gets its id
+        defined = [function for function in names.functions if function.definition is not None]
+        changed = True
+        while changed:
+            changed = False
+            for function in defined:
+                made = self.summary(function)
+                changed = changed or made != self.of_function[function]
+                self.of_function[function] = made
+                self.kept.clear()
+
+    def summary(self, function: Function) -> Effects:
+        """The effects of a call on what outlives it: shared objects, and what its parameters stand for."""
+        whole, made = self.of(function.definition.body), Effects()
+        for ours, theirs in ((made.reads, whole.reads), (made.writes, whole.writes)):
+            for one, _ in theirs.items():
+                if one[0] is None or one[0].shared or (one[0].home == "parameter" and self.outlives(one)):
+                    ours[one] = True
+        return made
+
+    @staticmethod
+    def outlives(one: Object) -> bool:
+        of = one[0].type if one[0] else None
+        return isinstance(of, (Pointer, Array)) or (isinstance(of, Struct) and one[2])
+
+    def of(self, node: Any) -> Effects:
+        """The effects of an expression or a statement."""
+        if id(node) not in self.kept:
+            self.kept[id(node)] = node, self.made(node)
+        return self.kept[id(node)][1]
+
+    def made(self, node: Any) -> Effects:
+        found = Effects()
+        if isinstance(node, c_ast.UnaryOp) and node.op == "sizeof":
+            return found
+        if isinstance(node, c_ast.Assignment):
+            self.named(node.lvalue, found, True, node.op != "=")
+            found.add(self.of(node.rvalue))
+        elif isinstance(node, c_ast.UnaryOp) and node.op in STEPS:
+            self.named(node.expr, found, True, True)
+        elif isinstance(node, c_ast.FuncCall):
+            self.called(node, found)
+        elif isinstance(node, (c_ast.ID, c_ast.StructRef, c_ast.ArrayRef)) or (
+            isinstance(node, c_ast.UnaryOp) and node.op == "*"
+        ):
+            self.named(node, found, False, True)
+        else:
+            for _, child in node.children():
+                found.add(self.of(child))
+            variable = self.names.meaning.get(id(node)) if isinstance(node, c_ast.Decl) else None
+            if isinstance(variable, Variable) and node.init is not None and variable.home == "local":
+                found.add(Effects({}, {one: False for one in objects(Place(variable, (), (), variable.type))}))
+        return found
+
+    def named(self, node: Any, found: Effects, written: bool, read: bool) -> None:
+        try:
+            place = self.places.place(node)
+        except Refused:
+            return
+        for index, _ in place.indexes:
+            found.add(self.of(index))
+        if read:
+            found.add(Effects({one: False for one in objects(place)}))
+        if written:
+            found.add(Effects({}, {one: False for one in objects(place)}))
+
+    def called(self, node: Any, found: Effects) -> None:
+        function = self.names.meaning.get(id(node))
+        if not isinstance(function, Function) or function.definition is None:
+            for argument in arguments(node):
+                found.add(self.of(argument))
+            if not isinstance(function, Function) or function.name not in ("assert", "assume"):
+                found.writes[OUTSIDE] = True
+            return
+        summary = self.of_function[function]
+        shared = Effects(
+            *(
+                {one: True for one in part if one[0] is None or one[0].shared}
+                for part in (summary.reads, summary.writes)
+            )
+        )
+        found.add(shared)
+        for argument, parameter in zip(arguments(node), function.parameters):
+            if isinstance(parameter.type, Int):
+                found.add(self.of(argument))
+            elif not isinstance(parameter.binding, Place):
+                self.handed(argument, parameter, summary, found)
+
+    def handed(self, argument: Any, parameter: Variable, summary: Effects, found: Effects) -> None:
+        """What a call does to the object that an argument hands over."""
+        try:
+            place = self.target(argument, parameter)
+        except Refused:
+            found.add(self.of(argument))
+            return
+        for index, _ in place.indexes:
+            found.add(self.of(index))
+        whole = objects(place)
+        own = objects(Place(parameter, (), (), pointee(parameter)))
+        for mine, theirs in zip(whole, own):
+            lent = isinstance(parameter.type, Array)
+            if not lent or theirs in summary.reads:
+                found.reads[mine] = found.reads.get(mine, False) or not isinstance(parameter.type, Struct)
+            if theirs in summary.writes and not isinstance(parameter.type, Struct):
+                found.writes[mine] = True
+
+    def target(self, argument: Any, parameter: Variable) -> Place:
+        """The object that an argument stands for."""
+        if isinstance(parameter.type, Pointer):
+            return self.places.handed(argument)
+        return self.places.place(argument)
+
+
+def pointee(parameter: Variable) -> Any:
+    return parameter.type.to if isinstance(parameter.type, Pointer) else parameter.type

@@ -1,0 +1,218 @@
+"""Writes expressions: what has an effect becomes statements before, in an order that C allows, and what is left is a value."""
+
+from typing import Any, Callable, Optional
+
+from pycparser import c_ast
+
+from . import kinds
+from .assignments import Assignments
+from .constants import COMPARED, LOGICAL, SHIFTS, number
+from .effects import STEPS
+from .kinds import Array, Int, Pointer
+from .declarators import Enumerator, Function, Variable
+from .output import unmarked
+from .refusals import Refused
+from .values import LEVELS, PRIMARY, UNARY, Value
+
+
+class Expressions(Assignments):
+    """The expressions of one function."""
+
+    # ---- values
+
+    def value(self, node: Any) -> Value:
+        """The value of an expression; its effects are written before. What it reads stays as it is until it is used,
+        unless C leaves open whether it does, which is refused."""
+        self.within += 1
+        try:
+            return self.inner_value(node)
+        finally:
+            self.within -= 1
+
+    def inner_value(self, node: Any) -> Value:
+        if isinstance(node, c_ast.Constant):
+            return self.constant(node)
+        if isinstance(node, c_ast.ID):
+            return self.named(node)
+        if isinstance(node, (c_ast.StructRef, c_ast.ArrayRef)):
+            return self.read(node)
+        if isinstance(node, c_ast.UnaryOp):
+            return self.unary(node)
+        if isinstance(node, c_ast.BinaryOp):
+            return self.binary(node)
+        if isinstance(node, c_ast.TernaryOp):
+            return self.chosen(node)
+        if isinstance(node, c_ast.Assignment):
+            return self.assigned(node)
+        if isinstance(node, c_ast.ExprList):
+            for one in node.exprs[:-1]:
+                self.effect(one)
+            return self.value(node.exprs[-1])
+        if isinstance(node, c_ast.Cast):
+            return self.cast(node)
+        if isinstance(node, c_ast.FuncCall):
+            return self.call_value(node)
+        raise Refused(node.coord, f"an expression ({type(node).__name__})", "write it with the operators of integers")
+
+    def constant(self, node: Any) -> Value:
+        if node.type == "string":
+            raise Refused(node.coord, "a string", "name it as an array of char, and use its elements")
+        value, kind = number(node)
+        text = node.value
+        if "char" in node.type:
+            simple = text[1:-1] in ("\\n", "\\t", "\\r", "\\0", "\\\\", "\\'", '\\"') or (
+                len(text) == 3 and 32 <= ord(text[1]) < 127
+            )
+            text = text if simple else str(value)
+        elif text[:2] in ("0X", "0b", "0B"):
+            text = hex(value) + text[len(text.rstrip("uUlL")) :]
+        return Value(self.at(node) + text, kind, UNARY if text.startswith("-") else PRIMARY, truth=text in ("0", "1"))
+
+    def named(self, node: Any) -> Value:
+        meaning = self.names.meaning.get(id(node))
+        if isinstance(meaning, Enumerator):
+            text = meaning.out
+            return Value(self.at(node) + text, kinds.INT, UNARY if text.startswith("-") else PRIMARY)
+        if isinstance(meaning, Function):
+            raise Refused(
+                node.coord, f"the address of the function {node.name}", "call it by its name, in a switch over a number"
+            )
+        return self.read(node)
+
+    def read(self, node: Any) -> Value:
+        place = self.places.place(node)
+        if not isinstance(place.type, Int):
+            what = "an array" if isinstance(place.type, Array) else "a struct"
+            raise Refused(node.coord, f"{what} stands where an integer is needed", "name an element or a member")
+        text, calls = self.leaf(place)
+        return Value(self.at(node) + text, place.type, PRIMARY, truth=place.type.boolean, calls=calls)
+
+    def unary(self, node: Any) -> Value:
+        if node.op == "sizeof":
+            return Value(self.at(node) + f"{self.constants.size_of(node.expr)}ul", kinds.SIZE, PRIMARY)
+        if node.op == "*":
+            return self.read(node)
+        if node.op in STEPS:
+            return self.stepped(node)
+        if node.op == "!":
+            null = self.null(node.expr)
+            if null is not None:
+                return Value(self.at(node) + null, kinds.INT, PRIMARY, truth=True)
+        if node.op not in ("+", "-", "~", "!"):
+            raise Refused(node.coord, "an address", "hand over the address of a named object to a function alone")
+        one = self.value(node.expr)
+        inner = one.within(UNARY)
+        blank = " " if unmarked(inner).startswith(node.op) else ""
+        kind = kinds.INT if node.op == "!" else kinds.promoted(one.kind)
+        return Value(self.at(node) + node.op + blank + inner, kind, UNARY, truth=node.op == "!", calls=one.calls)
+
+    def test(self, node: Any) -> Value:
+        """The value of a condition, which may be a pointer."""
+        with self.names.refusals.gathered():
+            null = self.null(node)
+            return self.value(node) if null is None else Value(self.at(node) + "1", kinds.INT, PRIMARY, truth=True)
+        return Value("0", kinds.INT, PRIMARY)
+
+    def null(self, node: Any) -> Optional[str]:
+        """What a test for a null pointer gives of a parameter to which each call hands an object."""
+        meaning = self.names.meaning.get(id(node)) if isinstance(node, c_ast.ID) else None
+        if not isinstance(meaning, Variable) or not (isinstance(meaning.type, Pointer) or meaning.binding == "lent"):
+            return None
+        if meaning.home != "parameter" or not (meaning.function and meaning.function.calls):
+            raise Refused(
+                node.coord,
+                f"a test of the pointer {meaning.name}, which no call hands over",
+                "call it with the address of an object",
+            )
+        return "0"
+
+    def binary(self, node: Any) -> Value:
+        if node.op in LOGICAL:
+            return self.logical(node)
+        if node.op in ("==", "!="):
+            for one, other in ((node.left, node.right), (node.right, node.left)):
+                if isinstance(self.constants.type_of(one), (Pointer, Array)) and self.is_null(other) and self.null(one):
+                    return Value(self.at(node) + str(int(node.op == "!=")), kinds.INT, PRIMARY, truth=True)
+        if node.op == "/" and self.is_size(node.left) and self.is_size(node.right):
+            return Value(self.at(node) + f"{self.constants.value(node)}ul", kinds.SIZE, PRIMARY)
+        self.unsequenced(node, [node.left, node.right])
+        left, right = self.value(node.left), self.value(node.right)
+        kind = (
+            kinds.INT
+            if node.op in COMPARED
+            else kinds.promoted(left.kind)
+            if node.op in SHIFTS
+            else kinds.common(left.kind, right.kind)
+        )
+        level = LEVELS[node.op]
+        text = f"{left.within(level)} {node.op} {right.within(level + 1)}"
+        return Value(text, kind, level, truth=node.op in COMPARED, calls=left.calls or right.calls)
+
+    def is_null(self, node: Any) -> bool:
+        while isinstance(node, c_ast.Cast):
+            node = node.expr
+        return self.constants.value(node) == 0
+
+    @staticmethod
+    def is_size(node: Any) -> bool:
+        return isinstance(node, c_ast.UnaryOp) and node.op == "sizeof"
+
+    def logical(self, node: Any) -> Value:
+        if not self.needs_statements(node.right):
+            left, right = self.test(node.left), self.test(node.right)
+            level = LEVELS[node.op]
+            text = f"{left.within(level)} {node.op} {right.within(level + 1)}"
+            return Value(text, kinds.INT, level, truth=True, calls=left.calls or right.calls)
+        both = node.op == "&&"
+        truth = self.temporary(kinds.INT, "0" if both else "1", "truth")
+        test = self.when if both else self.unless
+        test(node, lambda: self.emit(f"{truth} = {int(both)};"))
+        return Value(truth, kinds.INT, PRIMARY, truth=True)
+
+    def when(self, node: Any, then: Callable[[], None]) -> None:
+        """Writes that something is done where a condition holds."""
+        if isinstance(node, c_ast.BinaryOp) and node.op == "&&" and self.needs_statements(node.right):
+            self.when(node.left, lambda: self.when(node.right, then))
+            return
+        self.braced(f"if ({self.test(node).text})", then)
+
+    def unless(self, node: Any, then: Callable[[], None]) -> None:
+        """Writes that something is done where a condition doesn't hold."""
+        if isinstance(node, c_ast.BinaryOp) and node.op == "||" and self.needs_statements(node.right):
+            self.unless(node.left, lambda: self.unless(node.right, then))
+            return
+        self.braced(f"if (!{self.test(node).within(UNARY)})", then)
+
+    def braced(self, head: str, then: Callable[[], None]) -> None:
+        self.emit(head + " {")
+        then()
+        self.emit("}")
+
+    def chosen(self, node: Any) -> Value:
+        kind = self.constants.type_of(node)
+        if not isinstance(kind, Int):
+            raise Refused(node.coord, "a choice between what are no integers", "use if")
+        if not (self.needs_statements(node.iftrue) or self.needs_statements(node.iffalse)):
+            test, yes, no = self.test(node.cond), self.value(node.iftrue), self.value(node.iffalse)
+            text = f"{test.within(1)} ? {yes.text} : {no.within(0)}"
+            return Value(text, kind, 0, truth=yes.truth and no.truth, calls=test.calls or yes.calls or no.calls)
+        made = self.temporary(kind, "0")
+        self.either(node, lambda one: self.emit(f"{made} = {self.value(one).text};"))
+        return Value(made, kind, PRIMARY)
+
+    def either(self, node: Any, do: Callable[[Any], None]) -> None:
+        """Writes that something is done with the one or the other part of `?:`."""
+        self.emit(f"if ({self.test(node.cond).text}) {{")
+        do(node.iftrue)
+        self.emit("} else {")
+        do(node.iffalse)
+        self.emit("}")
+
+    def cast(self, node: Any) -> Value:
+        to = self.names.types.get(id(node.to_type))
+        if not isinstance(to, Int):
+            raise Refused(node.coord, "a conversion to what is no integer", "convert to an integer type")
+        one = self.value(node.expr)
+        if to.boolean:
+            return self.truth(one)
+        return Value(f"{self.at(node)}({to.text}) {one.within(UNARY)}", to, UNARY, calls=one.calls)

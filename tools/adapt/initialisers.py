@@ -1,0 +1,112 @@
+"""Which expression gives each integer of an object its first value (6.7.9)."""
+
+from dataclasses import dataclass, field
+from typing import Any
+
+from pycparser import c_ast
+
+from .constants import Constants, codes
+from .kinds import Array, Int, Path, Struct, Type
+from .refusals import Refused
+
+Spot = tuple[Path, tuple[int, ...]]
+
+
+@dataclass
+class Filled:
+    """The expressions by the members and the indexes that lead to what they are for; `wholes` are structs' values."""
+
+    constants: Constants
+    given: dict[Spot, Any] = field(default_factory=dict)
+    wholes: list[tuple[Spot, Type, Any]] = field(default_factory=list)
+
+    def fill(self, of: Type, spot: Spot, init: Any) -> None:
+        if isinstance(init, c_ast.InitList) and isinstance(of, Int):
+            if len(init.exprs or []) != 1:
+                raise Refused(init.coord, "a list of values for an integer", "give one value")
+            self.fill(of, spot, init.exprs[0])
+        elif isinstance(init, c_ast.InitList):
+            self.listed(of, spot, init.exprs or [])
+        elif isinstance(init, c_ast.Constant) and init.type == "string" and isinstance(of, Array):
+            found = (codes(init.value) + [0])[: of.length]
+            for at, code in enumerate(found):
+                self.given[(spot[0], spot[1] + (at,))] = c_ast.Constant("int", str(code), init.coord)
+        elif isinstance(of, Int):
+            self.given[spot] = init
+        else:
+            self.wholes.append((spot, of, init))
+
+    def part(self, of: Type, spot: Spot, at: int, init: Any) -> tuple[Type, Spot]:
+        """The element or member of a number."""
+        if isinstance(of, Array) and at < (of.length or 0):
+            return of.of, (spot[0], spot[1] + (at,))
+        if isinstance(of, Struct) and at < len(of.members or []):
+            name, member = (of.members or [])[at]
+            return member, (spot[0] + (name,), spot[1])
+        raise Refused(init.coord, "more values than there are members or elements", "leave them out")
+
+    def number(self, of: Type, designator: Any) -> int:
+        """The number of the element or member that a designator names."""
+        if isinstance(of, Struct):
+            return [name for name, _ in of.members or []].index(designator.name)
+        known = self.constants.value(designator)
+        if known is None:
+            raise Refused(designator.coord, "a designator that is no constant", "give a number")
+        return known
+
+    def listed(self, of: Type, spot: Spot, items: list[Any]) -> None:
+        at = taken = 0
+        while taken < len(items):
+            item = items[taken]
+            if isinstance(item, c_ast.NamedInitializer):
+                at = self.number(of, item.name[0])
+                part, place = self.part(of, spot, at, item)
+                for designator in item.name[1:]:
+                    part, place = self.part(part, place, self.number(part, designator), item)
+                self.fill(part, place, item.expr)
+                taken += 1
+            else:
+                part, place = self.part(of, spot, at, item)
+                taken = self.next(part, place, items, taken)
+            at += 1
+
+    def next(self, part: Type, spot: Spot, items: list[Any], taken: int) -> int:
+        """Fills a part by the next items, of which it takes several where it has no braces of its own."""
+        item = items[taken]
+        string = isinstance(item, c_ast.Constant) and item.type == "string"
+        if (
+            isinstance(part, Int)
+            or string
+            or isinstance(item, c_ast.InitList)
+            or isinstance(self.constants.type_of(item), Struct)
+        ):
+            self.fill(part, spot, item)
+            return taken + 1
+        count = (
+            (part.length or 0)
+            if isinstance(part, Array)
+            else len(part.members or [])
+            if isinstance(part, Struct)
+            else 0
+        )
+        for at in range(count):
+            if taken >= len(items) or isinstance(items[taken], c_ast.NamedInitializer):
+                break
+            inner, place = self.part(part, spot, at, item)
+            taken = self.next(inner, place, items, taken)
+        return taken if count else taken + 1
+
+
+def filled(constants: Constants, of: Type, init: Any) -> Filled:
+    made = Filled(constants)
+    if init is not None:
+        made.fill(of, ((), ()), init)
+    return made
+
+
+def flat(index: tuple[int, ...], dims: tuple[int, ...]) -> int:
+    """The number of an element among all of them."""
+    number = 0
+    for one, length in zip(index, dims):
+        number = number * length + one
+    return number

@@ -1,0 +1,165 @@
+"""The types of C that are read: integers, arrays, structs and pointers; their layout, promotions and leaves."""
+
+from dataclasses import dataclass, field
+from typing import Any, Iterator, Optional, Union
+
+
+@dataclass(frozen=True)
+class Int:
+    """An integer type: its bits, its sign, and the words of the profile for it."""
+
+    bits: int
+    signed: bool
+    text: str = field(compare=False)
+    boolean: bool = False
+
+
+@dataclass(frozen=True)
+class Array:
+    of: "Type"
+    length: Optional[int]
+
+
+@dataclass(eq=False)
+class Struct:
+    """A struct by its tag. Its members are None until it is complete, and `fault` is why it can't be used, if so."""
+
+    tag: str
+    members: Optional[list[tuple[str, "Type"]]] = None
+    fault: Optional[tuple[Any, str, str]] = None
+
+
+@dataclass(frozen=True)
+class Pointer:
+    to: "Type"
+
+
+@dataclass(frozen=True)
+class Other:
+    """A type that isn't written: `void`, or one that is refused where an object of it is used, with what to do then."""
+
+    name: str
+    advice: str = "use an integer, an array or a struct"
+
+
+WORDS = {8: "char", 16: "short", 32: "int", 64: "long"}
+
+
+def c_words(kind: Int) -> str:
+    """C's own words for an integer type of these bits and sign."""
+    return ("signed " if kind.signed else "unsigned ") + WORDS[kind.bits]
+
+
+Type = Union[Int, Array, Struct, Pointer, Other]
+VOID = Other("void")
+FLOAT = Other("a floating point number", "use integers in fixed point")
+UNION = Other("a union", "use a struct, or one object for each member")
+FUNCTION = Other("a function as an object", "call it by its name")
+INT, UINT = Int(32, True, "int"), Int(32, False, "unsigned int")
+LONG, SIZE = Int(64, True, "long"), Int(64, False, "size_t")
+BOOL = Int(8, False, "uint8_t", True)
+FIXED = {f"{u}int{n}_t": Int(n, not u, f"{u}int{n}_t") for n in (8, 16, 32, 64) for u in ("", "u")} | {"size_t": SIZE}
+
+
+def plain(words: list[str]) -> Optional[Int]:
+    """The type that C's own words name (6.7.2p2), if it is an integer's."""
+    if set(words) <= {"_Bool"}:
+        return BOOL
+    if not set(words) <= {"char", "short", "int", "long", "signed", "unsigned"}:
+        return None
+    bits = 8 if "char" in words else 16 if "short" in words else 64 if "long" in words else 32
+    return Int(bits, "unsigned" not in words, " ".join(words))
+
+
+def promoted(kind: Int) -> Int:
+    return kind if kind.bits >= 32 else INT
+
+
+def common(left: Int, right: Int) -> Int:
+    """The type of the usual arithmetic conversions (6.3.1.8)."""
+    left, right = promoted(left), promoted(right)
+    if left.bits != right.bits:
+        return max(left, right, key=lambda kind: kind.bits)
+    return left if not left.signed else right
+
+
+def fit(value: int, kind: Int) -> int:
+    """The number of the kind that is the value modulo 2^bits, or for `bool` whether it isn't 0."""
+    if kind.boolean:
+        return int(value != 0)
+    value %= 1 << kind.bits
+    return value - (1 << kind.bits) if kind.signed and value >> (kind.bits - 1) else value
+
+
+def alignment(of: Type) -> int:
+    if isinstance(of, Struct):
+        return max((alignment(member) for _, member in of.members or []), default=1)
+    return alignment(of.of) if isinstance(of, Array) else of.bits // 8 if isinstance(of, Int) else 8
+
+
+def size(of: Type) -> Optional[int]:
+    """The bytes of a type as gcc lays it out on x86-64, where they are known."""
+    if isinstance(of, Int):
+        return of.bits // 8
+    if isinstance(of, Array):
+        one = size(of.of)
+        return None if one is None or of.length is None else one * of.length
+    if isinstance(of, Struct) and of.members is not None and not of.fault:
+        end = 0
+        for _, member in of.members:
+            one, step = size(member), alignment(member)
+            if one is None:
+                return None
+            end = -(-end // step) * step + one
+        return -(-end // alignment(of)) * alignment(of)
+    return 8 if isinstance(of, Pointer) else None
+
+
+Path = tuple[str, ...]
+
+
+@dataclass(frozen=True)
+class Leaf:
+    """An integer within an object: the members that lead to it, the lengths of all arrays on the way, and its type."""
+
+    path: Path
+    dims: tuple[int, ...]
+    kind: Int
+
+    @property
+    def count(self) -> int:
+        product = 1
+        for one in self.dims:
+            product *= one
+        return product
+
+
+def leaves(of: Type, path: Path = (), dims: tuple[int, ...] = ()) -> Iterator[Leaf]:
+    """The leaves of an object of the type, in order; none for what has no integers."""
+    if isinstance(of, Int):
+        yield Leaf(path, dims, of)
+    elif isinstance(of, Array) and of.length is not None:
+        yield from leaves(of.of, path, dims + (of.length,))
+    elif isinstance(of, Struct):
+        for name, member in of.members or []:
+            yield from leaves(member, path + (name,), dims)
+
+
+def fault_of(of: Type) -> Optional[tuple[str, str]]:
+    """Why an object of the type can't be written, if so: the cause and what to do."""
+    if isinstance(of, Array):
+        return ("an array without a length", "give its length") if of.length is None else fault_of(of.of)
+    if isinstance(of, Pointer) and of.to == FUNCTION:
+        return "a pointer to a function", "call functions by their names, in a switch over a number"
+    if isinstance(of, Pointer):
+        return "a pointer", "name the object itself, or hand its address over as a parameter"
+    if isinstance(of, Struct):
+        if of.fault:
+            return of.fault[1], of.fault[2]
+        if of.members is None:
+            return f"struct {of.tag} isn't complete", "give its members before its use"
+        faults = [(name, fault_of(member)) for name, member in of.members]
+        return next(
+            ((f"member {name} of struct {of.tag}: {fault[0]}", fault[1]) for name, fault in faults if fault), None
+        )
+    return (of.name, of.advice) if isinstance(of, Other) else None

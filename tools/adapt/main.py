@@ -1,0 +1,166 @@
+"""bin/adapt: C as users write it, brought into the profile."""
+
+import argparse
+import os
+import sys
+import tempfile
+from typing import Any, Optional
+
+from .refusals import Refusals, Stop
+
+FIRST = "adapt is no part of what is proved: read and compare what it writes"
+
+
+def words(given: Optional[list[str]]) -> argparse.Namespace:
+    parser = argparse.ArgumentParser(
+        prog="bin/adapt",
+        description="Writes C sources again in the profile of C that FShell reads, every statement on its line. "
+        + FIRST
+        + ".",
+    )
+    parser.add_argument("sources", nargs="+", metavar="SOURCE", help="C sources, which together are one program")
+    parser.add_argument("-I", action="append", default=[], metavar="DIR", dest="folders", help="a folder with headers")
+    parser.add_argument("-D", action="append", default=[], metavar="NAME=VALUE", dest="macros", help="a macro")
+    parser.add_argument(
+        "-o", default="adapted", metavar="DIR", dest="out", help="the folder for what is written (adapted)"
+    )
+    parser.add_argument(
+        "--input",
+        action="append",
+        default=[],
+        metavar="NAME",
+        dest="inputs",
+        help="a function that no source defines gives an input, or nothing; its arguments don't matter",
+    )
+    parser.add_argument(
+        "--check", action="store_true", help="each index of an array in an array is tested by an assert"
+    )
+    parser.add_argument(
+        "--harness",
+        nargs=2,
+        metavar=("ENTRY", "INPUTS"),
+        help="write DIR/tests.c, which runs the original's ENTRY on the inputs (bin/harness)",
+    )
+    parser.add_argument(
+        "--compare", type=int, default=0, metavar="N", help="compile both with gcc and run both on N random inputs"
+    )
+    return parser.parse_args(given)
+
+
+def flags_of(given: argparse.Namespace) -> list[str]:
+    return [f"-I{one}" for one in given.folders] + [f"-D{one}" for one in given.macros]
+
+
+def adapt(given: argparse.Namespace, refusals: Refusals) -> tuple[dict[str, str], Any]:
+    """The text of each file that is written, by its original, and who wrote it."""
+    from .effects import Effected
+    from .jumps import Jumps, walk
+    from .names import Names
+    from .places import Places
+    from .reading import read
+    from .spelling import Spelling
+    from .units import Units
+    from pycparser import c_ast
+
+    units = [read(path, flags_of(given), refusals) for path in given.sources]
+    if any(unit.tree is None for unit in units):
+        return {}, None
+    taken = {word for unit in units for word in unit.words}
+    numbers = iter(range(1, 1000000))
+
+    def flag(stem: str) -> str:
+        return next(name for name in (f"{stem}_{n}" for n in numbers) if name not in taken)
+
+    names = Names(refusals)
+    for unit in units:
+        for item in unit.tree.ext:
+            if isinstance(item, c_ast.FuncDef):
+                Jumps(flag, refusals).function(item.body)
+        taken.update(node.name for node in walk(unit.tree) if isinstance(node, c_ast.ID))
+        names.unit(unit)
+    places = Places(names)
+    places.bind()
+    inputs = set(given.inputs)
+    effected = Effected(names, places, inputs)
+    writer = Units(names, places, effected, Spelling(names, taken), given.check)
+    writer.inputs = inputs
+    files = writer.write()
+    order = dict.fromkeys(path for unit in units for path in unit.files)
+    kept = [path for path in order if path in files and (files[path].pieces or path in given.sources)]
+    return {path: files[path].text(lines_of(path)) for path in kept}, writer
+
+
+def lines_of(path: str) -> list[str]:
+    with open(path, encoding="utf-8", errors="surrogateescape") as file:
+        return file.read().split("\n")
+
+
+def put(folder: str, texts: dict[str, str]) -> list[str]:
+    """Writes the files into the folder, each whole or not at all; their paths."""
+    paths = []
+    os.makedirs(folder, exist_ok=True)
+    for original, text in texts.items():
+        target = os.path.join(folder, os.path.basename(original))
+        if target in paths:
+            raise Stop(f"two files are named {os.path.basename(original)}")
+        if os.path.exists(target) and os.path.samefile(target, original):
+            raise Stop(f"{target} is the original itself; name another folder (-o)")
+        with tempfile.NamedTemporaryFile(
+            "w", dir=folder, delete=False, encoding="utf-8", errors="surrogateescape"
+        ) as file:
+            file.write(text)
+        os.chmod(file.name, 0o644)
+        os.replace(file.name, target)
+        paths.append(target)
+    return paths
+
+
+def write_harness(asked: argparse.Namespace, writer: Any, paths: list[str]) -> None:
+    """Writes the tests of the original beside what was written."""
+    from tools import program
+
+    from .harness import text_of
+
+    if len(asked.sources) != 1:
+        raise Stop("--harness takes one source")
+    try:
+        text = text_of(writer, os.path.abspath(asked.sources[0]), paths, *asked.harness)
+    except program.Failure as failure:
+        raise Stop(str(failure)) from failure
+    name = os.path.join(asked.out, "tests.c")
+    program.give(text, name)
+    print(f"wrote {name}: compile it with {' '.join(['-fwrapv', *flags_of(asked)])}")
+
+
+def compare(asked: argparse.Namespace, writer: Any, paths: list[str]) -> int:
+    """Says how many runs agree; the status."""
+    from .compare import compared
+
+    differences = compared(writer, asked.sources, paths, flags_of(asked), asked.compare)
+    print("\n".join([*differences, f"compared {asked.compare} runs, {len(differences)} differ"]))
+    return 1 if differences else 0
+
+
+def main(given: Optional[list[str]] = None) -> int:
+    asked = words(given)
+    sys.setrecursionlimit(20000)
+    refusals = Refusals()
+    try:
+        print(FIRST, flush=True)
+        texts, writer = adapt(asked, refusals)
+        if refusals.found:
+            print("\n".join(refusals.lines()), file=sys.stderr)
+            print(f"{len(refusals.found)} refused, nothing is written", file=sys.stderr)
+            return 3
+        paths = put(asked.out, texts)
+        print("wrote " + " ".join(paths))
+        if asked.harness:
+            write_harness(asked, writer, paths)
+        return compare(asked, writer, paths) if asked.compare else 0
+    except ModuleNotFoundError as missing:
+        print(f"adapt: {missing.name} isn't there (Debian's package python3-pycparser)", file=sys.stderr)
+    except RecursionError:
+        print("adapt: a source is nested too deep", file=sys.stderr)
+    except (Stop, OSError) as stop:
+        print(f"adapt: {stop}", file=sys.stderr)
+    return 2

@@ -1,0 +1,228 @@
+"""What each name of the units stands for: scopes as C has them (6.2.1)."""
+
+from collections import ChainMap
+from typing import Any
+
+from pycparser import c_ast, c_generator
+
+
+from . import kinds
+from .declarators import Declarators, Function, Variable
+from .kinds import Array, Other
+from .reading import Unit, is_system
+from .refusals import Refused
+
+
+class Names(Declarators):
+    """Reads the units, and ties each name to what it stands for."""
+
+    def unit(self, unit: Unit) -> None:
+        self.scope, self.tags, self.current = ChainMap(), ChainMap(), unit
+        for item in unit.tree.ext:
+            with self.refusals.gathered():
+                self.item(item)
+            self.items.append((unit, item))
+
+    # ---- declarations
+
+    def item(self, item: Any) -> None:
+        if isinstance(item, c_ast.Typedef):
+            self.typedef(item)
+        elif isinstance(item, c_ast.Decl):
+            self.declaration(item)
+        elif isinstance(item, c_ast.FuncDef):
+            self.definition(item)
+
+    def typedef(self, node: Any) -> None:
+        fixed = kinds.FIXED.get(node.name) if is_system(str(node.coord.file)) else None
+        self.scope[node.name] = fixed or self.usable(node.type)
+
+    def declaration(self, node: Any) -> None:
+        if isinstance(node.type, (c_ast.Struct, c_ast.Enum, c_ast.Union)) and node.name is None:
+            self.type_of(node.type)
+        elif isinstance(node.type, c_ast.FuncDecl):
+            self.meaning[id(node)] = self.declared_function(node)
+        else:
+            self.meaning[id(node)] = self.variable(node)
+
+    def key(self, node: Any, static: bool) -> Any:
+        """What links declarations of the file: the name, and of static ones the file, which for a header is its own."""
+        return (node.name, node.coord.file) if static else node.name
+
+    def variable(self, node: Any) -> Variable:
+        of = self.usable(node.type)
+        if isinstance(of, Array) and of.length is None and node.init is not None:
+            self.initialiser(node.init)
+            of = Array(of.of, self.constants.length_of(node.init, of.of))
+        local = self.function is not None and "extern" not in node.storage
+        static = "static" in node.storage
+        home = "static" if local and static else "local" if local else "file"
+        old = self.scope.maps[-1].get(node.name) if home == "file" else None
+        key = self.key(node, static or (isinstance(old, Variable) and (node.name, node.coord.file) in self.linked))
+        if home == "file" and isinstance(self.linked.get(key), Variable):
+            made = self.linked[key]
+            if static and made.unit is not self.current and not made.const:
+                raise Refused(
+                    node.coord,
+                    f"{node.name} is another object in each source",
+                    "define it in one source, or make it const",
+                )
+            if isinstance(made.type, Array) and made.type.length is None:
+                made.type = of
+        else:
+            const = "const" in (node.quals or []) or "const" in self.quals(node.type)
+            made = Variable(node.name, of, node.coord, home, function=self.function, const=const, unit=self.current)
+            made.number = len(self.items)
+            self.variables.append(made)
+            if home == "file":
+                self.linked[key] = made
+        made.defined = made.defined or "extern" not in node.storage or node.init is not None
+        self.scope[node.name] = made
+        if node.init is not None:
+            made.init = node.init
+            self.initialiser(node.init)
+        return made
+
+    @staticmethod
+    def quals(node: Any) -> list[str]:
+        """The qualifiers of what an array has, or of the object itself."""
+        while isinstance(node, c_ast.ArrayDecl):
+            node = node.type
+        return list(getattr(node, "quals", None) or [])
+
+    def initialiser(self, node: Any) -> None:
+        if isinstance(node, c_ast.InitList):
+            for one in node.exprs or []:
+                self.initialiser(one)
+        elif isinstance(node, c_ast.NamedInitializer):
+            for one in node.name:
+                if isinstance(one, c_ast.ID):  # (a member's name, or a constant)
+                    self.meaning[id(one)] = self.scope.get(one.name)
+                else:
+                    self.expression(one)
+            self.initialiser(node.expr)
+        else:
+            self.expression(node)
+
+    def declared_function(self, node: Any) -> Function:
+        result = node.type.type
+        old = self.scope.maps[-1].get(node.name)
+        static = "static" in node.storage or (isinstance(old, Function) and old.static)
+        key = self.key(node, static)
+        made = old if isinstance(old, Function) else self.linked.get(key)
+        parameters = self.parameters(node)
+        if not isinstance(made, Function):
+            made = Function(node.name, self.usable(result), parameters, node.coord, static=static)
+            self.linked[key] = made
+            self.functions.append(made)
+        elif made.definition is None and (parameters or not made.parameters):
+            made.parameters = parameters
+        made.variadic = made.variadic or any(isinstance(one, c_ast.EllipsisParam) for one in self.written(node))
+        self.scope.maps[-1][node.name] = made
+        return made
+
+    @staticmethod
+    def written(node: Any) -> list[Any]:
+        return list(node.type.args.params) if node.type.args else []
+
+    def parameters(self, node: Any) -> list[Variable]:
+        made = []
+        for one in self.written(node):
+            if isinstance(one, c_ast.EllipsisParam):
+                continue
+            of = self.usable(one.type)
+            if of == kinds.VOID:
+                continue
+            variable = Variable(one.name or "", of, one.coord or node.coord, "parameter")
+            self.meaning[id(one)] = variable
+            made.append(variable)
+        return made
+
+    def definition(self, node: Any) -> None:
+        made = self.declared_function(node.decl)
+        self.meaning[id(node)] = made
+        if made.definition is not None:
+            self.same_again(made, node)
+            return
+        if node.param_decls:
+            raise Refused(
+                node.decl.coord,
+                f"{made.name} declares its parameters behind the parentheses",
+                "declare them between these",
+            )
+        made.definition, made.coord, self.function = node, node.decl.coord, made
+        made.number = len(self.items)
+        made.parameters = self.parameters(node.decl)
+        self.scope, self.tags = self.scope.new_child(), self.tags.new_child()
+        for parameter in made.parameters:
+            parameter.function = made
+            self.scope[parameter.name] = parameter
+        self.scope["__func__"] = Other("a string")
+        self.children(node.body)
+        self.scope, self.tags = self.scope.parents, self.tags.parents
+        self.function = None
+
+    def same_again(self, made: Function, node: Any) -> None:
+        """A second definition must be that of a header, read anew."""
+        if any(one.function is made and one.home == "static" and not one.const for one in self.variables):
+            raise Refused(
+                node.decl.coord, f"{made.name} has another static object in each source", "define it in one source"
+            )
+        texts = [c_generator.CGenerator().visit(one) for one in (made.definition, node)]
+        if made.definition.decl.coord.file != node.decl.coord.file or texts[0] != texts[1]:
+            raise Refused(
+                node.decl.coord, f"{made.name} is defined again, or otherwise in another source", "define it once"
+            )
+
+    # ---- statements and expressions
+
+    def statement(self, node: Any) -> None:
+        with self.refusals.gathered():
+            if isinstance(node, c_ast.DeclList):
+                for one in node.decls:
+                    self.statement(one)
+            elif isinstance(node, (c_ast.Decl, c_ast.Typedef)):
+                self.item(node)
+            elif isinstance(node, (c_ast.Compound, c_ast.For, c_ast.While, c_ast.DoWhile, c_ast.If, c_ast.Switch)):
+                self.scope, self.tags = self.scope.new_child(), self.tags.new_child()
+                self.children(node)
+                self.scope, self.tags = self.scope.parents, self.tags.parents
+            else:
+                self.expression(node)
+
+    def children(self, node: Any) -> None:
+        for _, child in node.children():
+            self.statement(child)
+
+    def expression(self, node: Any) -> None:
+        if isinstance(node, c_ast.ID):
+            self.meaning[id(node)] = self.scope.get(node.name)
+            if isinstance(self.meaning[id(node)], Function):
+                self.meaning[id(node)].taken = True
+        elif isinstance(node, c_ast.FuncCall):
+            self.call(node)
+        elif isinstance(node, c_ast.StructRef):
+            self.expression(node.name)
+        elif isinstance(node, c_ast.ArrayRef) and isinstance(node.name, c_ast.Constant) and node.name.type == "string":
+            of = self.constants.type_of(node.name)
+            text = Variable("text", of, node.coord, "static", node.name, self.function, True, True)
+            self.variables.append(text)
+            self.meaning[id(node.name)] = text
+            self.expression(node.subscript)
+        elif isinstance(node, c_ast.Typename):
+            self.types[id(node)] = self.type_of(node.type)
+        elif isinstance(node, c_ast.InitList):
+            self.initialiser(node)
+        else:
+            self.children(node)
+
+    def call(self, node: Any) -> None:
+        called = self.scope.get(node.name.name) if isinstance(node.name, c_ast.ID) else None
+        if isinstance(called, Function):
+            self.meaning[id(node)] = called
+            called.calls.append((self.function, node))
+        else:
+            self.expression(node.name)
+        if node.args:
+            for one in node.args.exprs:
+                self.expression(one)

@@ -1,0 +1,56 @@
+"""The names in what is written: each is its own, and reads back to what it stands for."""
+
+import os
+from typing import Any
+
+from .kinds import Path
+from .names import Names
+from .declarators import Function, Variable
+
+KEPT = {"assert", "assume"}
+
+
+class Spelling:
+    def __init__(self, names: Names, words: set[str]) -> None:
+        self.taken = set(words) | KEPT
+        self.leaves: dict[tuple[str, Path], str] = {}
+        owners: dict[str, Any] = {}
+        files: list[Any] = [*names.functions, *(variable for variable in names.variables if variable.home == "file")]
+        for one in files:
+            free = owners.setdefault(one.name, one) is one
+            stem = os.path.splitext(os.path.basename(str(one.coord.file)))[0]
+            one.out = (
+                one.name if free else self.fresh(f"{one.name}_{''.join(c if c.isalnum() else '_' for c in stem)}", True)
+            )
+        for variable in names.variables:
+            if variable.home == "static":
+                function = variable.function.name + "_" if variable.function else ""
+                variable.out = self.fresh(function + variable.name, True)
+
+    def fresh(self, stem: str, plain: bool = False) -> str:
+        """A name that nothing else has: the stem with a number, or the stem alone where it is free."""
+        number = 1
+        name = stem if plain else f"{stem}_1"
+        while name in self.taken:
+            number += 1
+            name = f"{stem}_{number}"
+        self.taken.add(name)
+        return name
+
+    def leaf(self, variable: Variable, path: Path) -> str:
+        """The name of a variable's integer, or of the array of them."""
+        base = variable.out or variable.name
+        if not path:
+            return base
+        key = (base, path)
+        if key not in self.leaves:
+            self.leaves[key] = self.fresh("_".join(key[1] if not base else (base, *path)), True)
+        return self.leaves[key]
+
+    def special(self, function: Function, stem: str, of: Any, made: dict[Any, Variable]) -> Variable:
+        """A variable of the file in which a function hands a value back."""
+        key = (function, stem)
+        if key not in made:
+            name = self.fresh(f"{function.out}_{stem}", True)
+            made[key] = Variable(stem, of, function.coord, "static", function=function, out=name)
+        return made[key]

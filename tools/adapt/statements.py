@@ -1,0 +1,287 @@
+"""Writes the statements of a function, each on the line that it has."""
+
+from typing import Any, Optional
+
+from pycparser import c_ast
+
+from . import kinds
+from .expressions import Expressions
+from .initialisers import filled
+from .kinds import Int, Struct
+from .jumps import LOOPS
+from .declarators import Variable
+from .places import Place
+from .refusals import Refused
+
+
+def continues(node: Any) -> bool:
+    """Whether a `continue` in it belongs to a loop around it."""
+    if isinstance(node, c_ast.Continue):
+        return True
+    return not isinstance(node, LOOPS) and any(continues(child) for _, child in node.children())
+
+
+class Statements(Expressions):
+    closings: dict[tuple[str, int], list[int]] = {}
+
+    def statement(self, node: Any) -> None:
+        """Writes one statement; what is refused in it is gathered."""
+        self.go(node)
+        write = getattr(self, "write_" + type(node).__name__, None)
+        with self.names.refusals.gathered():
+            if write:
+                write(node)
+            else:
+                before = len(self.file.pieces)
+                self.effect(node)
+                if before == len(self.file.pieces):
+                    self.emit(";")
+
+    def go_to_end(self, node: Any) -> None:
+        """What is written next stands on the line of the brace that closes a block."""
+        lines = (
+            self.closings.get((self.original, node.coord.line), [])
+            if isinstance(node, c_ast.Compound) and node.coord
+            else []
+        )
+        behind = [line for line in lines if line >= self.line]
+        if behind and str(node.coord.file) == self.original:
+            self.line = min(behind)
+            lines.remove(self.line)
+
+    def close(self, node: Any) -> None:
+        """Writes the brace that closes a block."""
+        self.go_to_end(node)
+        self.emit("}")
+
+    def body(self, node: Any) -> None:
+        """Writes a statement between braces, behind `{`."""
+        for one in (node.block_items or []) if isinstance(node, c_ast.Compound) else [node]:
+            self.statement(one)
+        self.close(node)
+
+    def write_Compound(self, node: Any) -> None:
+        self.emit("{")
+        self.body(node)
+
+    def write_EmptyStatement(self, node: Any) -> None:
+        self.emit(";")
+
+    def write_Typedef(self, node: Any) -> None:
+        return
+
+    def write_Pragma(self, node: Any) -> None:
+        return
+
+    def write_StaticAssert(self, node: Any) -> None:
+        return
+
+    # ---- declarations
+
+    def write_DeclList(self, node: Any) -> None:
+        for one in node.decls:
+            self.statement(one)
+
+    def write_Decl(self, node: Any) -> None:
+        variable = self.names.meaning.get(id(node))
+        if not isinstance(variable, Variable) or variable.home != "local":
+            return
+        fault = kinds.fault_of(variable.type)
+        if fault:
+            raise Refused(node.coord, f"{node.name}: {fault[0]}", fault[1])
+        if node.init is None:
+            self.declared(variable)
+        elif isinstance(variable.type, Struct) and not isinstance(node.init, c_ast.InitList):
+            self.declared(variable)
+            self.assign_whole(Place(variable, (), (), variable.type), node.init, node)
+        else:
+            self.initialised(variable, node.init)
+
+    def initialised(self, variable: Variable, init: Any) -> None:
+        """Writes a local's declaration with its first values; what has none is 0."""
+        made = filled(self.constants, variable.type, init)
+        self.unsequenced(init, list(made.given.values()))
+        for leaf in kinds.leaves(variable.type):
+            name, texts = self.spelling.leaf(variable, leaf.path), ["0"] * leaf.count
+            for (path, spot), one in made.given.items():
+                if path == leaf.path:
+                    texts[self.flat(spot, leaf)] = self.converted(self.value(one), leaf.kind).text
+            while len(texts) > 1 and texts[-1] == "0":
+                texts.pop()
+            self.emit(
+                f"{leaf.kind.text} {name}[{leaf.count}] = {{{', '.join(texts)}}};"
+                if leaf.dims
+                else f"{leaf.kind.text} {name} = {texts[0]};"
+            )
+        for (path, spot), of, source in made.wholes:
+            indexes = tuple(
+                (c_ast.Constant("int", str(one)), length)
+                for one, length in zip(spot, next(kinds.leaves(variable.type)).dims)
+            )
+            self.assign_whole(Place(variable, path, indexes, of), source, source)
+
+    # ---- branches
+
+    def write_If(self, node: Any) -> None:
+        if node.iffalse is None and self.needs_statements(node.cond):
+            self.when(node.cond, lambda: self.inner(node.iftrue))
+            return
+        self.emit(f"if ({self.test(node.cond).text}) {{")
+        self.body(node.iftrue)
+        other = node.iffalse
+        if isinstance(other, c_ast.If) and not self.needs_statements(other.cond):
+            self.go(other)
+            self.emit("else")
+            self.write_If(other)
+        elif other is not None:
+            self.emit("else {")
+            self.body(other)
+
+    def inner(self, node: Any) -> None:
+        """Writes a statement's own statements, where braces stand around it already."""
+        for one in (node.block_items or []) if isinstance(node, c_ast.Compound) else [node]:
+            self.statement(one)
+
+    def write_Switch(self, node: Any) -> None:
+        self.emit(f"switch ({self.value(node.cond).text}) {{")
+        items = (node.stmt.block_items or []) if isinstance(node.stmt, c_ast.Compound) else [node.stmt]
+        for one in items:
+            if not isinstance(one, (c_ast.Case, c_ast.Default)):
+                raise Refused(one.coord, "a statement of a switch before its first case", "put it before the switch")
+            self.group(one, one is items[-1])
+        self.close(node.stmt)
+
+    def group(self, node: Any, last: bool) -> None:
+        self.go(node)
+        self.emit("default:" if isinstance(node, c_ast.Default) else f"case {self.value(node.expr).text}:")
+        for one in node.stmts or []:
+            self.statement(one)
+        if last and not node.stmts:
+            self.emit(";")
+
+    def write_Case(self, node: Any) -> None:
+        raise Refused(node.coord, "a case within a statement of its switch", "put it directly into the switch")
+
+    write_Default = write_Case
+
+    def write_Label(self, node: Any) -> None:
+        self.emit(f"{node.name}: ;")
+        self.statement(node.stmt)
+
+    def write_Goto(self, node: Any) -> None:
+        return  # (refused where the jumps were rewritten)
+
+    # ---- loops
+
+    def leave(self, node: Any) -> None:
+        """Writes that a loop is left where its condition doesn't hold."""
+        if isinstance(node, c_ast.BinaryOp) and node.op == "&&" and self.needs_statements(node):
+            self.leave(node.left)
+            self.leave(node.right)
+        elif node is not None:
+            self.unless(node, lambda: self.emit("break;"))
+
+    def write_While(self, node: Any) -> None:
+        if not self.needs_statements(node.cond):
+            self.emit(f"while ({self.test(node.cond).text}) {{")
+        else:
+            self.emit("for (;;) {")
+            self.leave(node.cond)
+        self.body(node.stmt)
+
+    def write_DoWhile(self, node: Any) -> None:
+        if not self.needs_statements(node.cond):
+            self.emit("do {")
+            self.body(node.stmt)
+            self.emit(f"while ({self.test(node.cond).text});")
+            return
+        if continues(node.stmt):
+            raise Refused(
+                node.coord,
+                "a continue in a do loop whose condition has an effect",
+                "take the effect out of the condition",
+            )
+        self.emit("for (;;) { {")
+        self.body(node.stmt)
+        self.go(node.cond)
+        self.leave(node.cond)
+        self.emit("}")
+
+    def write_For(self, node: Any) -> None:
+        init, local = self.head(node.init), isinstance(node.init, c_ast.DeclList) and not self.is_one(node.init)
+        if local:
+            self.emit("{")
+        if init is None and node.init is not None:
+            self.inner(node.init)
+        step = self.head(node.next)
+        if step is None and node.next is not None:
+            self.stepwise(node, init or "")
+        elif self.needs_statements(node.cond):
+            self.emit(f"for ({init or ''}; ; {step or ''}) {{")
+            self.leave(node.cond)
+            self.body(node.stmt)
+        else:
+            test = "" if node.cond is None else self.test(node.cond).text
+            self.emit(f"for ({init or ''}; {test}; {step or ''}) {{")
+            self.body(node.stmt)
+        if local:
+            self.emit("}")
+
+    def is_one(self, node: Any) -> bool:
+        return self.head(node) is not None
+
+    def head(self, node: Any) -> Optional[str]:
+        """A part of a `for` as the one statement that it is in the profile; None where it isn't one."""
+        if node is None or isinstance(node, c_ast.ExprList):
+            return None
+        pieces, self.file.pieces = self.file.pieces, []
+        with self.names.refusals.gathered():
+            (self.write_DeclList if isinstance(node, c_ast.DeclList) else self.effect)(node)
+        made, self.file.pieces = self.file.pieces, pieces
+        return made[0][1].rstrip(";") if len(made) == 1 else None
+
+    def stepwise(self, node: Any, init: str) -> None:
+        """Writes a `for` whose step is several statements: they are taken before the condition of each turn but the first."""
+        again = self.temporary(kinds.INT, "0", "again")
+        self.emit(f"for ({init}; ; ) {{")
+        self.braced(f"if ({again})", lambda: self.inner(node.next))
+        self.emit(f"{again} = 1;")
+        self.leave(node.cond)
+        self.body(node.stmt)
+
+    # ---- jumps
+
+    def write_Break(self, node: Any) -> None:
+        self.emit("break;")
+
+    def write_Continue(self, node: Any) -> None:
+        self.emit("continue;")
+
+    def write_Return(self, node: Any) -> None:
+        function = self.function
+        assert function is not None
+        if isinstance(function.result, Struct):
+            own = self.spelling.special(function, "result", function.result, self.special)
+            self.assign_whole(Place(own, (), (), function.result), node.expr, node)
+            self.hand_back()
+            self.emit("return;")
+            return
+        if node.expr is not None and function.result == kinds.VOID:
+            self.effect(node.expr)
+        if node.expr is None or not isinstance(function.result, Int):
+            self.hand_back()
+            self.emit("return;")
+            return
+        one = self.converted(self.value(node.expr), function.result)
+        text = one.text
+        if self.outs(function) and one.calls:
+            text = self.temporary(function.result, text)
+        self.hand_back()
+        self.emit(f"return {text};")
+
+    def hand_back(self) -> None:
+        """Writes the copies out, before a return."""
+        assert self.function is not None
+        for parameter, leaf in self.outs(self.function):
+            own = self.spelling.special(self.function, parameter.name, parameter.type.to, self.special)  # type: ignore[union-attr]
+            self.emit(f"{self.spelling.leaf(own, leaf.path)} = {self.spelling.leaf(parameter, leaf.path)};")

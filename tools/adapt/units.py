@@ -1,0 +1,298 @@
+"""Writes the items of the units: constants, variables, functions, each into the file that it stands in."""
+
+from typing import Any
+
+from pycparser import c_ast
+
+from . import kinds
+from .effects import pointee
+from .initialisers import filled, flat
+from .jumps import walk
+from .kinds import Array, Int, Pointer, Struct, Type
+from .declarators import Function, Variable
+from .output import File, unmarked
+from .places import Place
+from .reading import is_system
+from .refusals import Refused
+from .statements import Statements
+
+MOST_ELEMENTS = 1024
+
+
+def within(of: Type, part: Type) -> bool:
+    """Whether an object of the type has a part of another one."""
+    if of is part or (isinstance(of, Int) and of == part):
+        return True
+    if isinstance(of, Array):
+        return within(of.of, part)
+    return isinstance(of, Struct) and any(within(member, part) for _, member in of.members or [])
+
+
+class Units(Statements):
+    """Writes all units. `files` are those that are written, by what they are made from."""
+
+    def write(self) -> dict[str, File]:
+        self.files: dict[str, File] = {}
+        self.done: set[Any] = set()
+        self.uses = self.first_uses()
+        for number, (unit, item) in enumerate(self.names.items):
+            source = str(item.coord.file) if item.coord else unit.path
+            if is_system(source):
+                continue
+            self.file = self.files.setdefault(source, File(source))
+            self.original, self.closings = source, unit.closings
+            self.go(item)
+            with self.names.refusals.gathered():
+                self.item(item, number)
+        return self.files
+
+    def first_uses(self) -> dict[Variable, int]:
+        """For each variable the number of the first function that names it."""
+        found: dict[Variable, int] = {}
+        for number, (_, item) in enumerate(self.names.items):
+            for node in walk(item) if isinstance(item, c_ast.FuncDef) else []:
+                meaning = self.names.meaning.get(id(node))
+                if isinstance(meaning, Variable):
+                    found.setdefault(meaning, number)
+        for function in self.names.functions:
+            for parameter in function.parameters:
+                if isinstance(parameter.binding, Place):
+                    variable = parameter.binding.variable
+                    found[variable] = min(found.get(variable, function.number), function.number)
+        return found
+
+    def once(self, key: Any) -> bool:
+        """Whether an item comes for the first time."""
+        new = key not in self.done
+        self.done.add(key)
+        return new
+
+    def item(self, item: Any, number: int) -> None:
+        self.enumerations(item.decl if isinstance(item, c_ast.FuncDef) else item)
+        meaning = self.names.meaning.get(id(item))
+        if isinstance(item, c_ast.FuncDef) and isinstance(meaning, Function):
+            if meaning.definition is item:
+                self.whole_function(meaning)
+        elif isinstance(meaning, Function):
+            self.prototype(meaning, item)
+        elif isinstance(meaning, Variable):
+            early = self.uses.get(meaning, len(self.names.items) + 1) < self.defined_at(meaning)
+            if meaning.defined and (early or self.defined_at(meaning) == number) and self.once(meaning):
+                self.variable(meaning, False, self.defined_at(meaning) == number)
+            elif not meaning.defined and meaning in self.uses and self.once(meaning):
+                self.check_type(meaning)
+                raise Refused(item.coord, f"no source defines {meaning.name}", "give the source that defines it")
+
+    def defined_at(self, variable: Variable) -> int:
+        """The number of the item that defines a variable; of several the first."""
+        for number, (_, item) in enumerate(self.names.items):
+            if self.names.meaning.get(id(item)) is variable and ("extern" not in item.storage or item.init is not None):
+                return number
+        return -1
+
+    def enumerations(self, item: Any) -> None:
+        for node in walk(item):
+            if (
+                isinstance(node, c_ast.Enum)
+                and node.values is not None
+                and self.once((str(node.coord.file), node.coord.line, node.coord.column))
+            ):
+                listed = [
+                    (self.at(one), self.names.meaning[id(one)])
+                    for one in node.values.enumerators
+                    if id(one) in self.names.meaning
+                ]
+                texts = [f"{at}{one.name} = {one.value}" for at, one in listed if one.out == one.name]
+                if texts:
+                    self.emit(f"enum {{ {', '.join(texts)} }};")
+
+    # ---- variables
+
+    @staticmethod
+    def check_type(variable: Variable) -> None:
+        fault = kinds.fault_of(variable.type)
+        if fault:
+            raise Refused(variable.coord, f"{variable.name}: {fault[0]}", fault[1])
+
+    def variable(self, variable: Variable, static: bool = False, here: bool = False) -> None:
+        """Writes an object of the file with its first values, on their lines where they stand here."""
+        self.check_type(variable)
+        made = filled(self.constants, variable.type, variable.init)
+        for _, _, source in made.wholes:
+            raise Refused(source.coord, "a struct as the first value of a part", "give its members one by one")
+        words = ("static " if static or variable.name and self.is_static(variable) else "") + (
+            "const " if variable.const else ""
+        )
+        leaves = list(kinds.leaves(variable.type))
+        for leaf in leaves:
+            if leaf.count > MOST_ELEMENTS:
+                raise Refused(
+                    variable.coord,
+                    f"{variable.name} has {leaf.count} elements",
+                    f"the profile takes {MOST_ELEMENTS} at most",
+                )
+            texts = ["0"] * leaf.count
+            for (path, spot), one in made.given.items():
+                if path == leaf.path:
+                    texts[flat(spot, leaf.dims)] = self.first(one, leaf.kind, here and len(leaves) == 1)
+            while len(texts) > 1 and texts[-1] == "0":
+                texts.pop()
+            name = self.spelling.leaf(variable, leaf.path)
+            whole = f"{{{', '.join(texts)}}}" if leaf.dims else texts[0]
+            value = "" if variable.init is None else f" = {whole}"
+            self.emit(f"{words}{leaf.kind.text} {name}{f'[{leaf.count}]' if leaf.dims else ''}{value};")
+
+    def is_static(self, variable: Variable) -> bool:
+        return variable.home == "static" or (variable.name, str(variable.coord.file)) in self.names.linked
+
+    def first(self, node: Any, kind: Int, marked: bool) -> str:
+        """A first value of an object of the file, which is a constant."""
+        known = self.constants.value(node)
+        if known is None:
+            raise Refused(node.coord, "a first value that is no constant", "give a number")
+        if kind.boolean:
+            return str(int(known != 0))
+        text = self.value(node).text
+        return text if marked else unmarked(text)
+
+    # ---- functions
+
+    def parameters(self, function: Function) -> str:
+        texts = []
+        for number, one in enumerate(function.parameters, 1):
+            if not one.name:
+                one.name = one.out = self.spelling.fresh("unused")
+            if isinstance(one.type, Int):
+                texts.append(f"{one.type.text} {self.spelling.leaf(one, ())}")
+                continue
+            if isinstance(one.binding, Place):
+                continue
+            fault = kinds.fault_of(pointee(one))
+            if fault or one.binding is None and isinstance(one.type, Pointer):
+                raise Refused(
+                    one.coord,
+                    f"{one.name} of {function.name}: {fault[0] if fault else 'a pointer'}",
+                    fault[1] if fault else "hand over an object",
+                )
+            for leaf in kinds.leaves(pointee(one)):
+                texts.append(
+                    f"{leaf.kind.text} {self.spelling.leaf(one, leaf.path)}{f'[{leaf.count}]' if leaf.dims else ''}"
+                )
+        return ", ".join(texts) or "void"
+
+    def heading(self, function: Function) -> str:
+        result = function.result
+        if function.variadic and function.definition is not None:
+            raise Refused(
+                function.coord, f"{function.name} takes any number of arguments", "give it a fixed number of parameters"
+            )
+        if not isinstance(result, (Int, Struct)) and result != kinds.VOID:
+            cause, advice = kinds.fault_of(result) or ("a pointer", "")
+            raise Refused(function.coord, f"{function.name} gives {cause}", advice)
+        static = "static " if function.static and function.definition is not None else ""
+        text = result.text if isinstance(result, Int) else "void"
+        listed = "void" if function.definition is None else self.parameters(function)
+        return f"{static}{text} {function.out}({listed})"
+
+    def before(self, function: Function) -> None:
+        """Writes what a function hands back, and its own static objects, before its first declaration."""
+        if not self.once((function, "before")) or function.definition is None:
+            return
+        if isinstance(function.result, Struct):
+            self.variable(self.spelling.special(function, "result", function.result, self.special), True)
+        for parameter in dict.fromkeys(parameter for parameter, _ in self.outs(function)):
+            own = self.spelling.special(function, parameter.name, pointee(parameter), self.special)
+            backs = [leaf for one, leaf in self.outs(function) if one is parameter]
+            for leaf in backs:
+                self.emit(f"static {leaf.kind.text} {self.spelling.leaf(own, leaf.path)};")
+
+    def prototype(self, function: Function, item: Any) -> None:
+        wanted = function.calls and (function.definition is not None or isinstance(function.result, Int))
+        if (
+            function.name in ("assert", "assume")
+            or not wanted
+            or not self.once((str(item.coord.file), item.coord.line, item.name))
+        ):
+            return
+        if function.definition is None and not self.once((function, "declared")):
+            return
+        self.before(function)
+        self.emit(self.heading(function) + ";")
+
+    def whole_function(self, function: Function) -> None:
+        node = function.definition
+        self.function = function
+        self.before(function)
+        for variable in self.names.variables:
+            if variable.home == "static" and variable.function is function:
+                with self.names.refusals.gathered():
+                    self.variable(variable, True)
+        self.check_names(function)
+        self.emit(self.heading(function) + " {")
+        self.normal(function)
+        items = node.body.block_items or []
+        for one in items:
+            self.statement(one)
+        self.go_to_end(node.body)
+        if self.outs(function) and not (items and isinstance(items[-1], c_ast.Return)):
+            self.hand_back()
+        self.emit("}")
+        self.function = None
+
+    def normal(self, function: Function) -> None:
+        """Writes that parameters of type bool are 0 or 1, where the function may be an entry: it has no arrays."""
+        given = [
+            (one, leaf)
+            for one in function.parameters
+            if not isinstance(one.binding, Place)
+            for leaf in kinds.leaves(pointee(one))
+        ]
+        for one, leaf in given if not any(leaf.dims for _, leaf in given) else []:
+            if leaf.kind.boolean:
+                name = self.spelling.leaf(one, leaf.path)
+                self.emit(f"{name} = {name} != 0;")
+
+    def check_names(self, function: Function) -> None:
+        """Refuses what would make two names of one object, or one name of two."""
+        locals_of = {
+            variable.name
+            for variable in self.names.variables
+            if variable.function is function and variable.home == "local"
+        }
+        for parameter in function.parameters:
+            if isinstance(parameter.binding, Place) and parameter.binding.variable.out in locals_of | {
+                one.name for one in function.parameters
+            }:
+                raise Refused(
+                    parameter.coord,
+                    f"{parameter.name} stands for {parameter.binding.variable.name}, and {function.name} has another of this name",
+                    "rename that one",
+                )
+        if not function.calls:
+            self.check_uncalled(function)
+
+    def check_uncalled(self, function: Function) -> None:
+        """Refuses a function that nothing calls, where two of its names may be those of one object."""
+        summary = self.effected.of_function[function]
+        copies = [one for one in function.parameters if one.binding == "copy" and isinstance(one.type, Pointer)]
+        for at, one in enumerate(copies):
+            written = any(found[0] is one for found in summary.writes)
+            shared = [
+                (found, found in summary.writes)
+                for found in [*summary.reads, *summary.writes]
+                if found[0] is not None and found[0].shared
+            ]
+            if any((written or too) and within(found[0].type, pointee(one)) for found, too in shared if found[0]):
+                raise Refused(
+                    one.coord,
+                    f"nothing calls {function.name}, and {one.name} may point to an object that it uses",
+                    "call it with a named object",
+                )
+            for two in copies[at + 1 :]:
+                too = any(found[0] is two for found in summary.writes)
+                if (written or too) and (within(pointee(one), pointee(two)) or within(pointee(two), pointee(one))):
+                    raise Refused(
+                        two.coord,
+                        f"nothing calls {function.name}, and {one.name} and {two.name} may point to one object",
+                        "call it with named objects",
+                    )

@@ -1,0 +1,167 @@
+"""What the writing of a function's expressions, calls and statements stands on: its names, pieces and checks of order."""
+
+from itertools import combinations
+from typing import Any, Optional
+
+from pycparser import c_ast
+
+from . import kinds
+from .effects import STEPS, Effected
+from .jumps import walk
+from .kinds import Int, Leaf, Struct
+from .declarators import Function, Variable
+from .names import Names
+from .output import File, mark, unmarked
+from .places import Place, Places
+from .refusals import Refused
+from .spelling import Spelling
+from .values import PRIMARY, UNARY, Value
+
+ORDER = "C leaves open whether {} is read or written first; use two statements"
+
+
+class Writer:
+    """Writes one function into a file. `check` asks for a test of each index of an array in an array."""
+
+    def __init__(self, names: Names, places: Places, effected: Effected, spelling: Spelling, check: bool) -> None:
+        self.names, self.places, self.effected, self.spelling, self.check = names, places, effected, spelling, check
+        self.constants = names.constants
+        self.file, self.original, self.line = File(""), "", 1
+        self.function: Optional[Function] = None
+        self.behind: set[int] = set()
+        self.after: list[str] = []
+        self.within = 0
+        self.needing: dict[int, tuple[Any, bool]] = {}
+
+    def value(self, node: Any) -> Value:
+        raise NotImplementedError
+
+    # ---- pieces
+
+    def emit(self, text: str) -> None:
+        """Writes a piece. What a value needs before stands on the statement's own line."""
+        self.file.emit(self.line, unmarked(text) if self.within else text)
+
+    def go(self, node: Any) -> None:
+        """What is written next stands on the line of this statement."""
+        if node.coord is not None and str(node.coord.file) == self.original:
+            self.line = node.coord.line
+
+    def at(self, node: Any) -> str:
+        here = node.coord is not None and str(node.coord.file) == self.original
+        return mark(node.coord.line) if here else ""
+
+    def temporary(self, kind: Int, text: str, stem: str = "value") -> str:
+        name = self.spelling.fresh(stem)
+        self.emit(f"{kind.text} {name} = {unmarked(text)};")
+        return name
+
+    # ---- order
+
+    def unsequenced(self, node: Any, parts: list[Any]) -> None:
+        """Refuses parts that C evaluates in any order, where that matters."""
+        for one, other in combinations([self.effected.of(part) for part in parts], 2):
+            found = one.clash(other)
+            if found:
+                name = found[0].name + "".join("." + part for part in found[1]) if found[0] else "an input"
+                cause, advice = ORDER.format(name).split("; ")
+                raise Refused(node.coord, cause, advice)
+
+    def needs_statements(self, node: Any) -> bool:
+        """Whether an expression can't be written without statements before it."""
+        if id(node) not in self.needing:
+            nodes = [] if node is None else walk(node)
+            skipped = {
+                id(inner)
+                for one in nodes
+                if isinstance(one, c_ast.UnaryOp) and one.op == "sizeof"
+                for inner in walk(one)
+            }
+            listed = {id(one.args) for one in nodes if isinstance(one, c_ast.FuncCall)}
+            self.needing[id(node)] = node, any(self.needs(one) for one in nodes if id(one) not in skipped | listed)
+        return self.needing[id(node)][1]
+
+    def needs(self, node: Any) -> bool:
+        if isinstance(node, c_ast.ArrayRef) and self.check:
+            return isinstance(node.name, c_ast.ArrayRef)
+        if isinstance(node, c_ast.FuncCall):
+            called = self.names.meaning.get(id(node))
+            return isinstance(called, Function) and (bool(self.outs(called)) or isinstance(called.result, Struct))
+        stepped = isinstance(node, c_ast.UnaryOp) and node.op in STEPS
+        return stepped or isinstance(node, (c_ast.Assignment, c_ast.ExprList, c_ast.CompoundLiteral))
+
+    def outs(self, function: Function) -> list[tuple[Variable, Leaf]]:
+        """What a call gives back by copies: each integer of an object that the function writes, with its parameter."""
+        writes = self.effected.of_function[function].writes
+        found = []
+        for parameter in function.parameters if function.definition is not None else []:
+            if parameter.binding == "copy" and isinstance(parameter.type, kinds.Pointer):
+                found += [
+                    (parameter, leaf)
+                    for leaf in kinds.leaves(parameter.type.to)
+                    if (parameter, leaf.path, False) in writes and not leaf.dims
+                ]
+        return found
+
+    # ---- values and places
+
+    @staticmethod
+    def truth(value: Value) -> Value:
+        """The value as a `bool` (6.3.1.2)."""
+        if value.truth:
+            return value
+        return Value(f"{value.within(6)} != 0", kinds.INT, 6, truth=True, calls=value.calls)
+
+    def converted(self, value: Value, kind: Int) -> Value:
+        """The value for a target of the kind; the profile converts by itself what isn't `bool`."""
+        return self.truth(value) if kind.boolean else value
+
+    def steady(self, node: Any, value: Value) -> Value:
+        """An index that stays the same when it is read again."""
+        plain = not value.calls and not any(isinstance(one, (c_ast.ArrayRef, c_ast.FuncCall)) for one in walk(node))
+        if plain:
+            return value
+        return Value(self.temporary(value.kind, value.text, "index"), value.kind, PRIMARY)
+
+    def index(self, place: Place, stable: bool, kept: bool = False) -> Optional[Value]:
+        """The number of a place's first element among those of its arrays; None where there are none. With `kept` it is a
+        constant or a variable of its own."""
+        whole: Optional[Value] = None
+        self.unsequenced(place.indexes[0][0] if place.indexes else None, [node for node, _ in place.indexes])
+        for node, length in place.indexes:
+            one = self.value(node)
+            if stable or (self.check and len(place.indexes) > 1):
+                one = self.steady(node, one)
+            known = self.constants.value(node)
+            if self.check and len(place.indexes) > 1 and not (known is not None and 0 <= known < length):
+                below = f"{one.within(8)} >= 0 && " if one.kind.signed else ""
+                self.emit(f"assert({unmarked(below)}{unmarked(one.within(8))} < {length});")
+            if whole is None:
+                whole = one
+            else:
+                text = f"{whole.within(10)} * {length} + {one.within(10)}"
+                whole = Value(text, kinds.common(whole.kind, one.kind), 9, calls=whole.calls or one.calls)
+        if kept and whole is not None and any(self.constants.value(node) is None for node, _ in place.indexes):
+            whole = Value(self.temporary(kinds.promoted(whole.kind), whole.text, "index"), whole.kind, PRIMARY)
+        return whole
+
+    def leaf(self, place: Place, stable: bool = False) -> tuple[str, bool]:
+        """The text of an integer's place, and whether it calls functions."""
+        name, index = self.spelling.leaf(place.variable, place.path), self.index(place, stable)
+        return (name, False) if index is None else (f"{name}[{index.text}]", index.calls)
+
+    def integers(self, place: Place, index: Optional[Value]) -> list[tuple[Leaf, list[str]]]:
+        """The integers of an object, with the text of each element."""
+        found = []
+        for leaf in kinds.leaves(place.type):
+            name = self.spelling.leaf(place.variable, place.path + leaf.path)
+            if index is None and not leaf.dims:
+                found.append((leaf, [name]))
+            elif index is None or not leaf.dims:
+                found.append(
+                    (leaf, [f"{name}[{n if index is None else unmarked(index.text)}]" for n in range(leaf.count)])
+                )
+            else:
+                base = f"{unmarked(index.within(UNARY))} * {leaf.count}"
+                found.append((leaf, [f"{name}[{base} + {n}]" for n in range(leaf.count)]))
+        return found
