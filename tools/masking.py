@@ -49,8 +49,10 @@ def query_of(graph: Graph, decision: Decision) -> str:
     kept = f"@LINE({lines[0]})"
     for line in lines[1:]:
         kept = f"UNION({kept},@LINE({line}))"
-    part = f"PATHS(INTERSECT(@CONDITIONGRAPH,INTERSECT(@FUNC({decision.function}),{kept})),1)"
     calls = sum(edge.operation == "call" for edge in edges)
+    # (what @FUNC keeps has no node of a function that is called, so no path could end at a call)
+    kept = kept if calls else f"INTERSECT(@FUNC({decision.function}),{kept})"
+    part = f"PATHS(INTERSECT(@CONDITIONGRAPH,{kept}),1)"
     return "cover " + " + ".join(" -> ".join([part] * (count + 1)) for count in range(min(calls, MOST_ARROWS) + 1))
 
 

@@ -10,6 +10,7 @@ certificates written and checked. Only runs that returned count. The status is 1
 import argparse
 import json
 import os
+import sys
 from collections.abc import Iterator
 
 from tools import graph as graphs
@@ -114,8 +115,10 @@ def options(given: argparse.Namespace) -> list[str]:
     return [word for name in BOUNDS for word in (f"--{name}", str(getattr(given, name)))]
 
 
-def ask(given: argparse.Namespace, graph: Graph, decision: Decision) -> Asked:
-    """Has inputs made for the paths of a decision."""
+def ask(given: argparse.Namespace, graph: Graph, decision: Decision, count: int) -> Asked:
+    """Has inputs made for the paths of a decision; on a terminal it says which."""
+    if sys.stderr.isatty():
+        print(f"decision {decision.number} of {count}", file=sys.stderr)
     query = query_of(graph, decision)
     words = ["generate", given.entry, query, *given.sources, *options(given), "--budget", given.budget]
     asked = Asked(decision, query, program.report(words))
@@ -158,7 +161,8 @@ def main() -> int:
     given = words()
     graph = graphs.of_sources(given.sources)
     faces = Faces(graph, given.sources)
-    all_asked = [ask(given, graph, decision) for decision in Decisions(graph, faces).found]
+    found = Decisions(graph, faces).found
+    all_asked = [ask(given, graph, decision, len(found)) for decision in found]
     if not all_asked:
         raise Failure("there is no decision")
     made = inputs.of_file(given.inputs) if given.inputs else []

@@ -158,7 +158,7 @@ def gcov(folder, name):
     """gcc's counts of a source by its harness: of each line, and the counts of its branches in order of size."""
     subprocess.run(["gcc", "-O0", "--coverage", "-fwrapv", "-w", "-o", "tests", "tests.c"], cwd=folder, check=True)
     subprocess.run(["./tests"], cwd=folder, capture_output=True)
-    subprocess.run(["gcov", "-b", "-c", "tests-tests.gcda"], cwd=folder, capture_output=True, check=True)
+    subprocess.run(["gcov", "-b", "-c", "tests.gcda"], cwd=folder, capture_output=True, check=True)
     lines, branches, at = {}, {}, 0
     with open(os.path.join(folder, name + ".gcov"), encoding="utf-8") as file:
         for line in file:
@@ -205,7 +205,7 @@ def gcc_agrees(folder):
         lines_seen, branches_seen = lines_seen + len(both), branches_seen + len(same)
         yield all(bool(lines[line]) == bool(their_lines[line]) for line in both)
         yield all(branches[line] == their_branches[line] for line in same)
-        os.remove(os.path.join(folder, "tests-tests.gcda"))
+        os.remove(os.path.join(folder, "tests.gcda"))
     yield lines_seen > 100 and branches_seen > 40
 
 
