@@ -1,5 +1,0 @@
-mod Accepted
-mod Agreement
-mod OneDue
-mod OneKind
-mod Printed

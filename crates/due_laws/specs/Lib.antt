@@ -1,4 +1,0 @@
-pub mod Accepted
-pub mod Agreement
-pub mod Determined
-pub mod Printed
