@@ -15,7 +15,7 @@ from tools import manual, program
 from tools.campaign import has_parallel
 from tools.program import ROOT, Failure
 
-NAMES = ("inputs", "explain", "lcov", "harness", "campaign", "page", "mcdc")
+NAMES = ("inputs", "explain", "lcov", "harness", "campaign", "page", "mcdc", "adapt")
 PROGRAM = """#!/bin/sh
 # Prints the path of FShell's program.
 printf '%s\\n' "$(dirname -- "$(dirname -- "$(readlink -f -- "$0")")")/program"
@@ -29,8 +29,9 @@ def needs() -> list[tuple[str, bool, str, str]]:
         ("GNU parallel", has_parallel(), "parallel", "campaign"),
         ("jinja2", importlib.util.find_spec("jinja2") is not None, "python3-jinja2", "page"),
         ("dot", shutil.which("dot") is not None, "graphviz", "the pictures of page"),
+        ("pycparser", importlib.util.find_spec("pycparser") is not None, "python3-pycparser", "adapt"),
         ("genhtml", shutil.which("genhtml") is not None, "lcov", "looking at what lcov writes"),
-        ("a C compiler", any(map(shutil.which, ("cc", "gcc", "clang"))), "gcc", "compiling what harness writes"),
+        ("a C compiler", any(map(shutil.which, ("cc", "gcc", "clang"))), "gcc", "adapt, and compiling what harness writes"),
     ]
 
 
@@ -62,6 +63,17 @@ def copy(source: str, path: str) -> None:
         os.replace(path + ".new", path)
     except OSError as fault:
         raise Failure(f"{path}: {fault.strerror}") from None
+
+
+def copy_tree(source: str, to: str, endings: tuple[str, ...]) -> None:
+    """Copies the files of a folder, and of those in it, whose names end so."""
+    for at, _, names in os.walk(source):
+        kept = [name for name in sorted(names) if name.endswith(endings)]
+        folder = os.path.normpath(os.path.join(to, os.path.relpath(at, source)))
+        if kept:
+            os.makedirs(folder, exist_ok=True)
+        for name in kept:
+            copy(os.path.join(at, name), os.path.join(folder, name))
 
 
 def link(target: str, path: str) -> None:
@@ -106,10 +118,8 @@ def install(prefix: str) -> int:
     for name in ("fshell", *NAMES):
         copy(os.path.join(ROOT, "bin", name), os.path.join(at["scripts"], name))
         link(f"../lib/fshell/bin/{name}", os.path.join(at["bin"], name if name == "fshell" else f"fshell-{name}"))
-    for folder, kept, endings in (("tools", "tools", (".py", ".html")), ("docs", "doc", (".md",))):
-        for name in sorted(os.listdir(os.path.join(ROOT, folder))):
-            if name.endswith(endings):
-                copy(os.path.join(ROOT, folder, name), os.path.join(at[kept], name))
+    for folder, kept, endings in (("tools", "tools", (".py", ".html", ".h")), ("docs", "doc", (".md",))):
+        copy_tree(os.path.join(ROOT, folder), at[kept], endings)
     for name, page in pages.items():
         put(page, os.path.join(at["man"], f"{name}.1"))
     helps = {f"fshell-{name}": help_of(name) for name in NAMES}

@@ -7,7 +7,7 @@ import programs
 from tool_tests import Case, example, put, run
 
 COMMANDS = ["fshell-" + name for name in ("measure", "goals", "runs", "generate", "prove", "check", "graph", "sample")]
-TOOLS = ["fshell-" + name for name in ("inputs", "explain", "lcov", "harness", "campaign", "page", "mcdc")]
+TOOLS = ["fshell-" + name for name in ("inputs", "explain", "lcov", "harness", "campaign", "page", "mcdc", "adapt")]
 CASES = [
     Case("install: a folder that can't be made", ["install", "a/b"], {"a": "a file\n"}, 2, "", "install: a/b/bin: Not a directory\n"),
 ]
@@ -51,7 +51,7 @@ def needs_are_told(folder):
     ended = run(folder, ["install", "--check"], env={**os.environ, "PATH": os.path.join(folder, "nothing") + ":" + os.path.dirname(
         subprocess.run(["sh", "-c", "command -v python3"], capture_output=True, text=True).stdout.strip())})
     lines = ended.stdout.splitlines()
-    yield len(lines) == 6 and lines[0] == "there    Python 3.11, for all tools"
+    yield len(lines) == 7 and lines[0] == "there    Python 3.11, for all tools"
     yield all(line.startswith(("there    ", "missing  ")) for line in lines)
     yield ended.returncode == any(line.startswith("missing") for line in lines)
     yield all("(Debian: apt-get install " in line for line in lines if line.startswith("missing"))
