@@ -1,5 +1,5 @@
 -- With more turns a tree does the same, if there were enough.
-use Rattle.std.proofs.Common.{◌≡◌, ◌≢◌, ℕ, ◌+◌, ◌<◌, List, [], ◌∷◌, map, Option, Some, None, refl, sym, ap, subst, arith}
+use Rattle.std.proofs.Common.{◌≡◌, ◌≢◌, ℕ, ◌+◌, ◌-◌, ◌<◌, List, [], ◌∷◌, map, Option, Some, None, refl, sym, ap, subst, arith}
 use Rattle.std.specs.Prelude.{IfSome, slice_get}
 use Rattle.std.specs.List.{AllByRecursion}
 use Rattle.std.specs.Option.{option_map}
@@ -21,13 +21,15 @@ use Rattle.typed_trees.specs.declared.statement.TypedStatement.{TypedStatement, 
 use Rattle.typed_trees.specs.declared.unit.Typed.{Typed}
 use Rattle.typed_trees.specs.declared.unit.TypedFunction.{TypedFunction}
 use Rattle.tree_meaning.specs.declared.ends.TreeEnd.TheVariants as ends
-use Rattle.tree_meaning.specs.Outcomes.{TrapEnd, BlockedEnd, Done, Gives, Ends, OutOfTurns, Way, GoesOn, Breaks, Continues, Evaluation, Meaning}
-use Rattle.tree_meaning.specs.Activations.{Activation}
+use Rattle.tree_meaning.specs.Outcomes.{TrapEnd, BlockedEnd, Done, Gives, Ends, OutOfTurns, Evaluation, Meaning}
+use Rattle.tree_meaning.specs.declared.way.Way.{Way}
+use Rattle.tree_meaning.specs.declared.way.Way.TheVariants.{GoesOn, Breaks, Continues}
+use Rattle.tree_meaning.specs.declared.activation.Activation.{Activation}
 use Rattle.tree_meaning.specs.Expressions.{Meant, Placed, evaluate, both_does, either_does, choice_does, placed_at}
 use Rattle.tree_meaning.specs.Statements.{block}
 use Rattle.tree_meaning.specs.Switch.{Group}
 use Rattle.tree_meaning.specs.Calls.{Calls, call_of}
-use Rattle.tree_meaning.specs.Trees.{meant_form, meant, placed, call_does, value, arm_does, form_does, group_of, does, body_does, calls_within}
+use Rattle.tree_meaning.specs.Trees.{meant_form, meant, placed, call_does, value, arm_does, form_does, group_of, does, body_does, calls_in}
 use Rattle.tree_meaning.specs.Ends.{first_activation, first_store, run_end, function_end, end_if}
 use Rattle.tree_meaning.specs.Laws.{TurnsSuffice}
 use Rattle.tree_meaning.proofs.Grows.{more, Grown, Grows, give_grows, MeantGrow, PlacedGrow, evaluate_grows, constant_grows, convert_grows, whole_grows, element_grows, load_grows, unary_grows, binary_grows, part_grows, both_grows, either_grows, choice_grows, AllGrow, CallsGrow, call_grows, RowGrows, block_grows, ArmsGrow, OptionGrows, arms_grow, assign_grows, OptionMeant, declare_grows, array_grows, return_grows, tested_grows, call_statement_grows, while_grows, do_grows, for_grows, GroupGrow, GroupsGrow, switch_grows, BodiesGrow, calling_grows}
@@ -349,8 +351,9 @@ module _ (d : ℕ) (t : Typed) (a : Activation) (n n' : ℕ) (calls calls' : Cal
 bodies_grow : (d : ℕ) (t : Typed) → BodiesGrow d (body_does t)
 bodies_grow d t n n' calls calls' h f a = body_grows d t a n n' calls calls' h f.body
 
-calls_grow : (d : ℕ) (t : Typed) (n n' : ℕ) → CallsGrow d n n' (calls_within t n) (calls_within t n')
-calls_grow d t n n' = calling_grows d (body_does t) t.functions (bodies_grow d t) n n'
+calls_grow : (d : ℕ) (t : Typed) (a : Activation) (n n' : ℕ) → CallsGrow d n n' (calls_in t a) (calls_in t a)
+unfolding calls_in
+calls_grow d t a n n' = calling_grows d (body_does t) t.functions (bodies_grow d t) (64 - a.depth) n n'
 
 grown_end : (t : Typed) (f : TypedFunction) (d turns : ℕ) (x y : Done Way) → Grown d turns x y → run_end t f x ≢ ends.OutOfTurns → run_end t f y ≡ run_end t f x
 grown_end t f d turns (Gives way s) y h is = ap (run_end t f) h.0
@@ -365,8 +368,8 @@ function_grows t f input turns d is =
     let s = first_store t f input turns in
     let less : turns < n = omega arith in
     let also : turns + d < n' = omega arith in
-    let grown = bodies_grow d t n n' (calls_within t n) (calls_within t n') (calls_grow d t n n') f a s (less, also) in
-    grown_end t f d turns (body_does t (calls_within t n) f a s) (body_does t (calls_within t n') f a (more d s)) grown is
+    let grown = bodies_grow d t n n' (calls_in t a) (calls_in t a) (calls_grow d t a n n') f a s (less, also) in
+    grown_end t f d turns (body_does t (calls_in t a) f a s) (body_does t (calls_in t a) f a (more d s)) grown is
 
 pub turns_suffice : TurnsSuffice
 turns_suffice t entry input turns d is = by (slice_get t.functions entry) is

@@ -15,8 +15,11 @@ use Rattle.typed_trees.specs.declared.expression.Callee.{Callee}
 use Rattle.typed_trees.specs.declared.expression.Callee.TheVariants.{Defined, Input}
 use Rattle.typed_trees.specs.declared.unit.Typed.{Typed}
 use Rattle.typed_trees.specs.declared.unit.TypedFunction.{TypedFunction}
-use Rattle.tree_meaning.specs.Outcomes.{Store, End, Done, Gives, Ends, OutOfTurns, ◌andthen◌, unless_trap, Way, GoesOn, Breaks, Continues, Returns, Meaning, Evaluation, skip, is_true, turn_of}
-use Rattle.tree_meaning.specs.Activations.{Activation, start_of, length_of, element_at, read, stored, cleared, with_activation, first_cells}
+use Rattle.tree_meaning.specs.Outcomes.{Store, End, Done, Gives, Ends, OutOfTurns, ◌andthen◌, unless_trap, Meaning, Evaluation, skip, is_true, turn_of}
+use Rattle.tree_meaning.specs.declared.way.Way.{Way}
+use Rattle.tree_meaning.specs.declared.way.Way.TheVariants.{GoesOn, Breaks, Continues, Returns}
+use Rattle.tree_meaning.specs.declared.activation.Activation.{Activation}
+use Rattle.tree_meaning.specs.Activations.{start_of, length_of, element_at, read, stored, cleared, with_activation, first_cells}
 use Rattle.tree_meaning.specs.Expressions.{First, Rest, Meant, Placed, evaluate, both_parts, constant_meant, convert_meant, placed_at, load_meant, operated, unary_meant, binary_meant, part_meant, truth, if_true, both_does, if_false, either_does, chosen, choice_does}
 use Rattle.tree_meaning.specs.Statements.{then_next, block, one_of, arms, combined, assign, put, declare, fill, declare_array, return_value, unless_false}
 use Rattle.tree_meaning.specs.Loops.{after_body, pass, passes, while_loop, again_if, do_passes, do_loop, test_or, step_or, for_loop}
@@ -468,10 +471,9 @@ module _ (d : ℕ) (bodies : Bodies) (functions : List TypedFunction) (grow : Bo
       let s' = with_activation s (first_cells f.cells words) in
       grown_then d s.turns (bodies calls f a s') (bodies calls' f a (more d s')) (give_result bodies functions a.base) (give_result bodies functions a.base) (grow n n' calls calls' h f a s' e) (λ way s'' less. (refl, omega arith))
 
-  pub calling_grows : (n n' : ℕ) → CallsGrow d n n' (calling bodies functions n) (calling bodies functions n')
+  pub calling_grows : (k n n' : ℕ) → CallsGrow d n n' (calling bodies functions k) (calling bodies functions k)
   unfolding calling
-  calling_grows zero n' callee a words s e = absurd (omega (arith, e.0))
-  calling_grows (suc n) zero callee a words s e = absurd (omega (arith, e.1))
-  calling_grows (suc n) (suc n') callee a words s e =
-      grown_turn d s.turns (s.turns + d) s (λ s'. run_function bodies functions (calling bodies functions n) (slice_get functions callee) a words s') (λ s'. run_function bodies functions (calling bodies functions n') (slice_get functions callee) a words s') refl refl
-      (λ s' less. run_grows n n' (calling bodies functions n) (calling bodies functions n') (calling_grows n n') (slice_get functions callee) a words s' (omega (arith, less, e.0), omega (arith, less, e.1)))
+  calling_grows zero n n' callee a words s e = refl
+  calling_grows (suc k) n n' callee a words s e =
+      grown_turn d s.turns (s.turns + d) s (λ s'. run_function bodies functions (calling bodies functions k) (slice_get functions callee) a words s') (λ s'. run_function bodies functions (calling bodies functions k) (slice_get functions callee) a words s') refl refl
+      (λ s' less. run_grows n n' (calling bodies functions k) (calling bodies functions k) (calling_grows k n n') (slice_get functions callee) a words s' (omega (arith, less, e.0), omega (arith, less, e.1)))

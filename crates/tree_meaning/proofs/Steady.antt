@@ -14,7 +14,8 @@ use Rattle.typed_trees.specs.declared.expression.TypedExprForm.{TypedExprForm, r
 use Rattle.typed_trees.specs.declared.expression.TypedExprForm.TheOpen.{TypedExpr-F, TypedExprForm-F, TypedPlace-F}
 use Rattle.typed_trees.specs.declared.expression.TypedPlace.{TypedPlace, map-TypedPlace, roll-TypedPlace}
 use Rattle.typed_trees.specs.declared.unit.Typed.{Typed}
-use Rattle.tree_meaning.specs.Activations.{Activation, element_at, read}
+use Rattle.tree_meaning.specs.declared.activation.Activation.{Activation}
+use Rattle.tree_meaning.specs.Activations.{element_at, read}
 use Rattle.tree_meaning.specs.Expressions.{Meant, Placed, operated, placed_at}
 use Rattle.tree_meaning.specs.Calls.{Calls}
 use Rattle.tree_meaning.specs.Trees.{meant_form, meant, placed}

@@ -16,7 +16,7 @@ use Rattle.typed_trees.specs.declared.statement.TypedGroup.{TypedGroup, roll-Typ
 use Rattle.typed_trees.specs.declared.statement.TypedStatement.{TypedStatement, roll-TypedStatement}
 use Rattle.typed_trees.specs.declared.unit.Typed.{Typed}
 use Rattle.tree_meaning.specs.Outcomes.{Meaning}
-use Rattle.tree_meaning.specs.Activations.{Activation}
+use Rattle.tree_meaning.specs.declared.activation.Activation.{Activation}
 use Rattle.tree_meaning.specs.Expressions.{placed_at}
 use Rattle.tree_meaning.specs.Statements.{block}
 use Rattle.tree_meaning.specs.Calls.{Calls, call_of}

@@ -19,7 +19,8 @@ use Rattle.typed_trees.specs.declared.expression.TypedExprForm.{TypedExprForm, r
 use Rattle.typed_trees.specs.declared.expression.TypedExprForm.TheOpen.{TypedExpr-F, TypedExprForm-F}
 use Rattle.typed_trees.specs.declared.expression.TypedPlace.{TypedPlace}
 use Rattle.typed_trees.specs.declared.unit.Typed.{Typed}
-use Rattle.tree_meaning.specs.Activations.{Activation, as_kind, read}
+use Rattle.tree_meaning.specs.declared.activation.Activation.{Activation}
+use Rattle.tree_meaning.specs.Activations.{as_kind, read}
 use Rattle.tree_meaning.specs.Expressions.{Rest, Meant, operated}
 use Rattle.tree_meaning.specs.Calls.{Calls}
 use Rattle.tree_meaning.specs.Trees.{meant_form, meant, placed}

@@ -11,13 +11,8 @@ use Rattle.cfa.specs.declared.parts.VariablePlace.{VariablePlace}
 use Rattle.cfa.specs.declared.parts.VariablePlace.TheVariants as place
 use Rattle.cfa.specs.declared.state.Trap.{Trap}
 use Rattle.cfa.specs.declared.state.Trap.TheVariants as trap
+use Rattle.tree_meaning.specs.declared.activation.Activation.{Activation}
 use Rattle.tree_meaning.specs.Outcomes.{Store}
-
--- how many activations stand, with this one; the place of its first cell; and where the arrays begin that it is lent
-pub record Activation : Type 0 where
-  pub depth : ℕ
-  pub base : ℕ
-  pub arrays : List ℕ
 
 -- the cells of an activation, so many: 0 for the result, the words of the parameters, and zeros
 abbrev pub first_cells : ℕ → List ℕ → List ℕ

@@ -8,8 +8,10 @@ use Rattle.typed_trees.specs.declared.expression.Callee.{Callee}
 use Rattle.typed_trees.specs.declared.expression.Callee.TheVariants.{Defined, Input}
 use Rattle.typed_trees.specs.declared.unit.Typed.{Typed}
 use Rattle.typed_trees.specs.declared.unit.TypedFunction.{TypedFunction}
-use Rattle.tree_meaning.specs.Outcomes.{Store, Done, Gives, Ends, BlockedEnd, TooDeepEnd, OutOfTurns, ◌andthen◌, unless_trap, Way, Meaning, Evaluation, turn}
-use Rattle.tree_meaning.specs.Activations.{Activation, as_kind, first_cells, with_activation, without_activation, start_of}
+use Rattle.tree_meaning.specs.Outcomes.{Store, Done, Gives, Ends, BlockedEnd, TooDeepEnd, ◌andthen◌, unless_trap, Meaning, Evaluation, turn}
+use Rattle.tree_meaning.specs.declared.way.Way.{Way}
+use Rattle.tree_meaning.specs.declared.activation.Activation.{Activation}
+use Rattle.tree_meaning.specs.Activations.{as_kind, first_cells, with_activation, without_activation, start_of}
 use Rattle.tree_meaning.specs.Expressions.{First, Meant}
 
 -- what running a function does, by its number, in an activation of its own and with the words of its parameters; it gives
@@ -68,8 +70,8 @@ module _ (bodies : Bodies) (functions : List TypedFunction) where
   run_function calls None a words s = Ends BlockedEnd
   run_function calls (Some f) a words s = bodies calls f a (with_activation s (first_cells f.cells words)) andthen give_result a.base
 
-  -- A call takes a turn, and then the function is run. There are no more calls within one another than turns, so that the
-  -- number bounds nothing.
+  -- A call takes a turn, and then the function is run, with so many activations more at most. A call for which none is left
+  -- is too deep before it comes here.
   unfoldable pub calling : ℕ → Calls
-  calling zero callee a words s = OutOfTurns
+  calling zero callee a words s = Ends TooDeepEnd
   calling (suc n) callee a words s = turn s (λ s'. run_function (calling n) (slice_get functions callee) a words s')

@@ -1,5 +1,5 @@
 -- How the run of a function ends, by the meaning of its tree.
-use Rattle.std.specs.Prelude.{ℕ, ◌+◌, List, [], ◌++◌, length, map, Option, Some, None, slice_get, slice_index}
+use Rattle.std.specs.Prelude.{ℕ, List, [], ◌++◌, length, map, Option, Some, None, slice_get, slice_index}
 use Rattle.std.specs.Option.{option_map}
 use Rattle.c_values.specs.declared.kinds.Kind.{Kind}
 use Rattle.c_meaning.specs.Starts.{fitted_words}
@@ -9,9 +9,11 @@ use Rattle.typed_trees.specs.declared.unit.Typed.{Typed}
 use Rattle.typed_trees.specs.declared.unit.TypedFunction.{TypedFunction}
 use Rattle.tree_meaning.specs.declared.ends.TreeEnd.{TreeEnd}
 use Rattle.tree_meaning.specs.declared.ends.TreeEnd.TheVariants as ends
-use Rattle.tree_meaning.specs.Outcomes.{Store, End, TrapEnd, BlockedEnd, TooDeepEnd, Done, Gives, Ends, OutOfTurns, Way}
-use Rattle.tree_meaning.specs.Activations.{Activation, first_cells, as_kind}
-use Rattle.tree_meaning.specs.Trees.{body_does, calls_within}
+use Rattle.tree_meaning.specs.Outcomes.{Store, End, TrapEnd, BlockedEnd, TooDeepEnd, Done, Gives, Ends, OutOfTurns}
+use Rattle.tree_meaning.specs.declared.way.Way.{Way}
+use Rattle.tree_meaning.specs.declared.activation.Activation.{Activation}
+use Rattle.tree_meaning.specs.Activations.{first_cells, as_kind}
+use Rattle.tree_meaning.specs.Trees.{body_does, calls_in}
 
 module _ (t : Typed) (f : TypedFunction) where
   -- the first values of the file's variables (6.7.9p4, p10)
@@ -38,7 +40,7 @@ module _ (t : Typed) (f : TypedFunction) where
 
   -- how the function ends on an input, with so many turns
   abbrev pub function_end : Input → ℕ → TreeEnd
-  function_end input turns = run_end (body_does t (calls_within t (turns + 1)) f first_activation (first_store input turns))
+  function_end input turns = run_end (body_does t (calls_in t first_activation) f first_activation (first_store input turns))
 
 -- how a unit's function of a number ends; one that isn't there is blocked
 abbrev pub end_if : Typed → Option TypedFunction → Input → ℕ → TreeEnd

@@ -12,7 +12,8 @@ use Rattle.cfa.specs.declared.parts.Variable.{Variable}
 use Rattle.cfa.specs.declared.state.Trap.{Trap}
 use Rattle.std.specs.Prelude.{ok_or}
 use Rattle.tree_meaning.specs.Outcomes.{Store, Done, Gives, ◌andthen◌, unless_trap, Evaluation, is_true}
-use Rattle.tree_meaning.specs.Activations.{Activation, start_of, element_at, as_kind, read}
+use Rattle.tree_meaning.specs.declared.activation.Activation.{Activation}
+use Rattle.tree_meaning.specs.Activations.{start_of, element_at, as_kind, read}
 
 -- what the outermost calls, `&&`, `||` and `?:` do: each puts its value behind those that are there
 abbrev pub First : Type 0

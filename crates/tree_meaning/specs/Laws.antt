@@ -6,7 +6,7 @@ use Rattle.typed_trees.specs.Fitting.{Nameable, expression_fits}
 use Rattle.typed_trees.specs.declared.expression.TypedExpr.{TypedExpr}
 use Rattle.typed_trees.specs.declared.unit.Typed.{Typed}
 use Rattle.tree_meaning.specs.declared.ends.TreeEnd.TheVariants.{OutOfTurns}
-use Rattle.tree_meaning.specs.Activations.{Activation}
+use Rattle.tree_meaning.specs.declared.activation.Activation.{Activation}
 use Rattle.tree_meaning.specs.Calls.{Calls}
 use Rattle.tree_meaning.specs.Ends.{tree_end}
 use Rattle.tree_meaning.specs.Expressions.{Meant}

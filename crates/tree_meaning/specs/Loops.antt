@@ -1,6 +1,8 @@
 -- What loops do (ISO/IEC 9899:2011, 6.8.5). Each beginning of a loop's body takes a turn.
 use Rattle.std.specs.Prelude.{ℕ, ◌+◌, zero, suc, Bool, true, false, List, Option, Some, None}
-use Rattle.tree_meaning.specs.Outcomes.{Store, Done, Gives, OutOfTurns, ◌andthen◌, Way, GoesOn, Breaks, Continues, Returns, Meaning, Evaluation, skip, is_true, turn}
+use Rattle.tree_meaning.specs.Outcomes.{Store, Done, Gives, OutOfTurns, ◌andthen◌, Meaning, Evaluation, skip, is_true, turn}
+use Rattle.tree_meaning.specs.declared.way.Way.{Way}
+use Rattle.tree_meaning.specs.declared.way.Way.TheVariants.{GoesOn, Breaks, Continues, Returns}
 use Rattle.tree_meaning.specs.Statements.{block, then_next}
 
 -- behind a loop's body: `break` ends the loop, and `continue` goes on to its next pass (6.8.6.2p2, 6.8.6.3p2)

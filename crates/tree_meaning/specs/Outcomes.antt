@@ -1,6 +1,8 @@
 -- How what an expression or a statement does goes on, or ends.
 use Rattle.std.specs.Prelude.{ℕ, zero, suc, Bool, not, ◌==◌, List, Result, Ok, Err}
 use Rattle.cfa.specs.declared.state.Trap.{Trap}
+use Rattle.tree_meaning.specs.declared.way.Way.{Way}
+use Rattle.tree_meaning.specs.declared.way.Way.TheVariants.{GoesOn}
 
 -- What stands while functions run: what the cells hold, the answers that input functions have yet to give, and how many
 -- turns are left.
@@ -32,14 +34,6 @@ OutOfTurns andthen next = OutOfTurns
 abbrev pub unless_trap : {A B : Type 0} → Result A Trap → (A → Done B) → Done B
 unless_trap (Ok value) next = next value
 unless_trap (Err trap) next = Ends (TrapEnd trap)
-
--- where a statement leaves off: it goes on to the next, or breaks a loop or a `switch`, continues a loop, or returns
--- (6.8.6)
-pub data Way : Type 0 where
-  GoesOn : Way
-  Breaks : Way
-  Continues : Way
-  Returns : Way
 
 -- what a statement does
 abbrev pub Meaning : Type 0

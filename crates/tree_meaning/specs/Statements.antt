@@ -8,8 +8,11 @@ use Rattle.cfa.specs.Values.{after_value}
 use Rattle.cfa.specs.declared.parts.Variable.{Variable}
 use Rattle.cfa.specs.declared.state.Trap.{Trap}
 use Rattle.cfa.specs.declared.state.Trap.TheVariants as trap
-use Rattle.tree_meaning.specs.Outcomes.{Store, End, TrapEnd, BlockedEnd, Done, Gives, Ends, ◌andthen◌, unless_trap, Way, GoesOn, Breaks, Continues, Returns, Meaning, Evaluation, is_true}
-use Rattle.tree_meaning.specs.Activations.{Activation, start_of, length_of, read, stored, cleared}
+use Rattle.tree_meaning.specs.Outcomes.{Store, End, TrapEnd, BlockedEnd, Done, Gives, Ends, ◌andthen◌, unless_trap, Meaning, Evaluation, is_true}
+use Rattle.tree_meaning.specs.declared.way.Way.{Way}
+use Rattle.tree_meaning.specs.declared.way.Way.TheVariants.{GoesOn, Breaks, Continues, Returns}
+use Rattle.tree_meaning.specs.declared.activation.Activation.{Activation}
+use Rattle.tree_meaning.specs.Activations.{start_of, length_of, read, stored, cleared}
 use Rattle.tree_meaning.specs.Expressions.{Meant, Placed, evaluate, operated}
 
 -- ---- blocks (6.8.2)

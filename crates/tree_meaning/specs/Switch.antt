@@ -1,7 +1,9 @@
 -- What `switch` does (ISO/IEC 9899:2011, 6.8.4.2).
 use Rattle.std.specs.Prelude.{ℕ, Bool, true, false, ◌==◌, ◌||◌, if◌then◌else◌, List, [], ◌∷◌, map, Option, Some, None}
 use Rattle.fq_core.specs.declared.span.Span.{Span}
-use Rattle.tree_meaning.specs.Outcomes.{Store, Done, Gives, ◌andthen◌, Way, GoesOn, Breaks, Continues, Returns, Meaning, Evaluation}
+use Rattle.tree_meaning.specs.Outcomes.{Store, Done, Gives, ◌andthen◌, Meaning, Evaluation}
+use Rattle.tree_meaning.specs.declared.way.Way.{Way}
+use Rattle.tree_meaning.specs.declared.way.Way.TheVariants.{GoesOn, Breaks, Continues, Returns}
 use Rattle.tree_meaning.specs.Statements.{block}
 
 -- labels in a row, the values of `case`, and none for `default`, each with its place; and what the statements behind them

@@ -1,5 +1,5 @@
 -- The meanings of typed trees, form by form.
-use Rattle.std.specs.Prelude.{ℕ, map}
+use Rattle.std.specs.Prelude.{ℕ, ◌-◌, map}
 use Rattle.std.specs.Option.{option_map}
 use Rattle.c_values.specs.declared.kinds.Kind.{Kind}
 use Rattle.typed_trees.specs.declared.expression.TypedCall.{TypedCall, fold-TypedCall}
@@ -13,8 +13,9 @@ use Rattle.typed_trees.specs.declared.statement.TypedGroup.{TypedGroup, fold-Typ
 use Rattle.typed_trees.specs.declared.statement.TypedStatement.{TypedStatement, fold-TypedStatement}
 use Rattle.typed_trees.specs.declared.unit.Typed.{Typed}
 use Rattle.typed_trees.specs.declared.unit.TypedFunction.{TypedFunction}
-use Rattle.tree_meaning.specs.Outcomes.{Gives, ◌andthen◌, GoesOn, Breaks, Continues, Evaluation, Meaning, skip}
-use Rattle.tree_meaning.specs.Activations.{Activation}
+use Rattle.tree_meaning.specs.Outcomes.{Gives, ◌andthen◌, Evaluation, Meaning, skip}
+use Rattle.tree_meaning.specs.declared.way.Way.TheVariants.{GoesOn, Breaks, Continues}
+use Rattle.tree_meaning.specs.declared.activation.Activation.{Activation}
 use Rattle.tree_meaning.specs.Expressions.{Meant, Placed, evaluate, constant_meant, convert_meant, placed_at, load_meant, unary_meant, binary_meant, part_meant, both_does, either_does, choice_does}
 use Rattle.tree_meaning.specs.Statements.{block, arms, assign, declare, declare_array, return_value, assert, assume}
 use Rattle.tree_meaning.specs.Loops.{while_loop, do_loop, for_loop}
@@ -103,6 +104,10 @@ module _ (t : Typed) (calls : Calls) (a : Activation) where
 abbrev pub body_does : Typed → Calls → TypedFunction → Activation → Meaning
 body_does t calls f a = block (map (does t calls a) f.body)
 
--- what calls do, at most so many within one another
+-- what calls do, where so many activations more may stand
 abbrev pub calls_within : Typed → ℕ → Calls
 calls_within t n = calling (body_does t) t.functions n
+
+-- what calls in an activation do: at most 64 activations stand
+unfoldable pub calls_in : Typed → Activation → Calls
+calls_in t a = calls_within t (64 - a.depth)

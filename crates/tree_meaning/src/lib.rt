@@ -5,7 +5,9 @@
 //! tree its meaning, and `Ends` says how a run of a function ends. Nothing there speaks of an automaton.
 #![tactic(auto)]
 
+mod activation;
 mod ends;
 pub mod laws;
+mod way;
 
 pub use ends::TreeEnd;
