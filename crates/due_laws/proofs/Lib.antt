@@ -1,0 +1,5 @@
+mod Accepted
+mod Agreement
+mod OneDue
+mod OneKind
+mod Printed

@@ -1,0 +1,357 @@
+-- Two texts that are due of one command are the same, or both are answers.
+use Rattle.std.proofs.Common.{◌≡◌, ℕ, ◌<◌, ◌≤◌, Bool, true, false, List, [], ◌∷◌, ◌++◌, length, Option, Some, None, refl, sym, ap, subst, ◌∙◌, inl, inr, ⊎_elim, arith}
+use Rattle.std.specs.Option.{is_some}
+use Rattle.std.proofs.lemmas.Bool.{cases_lt}
+use Rattle.std.specs.Prelude.{◌-◌, IfSome, IsTrue, MatchOption, codes, slice_get}
+use Rattle.fq_core.specs.declared.refusal.Fault.{Fault}
+use Rattle.fq_core.specs.declared.refusal.Fault.TheVariants as fault
+use Rattle.fq_core.specs.declared.refusal.Place.TheVariants as place
+use Rattle.fq_core.specs.declared.refusal.Refusal.{Refusal}
+use Rattle.fq_core.specs.Refusals.{refusal}
+use Rattle.fq_io.specs.Counts.{Rose}
+use Rattle.c_lex.specs.declared.token.SourceText.{SourceText}
+use Rattle.c_front.specs.Laws as front
+use Rattle.c_meaning.specs.declared.ends.Ends.{Ends}
+use Rattle.c_meaning.specs.declared.ends.Ends.TheVariants as counted
+use Rattle.certificate.specs.Certificates.{IsCertificate}
+use Rattle.certificate.specs.Refusals.{bad_line}
+use Rattle.certificate.proofs.PairLaws.{no_certificate, one_pair}
+use Rattle.cfa.specs.Contexts.{Pair}
+use Rattle.cfa.specs.declared.parts.Function.{Function}
+use Rattle.cfa.specs.declared.parts.GraphParts.{GraphParts}
+use Rattle.cfa.specs.declared.state.Predicates.{Predicates}
+use Rattle.cnf.specs.declared.derivation.Derivation.{Derivation}
+use Rattle.cnf.specs.declared.formula.Formula.{Formula}
+use Rattle.derivation_check.specs.Verdicts.{IsVerdict}
+use Rattle.derivation_check.specs.declared.verdict.Verdict.TheVariants as verdict
+use Rattle.goal_formula.specs.Sizes.{goal_size}
+use Rattle.goals.specs.GoalForm.{GoalForm}
+use Rattle.goals.specs.declared.plan.Plan.{Plan}
+use Rattle.hits.specs.Laws.{OneListOfHits}
+use Rattle.predicates.specs.Laws as predicates
+use Rattle.reached.specs.Reaching.{AreReached, AreTooMany}
+use Rattle.reached.specs.declared.bounds.Bounds.{Bounds}
+use Rattle.reached.specs.declared.step.Step.{Step}
+use Rattle.reached_laws.specs.Laws.{NotTooMany, OneCount, OneSize}
+use Rattle.report.specs.Generated.{sample_text}
+use Rattle.sample.specs.Sample.{query_text}
+use Rattle.suite.specs.Generated.{Shown, HasTooLargeGoal, IsGenerateFault, IsWithinLimits}
+use Rattle.suite.specs.declared.decided.Decided.{Decided}
+use Rattle.suite.specs.declared.decided.Decided.TheVariants.{Covered, Refuted, Undecided}
+use Rattle.suite.specs.declared.generated.Generated.{Generated}
+use Rattle.unwinder.specs.Unwinding.{AreTooLarge, IsUnwindFault}
+use Rattle.unwinding_size.specs.Sizes.{size_sum}
+use Rattle.command_words.specs.Reading.{Text}
+use Rattle.command_words.specs.Request as asks
+use Rattle.command_words.specs.Request.{Asked, measure, generate, goals, runs, prove, check, sample, Checking, Generating, Proving, request_of}
+use Rattle.command.specs.Asked.{sample_file}
+use Rattle.command.specs.Certificates.{AreCertificateOf}
+use Rattle.command.specs.Certificates as certificates
+use Rattle.command.specs.Checking.{IsChecked, IsCompared, said_of_verdict}
+use Rattle.due_laws.specs.Determined.{AreAlike, AreOfOneKind, AtMostOneKindIsDue, SaysNoCertificate, answers, are_told, files_of}
+use Rattle.command.specs.Due.{IsDueOf}
+use Rattle.command.specs.Generating.{IsGeneration, concluded, generated_report, is_open}
+use Rattle.command.specs.OneGoal.{IsGoalRefused, IsGoalTooLarge, IsGoalWithin}
+use Rattle.command.specs.Proving.{IsProved, IsSaidOf}
+use Rattle.command.specs.Ranges.{within}
+use Rattle.command.specs.Reads.{Reads}
+use Rattle.command.specs.Runs.{EntryFunction, entry_of}
+use Rattle.command.specs.Refusal.{said_by}
+use Rattle.command.specs.Said.{Said, status_with}
+use Rattle.command.specs.Sampling.{IsDueOfSample, IsSampled, default_bounds, default_budget, sample_source}
+use Rattle.command.specs.Stages.{OfCertificate, OfEntry, OfGoal, OfQuery, OfTexts, Says, no_such_entry, no_such_goal, usage}
+use Rattle.due_laws.proofs.OneDue.{AnyTwo, Once, TellsSame, both_told, listed_once, measured_once, not_seen, one_by, one_of_query, one_of_sources, one_saying, one_seen, printed_once, recorded_once, same_refusal, unread_is}
+
+one_kind : TellsSame AreOfOneKind
+one_kind x y e = inl e
+
+-- ---- refusals by counts
+
+same_refused : (x y : Refusal) → (let a : Fault = fault.Refused x in let b : Fault = fault.Refused y in a ≡ b) → x ≡ y
+same_refused x y e = cc
+
+-- two refusals with one code and one place
+by_one : (x y : Refusal) (f : Fault) → fault.Refused x ≡ f → fault.Refused y ≡ f → x ≡ y
+by_one x y f a b = same_refused x y (a ∙ sym b)
+
+module _ (count : OneCount) (size : OneSize) (few : NotTooMany) (graph : GraphParts) (f : Function) (p : Predicates) (plan : Plan) (bounds : Bounds) (ends : Ends) where
+  -- what some list of the pairs that are reached says
+  record Counted : Type 0 where
+    pairs : List Pair
+    steps : List (List Step)
+    reached : AreReached graph bounds f pairs steps
+    few_pairs : length pairs ≤ 50000
+
+  abbrev SizeOf : Counted → ℕ
+  SizeOf c = size_sum graph p f c.pairs c.steps
+
+  not_many : Counted → AreTooMany graph bounds f → ⊥
+  not_many c many = few graph bounds f c.pairs c.steps c.reached c.few_pairs many
+
+  not_large : (c : Counted) → SizeOf c ≤ 4194304 → AreTooLarge graph p bounds f → ⊥
+  not_large c small large =
+      let same = size graph p bounds f c.pairs large.pairs c.steps large.steps c.reached large.reached in
+      let past = large.large in
+      absurd (omega (arith, small, same, past))
+
+  abbrev of_large : AreTooLarge graph p bounds f → Counted
+  of_large large = record { pairs = large.pairs; steps = large.steps; reached = large.reached; few_pairs = large.few }
+
+  -- a refusal by the counts of an unwinding comes only where they are past their limits
+  not_unwound : (c : Counted) → SizeOf c ≤ 4194304 → (x : Refusal) → IsUnwindFault graph p bounds f (fault.Refused x) → ⊥
+  not_unwound c small x (inl a) = not_many c a.1
+  not_unwound c small x (inr a) = not_large c small a.1
+
+  one_unwound : Once (λ (x : Refusal). IsUnwindFault graph p bounds f (fault.Refused x))
+  one_unwound x y (inl a) (inl b) = by_one x y (refusal 80 (place.Limit 50000)) a.0 b.0
+  one_unwound x y (inl a) (inr b) = absurd (not_many (of_large b.1) a.1)
+  one_unwound x y (inr a) (inl b) = absurd (not_many (of_large a.1) b.1)
+  one_unwound x y (inr a) (inr b) = by_one x y (refusal 81 (place.Limit 4194304)) a.0 b.0
+
+  -- ---- of all goals
+
+  abbrev of_goal : HasTooLargeGoal graph f p plan bounds ends → Counted
+  of_goal h = record { pairs = h.pairs; steps = h.steps; reached = h.reached; few_pairs = h.few_pairs }
+
+  abbrev of_limits : IsWithinLimits graph f p plan bounds ends → Counted
+  of_limits h = record { pairs = h.pairs; steps = h.steps; reached = h.reached; few_pairs = h.few_pairs }
+
+  one_fault : Once (λ (x : Refusal). IsGenerateFault graph f p plan bounds ends (fault.Refused x))
+  one_fault x y (inl a) (inl b) = one_unwound x y a b
+  one_fault x y (inl a) (inr b) = absurd (not_unwound (of_goal b.1) b.1.small x a)
+  one_fault x y (inr a) (inl b) = absurd (not_unwound (of_goal a.1) a.1.small y b)
+  one_fault x y (inr a) (inr b) = by_one x y (refusal 82 (place.Limit 8388608)) a.0 b.0
+
+  no_fault : IsWithinLimits graph f p plan bounds ends → (x : Refusal) → IsGenerateFault graph f p plan bounds ends (fault.Refused x) → ⊥
+  no_fault h x (inl a) = not_unwound (of_limits h) h.small x a
+  no_fault h x (inr a) =
+      let same = count graph bounds f h.pairs a.1.pairs h.steps a.1.steps h.reached a.1.reached in
+      let fits = subst (λ (n : ℕ). goal_size plan a.1.goal n ≤ 8388608) same (h.goals a.1.place a.1.goal a.1.there) in
+      let past = a.1.large in
+      absurd (omega (arith, fits, past))
+
+  -- ---- of one goal
+
+  module _ (goal : GoalForm) where
+    abbrev of_one : IsGoalTooLarge graph f p plan bounds goal → Counted
+    of_one h = record { pairs = h.pairs; steps = h.steps; reached = h.reached; few_pairs = h.few_pairs }
+
+    abbrev of_within : IsGoalWithin graph f p plan bounds goal → Counted
+    of_within h = record { pairs = h.pairs; steps = h.steps; reached = h.reached; few_pairs = h.few_pairs }
+
+    one_goal_refused : Once (IsGoalRefused graph f p plan bounds goal)
+    one_goal_refused x y (inl a) (inl b) = one_unwound x y a b
+    one_goal_refused x y (inl a) (inr b) = absurd (not_unwound (of_one b.1) b.1.small x a)
+    one_goal_refused x y (inr a) (inl b) = absurd (not_unwound (of_one a.1) a.1.small y b)
+    one_goal_refused x y (inr a) (inr b) = by_one x y (refusal 82 (place.Limit 8388608)) a.0 b.0
+
+    pub not_goal_refused : IsGoalWithin graph f p plan bounds goal → (x : Refusal) → IsGoalRefused graph f p plan bounds goal x → ⊥
+    not_goal_refused h x (inl a) = not_unwound (of_within h) h.small x a
+    not_goal_refused h x (inr a) =
+        let same = count graph bounds f h.pairs a.1.pairs h.steps a.1.steps h.reached a.1.reached in
+        let fits = subst (λ (n : ℕ). goal_size plan goal n ≤ 8388608) same h.size in
+        let past = a.1.large in
+        absurd (omega (arith, fits, past))
+
+-- ---- what is said of generation
+
+module _ (count : OneCount) (size : OneSize) (few : NotTooMany) where
+  open_or_done : (b : Bool) → IsTrue (answers (Some (status_with b)))
+  open_or_done true = refl
+  open_or_done false = refl
+
+  one_generation : (names : List Text) (graph : GraphParts) (entry : EntryFunction) (p : Predicates) (plan : Plan) (bounds : Bounds) (ends : Ends) (budget : ℕ) (text : Generated → List ℕ)
+      → AnyTwo AreOfOneKind (IsGeneration names graph entry p plan bounds ends budget text)
+  one_generation names graph entry p plan bounds ends budget text x y (inl a) (inl b) =
+      inl (one_saying names (λ (z : Refusal). IsGenerateFault graph entry.function p plan bounds ends (fault.Refused z)) (one_fault count size few graph entry.function p plan bounds ends) x y a b)
+  one_generation names graph entry p plan bounds ends budget text x y (inl a) (inr b) = absurd (no_fault count size few graph entry.function p plan bounds ends b.1.1.limits a.0 a.1)
+  one_generation names graph entry p plan bounds ends budget text x y (inr a) (inl b) = absurd (no_fault count size few graph entry.function p plan bounds ends a.1.1.limits b.0 b.1)
+  one_generation names graph entry p plan bounds ends budget text x y (inr a) (inr b) =
+      inr (answers x a.0 a.1.0 a.1.2, answers y b.0 b.1.0 b.1.2)
+    where
+      answers : (said : Said) (made : Generated) (shown : List Shown) → said ≡ concluded made (text made) shown → IsTrue (answers said.status)
+      answers said made shown e = subst (λ (s : Said). IsTrue (answers s.status)) (sym e) (open_or_done (is_open made.answers))
+
+  -- ---- what is said of one goal
+
+  answer_said : (graph : GraphParts) (entry : EntryFunction) (p : Predicates) (plan : Plan) (bounds : Bounds) (ends : Ends) (number : ℕ) (goal : GoalForm) (decided : Decided) (said : Said)
+      → IsSaidOf graph entry p plan bounds ends number goal decided said → IsTrue (answers said.status)
+  answer_said graph entry p plan bounds ends number goal (Covered input) said is = subst (λ (s : Said). IsTrue (answers s.status)) (sym is.3) refl
+  answer_said graph entry p plan bounds ends number goal (Refuted formula derivation) said is = subst (λ (s : Said). IsTrue (answers s.status)) (sym is) refl
+  answer_said graph entry p plan bounds ends number goal (Undecided formula history) said is = subst (λ (s : Said). IsTrue (answers s.status)) (sym is) refl
+
+  one_proof : (graph : GraphParts) (entry : EntryFunction) (p : Predicates) (plan : Plan) (bounds : Bounds) (ends : Ends) (number : ℕ) (goal : GoalForm) (names : List Text) (budget : ℕ)
+      → AnyTwo AreOfOneKind (IsProved graph entry p plan bounds ends number goal names budget)
+  one_proof graph entry p plan bounds ends number goal names budget x y (inl a) (inl b) =
+      inl (one_saying names (IsGoalRefused graph entry.function p plan bounds goal) (one_goal_refused count size few graph entry.function p plan bounds ends goal) x y a b)
+  one_proof graph entry p plan bounds ends number goal names budget x y (inl a) (inr b) = absurd (not_goal_refused count size few graph entry.function p plan bounds ends goal b.0 a.0 a.1)
+  one_proof graph entry p plan bounds ends number goal names budget x y (inr a) (inl b) = absurd (not_goal_refused count size few graph entry.function p plan bounds ends goal a.0 b.0 b.1)
+  one_proof graph entry p plan bounds ends number goal names budget x y (inr a) (inr b) =
+      inr (answer_said graph entry p plan bounds ends number goal a.1.0 x a.1.2, answer_said graph entry p plan bounds ends number goal b.1.0 y b.1.2)
+
+-- ---- the certificate's file
+
+module _ (r : Reads) (still : Rose r.faults_before r.faults_after → ⊥) (m : Checking) (h : IsTrue (is_some (r.holds m.certificate))) where
+  -- the same is said, or both say that there is no certificate, or one of them that the formula is another one
+  abbrev AreChecked : Said → Said → Type 0
+  AreChecked said other = AreAlike (check m) said other
+
+  checked : TellsSame AreChecked
+  checked x y e = inl e
+
+  pub record SamePair (f g : Formula) (d e : Derivation) : Type 0 where
+    pub formula : f ≡ g
+    pub derivation : d ≡ e
+
+  pub one_certificate : (f g : Formula) (d e : Derivation) → AreCertificateOf r m.certificate f d → AreCertificateOf r m.certificate g e → SamePair f g d e
+  one_certificate f g d e a b =
+      let bytes = one_seen r still m.certificate a.bytes b.bytes h a.seen b.seen in
+      let both = one_pair b.bytes f g d e (subst (λ (held : List ℕ). IsCertificate held f d) bytes a.is) b.is in
+      record { formula = both.0; derivation = both.1 }
+
+  pub not_certificate : (x : Refusal) (f : Formula) (d : Derivation) → certificates.IsRefused r m.certificate x → AreCertificateOf r m.certificate f d → ⊥
+  not_certificate x f d (certificates.at_read a) b = not_seen r still certificates.most_certificate m.certificate x b.bytes h a b.seen b.short
+  not_certificate x f d (certificates.at_form bytes seen short a) b =
+      let same = one_seen r still m.certificate bytes b.bytes h seen b.seen in
+      no_certificate bytes a.line a.first f d (subst (λ (held : List ℕ). IsCertificate held f d) (sym same) b.is)
+
+  at_line : (sources : List Text) (x : Refusal) (line : ℕ) (said : Said) → (let a : Fault = fault.Refused x in a ≡ bad_line line) → said ≡ said_by sources x → SaysNoCertificate said
+  at_line sources x line said e is = record {
+    sources = sources;
+    line = line;
+    is = is ∙ ap (said_by sources) (same_refused x (record { code = 90; place = place.Line line }) e);
+  }
+
+  both_refused : (sources : List Text) (x y : Said) → Says sources (certificates.IsRefused r m.certificate) x → Says sources (certificates.IsRefused r m.certificate) y → AreChecked x y
+  both_refused sources x y a b = by a.0 b.0 a.1 b.1 a.2 b.2
+    where
+      by : (s t : Refusal) → certificates.IsRefused r m.certificate s → certificates.IsRefused r m.certificate t → x ≡ said_by sources s → y ≡ said_by sources t → AreChecked x y
+      by s t (certificates.at_read c) (certificates.at_read d) e f =
+          inl (e ∙ ap (said_by sources) (unread_is r still certificates.most_certificate m.certificate s c ∙ sym (unread_is r still certificates.most_certificate m.certificate t d)) ∙ sym f)
+      by s t (certificates.at_read c) (certificates.at_form bytes seen short d) e f = absurd (not_seen r still certificates.most_certificate m.certificate s bytes h c seen short)
+      by s t (certificates.at_form bytes seen short c) (certificates.at_read d) e f = absurd (not_seen r still certificates.most_certificate m.certificate t bytes h d seen short)
+      by s t (certificates.at_form bytes seen short c) (certificates.at_form others sight few d) e f =
+          inr (inl (at_line sources s c.line x c.is e, at_line sources t d.line y d.is f))
+
+  one_of_certificate : (sources : List Text) (Then : Formula → Derivation → Said → Type 0) → ((f : Formula) (d : Derivation) → AnyTwo AreChecked (Then f d)) → AnyTwo AreChecked (OfCertificate r sources m.certificate Then)
+  one_of_certificate sources Then alike x y (inl a) (inl b) = both_refused sources x y a b
+  one_of_certificate sources Then alike x y (inl a) (inr b) = absurd (not_certificate a.0 b.0 b.1.0 a.1 b.1.1)
+  one_of_certificate sources Then alike x y (inr a) (inl b) = absurd (not_certificate b.0 a.0 a.1.0 b.1 a.1.1)
+  one_of_certificate sources Then alike x y (inr a) (inr b) =
+      let same = one_certificate a.0 b.0 a.1.0 b.1.0 a.1.1 b.1.1 in
+      alike b.0 b.1.0 x y (subst (λ (d : Derivation). Then b.0 d x) same.derivation (subst (λ (f : Formula). Then f a.1.0 x) same.formula a.1.2)) b.1.2
+
+  -- ---- the verdict
+
+  apart : (f : Formula) (d : Derivation) (k l : ℕ) → k < l → IsVerdict f d (verdict.BadStep k) → IsVerdict f d (verdict.BadStep l) → ⊥
+  apart f d k l less a b = a.3 (b.2 (k - 1) (omega (arith, less, a.0)))
+
+  pub one_verdict : (f : Formula) (d : Derivation) → Once (IsVerdict f d)
+  one_verdict f d verdict.Yes verdict.Yes a b = refl
+  one_verdict f d verdict.Yes (verdict.BadStep line) a b = absurd (b.3 (a.0 (line - 1) (omega (arith, b.0, b.1))))
+  one_verdict f d verdict.Yes verdict.NoEmptyClause a b = absurd (b.1 a.1)
+  one_verdict f d (verdict.BadStep line) verdict.Yes a b = absurd (a.3 (b.0 (line - 1) (omega (arith, a.0, a.1))))
+  one_verdict f d (verdict.BadStep k) (verdict.BadStep l) a b =
+      ⊎_elim
+      (λ less. absurd (apart f d k l less a b))
+      (λ rest. ⊎_elim (λ more. absurd (apart f d l k more b a)) (λ most. let same : k ≡ l = omega (arith, rest, most) in ap verdict.BadStep same) (cases_lt l k))
+      (cases_lt k l)
+  one_verdict f d (verdict.BadStep line) verdict.NoEmptyClause a b = absurd (a.3 (b.0 (line - 1) (omega (arith, a.0, a.1))))
+  one_verdict f d verdict.NoEmptyClause verdict.Yes a b = absurd (a.1 b.1)
+  one_verdict f d verdict.NoEmptyClause (verdict.BadStep line) a b = absurd (b.3 (a.0 (line - 1) (omega (arith, b.0, b.1))))
+  one_verdict f d verdict.NoEmptyClause verdict.NoEmptyClause a b = refl
+
+  compared : (theirs ours other : Formula) (d : Derivation) (x y : Said) → IsCompared m theirs ours d x → IsCompared m theirs other d y → AreChecked x y
+  compared theirs ours other d x y (inl a) b = inr (inr (inl (record { theirs = theirs; ours = ours; difference = a.0; is = a.2 })))
+  compared theirs ours other d x y (inr a) (inl b) = inr (inr (inr (record { theirs = theirs; ours = other; difference = b.0; is = b.2 })))
+  compared theirs ours other d x y (inr a) (inr b) =
+      let mine = subst (λ (f : Formula). IsVerdict f d a.1.0) (sym a.0) a.1.1 in
+      let yours = subst (λ (f : Formula). IsVerdict f d b.1.0) (sym b.0) b.1.1 in
+      inl (a.1.2 ∙ ap (said_of_verdict m) (one_verdict theirs d a.1.0 b.1.0 mine yours) ∙ sym b.1.2)
+
+  module _ (count : OneCount) (size : OneSize) (few : NotTooMany) where
+    one_check : (graph : GraphParts) (entry : EntryFunction) (p : Predicates) (plan : Plan) (goal : GoalForm) (theirs : Formula) (d : Derivation) → AnyTwo AreChecked (IsChecked m graph entry p plan goal theirs d)
+    one_check graph entry p plan goal theirs d x y (inl a) (inl b) =
+        inl (one_saying m.sources (IsGoalRefused graph entry.function p plan (within m.bounds) goal) (one_goal_refused count size few graph entry.function p plan (within m.bounds) m.ends goal) x y a b)
+    one_check graph entry p plan goal theirs d x y (inl a) (inr b) = absurd (not_goal_refused count size few graph entry.function p plan (within m.bounds) m.ends goal b.0 a.0 a.1)
+    one_check graph entry p plan goal theirs d x y (inr a) (inl b) = absurd (not_goal_refused count size few graph entry.function p plan (within m.bounds) m.ends goal a.0 b.0 b.1)
+    one_check graph entry p plan goal theirs d x y (inr a) (inr b) = compared theirs a.1.0.formula b.1.0.formula d x y a.1.2 b.1.2
+
+-- ---- the whole
+
+module _ (front_law : (texts : List SourceText) → front.HasOneOutcome texts) (predicates_law : predicates.OneOutcome) (hits_law : OneListOfHits)
+    (count : OneCount) (size : OneSize) (few : NotTooMany) where
+  one_of_texts : (sources : List Text) (texts : List SourceText) (Then : GraphParts → Said → Type 0) → ((graph : GraphParts) → AnyTwo AreOfOneKind (Then graph)) → AnyTwo AreOfOneKind (OfTexts sources texts Then)
+  one_of_texts sources texts Then alike x y (inl a) (inl b) =
+      let law = front_law texts in
+      let same = law.one_refusal a.0.code b.0.code a.0.place b.0.place a.1 b.1 in
+      inl (a.2 ∙ ap (said_by sources) (same_refusal a.0 b.0 same.0 same.1) ∙ sym b.2)
+  one_of_texts sources texts Then alike x y (inl a) (inr b) = absurd ((front_law texts).not_both b.0 a.0.code a.0.place b.1 a.1)
+  one_of_texts sources texts Then alike x y (inr a) (inl b) = absurd ((front_law texts).not_both a.0 b.0.code b.0.place a.1 b.1)
+  one_of_texts sources texts Then alike x y (inr a) (inr b) =
+      alike b.0 x y (subst (λ (graph : GraphParts). Then graph x) ((front_law texts).one_answer a.0 b.0 a.1 b.1) a.2) b.2
+
+  one_sample : (number : ℕ) → AnyTwo AreOfOneKind (IsDueOfSample number)
+  one_sample number =
+      let Made : GraphParts → EntryFunction → Predicates → Plan → Said → Type 0 = λ graph entry p plan.
+      IsGeneration (sample_file ∷ []) graph entry p plan default_bounds counted.Returned default_budget (λ made. sample_text number graph plan made.answers) in
+      let Asking : GraphParts → EntryFunction → Said → Type 0 = λ graph entry. OfQuery (sample_file ∷ []) graph query_text (Made graph entry) in
+      one_of_texts (sample_file ∷ []) (sample_source number ∷ []) (IsSampled number) (λ graph.
+      one_by AreOfOneKind one_kind (entry_of graph (codes "f")) no_such_entry (Asking graph) (λ entry.
+      one_of_query predicates_law graph query_text AreOfOneKind one_kind (sample_file ∷ []) (Made graph entry) (λ p plan.
+      one_generation count size few (sample_file ∷ []) graph entry p plan default_bounds counted.Returned default_budget (λ made. sample_text number graph plan made.answers))))
+
+  module _ (r : Reads) (still : Rose r.faults_before r.faults_after → ⊥) where
+    one_generate : (m : Generating) → IsTrue (are_told r m.sources) → AnyTwo AreOfOneKind (IsDueOf r (generate m))
+    one_generate m h =
+        let Made : GraphParts → EntryFunction → Predicates → Plan → Said → Type 0 = λ graph entry p plan.
+        IsGeneration m.sources graph entry p plan (within m.bounds) m.ends m.budget (generated_report graph entry.number plan (within m.bounds) m.ends m.budget m.json) in
+        let Asking : GraphParts → EntryFunction → Said → Type 0 = λ graph entry. OfQuery m.sources graph m.query (Made graph entry) in
+        one_of_sources r still front_law m.sources h AreOfOneKind one_kind (λ graph. OfEntry graph m.entry (Asking graph)) (λ graph.
+        one_by AreOfOneKind one_kind (entry_of graph m.entry) no_such_entry (Asking graph) (λ entry.
+        one_of_query predicates_law graph m.query AreOfOneKind one_kind m.sources (Made graph entry) (λ p plan.
+        one_generation count size few m.sources graph entry p plan (within m.bounds) m.ends m.budget (generated_report graph entry.number plan (within m.bounds) m.ends m.budget m.json))))
+
+    one_prove : (m : Proving) → IsTrue (are_told r m.sources) → AnyTwo AreOfOneKind (IsDueOf r (prove m))
+    one_prove m h =
+        let Proved : GraphParts → EntryFunction → Predicates → Plan → GoalForm → Said → Type 0 = λ graph entry p plan goal.
+        IsProved graph entry p plan (within m.bounds) m.ends m.goal goal m.sources m.budget in
+        let Goal : GraphParts → EntryFunction → Predicates → Plan → Said → Type 0 = λ graph entry p plan. OfGoal plan m.goal (Proved graph entry p plan) in
+        let Asking : GraphParts → EntryFunction → Said → Type 0 = λ graph entry. OfQuery m.sources graph m.query (Goal graph entry) in
+        one_of_sources r still front_law m.sources h AreOfOneKind one_kind (λ graph. OfEntry graph m.entry (Asking graph)) (λ graph.
+        one_by AreOfOneKind one_kind (entry_of graph m.entry) no_such_entry (Asking graph) (λ entry.
+        one_of_query predicates_law graph m.query AreOfOneKind one_kind m.sources (Goal graph entry) (λ p plan.
+        one_by AreOfOneKind one_kind (slice_get plan.goals (m.goal - 1)) no_such_goal (Proved graph entry p plan) (λ goal.
+        one_proof count size few graph entry p plan (within m.bounds) m.ends m.goal goal m.sources m.budget))))
+
+    one_checked : (m : Checking) → IsTrue (are_told r (m.sources ++ m.certificate ∷ [])) → AnyTwo (AreAlike (check m)) (IsDueOf r (check m))
+    one_checked m h =
+        let t = both_told front_law predicates_law hits_law r still m.sources m.certificate h in
+        let Same : TellsSame (AreAlike (check m)) = checked r still m t.1 in
+        let Seen : GraphParts → EntryFunction → Predicates → Plan → GoalForm → Said → Type 0 = λ graph entry p plan goal.
+        OfCertificate r m.sources m.certificate (IsChecked m graph entry p plan goal) in
+        let Goal : GraphParts → EntryFunction → Predicates → Plan → Said → Type 0 = λ graph entry p plan. OfGoal plan m.goal (Seen graph entry p plan) in
+        let Asking : GraphParts → EntryFunction → Said → Type 0 = λ graph entry. OfQuery m.sources graph m.query (Goal graph entry) in
+        one_of_sources r still front_law m.sources t.0 (AreAlike (check m)) Same (λ graph. OfEntry graph m.entry (Asking graph)) (λ graph.
+        one_by (AreAlike (check m)) Same (entry_of graph m.entry) no_such_entry (Asking graph) (λ entry.
+        one_of_query predicates_law graph m.query (AreAlike (check m)) Same m.sources (Goal graph entry) (λ p plan.
+        one_by (AreAlike (check m)) Same (slice_get plan.goals (m.goal - 1)) no_such_goal (Seen graph entry p plan) (λ goal.
+        one_of_certificate r still m t.1 m.sources (IsChecked m graph entry p plan goal) (one_check r still m t.1 count size few graph entry p plan goal)))))
+
+    one_asked : (asked : Asked) → IsTrue (are_told r (files_of asked)) → (said other : Said) → IsDueOf r asked said → IsDueOf r asked other → AreAlike asked said other
+    one_asked (measure m) h said other c d = measured_once front_law predicates_law hits_law r still m h said other c d
+    one_asked (goals m) h said other c d = listed_once front_law predicates_law hits_law r still m h said other c d
+    one_asked (runs m) h said other c d = recorded_once front_law predicates_law hits_law r still m h said other c d
+    one_asked (generate m) h said other c d = one_generate m h said other c d
+    one_asked (prove m) h said other c d = one_prove m h said other c d
+    one_asked (check m) h said other c d = one_checked m h said other c d
+    one_asked (asks.graph sources) h said other c d = printed_once front_law predicates_law hits_law r still sources h said other c d
+    one_asked (sample number) h said other c d = one_sample number said other c d
+
+pub at_most_one_kind : ((texts : List SourceText) → front.HasOneOutcome texts) → predicates.OneOutcome → OneListOfHits → OneCount → OneSize → NotTooMany → AtMostOneKindIsDue
+at_most_one_kind front_law predicates_law hits_law count size few r words still told said other a b = by (request_of words) told a b
+  where
+    by : (o : Option Asked) → IfSome o (λ asked. IsTrue (are_told r (files_of asked))) → MatchOption o (said ≡ usage) (λ asked. IsDueOf r asked said) → MatchOption o (other ≡ usage) (λ asked. IsDueOf r asked other)
+        → MatchOption o (said ≡ other) (λ asked. AreAlike asked said other)
+    by None h c d = c ∙ sym d
+    by (Some asked) h c d = one_asked front_law predicates_law hits_law count size few r still asked h said other c d

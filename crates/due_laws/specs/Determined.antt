@@ -1,0 +1,113 @@
+-- The words and the files determine what is due of the commands that measure and list. What is due of generate, prove and sample
+-- leaves open which inputs and derivations are found, but not whether something is refused, nor by which line; what is due of
+-- check leaves open how the goal's formula is made.
+use Rattle.std.specs.Prelude.{◌≡◌, ◌⊎◌, ℕ, Bool, true, false, ◌&&◌, List, [], ◌∷◌, ◌++◌, Option, None, Some, IfSome, IsTrue, MatchOption}
+use Rattle.std.specs.List.{list_all}
+use Rattle.std.specs.Option.{is_some}
+use Rattle.certificate.specs.declared.difference.Difference.{Difference}
+use Rattle.cnf.specs.declared.formula.Formula.{Formula}
+use Rattle.fq_core.specs.declared.refusal.Place.TheVariants as place
+use Rattle.fq_io.specs.Counts.{Rose}
+use Rattle.command_words.specs.Reading.{Text}
+use Rattle.command_words.specs.Request as asks
+use Rattle.command_words.specs.Request.{Asked, measure, generate, goals, runs, prove, check, sample, request_of}
+use Rattle.command.specs.declared.status.Status.{Status}
+use Rattle.command.specs.declared.status.Status.TheVariants as status
+use Rattle.command.specs.Checking.{other_formula}
+use Rattle.command.specs.Due.{IsDue}
+use Rattle.command.specs.Refusal.{said_by}
+use Rattle.command.specs.Reads.{Reads}
+use Rattle.command.specs.Said.{Said}
+
+abbrev pub measures_or_lists : Asked → Bool
+measures_or_lists (measure m) = true
+measures_or_lists (goals m) = true
+measures_or_lists (runs m) = true
+measures_or_lists (generate m) = false
+measures_or_lists (prove m) = false
+measures_or_lists (check m) = false
+measures_or_lists (asks.graph sources) = true
+measures_or_lists (sample number) = false
+
+-- the files that a command reads
+abbrev pub files_of : Asked → List Text
+files_of (measure m) = m.sources ++ m.inputs ∷ []
+files_of (goals m) = m.sources
+files_of (runs m) = m.sources ++ m.inputs ∷ []
+files_of (generate m) = m.sources
+files_of (prove m) = m.sources
+files_of (check m) = m.sources ++ m.certificate ∷ []
+files_of (asks.graph sources) = sources
+files_of (sample number) = []
+
+-- these files tell what they hold
+abbrev pub are_told : Reads → List Text → Bool
+are_told r files = list_all (λ (file : Text). is_some (r.holds file)) files
+
+-- a command measures or lists, and its files tell what they hold
+abbrev pub IsTold : Reads → Asked → Type 0
+IsTold r asked = IsTrue (measures_or_lists asked && are_told r (files_of asked))
+
+-- where no read failed, and the words are no command or one of which all is told, at most one text, status and showing is due
+abbrev pub AtMostOneIsDue : Type 0
+AtMostOneIsDue =
+    (r : Reads) (words : List Text) → (Rose r.faults_before r.faults_after → ⊥) → IfSome (request_of words) (IsTold r)
+    → (said other : Said) → IsDue r words said → IsDue r words other → said ≡ other
+
+-- ---- of all commands
+
+-- an answer was written whole
+abbrev pub is_answer : Status → Bool
+is_answer status.Done = true
+is_answer status.DoneOpen = true
+is_answer status.Usage = false
+is_answer status.SourceRefused = false
+is_answer status.QueryRefused = false
+is_answer status.InputRefused = false
+is_answer status.Limit = false
+is_answer status.ReadFault = false
+is_answer status.WriteFault = false
+is_answer status.Memory = false
+is_answer status.CertificateRejected = false
+
+-- so ends what is said
+abbrev pub answers : Option Status → Bool
+answers None = false
+answers (Some s) = is_answer s
+
+-- the same is said, or both are answers: where one is a refusal, the other is the same one
+abbrev pub AreOfOneKind : Said → Said → Type 0
+AreOfOneKind said other = (said ≡ other) ⊎ (IsTrue (answers said.status) × IsTrue (answers other.status))
+
+-- it is said that the certificate's formula isn't the one that was made of the goal
+pub record SaysOtherFormula (said : Said) : Type 0 where
+  pub theirs : Formula
+  pub ours : Formula
+  pub difference : Difference
+  pub is : said ≡ other_formula theirs ours difference
+
+-- it is said that the bytes of the certificate's file are no certificate
+pub record SaysNoCertificate (said : Said) : Type 0 where
+  pub sources : List Text
+  pub line : ℕ
+  pub is : said ≡ said_by sources (record { code = 90; place = place.Line line })
+
+-- What two texts that are due of one command have to do with each other. Of `check` they are the same, or both say that the file
+-- holds no certificate, or one of them says that the formula is another one.
+abbrev pub AreAlike : Asked → Said → Said → Type 0
+AreAlike (measure m) said other = said ≡ other
+AreAlike (goals m) said other = said ≡ other
+AreAlike (runs m) said other = said ≡ other
+AreAlike (asks.graph sources) said other = said ≡ other
+AreAlike (generate m) said other = AreOfOneKind said other
+AreAlike (prove m) said other = AreOfOneKind said other
+AreAlike (sample number) said other = AreOfOneKind said other
+AreAlike (check m) said other =
+    (said ≡ other) ⊎ ((SaysNoCertificate said × SaysNoCertificate other) ⊎ (SaysOtherFormula said ⊎ SaysOtherFormula other))
+
+-- where no read failed and all files tell what they hold, two texts that are due are alike; where the words are no command,
+-- they are one
+abbrev pub AtMostOneKindIsDue : Type 0
+AtMostOneKindIsDue =
+    (r : Reads) (words : List Text) → (Rose r.faults_before r.faults_after → ⊥) → IfSome (request_of words) (λ asked. IsTrue (are_told r (files_of asked)))
+    → (said other : Said) → IsDue r words said → IsDue r words other → MatchOption (request_of words) (said ≡ other) (λ asked. AreAlike asked said other)

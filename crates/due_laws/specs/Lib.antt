@@ -1,0 +1,4 @@
+pub mod Accepted
+pub mod Agreement
+pub mod Determined
+pub mod Printed
