@@ -1,5 +1,5 @@
 -- The words and the files determine what is due of the commands that measure and list.
-use Rattle.std.proofs.Common.{◌≡◌, ℕ, ◌<◌, ◌≤◌, Bool, true, List, [], ◌∷◌, ◌++◌, length, Option, Some, None, Result, Ok, Err, refl, sym, ap, subst, ◌∙◌, inl, inr, arith}
+use Rattle.std.proofs.Common.{◌≡◌, ℕ, ◌<◌, ◌≤◌, Bool, true, false, ◌&&◌, List, [], ◌∷◌, ◌++◌, length, Option, Some, None, Result, Ok, Err, refl, sym, ap, subst, ◌∙◌, inl, inr, arith}
 use Rattle.std.specs.Prelude.{IfSome, IsTrue, MatchOption}
 use Rattle.std.specs.Option.{is_some}
 use Rattle.fq_core.specs.declared.refusal.Fault.{Fault}
@@ -32,7 +32,7 @@ use Rattle.report.specs.Texts.{goals_text}
 use Rattle.command_words.specs.Reading.{Text}
 use Rattle.command_words.specs.Request as asks
 use Rattle.command_words.specs.Request.{Asked, measure, generate, goals, runs, prove, check, sample, Listing, Measuring, Running, request_of}
-use Rattle.due_laws.specs.Determined.{AtMostOneIsDue, IsTold, are_told}
+use Rattle.due_laws.specs.Determined.{AtMostOneIsDue, IsTold, are_told, files_of}
 use Rattle.command.specs.Due.{IsDueOf}
 use Rattle.command.specs.Inputs.{AreInputsOf}
 use Rattle.command.specs.Inputs as inputs
@@ -391,6 +391,9 @@ module _ (front_law : (texts : List SourceText) → front.HasOneOutcome texts) (
       let Printed : GraphParts → Said → Type 0 = λ graph x. x ≡ answered (graph_text graph) in
       one_of_sources r still front_law sources h IsSame is_same Printed (λ graph x y e f. e ∙ sym f) said other c d
 
+none_told : (b : Bool) → IsTrue (false && b) → ⊥
+none_told b h = absurd cc
+
 pub at_most_one : ((texts : List SourceText) → front.HasOneOutcome texts) → predicates.OneOutcome → OneListOfHits → AtMostOneIsDue
 at_most_one front_law predicates_law hits_law r words still told said other a b = by (request_of words) told a b
   where
@@ -398,11 +401,11 @@ at_most_one front_law predicates_law hits_law r words still told said other a b 
     asked_once (measure m) h c d = measured_once front_law predicates_law hits_law r still m h said other c d
     asked_once (goals m) h c d = listed_once front_law predicates_law hits_law r still m h said other c d
     asked_once (runs m) h c d = recorded_once front_law predicates_law hits_law r still m h said other c d
-    asked_once (generate m) h c d = absurd (cc)
-    asked_once (prove m) h c d = absurd (cc)
-    asked_once (check m) h c d = absurd (cc)
+    asked_once (generate m) h c d = absurd (none_told (are_told r (files_of (generate m))) h)
+    asked_once (prove m) h c d = absurd (none_told (are_told r (files_of (prove m))) h)
+    asked_once (check m) h c d = absurd (none_told (are_told r (files_of (check m))) h)
     asked_once (asks.graph sources) h c d = printed_once front_law predicates_law hits_law r still sources h said other c d
-    asked_once (sample number) h c d = absurd (cc)
+    asked_once (sample number) h c d = absurd (none_told (are_told r (files_of (sample number))) h)
 
     by : (o : Option Asked) → IfSome o (IsTold r) → MatchOption o (said ≡ usage) (λ asked. IsDueOf r asked said) → MatchOption o (other ≡ usage) (λ asked. IsDueOf r asked other) → said ≡ other
     by None h c d = c ∙ sym d
