@@ -89,8 +89,21 @@ module _ (before : Reads) (m : Proving) (said : Said) (h : SaysCertificate said)
       by : (decided : Decided) → IsDecided graph entry.function p plan (within m.bounds) m.ends goal m.budget decided → IsSaidOf graph entry p plan (within m.bounds) m.ends m.goal goal decided said → IsRefuted before m said
       by (Covered input) is s = absurd (line_said said _ h (ap (λ (z : Said). z.out) s.3) refl)
       by (Refuted formula derivation) is s = record {
-        graph = graph; have = have; entry = entry; named = named; p = p; plan = plan; planned = planned; goal = goal; there = there; small = a.0;
-        formula = formula.formula; derivation = derivation; checks = is.1.0; pair = is.3; is = ap (λ (z : Said). z.out) s;
+        graph = graph;
+        have = have;
+        entry = entry;
+        named = named;
+        p = p;
+        plan = plan;
+        planned = planned;
+        goal = goal;
+        there = there;
+        small = a.0;
+        formula = formula.formula;
+        derivation = derivation;
+        checks = is.1.0;
+        pair = is.3;
+        is = ap (λ (z : Said). z.out) s;
       }
       by (Undecided formula history) is s = absurd (line_said said _ h (ap (λ (z : Said). z.out) s) refl)
 
@@ -134,9 +147,10 @@ still_read holds other [] [] e h = h
 still_read holds other [] (t ∷ ts) e h = absurd h
 still_read holds other (f ∷ fs) [] e h = absurd h
 still_read holds other (f ∷ fs) (t ∷ ts) e h =
-    let here = same_head (holds f) (other f) (map holds fs) (map other fs) e in
-    (record { name = h.0.name; bytes = subst (λ (o : Option (List ℕ)). IfSome o (λ held. t.bytes ≡ held)) here h.0.bytes; short = h.0.short },
-    still_read holds other fs ts (same_tail (holds f) (other f) (map holds fs) (map other fs) e) h.1)
+    let here = same_head (holds f) (other f) (map holds fs) (map other fs) e in (
+      record { name = h.0.name; bytes = subst (λ (o : Option (List ℕ)). IfSome o (λ held. t.bytes ≡ held)) here h.0.bytes; short = h.0.short },
+      still_read holds other fs ts (same_tail (holds f) (other f) (map holds fs) (map other fs) e) h.1,
+    )
 
 still_have : (before after : Reads) (files : List Text) (graph : GraphParts) → map before.holds files ≡ map after.holds files → HaveAutomaton before.holds files graph → HaveAutomaton after.holds files graph
 still_have before after files graph e h = record { texts = h.texts; read = still_read before.holds after.holds files h.texts e h.read; automaton = h.automaton }

@@ -106,9 +106,10 @@ are_printable : (kinds : List Kind) (inputs : List Input) (takens : List (List (
 are_printable kinds [] takens long each = tt
 are_printable kinds (input ∷ inputs) [] long each = absurd (omega (arith, long))
 are_printable kinds (input ∷ inputs) (taken ∷ takens) long each =
-    let here = each 0 input refl in
-    (subst (λ (t : List (Kind × ℕ)). IsPrintable kinds input t) (sym (same_taken taken here.0 here.1)) here.2,
-    are_printable kinds inputs takens (omega (arith, long)) (λ place other e. each (suc place) other e))
+    let here = each 0 input refl in (
+      subst (λ (t : List (Kind × ℕ)). IsPrintable kinds input t) (sym (same_taken taken here.0 here.1)) here.2,
+      are_printable kinds inputs takens (omega (arith, long)) (λ place other e. each (suc place) other e),
+    )
 
 own_kinds : (graph : GraphParts) (entry : EntryFunction) → slice_get graph.functions entry.number ≡ Some entry.function → parameter_kinds graph entry.number ≡ entry.function.parameters
 own_kinds graph entry e = ap (λ (o : Option Function). option_map_or (λ (f : Function). f.parameters) o []) e
