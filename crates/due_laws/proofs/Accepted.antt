@@ -13,6 +13,7 @@ use Rattle.cnf.specs.declared.derivation.Derivation.{Derivation}
 use Rattle.cnf.specs.declared.formula.Formula.{Formula}
 use Rattle.derivation_check.specs.Verdicts.{IsVerdict}
 use Rattle.derivation_check.specs.declared.verdict.Verdict.TheVariants as verdict
+use Rattle.fq_core.specs.declared.refusal.Place.TheVariants as place
 use Rattle.fq_core.specs.declared.refusal.Refusal.{Refusal}
 use Rattle.fq_io.specs.Counts.{Rose}
 use Rattle.goals.specs.GoalForm.{GoalForm}
@@ -53,8 +54,12 @@ nothing_said : (said : Said) → SaysCertificate said → said.out ≡ [] → �
 unfolding first_byte
 nothing_said said h e = let no : 0 ≡ 102 = ap first_byte (sym e ∙ h.is) in absurd (omega (arith, no))
 
+no_text : (names : List Text) (x : Refusal) → (said_by names x).out ≡ []
+unfolding said_by
+no_text names x = refl
+
 refusal_said : (names : List Text) (P : Refusal → Type 0) (said : Said) → SaysCertificate said → Says names P said → ⊥
-refusal_said names P said h is = nothing_said said h (ap (λ (s : Said). s.out) is.2)
+refusal_said names P said h is = nothing_said said h (ap (λ (s : Said). s.out) is.2 ∙ no_text names is.0)
 
 line_said : (said : Said) (text : List ℕ) → SaysCertificate said → said.out ≡ text → first_byte text ≡ 103 → ⊥
 unfolding first_byte
@@ -112,7 +117,7 @@ module _ (before : Reads) (m : Proving) (said : Said) (h : SaysCertificate said)
   by_plan graph have entry named p plan planned is = by (slice_get plan.goals (m.goal - 1)) refl is
     where
       by : (o : Option GoalForm) → slice_get plan.goals (m.goal - 1) ≡ o → MatchOption o (said ≡ no_such_goal) (λ goal. IsProved graph entry p plan (within m.bounds) m.ends m.goal goal m.sources m.budget said) → IsRefuted before m said
-      by None e s = absurd (nothing_said said h (ap (λ (z : Said). z.out) s))
+      by None e s = absurd (nothing_said said h (ap (λ (z : Said). z.out) s ∙ no_text [] (record { code = 74; place = place.QueryWhole })))
       by (Some goal) e s = by_goal graph have entry named p plan planned goal e s
 
   by_query : (graph : GraphParts) → HaveAutomaton before.holds m.sources graph → (entry : EntryFunction) → entry_of graph m.entry ≡ Some entry
@@ -126,7 +131,7 @@ module _ (before : Reads) (m : Proving) (said : Said) (h : SaysCertificate said)
     where
       by : (o : Option EntryFunction) → entry_of graph m.entry ≡ o
           → MatchOption o (said ≡ no_such_entry) (λ entry. OfQuery m.sources graph m.query (λ p plan. OfGoal plan m.goal (λ goal. IsProved graph entry p plan (within m.bounds) m.ends m.goal goal m.sources m.budget)) said) → IsRefuted before m said
-      by None e s = absurd (nothing_said said h (ap (λ (z : Said). z.out) s))
+      by None e s = absurd (nothing_said said h (ap (λ (z : Said). z.out) s ∙ no_text [] (record { code = 36; place = place.Nowhere })))
       by (Some entry) e s = by_query graph have entry e s
 
   is_refuted : IsDueOf before (prove m) said → IsRefuted before m said
@@ -167,7 +172,7 @@ module _ (front_law : (texts : List SourceText) → front.HasOneOutcome texts) (
   abbrev IsAccepted : Said → Type 0
   IsAccepted verdict = SaysRefuted n verdict ⊎ SaysOtherFormula verdict
 
-  parts_told : IsTrue (are_told after m.sources) × Told after file
+  parts_told : IsTrue (are_told after m.sources) × Told after still file
   parts_told = both_told front_law predicates_law hits_law after still m.sources file told
 
   have : HaveAutomaton after.holds m.sources it.graph

@@ -167,10 +167,10 @@ module _ (count : OneCount) (size : OneSize) (few : NotTooMany) where
   one_generation names graph entry p plan bounds ends budget text x y (inl a) (inr b) = absurd (no_fault count size few graph entry.function p plan bounds ends b.1.1.limits a.0 a.1)
   one_generation names graph entry p plan bounds ends budget text x y (inr a) (inl b) = absurd (no_fault count size few graph entry.function p plan bounds ends a.1.1.limits b.0 b.1)
   one_generation names graph entry p plan bounds ends budget text x y (inr a) (inr b) =
-      inr (answers x a.0 a.1.0 a.1.2, answers y b.0 b.1.0 b.1.2)
+      inr (is_answered x a.0 a.1.0 a.1.2, is_answered y b.0 b.1.0 b.1.2)
     where
-      answers : (said : Said) (made : Generated) (shown : List Shown) → said ≡ concluded made (text made) shown → IsTrue (answers said.status)
-      answers said made shown e = subst (λ (s : Said). IsTrue (answers s.status)) (sym e) (open_or_done (is_open made.answers))
+      is_answered : (said : Said) (made : Generated) (shown : List Shown) → said ≡ concluded made (text made) shown → IsTrue (answers said.status)
+      is_answered said made shown e = subst (λ (s : Said). IsTrue (answers s.status)) (sym e) (open_or_done (is_open made.answers))
 
   -- ---- what is said of one goal
 
