@@ -47,11 +47,10 @@ use Rattle.due_laws.proofs.OneKind.{not_certificate, not_goal_refused, one_certi
 
 -- ---- what is no certificate
 
-first_byte : List ℕ → ℕ
+abbrev first_byte : List ℕ → ℕ
 first_byte text = get_or text 0 0
 
 nothing_said : (said : Said) → SaysCertificate said → said.out ≡ [] → ⊥
-unfolding first_byte
 nothing_said said h e = let no : 0 ≡ 102 = ap first_byte (sym e ∙ h.is) in absurd (omega (arith, no))
 
 no_text : (names : List Text) (x : Refusal) → (said_by names x).out ≡ []
@@ -62,7 +61,6 @@ refusal_said : (names : List Text) (P : Refusal → Type 0) (said : Said) → Sa
 refusal_said names P said h is = nothing_said said h (ap (λ (s : Said). s.out) is.2 ∙ no_text names is.0)
 
 line_said : (said : Said) (text : List ℕ) → SaysCertificate said → said.out ≡ text → first_byte text ≡ 103 → ⊥
-unfolding first_byte
 line_said said text h e first = let no : 103 ≡ 102 = sym first ∙ ap first_byte (sym e ∙ h.is) in absurd (omega (arith, no))
 
 -- ---- what `prove` says
