@@ -1,0 +1,1 @@
+-- What only the code's parts ask of each other.
