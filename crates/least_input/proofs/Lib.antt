@@ -1,2 +1,5 @@
 pub mod Rows
 pub mod Settings
+pub mod Numbers
+pub mod Bits
+pub mod LeastLaws

@@ -18,7 +18,7 @@ ghost use Rattle.least_input.specs.Parts.{IsFor};
 use crate::checking::confirm;
 use crate::input::numbers_of;
 use crate::least::Least;
-use crate::lowest::{Lowest, lowest};
+use crate::lowest::{Lowest, lowest_model};
 use cfa::{Graph, Predicates};
 use containers::Vector;
 use fq_core::{Fault, Memory};
@@ -41,7 +41,7 @@ fn descended(
     requires model { IsModel whole.formula model }
     ensures { IfOk result (λ least. (f : OneFunction) (p : SomePredicates) (plan : OnePlan) (bounds : SomeBounds) (ends : SomeEnds) (g : GoalForm) → slice_get graph.now.functions entry ≡ Some f → IsExact graph.now p f bounds ends plan g whole → IsAnswered graph.now f p plan bounds ends g budget least) }
 {
-    match lowest(alloc, whole, model, budget)? {
+    match lowest_model(alloc, whole, model, budget)? {
         Lowest::Spent { formula, history } => Ok(Least::Open { formula, history }),
         Lowest::Model {
             formula,

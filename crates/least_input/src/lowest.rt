@@ -62,7 +62,7 @@ fn lower_all(
 }
 
 /// The least model of a goal's formula, from any model.
-pub(crate) fn lowest(
+pub(crate) fn lowest_model(
     alloc: Global,
     whole: GoalFormula,
     model: Vector<bool>,
