@@ -1,6 +1,5 @@
 -- What is said of the least input of a goal within bounds and a budget.
-use Rattle.std.specs.Prelude.{◌≡◌, ℕ, List, length, map, take}
-use Rattle.std.specs.Prelude.{ℤ}
+use Rattle.std.specs.Prelude.{◌≡◌, ℕ, ℤ, List, length, map, take}
 use Rattle.c_meaning.specs.declared.ends.Ends.{Ends}
 use Rattle.c_meaning.specs.declared.input.Input.{Input}
 use Rattle.cfa.specs.declared.parts.Function.{Function}
@@ -13,6 +12,7 @@ use Rattle.goal_formula.specs.declared.goal.GoalFormula.{GoalFormula}
 use Rattle.goals.specs.GoalForm.{GoalForm}
 use Rattle.goals.specs.declared.plan.Plan.{Plan}
 use Rattle.reached.specs.declared.bounds.Bounds.{Bounds}
+use Rattle.search.specs.Laws.{IsFormula}
 use Rattle.search.specs.Nexts.{IsRefutation}
 use Rattle.search.specs.declared.moves.History.{History}
 use Rattle.suite.specs.Made.{FallsShort, IsSpent, NoneHits}
@@ -39,6 +39,7 @@ module _ (parts : GraphParts) (f : Function) (p : Predicates) (plan : Plan) (bou
     pub units : List ℤ
     pub on_first : map variable_of units ≡ take (length units) (variables_in_order whole)
     pub formula_is : formula ≡ with_units whole.formula units
+    pub over : IsFormula formula
     pub spent : IsSpent formula budget history
 
   -- what is answered of a goal with a budget of so many moves for each search
