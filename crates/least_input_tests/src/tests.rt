@@ -37,7 +37,13 @@ const NEGATIVE: &str = "int f(int x) {
   return 0;
 }";
 
-const SMALL: &str = "int f(signed char x, signed char y) { if (x == y && x < -1) { return 1; } return 0; }";
+// -128 is the least pattern below -1.
+const SMALL: &str = "int f(signed char x, signed char y) {
+  if (x == y && x < -1) {
+    return 1;
+  }
+  return 0;
+}";
 
 // The first answer is read only where the argument is 1.
 const READS: &str = "int in(void);
@@ -73,7 +79,7 @@ static ROWS: [Row; 6] = [
     (BRANCH, "cover @LINE(3)", &[11], [0, 0], 3),
     (BRANCH, "cover @LINE(5)", &[0], [0, 0], 0),
     (NEGATIVE, "cover @LINE(3)", &[2_147_483_648], [0, 0], 1),
-    (SMALL, "cover EDGES(@CONDITIONEDGE)", &[0, 0], [0, 0], 0),
+    (SMALL, "cover @LINE(3)", &[128, 128], [0, 0], 2),
     (READS, "cover @LINE(9)", &[1], [5, 9], 5),
     (SUM, "cover EDGES(@CONDITIONEDGE)", &[0], [3, 0], 2),
 ];
