@@ -1,10 +1,10 @@
 -- Rows of variables, in the order in which their bits decide.
-use Rattle.std.proofs.Common.{◌≡◌, ℕ, zero, suc, ◌+◌, ◌<◌, ◌≤◌, Bool, true, false, List, [], ◌∷◌, ◌++◌, length, map, get_or, Option, Some, None, refl, sym, ap, subst, ◌∙◌, arith, All}
+use Rattle.std.proofs.Common.{◌≡◌, ℕ, zero, suc, ◌+◌, ◌<◌, ◌≤◌, Bool, true, false, List, [], ◌∷◌, ◌++◌, length, map, take, drop, get_or, append_assoc, Option, Some, None, refl, sym, ap, subst, ◌∙◌, arith, All}
 use Rattle.std.specs.Prelude.{reverse}
 use Rattle.std.specs.List.{Contains, filter_map, flat_map}
 use Rattle.std.proofs.lemmas.Grind.{reverse_onto}
-use Rattle.std.proofs.lemmas.List.{map-append}
-use Rattle.std.proofs.lemmas.List.Elements.{All-cons, All-nil}
+use Rattle.std.proofs.lemmas.List.{drop_more, flat_map_more, map-append, take_more}
+use Rattle.std.proofs.lemmas.List.Elements.{All-cons, All-nil, filter_map-append}
 
 -- each of the numbers that are there is so
 abbrev pub AllNumbers : (ℕ → Type 0) → List (Option ℕ) → Type 0
@@ -62,3 +62,21 @@ pub mapped_rows : {X Y : Type 0} (f : X → Y) (rows : List (List X)) → map f 
 mapped_rows f [] = refl
 mapped_rows f (row ∷ rows) =
     map-append f (reverse row) (flat_map reverse rows) ∙ ap (λ xs. xs ++ map f (flat_map reverse rows)) (mapped_turned f row) ∙ ap (λ xs. reverse (map f row) ++ xs) (mapped_rows f rows)
+
+-- ---- the variables of rows
+
+-- one more bit of a row, from its last on
+pub row_more : (row : List (Option ℕ)) (place : ℕ) → place < length row → filter_map (λ v. v) (reverse (drop place row)) ≡ filter_map (λ v. v) (reverse (drop (place + 1) row)) ++ filter_map (λ v. v) (get_or row place None ∷ [])
+row_more row place lt =
+    let rest = drop (place + 1) row in
+    let v = get_or row place None in
+    ap (λ (vs : List (Option ℕ)). filter_map (λ v. v) (reverse vs)) (drop_more row place None lt) ∙ ap (filter_map (λ v. v)) (reverse_onto rest v []) ∙ filter_map-append (λ v. v) (reverse rest) (v ∷ [])
+
+-- one more row
+pub rows_more : (front : List ℕ) (rows : List (List (Option ℕ))) (i : ℕ) (row : List (Option ℕ)) → i < length rows → row ≡ get_or rows i row
+    → (front ++ filter_map (λ v. v) (flat_map reverse (take i rows))) ++ filter_map (λ v. v) (reverse row) ≡ front ++ filter_map (λ v. v) (flat_map reverse (take (i + 1) rows))
+rows_more front rows i row lt is =
+    let before = flat_map reverse (take i rows) in
+    let next : take (i + 1) rows ≡ take i rows ++ row ∷ [] = take_more rows i row lt ∙ ap (λ r. take i rows ++ r ∷ []) (sym is) in
+    append_assoc front (filter_map (λ v. v) before) (filter_map (λ v. v) (reverse row))
+    ∙ ap (λ xs. front ++ xs) (sym (filter_map-append (λ v. v) before (reverse row)) ∙ ap (filter_map (λ v. v)) (flat_map_more reverse [] (take i rows) row ∙ ap (flat_map reverse) (sym next)))

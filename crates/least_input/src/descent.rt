@@ -1,15 +1,15 @@
 // A formula with unit clauses, and how one more bit is set.
-ghost use Rattle.std.specs.Prelude.{◌≡◌, ◌++◌, ◌∷◌, [], ◌<◌, ◌≤◌, ◌-◌, ◌^◌, false, List, ℕ, IfOk, OnOk, length, map, slice_index_or};
+ghost use Rattle.std.specs.Prelude.{◌≡◌, ◌++◌, ◌∷◌, [], ◌<◌, ◌≤◌, ◌^◌, ℕ, ℤ, IfOk, List, OnOk};
 ghost use Rattle.cnf.specs.Clauses.{IsLiteral};
 ghost use Rattle.cnf.specs.declared.formula.Formula.{Formula as OneFormula};
-ghost use Rattle.formula_laws.specs.Units.{with_units};
 ghost use Rattle.goal_formula.specs.Bits.{assignment};
 ghost use Rattle.search.specs.Laws.{IsFormula};
 ghost use Rattle.least_input.specs.Parts.{Adds, IsDescent, IsLowered};
+ghost use Rattle.least_input.specs.declared.descent.Descent.{Descent as OneDescent};
 
 use crate::checking::confirm;
 use crate::least::Fixed;
-use cnf::{Clause, Derivation, Formula};
+use cnf::{Clause, Derivation, Formula, negation};
 use containers::Vector;
 use fq_core::Memory;
 use search::{Found, History, search};
@@ -53,7 +53,7 @@ fn add_unit(alloc: Global, descent: &mut Descent, literal: i32) -> Result<(), Me
 
 /// Takes the last unit clause off.
 fn drop_unit(descent: &mut Descent)
-    ensures { (before : Descent) (literal : ℤ) → Adds before literal descent.old → descent.new ≡ record before { model = descent.old.model; fixed = descent.old.fixed } }
+    ensures { (before : OneDescent) (literal : ℤ) → Adds before literal descent.old → descent.new ≡ record before { model = descent.old.model; fixed = descent.old.fixed } }
 {
     drop_last(&mut descent.formula.clauses);
     drop_last(&mut descent.units);
@@ -81,21 +81,24 @@ pub(crate) fn lower(
     requires over { IsFormula descent.old.formula }
     ensures { (base : OneFormula) (variables : List ℕ) → IsDescent base budget variables descent.old → IfOk result (IsLowered base budget (variables ++ variable ∷ []) descent.new) }
 {
+    let is_one = value_of(&descent.model, variable);
     let one = variable as i32;
-    let is_zero = !value_of(&descent.model, variable);
-    add_unit(alloc, descent, -one)?;
-    if is_zero {
+    add_unit(alloc, descent, negation(one))?;
+    if !is_one {
         return Ok(None);
     }
     match search(alloc, &descent.formula, budget)? {
-        Found::Model(model) => descent.model = model,
+        Found::Model(model) => {
+            descent.model = model;
+            Ok(None)
+        }
         Found::NoModel(derivation) => {
             confirm(alloc, &descent.formula, &derivation)?;
             keep_part(alloc, descent, derivation)?;
             drop_unit(descent);
             add_unit(alloc, descent, one)?;
+            Ok(None)
         }
-        Found::Spent(history) => return Ok(Some(history)),
+        Found::Spent(history) => Ok(Some(history)),
     }
-    Ok(None)
 }

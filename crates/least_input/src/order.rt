@@ -1,5 +1,5 @@
 // The variables of input bits, in the order in which the bits decide.
-ghost use Rattle.std.specs.Prelude.{◌≡◌, ◌++◌, IfOk, reverse};
+ghost use Rattle.std.specs.Prelude.{◌≡◌, ◌++◌, IfOk, OnOk, reverse};
 ghost use Rattle.std.specs.List.{filter_map, flat_map};
 ghost use Rattle.least_input.specs.Fixing.{variables_in_order};
 
@@ -11,9 +11,9 @@ use std::alloc::{AllocError, Global};
 fn add_row(variables: &mut Vec<u32>, row: &[Option<u32>]) -> Result<(), AllocError>
     ensures { OnOk result (variables.new.items ≡ variables.old.items ++ filter_map (λ v. v) (reverse row.now)) }
 {
-    for variable in row.iter().rev() {
-        if let Some(number) = variable {
-            variables.push(*number)?;
+    for place in (0..row.len()).rev() {
+        if let Some(number) = row[place] {
+            variables.push(number)?;
         }
     }
     Ok(())
