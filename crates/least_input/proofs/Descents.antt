@@ -3,7 +3,7 @@ use Rattle.std.proofs.Common.{◌≡◌, ℕ, zero, suc, ◌+◌, ◌*◌, ◌<�
 use Rattle.std.specs.Prelude.{ℤ, pos, negsuc}
 use Rattle.std.specs.List.{list_all}
 use Rattle.std.proofs.lemmas.Bool.{lt-ltb}
-use Rattle.std.proofs.lemmas.List.{length-map, length-take-le, map-append}
+use Rattle.std.proofs.lemmas.List.{length-map, length-take-le, map-append, take_at}
 use Rattle.std.proofs.lemmas.List.Elements.{All-nil, All-push}
 use Rattle.cnf.specs.Clauses.{IsLiteral, literal_key}
 use Rattle.cnf.specs.Formulas.{Satisfies, is_true_literal}
@@ -51,6 +51,18 @@ with_more base units x =
 
 pub with_none : (base : Formula) → base ≡ with_units base []
 with_none base = let e = sym (append-nil base.clauses) in λ i. record base { clauses = e i }
+
+abbrev Drops : {A : Type 0} → List A → List A → Type 0
+Drops {A} old new = (front : List A) (last : A) → old ≡ front ++ last ∷ [] → new ≡ front
+
+-- without the last unit clause
+pub unit_dropped : (before old : Descent) (literal : ℤ) (clauses : List (List ℤ)) (units : List ℤ) → Adds before literal old → Drops old.formula.clauses clauses → Drops old.units units
+    → ◌≡◌ {A = Descent} (record old { formula = record old.formula { clauses = clauses }; units = units }) before
+unit_dropped before old literal clauses units a drop_clause drop_literal =
+    let front = drop_clause before.formula.clauses (literal ∷ []) (ap (λ (q : Formula). q.clauses) a.formula) in
+    let left = drop_literal before.units literal a.units in
+    let variables = ap (λ (q : Formula). q.variables) a.formula in
+    λ i. record { formula = record { variables = variables i; clauses = front i }; units = left i; model = a.model i; fixed = a.fixed i }
 
 module _ (base : Formula) (budget : ℕ) (vs : List ℕ) (d : Descent) (v : ℕ) (some : 0 < v) where
   abbrev More : List ℕ
@@ -152,3 +164,9 @@ pub stuck : (base : Formula) (budget : ℕ) (vs : List ℕ) (d : Descent) (histo
 stuck base budget vs d history n le h spent =
     let long : length d.units ≡ n = sym (length-map d.units variable_of) ∙ ap length h.set ∙ length-take-le n vs le in
     record { units = d.units; on_first = h.set ∙ ap (λ k. take k vs) (sym long); formula_is = h.formula; over = h.over; spent = spent }
+
+-- the units are cut off again
+pub cut_back : (base q : Formula) (units : List ℤ) (n : ℕ) → q ≡ with_units base units → n ≡ length base.clauses → ◌≡◌ {A = Formula} (record q { clauses = take n q.clauses }) base
+cut_back base q units n e long =
+    let front : take n (base.clauses ++ unit_clauses units) ≡ base.clauses = take_at base.clauses (unit_clauses units) n (sym long) in
+    ap (λ (x : Formula). record x { clauses = take n x.clauses }) e ∙ (λ i. record base { clauses = front i })

@@ -53,7 +53,7 @@ fn add_unit(alloc: Global, descent: &mut Descent, literal: i32) -> Result<(), Me
 
 /// Takes the last unit clause off.
 fn drop_unit(descent: &mut Descent)
-    ensures { (before : OneDescent) (literal : ℤ) → Adds before literal descent.old → descent.new ≡ record before { model = descent.old.model; fixed = descent.old.fixed } }
+    ensures { (before : OneDescent) (literal : ℤ) → Adds before literal descent.old → descent.new ≡ before }
 {
     drop_last(&mut descent.formula.clauses);
     drop_last(&mut descent.units);
