@@ -114,14 +114,14 @@ module _ (base : Formula) (budget : ℕ) (vs : List ℕ) (d : Descent) (v : ℕ)
   zero_open after h there a = has_more false after h.has there a
 
   -- set to 1, which can't be 0
-  pub one_fixed : (zero last : Descent) (derivation : Derivation) (fixed : List Fixed) → IsDescent base budget vs d → v ≤ d.formula.variables → assignment d.model v ≡ true → Adds d (literal_of false v) zero
-      → IsRefutation zero.formula budget derivation → fixed ≡ d.fixed ++ record { units = zero.units; derivation = derivation } ∷ []
+  pub one_fixed : (unset last : Descent) (derivation : Derivation) (fixed : List Fixed) → IsDescent base budget vs d → v ≤ d.formula.variables → assignment d.model v ≡ true → Adds d (literal_of false v) unset
+      → IsRefutation unset.formula budget derivation → fixed ≡ d.fixed ++ record { units = unset.units; derivation = derivation } ∷ []
       → Adds (record d { fixed = fixed }) (literal_of true v) last → IsDescent base budget More last
-  one_fixed zero last derivation fixed h there e a refutes more b =
+  one_fixed unset last derivation fixed h there e a refutes more b =
       let own : Adds d (literal_of true v) (record last { fixed = d.fixed }) = record { formula = b.formula; units = b.units; model = b.model; fixed = refl } in
       let has = has_more true (record last { fixed = d.fixed }) h.has there own in
-      let low = has_more false zero h.has there a in
-      let part : Fixed = record { units = zero.units; derivation = derivation } in
+      let low = has_more false unset h.has there a in
+      let part : Fixed = record { units = unset.units; derivation = derivation } in
       let refuted : IsRefutation (with_units base part.units) budget part.derivation = subst (λ q. IsRefutation q budget derivation) low.formula refutes in
       let all : AreRefuted base budget (d.fixed ++ part ∷ []) = All-push (λ (x : Fixed). IsRefutation (with_units base x.units) budget x.derivation) d.fixed part h.refuted refuted in
       record {

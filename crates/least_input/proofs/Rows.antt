@@ -1,9 +1,9 @@
 -- Rows of variables, in the order in which their bits decide.
-use Rattle.std.proofs.Common.{◌≡◌, ℕ, zero, suc, ◌+◌, ◌<◌, ◌≤◌, Bool, true, false, List, [], ◌∷◌, ◌++◌, length, map, take, drop, get_or, append_assoc, Option, Some, None, refl, sym, ap, subst, ◌∙◌, arith, All}
+use Rattle.std.proofs.Common.{◌≡◌, ℕ, zero, suc, ◌+◌, ◌-◌, ◌<◌, ◌≤◌, Bool, true, false, List, [], ◌∷◌, ◌++◌, length, map, take, drop, get_or, append_assoc, Option, Some, None, refl, sym, ap, subst, ◌∙◌, arith, All}
 use Rattle.std.specs.Prelude.{reverse}
 use Rattle.std.specs.List.{Contains, filter_map, flat_map}
 use Rattle.std.proofs.lemmas.Grind.{reverse_onto}
-use Rattle.std.proofs.lemmas.List.{drop_more, flat_map_more, map-append, take_more}
+use Rattle.std.proofs.lemmas.List.{drop_more, flat_map_more, get_or_default, map-append, take_more}
 use Rattle.std.proofs.lemmas.List.Elements.{All-cons, All-nil, filter_map-append}
 
 -- each of the numbers that are there is so
@@ -80,3 +80,14 @@ rows_more front rows i row lt is =
     let next : take (i + 1) rows ≡ take i rows ++ row ∷ [] = take_more rows i row lt ∙ ap (λ r. take i rows ++ r ∷ []) (sym is) in
     append_assoc front (filter_map (λ v. v) before) (filter_map (λ v. v) (reverse row))
     ∙ ap (λ xs. front ++ xs) (sym (filter_map-append (λ v. v) before (reverse row)) ∙ ap (filter_map (λ v. v)) (flat_map_more reverse [] (take i rows) row ∙ ap (flat_map reverse) (sym next)))
+
+-- one more place of a row was read
+pub row_step : (front old new : List ℕ) (row : List (Option ℕ)) (place : ℕ) (d v : Option ℕ) → 0 < place → place ≤ length row → get_or row (place - 1) d ≡ v
+    → old ≡ front ++ filter_map (λ v. v) (reverse (drop place row)) → new ≡ old ++ filter_map (λ v. v) (v ∷ []) → new ≡ front ++ filter_map (λ v. v) (reverse (drop (place - 1) row))
+row_step front old new row place d v some le read before pushed =
+    let lt : place - 1 < length row = omega (arith, some, le) in
+    let same : place - 1 + 1 ≡ place = omega (arith, some) in
+    let item : get_or row (place - 1) None ≡ v = get_or_default row (place - 1) None d lt ∙ read in
+    let own : filter_map (λ v. v) (reverse (drop (place - 1) row)) ≡ filter_map (λ v. v) (reverse (drop place row)) ++ filter_map (λ v. v) (v ∷ []) =
+    row_more row (place - 1) lt ∙ (λ i. filter_map (λ v. v) (reverse (drop (same i) row)) ++ filter_map (λ v. v) (item i ∷ [])) in
+    pushed ∙ ap (λ xs. xs ++ filter_map (λ v. v) (v ∷ [])) before ∙ append_assoc front (filter_map (λ v. v) (reverse (drop place row))) (filter_map (λ v. v) (v ∷ [])) ∙ ap (λ xs. front ++ xs) (sym own)

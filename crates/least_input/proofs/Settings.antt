@@ -54,7 +54,7 @@ set_by_true value (x ∷ units) e =
     let rest = set_by_true value units both.1 in
     λ i. here i ∷ rest i
 
-set_true : (value : ℕ → Bool) (b : Bool) (n : ℕ) → 0 < n → value n ≡ b → is_true_literal value (literal_of b n) ≡ true
+pub set_true : (value : ℕ → Bool) (b : Bool) (n : ℕ) → 0 < n → value n ≡ b → is_true_literal value (literal_of b n) ≡ true
 set_true value b zero lt e = absurd (omega (arith, lt))
 set_true value true (suc n) lt e = e
 set_true value false (suc n) lt e = ap not e
