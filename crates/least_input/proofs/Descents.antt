@@ -1,8 +1,9 @@
 -- How one more bit is set.
-use Rattle.std.proofs.Common.{◌≡◌, ℕ, zero, suc, ◌+◌, ◌*◌, ◌<◌, ◌≤◌, ◌^◌, Bool, true, false, List, [], ◌∷◌, ◌++◌, length, map, take, refl, sym, ap, subst, ◌∙◌, arith, All, append_assoc, append-nil}
-use Rattle.std.specs.Prelude.{ℤ, pos, negsuc}
+use Rattle.std.proofs.Common.{◌≡◌, ℕ, zero, suc, ◌+◌, ◌*◌, ◌<◌, ◌≤◌, ◌^◌, Bool, true, false, List, [], ◌∷◌, ◌++◌, length, map, take, refl, sym, ap, subst, ◌∙◌, arith, All, append_assoc, append-nil, to_z, of_z, w32}
+use Rattle.std.specs.Prelude.{ℤ, pos, negsuc, neg_ℤ}
 use Rattle.std.specs.List.{list_all}
 use Rattle.std.proofs.lemmas.Bool.{lt-ltb}
+use Rattle.std.proofs.lemmas.Int.{to_z-of_z, to_z_pos}
 use Rattle.std.proofs.lemmas.List.{length-map, length-take-le, map-append, take_at}
 use Rattle.std.proofs.lemmas.List.Elements.{All-nil, All-push}
 use Rattle.cnf.specs.Clauses.{IsLiteral, literal_key}
@@ -40,6 +41,20 @@ literal_is true zero some few = absurd (omega (arith, some))
 literal_is true (suc v) some few = (omega arith, omega (arith, few))
 literal_is false zero some few = absurd (omega (arith, some))
 literal_is false (suc v) some few = (omega arith, omega (arith, few))
+
+-- ---- as 32 bits
+
+pub one_is : (v : ℕ) → v < 2 ^ 31 → to_z w32 v ≡ literal_of true v
+one_is v few = to_z_pos w32 v few
+
+pub zero_is : (v : ℕ) (z : ℤ) → 0 < v → v < 2 ^ 31 → z ≡ neg_ℤ (to_z w32 v) → to_z w32 (of_z w32 z) ≡ literal_of false v
+zero_is v z some few e = ap (λ x. to_z w32 (of_z w32 x)) is ∙ own v some few
+  where
+    is : z ≡ literal_of false v
+    is = e ∙ ap neg_ℤ (one_is v few)
+    own : (n : ℕ) → 0 < n → n < 2 ^ 31 → to_z w32 (of_z w32 (literal_of false n)) ≡ literal_of false n
+    own zero lt small = absurd (omega (arith, lt))
+    own (suc n) lt small = to_z-of_z w32 (negsuc n) (record { sfits = omega (arith, small) })
 
 -- ---- units
 
