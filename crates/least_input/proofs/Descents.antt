@@ -1,12 +1,12 @@
 -- How one more bit is set.
-use Rattle.std.proofs.Common.{◌≡◌, ℕ, zero, suc, ◌+◌, ◌*◌, ◌<◌, ◌≤◌, ◌^◌, Bool, true, false, List, [], ◌∷◌, ◌++◌, length, map, take, refl, sym, ap, subst, ◌∙◌, arith, All, append_assoc, append-nil, to_z, of_z, w32}
-use Rattle.std.specs.Prelude.{ℤ, pos, negsuc, neg_ℤ}
+use Rattle.std.proofs.Common.{◌≡◌, ℕ, zero, suc, ◌+◌, ◌*◌, ◌<◌, ◌≤◌, ◌^◌, Bool, true, false, List, [], ◌∷◌, ◌++◌, length, map, take, refl, sym, ap, subst, ◌∙◌, arith, append_assoc, append-nil, to_z, of_z, w32}
+use Rattle.std.specs.Prelude.{ℤ, negsuc, neg_ℤ}
 use Rattle.std.specs.List.{list_all}
 use Rattle.std.proofs.lemmas.Bool.{lt-ltb}
 use Rattle.std.proofs.lemmas.Int.{to_z-of_z, to_z_pos}
 use Rattle.std.proofs.lemmas.List.{length-map, length-take-le, map-append, take_at}
 use Rattle.std.proofs.lemmas.List.Elements.{All-nil, All-push}
-use Rattle.cnf.specs.Clauses.{IsLiteral, literal_key}
+use Rattle.cnf.specs.Clauses.{IsLiteral}
 use Rattle.cnf.specs.Formulas.{Satisfies, is_true_literal}
 use Rattle.cnf.specs.declared.derivation.Derivation.{Derivation}
 use Rattle.cnf.specs.declared.formula.Formula.{Formula}
@@ -52,6 +52,7 @@ zero_is v z some few e = ap (λ x. to_z w32 (of_z w32 x)) is ∙ own v some few
   where
     is : z ≡ literal_of false v
     is = e ∙ ap neg_ℤ (one_is v few)
+
     own : (n : ℕ) → 0 < n → n < 2 ^ 31 → to_z w32 (of_z w32 (literal_of false n)) ≡ literal_of false n
     own zero lt small = absurd (omega (arith, lt))
     own (suc n) lt small = to_z-of_z w32 (negsuc n) (record { sfits = omega (arith, small) })

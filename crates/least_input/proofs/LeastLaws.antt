@@ -1,8 +1,8 @@
 -- The input of a least model is the least that hits the goal.
-use Rattle.std.proofs.Common.{◌≡◌, ℕ, zero, suc, ◌<◌, ◌≤◌, Bool, true, false, List, [], ◌∷◌, ◌++◌, length, map, get_or, Option, Some, None, All, refl, sym, ap, subst, ◌∙◌, arith}
+use Rattle.std.proofs.Common.{◌≡◌, ℕ, zero, suc, ◌<◌, Bool, true, false, List, [], ◌∷◌, ◌++◌, length, map, get_or, Option, Some, None, All, refl, sym, ap, subst, ◌∙◌}
 use Rattle.std.specs.Prelude.{reverse, slice_get}
-use Rattle.std.specs.List.{AllZip, filter_map, flat_map, list_all}
-use Rattle.std.proofs.lemmas.List.{length-map, map-append}
+use Rattle.std.specs.List.{flat_map, list_all}
+use Rattle.std.proofs.lemmas.List.{length-map}
 use Rattle.std.proofs.lemmas.List.Concat.{flat_map-append}
 use Rattle.std.proofs.lemmas.Option.{same_Some, slice_get-get_or, slice_get_read, slice_get_within}
 use Rattle.c_meaning.specs.declared.ends.Ends.{Ends}
@@ -32,15 +32,14 @@ use Rattle.run_laws.proofs.Taken.{fitted_words_alike}
 use Rattle.unwinder.proofs.Made.{parameter_kinds}
 use Rattle.unwinder.specs.Lists.{IsInputFor}
 use Rattle.least_input.specs.Answers.{IsFoundLeast}
-use Rattle.least_input.specs.Fixing.{AreFixed, AreRefuted, InputBit, bits_of, parts_of, settings, variables_in_order}
-use Rattle.least_input.specs.Least.{IsLeast}
+use Rattle.least_input.specs.Fixing.{AreFixed, InputBit, parts_of, settings, variables_in_order}
 use Rattle.least_input.specs.Order.{IsLower, numbers_of}
-use Rattle.least_input.specs.Parts.{IsLowest, numbers_in, set_as}
+use Rattle.least_input.specs.Parts.{IsLowest, numbers_in}
 use Rattle.least_input.specs.declared.least.Fixed.{Fixed}
-use Rattle.least_input.proofs.Bits.{bits_are, in_order, settings_are, unset, with_value}
+use Rattle.least_input.proofs.Bits.{bits_are, in_order, settings_are, unset}
 use Rattle.least_input.proofs.Numbers.{answers_count, below, numbers_are, same_fits}
 use Rattle.least_input.proofs.Rows.{AllNumbers, mapped_rows, numbers_in_order, numbers_of_contains}
-use Rattle.least_input.proofs.Settings.{IsTruePart, part_there}
+use Rattle.least_input.proofs.Settings.{part_there}
 
 -- ---- rows as bits
 

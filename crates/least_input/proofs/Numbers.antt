@@ -1,5 +1,5 @@
 -- The numbers of the bits of inputs.
-use Rattle.std.proofs.Common.{◌≡◌, ℕ, zero, suc, ◌+◌, ◌*◌, ◌%◌, ◌^◌, ◌≤◌, ◌<◌, Bool, true, false, List, [], ◌∷◌, ◌++◌, length, map, replicate, get_or, Option, Some, None, All, pos, refl, sym, ap, subst, ◌∙◌, arith, length-append}
+use Rattle.std.proofs.Common.{◌≡◌, ℕ, zero, suc, ◌+◌, ◌%◌, ◌^◌, ◌≤◌, ◌<◌, Bool, true, false, List, [], ◌∷◌, ◌++◌, length, map, replicate, Option, Some, None, All, refl, sym, ap, subst, ◌∙◌, arith, length-append}
 use Rattle.std.proofs.Math.Nat.{mod-eq_of_lt, mod-le}
 use Rattle.std.specs.Prelude.{IsTrue}
 use Rattle.std.specs.List.{AllZip, flat_map}
@@ -18,7 +18,6 @@ use Rattle.goal_formula.specs.Bits.{Gives, IsShaped, bit_in, input_from, input_v
 use Rattle.goal_formula.specs.declared.goal.GoalFormula.{GoalFormula}
 use Rattle.input_words.proofs.WorldLemmas.{answer_bits-cons, argument_bits-cons, length-argument_bits, length-low_bits, low_bits-fitted, total_width-cons}
 use Rattle.input_words.specs.Worlds.{answer_bits, argument_bits, low_bits, total_width, world_of}
-use Rattle.path_runner.specs.Masks.{number_of_bits}
 use Rattle.run_laws.proofs.Fitting.{fitted-fitted}
 use Rattle.least_input.specs.Order.{filled, numbers_of}
 use Rattle.least_input.specs.Parts.{numbers_in, without_sign}

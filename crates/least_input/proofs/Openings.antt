@@ -1,5 +1,5 @@
 -- Where a search spends its budget: what is answered, and that the budget falls short.
-use Rattle.std.proofs.Common.{◌≡◌, ℕ, ◌+◌, ◌≤◌, ◌<◌, ◌^◌, List, [], map, take, length, refl, ap, arith}
+use Rattle.std.proofs.Common.{◌≡◌, ℕ, ◌≤◌, ◌<◌, ◌^◌, [], refl, ap, arith}
 use Rattle.std.proofs.Math.Nat.{pow-le-pow_right}
 use Rattle.c_meaning.specs.declared.ends.Ends.{Ends}
 use Rattle.cfa.specs.declared.parts.Function.{Function}

@@ -1,12 +1,12 @@
 -- Literals that set variables, and the parts that they make.
-use Rattle.std.proofs.Common.{◌≡◌, ℕ, zero, suc, ◌+◌, ◌<◌, ◌≤◌, Bool, true, false, List, [], ◌∷◌, ◌++◌, length, map, Option, Some, None, refl, sym, ap, subst, ◌∙◌, arith, append_assoc, append-nil, add-one}
+use Rattle.std.proofs.Common.{◌≡◌, ℕ, zero, suc, ◌+◌, ◌<◌, Bool, true, false, List, [], ◌∷◌, ◌++◌, map, Option, Some, None, refl, sym, ap, ◌∙◌, arith, append_assoc, append-nil}
 use Rattle.std.specs.Prelude.{ℤ, pos, negsuc, neg_ℤ, not, ◌&&◌, slice_get}
 use Rattle.std.specs.List.{filter_map, list_all}
 use Rattle.std.proofs.lemmas.List.Folds.{list_all-append}
 use Rattle.cnf.specs.Formulas.{is_true_literal}
 use Rattle.formula_laws.specs.Orders.{FirstDifferAt}
 use Rattle.goal_formula.specs.Bits.{bit_in}
-use Rattle.least_input.specs.Fixing.{literal_of, parts_from, parts_of, sets, variable_of}
+use Rattle.least_input.specs.Fixing.{literal_of, parts_from, parts_of, variable_of}
 use Rattle.least_input.specs.Parts.{set_as}
 use Rattle.least_input.proofs.Rows.{AllNumbers}
 

@@ -1,5 +1,4 @@
 -- The least input that hits a goal within bounds.
-use Rattle.std.specs.Prelude.{◌≡◌, ℕ, length}
 use Rattle.c_meaning.specs.declared.ends.Ends.{Ends}
 use Rattle.c_meaning.specs.declared.input.Input.{Input}
 use Rattle.cfa.specs.declared.parts.Function.{Function}

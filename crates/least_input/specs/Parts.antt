@@ -1,5 +1,5 @@
 -- What only the code's parts ask of each other.
-use Rattle.std.specs.Prelude.{◌≡◌, ℕ, ◌<◌, ◌≤◌, ◌^◌, ℤ, Bool, false, All, List, [], ◌∷◌, ◌++◌, map, length, take, Option, Some, None}
+use Rattle.std.specs.Prelude.{◌≡◌, ℕ, ◌≤◌, ◌^◌, ℤ, Bool, false, List, [], ◌∷◌, ◌++◌, map, length, take, Option, Some, None}
 use Rattle.cnf.specs.declared.formula.Formula.{Formula}
 use Rattle.formula_laws.specs.Units.{with_units}
 use Rattle.search.specs.Laws.{IsFormula}

@@ -7,7 +7,11 @@ use fq_core::Memory;
 use std::alloc::Global;
 
 /// Has the checker look at a derivation, whose answer is known: it checks over the formula.
-pub(crate) fn confirm(alloc: Global, formula: &Formula, derivation: &Derivation) -> Result<(), Memory>
+pub(crate) fn confirm(
+    alloc: Global,
+    formula: &Formula,
+    derivation: &Derivation,
+) -> Result<(), Memory>
     requires { Checks formula.now derivation.now }
 {
     // The checker numbers lines in 32 bits.

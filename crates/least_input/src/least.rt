@@ -33,5 +33,8 @@ pub enum Least {
     },
     /// A formula that is exact for the goal, with unit clauses on input bits, and the moves of its search, as many as the
     /// budget, after which it isn't finished.
-    Open { formula: Formula, history: History },
+    Open {
+        formula: Formula,
+        history: History,
+    },
 }

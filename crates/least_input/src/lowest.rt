@@ -25,7 +25,10 @@ pub(crate) enum Lowest {
         fixed: Vector<Fixed>,
     },
     /// The formula with unit clauses at its end, and the moves of its search.
-    Spent { formula: Formula, history: History },
+    Spent {
+        formula: Formula,
+        history: History,
+    },
 }
 
 /// A formula with the first so many of its clauses.

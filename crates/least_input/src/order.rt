@@ -31,7 +31,10 @@ fn add_rows(variables: &mut Vec<u32>, rows: &[Vector<Option<u32>>]) -> Result<()
 
 /// The variables of the input bits that have one, in the order in which the bits decide which of two inputs is less: from the
 /// first word's highest bit on, the words before the answers.
-pub(crate) fn variables_in_order(alloc: Global, formula: &GoalFormula) -> Result<Vec<u32>, AllocError>
+pub(crate) fn variables_in_order(
+    alloc: Global,
+    formula: &GoalFormula,
+) -> Result<Vec<u32>, AllocError>
     ensures { IfOk result (λ variables. variables.items ≡ variables_in_order formula.now) }
 {
     let mut variables = Vec::new(alloc);

@@ -1,5 +1,4 @@
 use Rattle.std.proofs.Common.{◌≡◌, ◌<◌, ◌^◌, true, false, List, [], ◌∷◌, ◌++◌, Bool, refl, sym, ap, subst, ◌∙◌, arith}
-use Rattle.std.specs.Prelude.{ℤ, pos}
 use Rattle.goal_formula.specs.Bits.{assignment}
 use Rattle.search.specs.Nexts.{IsFound, IsModel, IsRefutation}
 use Rattle.least_input.specs.Fixing.{literal_of}
