@@ -150,11 +150,16 @@ fn found_of(alloc: Global, source: &str, query: &str, budget: u64) -> Result<Lea
 #[test]
 fn least_by_hand(rt: HostRuntime) -> Result<(), Fail> {
     for (source, query, words, answers, ones) in &ROWS {
-        let Least::Found { input, fixed, .. } = found_of(rt.alloc(), source, query, 1_000_000)? else {
+        let Least::Found { input, fixed, .. } = found_of(rt.alloc(), source, query, 1_000_000)?
+        else {
             return Err(Fail::from("not found"));
         };
         assert_eq!(rt; input.words.as_slice(), *words, "{query} of {source}");
-        assert_eq!(rt; input.answers.as_slice(), answers.as_slice(), "{query} of {source}");
+        assert_eq!(rt;
+            input.answers.as_slice(),
+            answers.as_slice(),
+            "{query} of {source}"
+        );
         assert_eq!(rt; fixed.len(), *ones, "{query} of {source}");
     }
     Ok(())
@@ -162,7 +167,13 @@ fn least_by_hand(rt: HostRuntime) -> Result<(), Fail> {
 
 #[test]
 fn refuted_and_open(rt: HostRuntime) -> Result<(), Fail> {
-    let Least::Refuted { derivation, .. } = found_of(rt.alloc(), NEVER, "cover @LINE(3)", 1_000_000)? else {
+    let Least::Refuted { derivation, .. } = found_of(
+        rt.alloc(),
+        NEVER,
+        "cover @LINE(3)",
+        1_000_000,
+    )?
+    else {
         return Err(Fail::from("not refuted"));
     };
     assert!(rt; !derivation.lines.is_empty());
