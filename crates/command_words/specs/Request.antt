@@ -16,7 +16,10 @@ use Rattle.command_words.specs.declared.requests.Goals.{Goals}
 use Rattle.command_words.specs.declared.requests.Measure.{Measure}
 use Rattle.command_words.specs.declared.requests.Prove.{Prove}
 use Rattle.command_words.specs.declared.requests.Request.{Request}
+use Rattle.command_words.specs.declared.requests.Replay.{Replay}
 use Rattle.command_words.specs.declared.requests.Runs.{Runs}
+use Rattle.command_words.specs.declared.requests.Suffice.{Suffice}
+use Rattle.command_words.specs.declared.requests.Traces.{Traces}
 use Rattle.command_words.specs.declared.requests.Request.TheVariants as request
 use Rattle.command_words.specs.Options.{name_of}
 use Rattle.command_words.specs.Reading.{Text, Use, positional_id, reading, values}
@@ -69,6 +72,27 @@ pub record Checking : Type 0 where
   pub bounds : Bounds
   pub ends : Ends
 
+pub record Sufficing : Type 0 where
+  pub entry : Text
+  pub sources : List Text
+  pub bounds : Bounds
+  pub budget : ℕ
+
+pub record Tracing : Type 0 where
+  pub entry : Text
+  pub inputs : Text
+  pub sources : List Text
+  pub steps : ℕ
+  pub ends : Ends
+
+pub record Replaying : Type 0 where
+  pub entry : Text
+  pub query : Text
+  pub traces : Text
+  pub sources : List Text
+  pub ends : Ends
+  pub json : Bool
+
 pub data Asked : Type 0 where
   measure : Measuring → Asked
   generate : Generating → Asked
@@ -76,6 +100,12 @@ pub data Asked : Type 0 where
   runs : Running → Asked
   prove : Proving → Asked
   check : Checking → Asked
+  -- whether bounds suffice
+  suffice : Sufficing → Asked
+  -- for the least input of a goal
+  least : Proving → Asked
+  traces : Tracing → Asked
+  replay : Replaying → Asked
   -- of these sources
   graph : List Text → Asked
   -- of this size
@@ -105,6 +135,15 @@ proving m = record { entry = m.entry.now; query = m.query.now; goal = m.goal; so
 abbrev pub checking : Check → Checking
 checking m = record { entry = m.entry.now; query = m.query.now; goal = m.goal; certificate = m.certificate.now; sources = texts_at m.sources.items; bounds = m.bounds; ends = m.ends }
 
+abbrev pub sufficing : Suffice → Sufficing
+sufficing m = record { entry = m.entry.now; sources = texts_at m.sources.items; bounds = m.bounds; budget = m.budget }
+
+abbrev pub tracing : Traces → Tracing
+tracing m = record { entry = m.entry.now; inputs = m.inputs.now; sources = texts_at m.sources.items; steps = m.steps; ends = m.ends }
+
+abbrev pub replaying : Replay → Replaying
+replaying m = record { entry = m.entry.now; query = m.query.now; traces = m.traces.now; sources = texts_at m.sources.items; ends = m.ends; json = m.json }
+
 abbrev pub asked : Request → Asked
 asked (request.Measure m) = measure (measuring m)
 asked (request.Generate m) = generate (generating m)
@@ -112,22 +151,26 @@ asked (request.Goals m) = goals (listing m)
 asked (request.Runs m) = runs (running m)
 asked (request.Prove m) = prove (proving m)
 asked (request.Check m) = check (checking m)
+asked (request.Bounds m) = suffice (sufficing m)
+asked (request.Least m) = least (proving m)
+asked (request.Traces m) = traces (tracing m)
+asked (request.Replay m) = replay (replaying m)
 asked (request.Graph sources) = graph (texts_at sources.items)
 asked (request.Sample size) = sample size
 
 -- ---- numbers
 
--- one to ten decimal digits, and a number from `least` to `most`
+-- one to ten decimal digits, and a number from `low` to `high`
 abbrev pub number_in : ℕ → ℕ → Text → Option ℕ
-number_in least most text =
+number_in low high text =
     let n = digits_value 10 text in
-    if nat_lt 0 (length text) && (nat_le (length text) 10 && (list_all is_ascii_digit text && (nat_le least n && nat_le n most))) then Some n else None
+    if nat_lt 0 (length text) && (nat_le (length text) 10 && (list_all is_ascii_digit text && (nat_le low n && nat_le n high))) then Some n else None
 
 -- the number of an option that is used at most once
 abbrev pub number_of : ℕ → ℕ → ℕ → List Text → Option ℕ
-number_of least most default [] = Some default
-number_of least most default (text ∷ []) = number_in least most text
-number_of least most default _ = None
+number_of low high default [] = Some default
+number_of low high default (text ∷ []) = number_in low high text
+number_of low high default _ = None
 
 -- whether a flag is used, at most once
 abbrev pub flag_of : List Text → Option Bool
@@ -210,6 +253,22 @@ abbrev pub checked : List Text → Option Bounds → Option Ends → Option Aske
 checked (entry ∷ query ∷ number ∷ certificate ∷ source ∷ sources) (Some bounds) (Some ends) = option_map (λ goal. check record { entry = entry; query = query; goal = goal; certificate = certificate; sources = source ∷ sources; bounds = bounds; ends = ends }) (goal_in number)
 checked _ _ _ = None
 
+abbrev pub sufficed : List Text → Option Bounds → Option ℕ → Option Asked
+sufficed (entry ∷ source ∷ sources) (Some bounds) (Some budget) = Some (suffice record { entry = entry; sources = source ∷ sources; bounds = bounds; budget = budget })
+sufficed _ _ _ = None
+
+abbrev pub lowered : List Text → Option Bounds → Option Ends → Option ℕ → Option Asked
+lowered (entry ∷ query ∷ number ∷ source ∷ sources) (Some bounds) (Some ends) (Some budget) = option_map (λ goal. least record { entry = entry; query = query; goal = goal; sources = source ∷ sources; bounds = bounds; ends = ends; budget = budget }) (goal_in number)
+lowered _ _ _ _ = None
+
+abbrev pub traced : List Text → Option ℕ → Option Ends → Option Asked
+traced (entry ∷ inputs ∷ source ∷ sources) (Some steps) (Some ends) = Some (traces record { entry = entry; inputs = inputs; sources = source ∷ sources; steps = steps; ends = ends })
+traced _ _ _ = None
+
+abbrev pub replayed : List Text → Option Ends → Option Bool → Option Asked
+replayed (entry ∷ query ∷ file ∷ source ∷ sources) (Some ends) (Some json) = Some (replay record { entry = entry; query = query; traces = file; sources = source ∷ sources; ends = ends; json = json })
+replayed _ _ _ = None
+
 abbrev pub printed : List Text → Option Asked
 printed (source ∷ sources) = Some (graph (source ∷ sources))
 printed _ = None
@@ -241,6 +300,18 @@ prove_of uses = proved (positionals_of uses) (bounds_of uses) (ends_of uses) (bu
 abbrev pub check_of : List Use → Option Asked
 check_of uses = checked (positionals_of uses) (bounds_of uses) (ends_of uses)
 
+abbrev pub suffice_of : List Use → Option Asked
+suffice_of uses = sufficed (positionals_of uses) (bounds_of uses) (budget_of uses)
+
+abbrev pub least_of : List Use → Option Asked
+least_of uses = lowered (positionals_of uses) (bounds_of uses) (ends_of uses) (budget_of uses)
+
+abbrev pub traces_of : List Use → Option Asked
+traces_of uses = traced (positionals_of uses) (steps_of uses) (ends_of uses)
+
+abbrev pub replay_of : List Use → Option Asked
+replay_of uses = replayed (positionals_of uses) (ends_of uses) (json_of uses)
+
 abbrev pub graph_of : List Use → Option Asked
 graph_of uses = printed (positionals_of uses)
 
@@ -261,5 +332,9 @@ request_of (name ∷ words) =
     (if bytes_eq name (codes "runs") then asked_by runs_of (Steps ∷ []) words else
     (if bytes_eq name (codes "prove") then asked_by prove_of (Turns ∷ Frames ∷ Answers ∷ ends_option ∷ Budget ∷ []) words else
     (if bytes_eq name (codes "check") then asked_by check_of (Turns ∷ Frames ∷ Answers ∷ ends_option ∷ []) words else
+    (if bytes_eq name (codes "bounds") then asked_by suffice_of (Turns ∷ Frames ∷ Answers ∷ Budget ∷ []) words else
+    (if bytes_eq name (codes "least") then asked_by least_of (Turns ∷ Frames ∷ Answers ∷ ends_option ∷ Budget ∷ []) words else
+    (if bytes_eq name (codes "traces") then asked_by traces_of (Steps ∷ ends_option ∷ []) words else
+    (if bytes_eq name (codes "replay") then asked_by replay_of (ends_option ∷ Json ∷ []) words else
     (if bytes_eq name (codes "graph") then asked_by graph_of [] words else
-    (if bytes_eq name (codes "sample") then asked_by sample_of [] words else None)))))))
+    (if bytes_eq name (codes "sample") then asked_by sample_of [] words else None)))))))))))

@@ -3,14 +3,14 @@ ghost use Rattle.std.specs.Prelude.{◌≡◌, None, Some, IfOk, IsErrOf};
 ghost use Rattle.clap.specs.Matches.{found_of};
 ghost use Rattle.clap.specs.Walk.{rows_of};
 ghost use Rattle.command_words.specs.Reading.{texts, row_values};
-ghost use Rattle.command_words.specs.Request.{asked, asked_by, bounds_in, check_of, generate_of, goals_of, graph_of, measure_of, prove_of, request_of, runs_of, sample_of};
+ghost use Rattle.command_words.specs.Request.{asked, asked_by, bounds_in, check_of, generate_of, goals_of, graph_of, least_of, measure_of, prove_of, replay_of, request_of, runs_of, sample_of, suffice_of, traces_of};
 
 use crate::CommandOption;
 use crate::matching::{WORDS, matches, values_of};
 use crate::requests::{
     Bounds, Refused, Request, bounds_given, budget_given, check_with, ends_given, flag_given,
-    generate_with, goals_with, graph_with, measure_with, number_given, prove_with, runs_with,
-    sample_with, steps_given,
+    generate_with, goals_with, graph_with, least_with, measure_with, number_given, prove_with,
+    replay_with, runs_with, sample_with, steps_given, suffice_with, traces_with,
 };
 use clap::ArgMatches;
 use std::alloc::{AllocError, Global};
@@ -48,6 +48,25 @@ const CHECK: [CommandOption; 4] = [
     CommandOption::Answers,
     CommandOption::Ends,
 ];
+
+const BOUNDS: [CommandOption; 4] = [
+    CommandOption::Turns,
+    CommandOption::Frames,
+    CommandOption::Answers,
+    CommandOption::Budget,
+];
+
+const LEAST: [CommandOption; 5] = [
+    CommandOption::Turns,
+    CommandOption::Frames,
+    CommandOption::Answers,
+    CommandOption::Ends,
+    CommandOption::Budget,
+];
+
+const TRACES: [CommandOption; 2] = [CommandOption::Steps, CommandOption::Ends];
+
+const REPLAY: [CommandOption; 2] = [CommandOption::Ends, CommandOption::Json];
 
 const GRAPH: [CommandOption; 0] = [];
 
@@ -153,6 +172,57 @@ fn check<'a>(alloc: Global, words: &'a [String]) -> Result<Request<'a>, Refused>
     check_with(alloc, &positionals, bounds, ends_given(&ends))
 }
 
+fn suffice<'a>(alloc: Global, words: &'a [String]) -> Result<Request<'a>, Refused>
+    ensures ok { IfOk result (λ r. asked_by suffice_of BOUNDS (texts words.now) ≡ Some (asked r)) }
+    ensures usage { IsErrOf result Refused.Usage → asked_by suffice_of BOUNDS (texts words.now) ≡ None }
+{
+    let matches = matches(alloc, "bounds", &BOUNDS, words)?;
+    let positionals = values_of(alloc, &matches, WORDS)?;
+    let bounds = bounds(alloc, &matches)?;
+    let budget = values_of(alloc, &matches, CommandOption::Budget.name())?;
+    suffice_with(alloc, &positionals, bounds, budget_given(&budget))
+}
+
+fn least<'a>(alloc: Global, words: &'a [String]) -> Result<Request<'a>, Refused>
+    ensures ok { IfOk result (λ r. asked_by least_of LEAST (texts words.now) ≡ Some (asked r)) }
+    ensures usage { IsErrOf result Refused.Usage → asked_by least_of LEAST (texts words.now) ≡ None }
+{
+    let matches = matches(alloc, "least", &LEAST, words)?;
+    let positionals = values_of(alloc, &matches, WORDS)?;
+    let bounds = bounds(alloc, &matches)?;
+    let ends = values_of(alloc, &matches, CommandOption::Ends.name())?;
+    let budget = values_of(alloc, &matches, CommandOption::Budget.name())?;
+    least_with(
+        alloc,
+        &positionals,
+        bounds,
+        ends_given(&ends),
+        budget_given(&budget),
+    )
+}
+
+fn traces<'a>(alloc: Global, words: &'a [String]) -> Result<Request<'a>, Refused>
+    ensures ok { IfOk result (λ r. asked_by traces_of TRACES (texts words.now) ≡ Some (asked r)) }
+    ensures usage { IsErrOf result Refused.Usage → asked_by traces_of TRACES (texts words.now) ≡ None }
+{
+    let matches = matches(alloc, "traces", &TRACES, words)?;
+    let positionals = values_of(alloc, &matches, WORDS)?;
+    let steps = values_of(alloc, &matches, CommandOption::Steps.name())?;
+    let ends = values_of(alloc, &matches, CommandOption::Ends.name())?;
+    traces_with(alloc, &positionals, steps_given(&steps), ends_given(&ends))
+}
+
+fn replay<'a>(alloc: Global, words: &'a [String]) -> Result<Request<'a>, Refused>
+    ensures ok { IfOk result (λ r. asked_by replay_of REPLAY (texts words.now) ≡ Some (asked r)) }
+    ensures usage { IsErrOf result Refused.Usage → asked_by replay_of REPLAY (texts words.now) ≡ None }
+{
+    let matches = matches(alloc, "replay", &REPLAY, words)?;
+    let positionals = values_of(alloc, &matches, WORDS)?;
+    let ends = values_of(alloc, &matches, CommandOption::Ends.name())?;
+    let json = values_of(alloc, &matches, CommandOption::Json.name())?;
+    replay_with(alloc, &positionals, ends_given(&ends), flag_given(&json))
+}
+
 fn graph<'a>(alloc: Global, words: &'a [String]) -> Result<Request<'a>, Refused>
     ensures ok { IfOk result (λ r. asked_by graph_of GRAPH (texts words.now) ≡ Some (asked r)) }
     ensures usage { IsErrOf result Refused.Usage → asked_by graph_of GRAPH (texts words.now) ≡ None }
@@ -183,6 +253,10 @@ pub fn request<'a>(alloc: Global, words: &'a [String]) -> Result<Request<'a>, Re
         [name, rest @ ..] if name.as_str() == "runs" => runs(alloc, rest),
         [name, rest @ ..] if name.as_str() == "prove" => prove(alloc, rest),
         [name, rest @ ..] if name.as_str() == "check" => check(alloc, rest),
+        [name, rest @ ..] if name.as_str() == "bounds" => suffice(alloc, rest),
+        [name, rest @ ..] if name.as_str() == "least" => least(alloc, rest),
+        [name, rest @ ..] if name.as_str() == "traces" => traces(alloc, rest),
+        [name, rest @ ..] if name.as_str() == "replay" => replay(alloc, rest),
         [name, rest @ ..] if name.as_str() == "graph" => graph(alloc, rest),
         [name, rest @ ..] if name.as_str() == "sample" => sample(alloc, rest),
         _ => Err(Refused::Usage),

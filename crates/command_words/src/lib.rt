@@ -17,4 +17,6 @@ mod requests;
 
 pub use command_line::request;
 pub use command_option::CommandOption;
-pub use requests::{Bounds, Check, Generate, Goals, Measure, Prove, Refused, Request, Runs};
+pub use requests::{
+    Bounds, Check, Generate, Goals, Measure, Prove, Refused, Replay, Request, Runs, Suffice, Traces,
+};

@@ -2,7 +2,7 @@
 ghost use Rattle.std.specs.Prelude.{◌≡◌, ◌&&◌, nat_le, length, map, IfOk, IsErrOf, None, Some};
 ghost use Rattle.std.specs.Char.{is_ascii_digit};
 ghost use Rattle.std.specs.List.{list_all};
-ghost use Rattle.command_words.specs.Request.{asked, bounds_with, budget_in, checked, ends_in, ends_named, flag_of, generated, goal_in, listed, measured, number_in, number_of, printed, proved, run_with, sampled, steps_in};
+ghost use Rattle.command_words.specs.Request.{asked, bounds_with, budget_in, checked, ends_in, ends_named, flag_of, generated, goal_in, listed, lowered, measured, number_in, number_of, printed, proved, replayed, run_with, sampled, steps_in, sufficed, traced};
 
 use c_meaning::Ends;
 use std::alloc::{AllocError, Global};
@@ -126,6 +126,48 @@ pub struct Check<'a> {
     pub ends: Ends,
 }
 
+/// Whether bounds suffice, which is that no input has a run that leaves them.
+#[derive(Debug, Drop)]
+pub struct Suffice<'a> {
+    /// The name of the entry function.
+    pub entry: &'a str,
+    /// The names of the sources' files, one at least.
+    pub sources: Vec<&'a str>,
+    pub bounds: Bounds,
+    /// The moves of the search, 1 to 20,000,000.
+    pub budget: u32,
+}
+
+/// The trace file of given inputs.
+#[derive(Debug, Drop)]
+pub struct Traces<'a> {
+    /// The name of the entry function.
+    pub entry: &'a str,
+    /// The name of the file of inputs.
+    pub inputs: &'a str,
+    /// The names of the sources' files, one at least.
+    pub sources: Vec<&'a str>,
+    /// The most edges of a run, 1 to 1,000,000.
+    pub steps: u32,
+    /// The ends of a run that count.
+    pub ends: Ends,
+}
+
+/// Which goals the traces of a file cover.
+#[derive(Debug, Drop)]
+pub struct Replay<'a> {
+    /// The name of the entry function.
+    pub entry: &'a str,
+    pub query: &'a str,
+    /// The name of the trace file.
+    pub traces: &'a str,
+    /// The names of the sources' files, one at least.
+    pub sources: Vec<&'a str>,
+    /// The ends of a run that count.
+    pub ends: Ends,
+    pub json: bool,
+}
+
 /// What the words ask for.
 #[derive(Debug, Drop)]
 pub enum Request<'a> {
@@ -135,6 +177,11 @@ pub enum Request<'a> {
     Runs(Runs<'a>),
     Prove(Prove<'a>),
     Check(Check<'a>),
+    Bounds(Suffice<'a>),
+    /// The least input that covers a goal, by the words of `prove`.
+    Least(Prove<'a>),
+    Traces(Traces<'a>),
+    Replay(Replay<'a>),
     /// The automaton of the sources whose files have these names, one at least.
     Graph(Vec<&'a str>),
     /// A large program, made from a number from 1 to 200.
@@ -407,6 +454,112 @@ pub fn check_with<'a>(
                 None => Err(Refused::Usage),
             }
         }
+        _ => Err(Refused::Usage),
+    }
+}
+
+/// The request of `bounds`.
+pub fn suffice_with<'a>(
+    alloc: Global,
+    positionals: &[&'a str],
+    bounds: Option<Bounds>,
+    budget: Option<u32>,
+) -> Result<Request<'a>, Refused>
+    ensures ok { IfOk result (λ r. sufficed (map (λ v. v.now) positionals.now) bounds budget ≡ Some (asked r)) }
+    ensures usage { IsErrOf result Refused.Usage → sufficed (map (λ v. v.now) positionals.now) bounds budget ≡ None }
+{
+    let (Some(bounds), Some(budget)) = (bounds, budget) else {
+        return Err(Refused::Usage);
+    };
+    match positionals {
+        [entry, sources @ ..] if !sources.is_empty() => Ok(Request::Bounds(Suffice {
+            entry: *entry,
+            sources: sources.to_vec(alloc)?,
+            bounds,
+            budget,
+        })),
+        _ => Err(Refused::Usage),
+    }
+}
+
+/// The request of `least`.
+pub fn least_with<'a>(
+    alloc: Global,
+    positionals: &[&'a str],
+    bounds: Option<Bounds>,
+    ends: Option<Ends>,
+    budget: Option<u32>,
+) -> Result<Request<'a>, Refused>
+    ensures ok { IfOk result (λ r. lowered (map (λ v. v.now) positionals.now) bounds ends budget ≡ Some (asked r)) }
+    ensures usage { IsErrOf result Refused.Usage → lowered (map (λ v. v.now) positionals.now) bounds ends budget ≡ None }
+{
+    let (Some(bounds), Some(ends), Some(budget)) = (bounds, ends, budget) else {
+        return Err(Refused::Usage);
+    };
+    match positionals {
+        [entry, query, number, sources @ ..] if !sources.is_empty() => match goal_given(number) {
+            Some(goal) => Ok(Request::Least(Prove {
+                entry: *entry,
+                query: *query,
+                goal,
+                sources: sources.to_vec(alloc)?,
+                bounds,
+                ends,
+                budget,
+            })),
+            None => Err(Refused::Usage),
+        },
+        _ => Err(Refused::Usage),
+    }
+}
+
+/// The request of `traces`.
+pub fn traces_with<'a>(
+    alloc: Global,
+    positionals: &[&'a str],
+    steps: Option<u32>,
+    ends: Option<Ends>,
+) -> Result<Request<'a>, Refused>
+    ensures ok { IfOk result (λ r. traced (map (λ v. v.now) positionals.now) steps ends ≡ Some (asked r)) }
+    ensures usage { IsErrOf result Refused.Usage → traced (map (λ v. v.now) positionals.now) steps ends ≡ None }
+{
+    let (Some(steps), Some(ends)) = (steps, ends) else {
+        return Err(Refused::Usage);
+    };
+    match positionals {
+        [entry, inputs, sources @ ..] if !sources.is_empty() => Ok(Request::Traces(Traces {
+            entry: *entry,
+            inputs: *inputs,
+            sources: sources.to_vec(alloc)?,
+            steps,
+            ends,
+        })),
+        _ => Err(Refused::Usage),
+    }
+}
+
+/// The request of `replay`.
+pub fn replay_with<'a>(
+    alloc: Global,
+    positionals: &[&'a str],
+    ends: Option<Ends>,
+    json: Option<bool>,
+) -> Result<Request<'a>, Refused>
+    ensures ok { IfOk result (λ r. replayed (map (λ v. v.now) positionals.now) ends json ≡ Some (asked r)) }
+    ensures usage { IsErrOf result Refused.Usage → replayed (map (λ v. v.now) positionals.now) ends json ≡ None }
+{
+    let (Some(ends), Some(json)) = (ends, json) else {
+        return Err(Refused::Usage);
+    };
+    match positionals {
+        [entry, query, traces, sources @ ..] if !sources.is_empty() => Ok(Request::Replay(Replay {
+            entry: *entry,
+            query: *query,
+            traces: *traces,
+            sources: sources.to_vec(alloc)?,
+            ends,
+            json,
+        })),
         _ => Err(Refused::Usage),
     }
 }
