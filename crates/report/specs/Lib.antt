@@ -3,6 +3,8 @@ pub mod Generated
 pub mod GeneratedJson
 pub mod GraphText
 pub mod Json
+pub mod Least
 pub mod Letters
 pub mod Made
+pub mod Suffice
 pub mod Texts

@@ -23,7 +23,8 @@ pub fn parameter_kinds(graph: &Graph, entry: u32) -> &[Kind]
     }
 }
 
-fn push_arguments(text: &mut Vec<u8>, words: &[u64], kinds: &[Kind]) -> Result<(), AllocError>
+/// Appends arguments, each as a value of its parameter's kind.
+pub fn push_arguments(text: &mut Vec<u8>, words: &[u64], kinds: &[Kind]) -> Result<(), AllocError>
     requires { length words.now ≡ length kinds.now }
     ensures { OnOk result (text.new.items ≡ text.old.items ++ arguments_text words.now kinds.now) }
 {
