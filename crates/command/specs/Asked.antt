@@ -2,7 +2,7 @@
 use Rattle.std.specs.Prelude.{List, [], ◌∷◌, codes}
 use Rattle.command_words.specs.Reading.{Text}
 use Rattle.command_words.specs.Request as asks
-use Rattle.command_words.specs.Request.{Asked, measure, generate, goals, runs, prove, check, sample}
+use Rattle.command_words.specs.Request.{Asked, measure, generate, goals, runs, prove, check, suffice, sample}
 
 -- the file of a program that is made from a number
 abbrev pub sample_file : Text
@@ -16,5 +16,9 @@ sources_of (goals m) = m.sources
 sources_of (runs m) = m.sources
 sources_of (prove m) = m.sources
 sources_of (check m) = m.sources
+sources_of (suffice m) = m.sources
+sources_of (asks.least m) = m.sources
+sources_of (asks.traces m) = m.sources
+sources_of (asks.replay m) = m.sources
 sources_of (asks.graph sources) = sources
 sources_of (sample number) = sample_file ∷ []

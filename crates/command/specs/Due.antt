@@ -5,16 +5,20 @@ use Rattle.report.specs.GraphText.{graph_text}
 use Rattle.report.specs.Texts.{goals_text}
 use Rattle.command_words.specs.Reading.{Text}
 use Rattle.command_words.specs.Request as asks
-use Rattle.command_words.specs.Request.{Asked, measure, generate, goals, runs, prove, check, sample, Measuring, Listing, Running, request_of}
+use Rattle.command_words.specs.Request.{Asked, measure, generate, goals, runs, prove, check, suffice, sample, Measuring, Listing, Replaying, Running, Tracing, request_of}
 use Rattle.command.specs.Checking.{IsDueOfCheck}
 use Rattle.command.specs.Generating.{IsDueOfGenerate}
+use Rattle.command.specs.Lowering.{IsDueOfLeast}
 use Rattle.command.specs.Measured.{IsMeasured}
 use Rattle.command.specs.Proving.{IsDueOfProve}
 use Rattle.command.specs.Reads.{Reads}
 use Rattle.command.specs.Recorded.{recorded}
 use Rattle.command.specs.Said.{Said, answered}
 use Rattle.command.specs.Sampling.{IsDueOfSample}
-use Rattle.command.specs.Stages.{OfEntry, OfInputs, OfQuery, OfSources, usage}
+use Rattle.command.specs.Stages.{OfEntry, OfInputs, OfQuery, OfSources, OfTraces, usage}
+use Rattle.command.specs.Sufficing.{IsDueOfBounds}
+use Rattle.command.specs.Traces.{inputs_in, longest}
+use Rattle.command.specs.Tracing.{traced}
 
 -- ---- what is due of the commands that measure and list, by the sources' automaton
 
@@ -34,6 +38,16 @@ module _ (r : Reads) where
   IsDueOfRuns m graph said =
       OfEntry graph m.entry (λ entry. OfInputs r m.sources m.inputs (length entry.function.parameters) (λ given said. said ≡ recorded graph entry m.steps given)) said
 
+  abbrev pub IsDueOfTraces : Tracing → GraphParts → Said → Type 0
+  IsDueOfTraces m graph said =
+      OfEntry graph m.entry (λ entry. OfInputs r m.sources m.inputs (length entry.function.parameters) (λ given said. said ≡ traced graph entry m.ends m.steps given)) said
+
+  -- the report of measuring the inputs of the traces, as far as the longest of them
+  abbrev pub IsDueOfReplay : Replaying → GraphParts → Said → Type 0
+  IsDueOfReplay m graph said =
+      OfEntry graph m.entry (λ entry. OfQuery m.sources graph m.query (λ p plan.
+      OfTraces r m.sources graph entry.function m.ends m.traces p (λ given. IsMeasured graph entry p plan m.ends (longest given) m.json (inputs_in given)))) said
+
   -- ---- what is due, by what is asked
 
   abbrev pub IsDueOf : Asked → Said → Type 0
@@ -43,6 +57,10 @@ module _ (r : Reads) where
   IsDueOf (runs m) said = OfSources r m.sources (IsDueOfRuns m) said
   IsDueOf (prove m) said = OfSources r m.sources (IsDueOfProve m) said
   IsDueOf (check m) said = OfSources r m.sources (IsDueOfCheck r m) said
+  IsDueOf (suffice m) said = OfSources r m.sources (IsDueOfBounds m) said
+  IsDueOf (asks.least m) said = OfSources r m.sources (IsDueOfLeast m) said
+  IsDueOf (asks.traces m) said = OfSources r m.sources (IsDueOfTraces m) said
+  IsDueOf (asks.replay m) said = OfSources r m.sources (IsDueOfReplay m) said
   IsDueOf (asks.graph sources) said = OfSources r sources IsDueOfGraph said
   IsDueOf (sample number) said = IsDueOfSample number said
 

@@ -8,6 +8,7 @@ pub mod Entries
 pub mod Generating
 pub mod Inputs
 pub mod Laws
+pub mod Lowering
 pub mod Measured
 pub mod OneGoal
 pub mod Proving
@@ -24,4 +25,7 @@ pub mod Sampling
 pub mod Sources
 pub mod Stages
 pub mod Status
+pub mod Sufficing
+pub mod Traces
+pub mod Tracing
 pub mod Watched

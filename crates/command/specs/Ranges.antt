@@ -2,7 +2,7 @@
 use Rattle.std.specs.Prelude.{◌≤◌}
 use Rattle.command_words.specs.declared.requests.Bounds.{Bounds as AskedBounds}
 use Rattle.command_words.specs.Request as asks
-use Rattle.command_words.specs.Request.{Asked, measure, generate, goals, runs, prove, check, sample}
+use Rattle.command_words.specs.Request.{Asked, measure, generate, goals, runs, prove, check, suffice, sample}
 use Rattle.reached.specs.declared.bounds.Bounds.{Bounds}
 
 -- the bounds that the words give
@@ -21,5 +21,9 @@ IsInRange (goals m) = Unit {0}
 IsInRange (runs m) = Unit {0}
 IsInRange (prove m) = AreBounds m.bounds × (1 ≤ m.goal)
 IsInRange (check m) = AreBounds m.bounds × (1 ≤ m.goal)
+IsInRange (suffice m) = AreBounds m.bounds
+IsInRange (asks.least m) = AreBounds m.bounds × (1 ≤ m.goal)
+IsInRange (asks.traces m) = Unit {0}
+IsInRange (asks.replay m) = Unit {0}
 IsInRange (asks.graph sources) = Unit {0}
 IsInRange (sample number) = (1 ≤ number) × (number ≤ 200)

@@ -2,8 +2,10 @@
 use Rattle.std.specs.Prelude.{◌≡◌, ◌⊎◌, ◌-◌, ℕ, List, [], MatchOption, slice_get}
 use Rattle.fq_core.specs.declared.refusal.Place.TheVariants as place
 use Rattle.fq_core.specs.declared.refusal.Refusal.{Refusal}
+use Rattle.cfa.specs.declared.parts.Function.{Function}
 use Rattle.cfa.specs.declared.parts.GraphParts.{GraphParts}
 use Rattle.cfa.specs.declared.state.Predicates.{Predicates}
+use Rattle.c_meaning.specs.declared.ends.Ends.{Ends}
 use Rattle.c_meaning.specs.declared.input.Input.{Input}
 use Rattle.c_front.specs.Automata.{IsAutomatonOf}
 use Rattle.c_front.specs.Automata as automata
@@ -12,6 +14,7 @@ use Rattle.cnf.specs.declared.derivation.Derivation.{Derivation}
 use Rattle.cnf.specs.declared.formula.Formula.{Formula}
 use Rattle.goals.specs.GoalForm.{GoalForm}
 use Rattle.goals.specs.declared.plan.Plan.{Plan}
+use Rattle.trace_file.specs.declared.trace.Trace.{Trace}
 use Rattle.command_words.specs.Reading.{Text}
 use Rattle.command.specs.Certificates.{AreCertificateOf}
 use Rattle.command.specs.Certificates as certificates
@@ -24,6 +27,8 @@ use Rattle.command.specs.Refusal.{said_by}
 use Rattle.command.specs.Runs.{EntryFunction, entry_of}
 use Rattle.command.specs.Said.{Said}
 use Rattle.command.specs.Sources.{AreRefused, HaveAutomaton, IsReadUpTo}
+use Rattle.command.specs.Traces as traces
+use Rattle.command.specs.Traces.{AreTracesOf}
 
 -- ---- refusals whose place names no source
 
@@ -80,6 +85,12 @@ abbrev pub OfInputs : Reads → List Text → Text → ℕ → (List Input → S
 OfInputs r sources file parameters Then said =
     Says sources (inputs.AreRefused r file parameters) said
     ⊎ ((given : List Input) × AreInputsOf r file parameters given × Then given said)
+
+-- the trace file: it isn't read or is refused, or has these traces
+abbrev pub OfTraces : Reads → List Text → GraphParts → Function → Ends → Text → Predicates → (List Trace → Said → Type 0) → Said → Type 0
+OfTraces r sources graph entry ends file p Then said =
+    Says sources (traces.AreRefused r graph entry ends file) said
+    ⊎ ((given : List Trace) × AreTracesOf r graph entry ends file p given × Then given said)
 
 -- the certificate's file: it isn't read or is no certificate, or is that of this formula and derivation
 abbrev pub OfCertificate : Reads → List Text → Text → (Formula → Derivation → Said → Type 0) → Said → Type 0

@@ -99,6 +99,10 @@ fn sources_of<'a>(request: &'a Request<'a>) -> &'a [&'a str]
         Request::Runs(request) => &request.sources,
         Request::Prove(request) => &request.sources,
         Request::Check(request) => &request.sources,
+        Request::Bounds(request) => &request.sources,
+        Request::Least(request) => &request.sources,
+        Request::Traces(request) => &request.sources,
+        Request::Replay(request) => &request.sources,
         Request::Graph(sources) => sources,
         Request::Sample(_) => &SAMPLE_SOURCES,
     }

@@ -5,7 +5,9 @@
 //! of which goals of the query the inputs cover, for `goals` the list of the goals, for `runs` how the inputs' runs end and
 //! which edges they take, for `graph` the automaton of the sources, for `generate` the report of inputs that were made for
 //! the goals, for `prove` a certificate that no input covers a goal, or what stands in its place, for `check` whether a
-//! certificate refutes a goal, for `sample` what is found of a large program, and else the line of the refusal that is due.
+//! certificate refutes a goal, for `bounds` whether an input leaves the bounds, for `least` the least input that covers a goal, for
+//! `traces` a file of inputs with the edges of their runs, for `replay` the report of measuring such a file, for `sample` what is
+//! found of a large program, and else the line of the refusal that is due.
 //!
 //! Each stage has a crate: the words `command_words`, the sources' automaton `c_front`, the query `fql_read`, `predicates`
 //! and `goals`, the inputs `input_text`, the runs `path_runner`, their hits `measurer`, made inputs and reduced suites
@@ -20,16 +22,20 @@ mod entry;
 mod generating;
 mod inputs;
 pub mod laws;
+mod lowering;
 mod measurement;
 mod planned;
 mod proving;
 mod recorded;
 mod refusal;
+mod replaying;
 mod reply;
 mod sampling;
 mod session;
 mod sources;
 mod status;
+mod sufficing;
+mod tracing;
 
 pub use command::run;
 pub use status::Status;

@@ -28,7 +28,7 @@ pub fn run_of(
     graph: &Graph,
     entry: &Entry,
     predicates: &Predicates,
-    steps: u32,
+    steps: u64,
     input: &Input,
 ) -> Result<PathRecord, Memory>
     requires number { slice_get graph.now.functions entry.now.number ≡ Some entry.now.function.now }
@@ -36,7 +36,7 @@ pub fn run_of(
     requires predicates { IsPredicates graph.now predicates.now }
     ensures { IfOk result (λ run. run ≡ run_of graph.now entry.now.function.now predicates.now steps input.now) }
 {
-    trace_run(alloc, graph, entry.number, input, predicates, steps as u64)
+    trace_run(alloc, graph, entry.number, input, predicates, steps)
 }
 
 /// How the runs of inputs end, and the goals that each hits.
@@ -53,7 +53,7 @@ fn measure_all(
     entry: &Entry,
     planned: &Planned,
     ends: Ends,
-    steps: u32,
+    steps: u64,
     inputs: &[Input],
 ) -> Result<Measured, Memory>
     requires number { slice_get graph.now.functions entry.now.number ≡ Some entry.now.function.now }
@@ -97,7 +97,7 @@ pub fn report(
     entry: &Entry,
     planned: &Planned,
     ends: Ends,
-    steps: u32,
+    steps: u64,
     json: bool,
     inputs: &[Input],
 ) -> Result<Vec<u8>, Memory>

@@ -3,8 +3,10 @@ ghost use Rattle.std.specs.Prelude.{◌≡◌, List, ℕ, IfOk, IfErr, Some, sli
 ghost use Rattle.std.specs.List.{All};
 ghost use Rattle.c_meaning.specs.Starts.{CanStart};
 ghost use Rattle.command.specs.Entries.{seen};
-ghost use Rattle.command.specs.Recorded.{recorded};
+ghost use Rattle.command.specs.Recorded.{most_listed, recorded};
 ghost use Rattle.fq_core.specs.Refusals.{IfRefused};
+ghost use Rattle.fq_core.specs.declared.refusal.Fault.TheVariants as fault;
+ghost use Rattle.fq_core.specs.declared.refusal.Place.TheVariants as place;
 ghost use Rattle.command.specs.Refusal.{said_by};
 ghost use Rattle.command.specs.Said.{answered};
 
@@ -18,7 +20,20 @@ use path_runner::RunEnd;
 use report::runs_text;
 use std::alloc::Global;
 
-const MOST_LISTED: u64 = 10_000_000;
+/// The most edges that are listed.
+pub const MOST_LISTED: u64 = 10_000_000;
+
+/// The runs have more edges than are listed.
+pub fn too_many_edges() -> Fault
+    ensures { result ≡ fault.Refused (record { code = 54; place = place.Limit most_listed }) }
+{
+    Fault::Refused(Refusal {
+        code: 54,
+        place: Place::Limit {
+            number: MOST_LISTED,
+        },
+    })
+}
 
 /// The list of the runs of these inputs, each cut after so many edges.
 pub fn list(
@@ -40,15 +55,10 @@ pub fn list(
     let mut runs = Vec::new(alloc);
     let mut listed = 0u64;
     for input in inputs {
-        let run = run_of(alloc, graph, entry, &none, steps, input)?;
+        let run = run_of(alloc, graph, entry, &none, steps as u64, input)?;
         listed += run.edges.len() as u64;
         if listed > MOST_LISTED {
-            return Err(Fault::Refused(Refusal {
-                code: 54,
-                place: Place::Limit {
-                    number: MOST_LISTED,
-                },
-            }));
+            return Err(too_many_edges());
         }
         runs.push((run.end, run.edges))?;
     }

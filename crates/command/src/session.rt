@@ -1,10 +1,11 @@
 // From a request to the text that it asks for.
 ghost use Rattle.std.specs.Prelude.{◌≡◌, ◌≤◌, ◌<◌, Some, false, IfOk, IfErr, MatchResult, length};
-ghost use Rattle.command_words.specs.Request.{asked, checking, generating, listing, measuring, proving, running, texts_at};
+ghost use Rattle.command_words.specs.Request.{asked, checking, generating, listing, measuring, proving, replaying, running, sufficing, texts_at, tracing};
 ghost use Rattle.command.specs.Asked.{sources_of};
 ghost use Rattle.command.specs.Checking.{IsDueOfCheck};
-ghost use Rattle.command.specs.Due.{IsDueOf, IsDueOfGoals, IsDueOfGraph, IsDueOfMeasure, IsDueOfRuns};
+ghost use Rattle.command.specs.Due.{IsDueOf, IsDueOfGoals, IsDueOfGraph, IsDueOfMeasure, IsDueOfReplay, IsDueOfRuns, IsDueOfTraces};
 ghost use Rattle.command.specs.Generating.{IsDueOfGenerate};
+ghost use Rattle.command.specs.Lowering.{IsDueOfLeast};
 ghost use Rattle.command.specs.Proving.{IsDueOfProve};
 ghost use Rattle.command.specs.Ranges.{AreBounds, IsInRange};
 ghost use Rattle.command.specs.Reads.{reads};
@@ -13,22 +14,29 @@ ghost use Rattle.command.specs.Refusal.{said_by};
 ghost use Rattle.command.specs.Replies.{Gives, Tells};
 ghost use Rattle.command.specs.Said.{answered};
 ghost use Rattle.command.specs.Stages.{OfSources};
+ghost use Rattle.command.specs.Sufficing.{IsDueOfBounds};
 ghost use Rattle.command.specs.Watched.{watched};
 
 use crate::checking::check_graph;
 use crate::entry::{Entry, entry_named};
 use crate::generating::generate_graph;
 use crate::inputs::read_inputs;
+use crate::lowering::least_graph;
 use crate::measurement::report;
 use crate::planned::plan_query;
 use crate::proving::prove_graph;
 use crate::recorded::list;
 use crate::refusal::nowhere;
+use crate::replaying::replay_graph;
 use crate::reply::Reply;
 use crate::sampling::sample;
 use crate::sources::automaton;
+use crate::sufficing::bounds_graph;
+use crate::tracing::trace_inputs;
 use cfa::Graph;
-use command_words::{Check, Generate, Goals, Measure, Prove, Request, Runs};
+use command_words::{
+    Check, Generate, Goals, Measure, Prove, Replay, Request, Runs, Suffice, Traces,
+};
 use fq_core::{Fault, Memory};
 use fq_io::Files;
 use report::{goals_text, graph_text};
@@ -69,7 +77,7 @@ fn measure_graph<F: Files>(
         &entry,
         &planned,
         request.ends,
-        request.steps,
+        request.steps as u64,
         request.json,
         &inputs,
     )?;
@@ -177,6 +185,77 @@ fn check<F: Files>(alloc: Global, request: &Check, files: &mut F) -> Result<Repl
     check_graph(alloc, request, &graph, files)
 }
 
+fn bounds<F: Files, W: Watch>(
+    alloc: Global,
+    request: &Suffice,
+    files: &mut F,
+    watch: &mut W,
+) -> Result<Reply, Fault>
+    requires { AreBounds request.now.bounds }
+    ensures { let m = sufficing request.now in
+        Gives (OfSources (reads F.holds F.last_failed F.faults F.received files.old files.new) m.sources (IsDueOfBounds m))
+        m.sources (watched W.seen watch.old watch.new) result }
+{
+    let graph = automaton(alloc, files, &request.sources)?;
+    bounds_graph(alloc, request, &graph, watch)
+}
+
+fn least<F: Files, W: Watch>(
+    alloc: Global,
+    request: &Prove,
+    files: &mut F,
+    watch: &mut W,
+) -> Result<Reply, Fault>
+    requires bounds { AreBounds request.now.bounds }
+    requires some { 1 ≤ request.now.goal }
+    ensures { let m = proving request.now in
+        Gives (OfSources (reads F.holds F.last_failed F.faults F.received files.old files.new) m.sources (IsDueOfLeast m))
+        m.sources (watched W.seen watch.old watch.new) result }
+{
+    let graph = automaton(alloc, files, &request.sources)?;
+    least_graph(alloc, request, &graph, watch)
+}
+
+// The trace file of inputs over an automaton.
+fn traces_of_graph<F: Files>(
+    alloc: Global,
+    request: &Traces,
+    graph: &Graph,
+    files: &mut F,
+) -> Result<Vec<u8>, Fault>
+    ensures ok { IfOk result (λ text. IsDueOfTraces (reads F.holds F.last_failed F.faults F.received files.old files.new)
+        (tracing request.now) graph.now (answered text.items)) }
+    ensures err { IfErr result (λ fault. IfRefused fault (λ refusal.
+        IsDueOfTraces (reads F.holds F.last_failed F.faults F.received files.old files.new)
+        (tracing request.now) graph.now (said_by (tracing request.now).sources refusal))) }
+{
+    let Some(entry) = entry_named(graph, request.entry.as_bytes()) else {
+        return Err(Fault::Refused(nowhere(36)));
+    };
+    let inputs = read_inputs(alloc, files, request.inputs, parameters(&entry)?)?;
+    trace_inputs(alloc, graph, &entry, request.ends, request.steps, inputs)
+}
+
+fn traces<F: Files>(alloc: Global, request: &Traces, files: &mut F) -> Result<Vec<u8>, Fault>
+    ensures ok { IfOk result (λ text. let r = reads F.holds F.last_failed F.faults F.received files.old files.new in
+        OfSources r (tracing request.now).sources (IsDueOfTraces r (tracing request.now)) (answered text.items)) }
+    ensures err { IfErr result (λ fault. IfRefused fault (λ refusal. let r = reads F.holds F.last_failed F.faults F.received files.old files.new in
+        OfSources r (tracing request.now).sources (IsDueOfTraces r (tracing request.now)) (said_by (tracing request.now).sources refusal))) }
+{
+    let graph = automaton(alloc, files, &request.sources)?;
+    traces_of_graph(alloc, request, &graph, files)
+}
+
+fn replay<F: Files>(alloc: Global, request: &Replay, files: &mut F) -> Result<Vec<u8>, Fault>
+    ensures ok { IfOk result (λ text. let r = reads F.holds F.last_failed F.faults F.received files.old files.new in
+        OfSources r (replaying request.now).sources (IsDueOfReplay r (replaying request.now)) (answered text.items)) }
+    ensures err { IfErr result (λ fault. IfRefused fault (λ refusal. let r = reads F.holds F.last_failed F.faults F.received files.old files.new in
+        OfSources r (replaying request.now).sources (IsDueOfReplay r (replaying request.now)) (said_by (replaying request.now).sources refusal))) }
+{
+    let graph = automaton(alloc, files, &request.sources)?;
+    replay_graph(alloc, request, &graph, files)
+}
+
 // The text of the sources' automaton.
 fn graph<F: Files>(alloc: Global, sources: &[&str], files: &mut F) -> Result<Vec<u8>, Fault>
     ensures ok { IfOk result (λ text. OfSources (reads F.holds F.last_failed F.faults F.received files.old files.new)
@@ -220,6 +299,10 @@ pub fn answer<F: Files, W: Watch>(
         Request::Runs(request) => plain(runs(alloc, request, files)),
         Request::Prove(request) => prove(alloc, request, files, watch),
         Request::Check(request) => check(alloc, request, files),
+        Request::Bounds(request) => bounds(alloc, request, files, watch),
+        Request::Least(request) => least(alloc, request, files, watch),
+        Request::Traces(request) => plain(traces(alloc, request, files)),
+        Request::Replay(request) => plain(replay(alloc, request, files)),
         Request::Graph(sources) => plain(graph(alloc, sources, files)),
         Request::Sample(number) => sample(alloc, *number, watch),
     }
