@@ -12,13 +12,14 @@ use Rattle.goals.specs.GoalForm.{GoalForm}
 use Rattle.goals.specs.declared.plan.Plan.{Plan}
 use Rattle.report.specs.Generated.{sample_text}
 use Rattle.sample.specs.Sample.{query_text}
-use Rattle.command_words.specs.Request.{Checking, Generating, Proving}
+use Rattle.command_words.specs.Request.{Checking, Generating, Proving, Sufficing}
 use Rattle.command.specs.declared.reply.Reply.{Reply}
 use Rattle.command.specs.Asked.{sample_file}
 use Rattle.command.specs.Certificates as certificates
 use Rattle.command.specs.Certificates.{AreCertificateOf}
 use Rattle.command.specs.Checking.{IsChecked, IsDueOfCheck}
 use Rattle.command.specs.Generating.{IsDueOfGenerate, IsGeneration, generated_report}
+use Rattle.command.specs.Lowering.{IsDueOfLeast, IsLowered}
 use Rattle.command.specs.Proving.{IsDueOfProve, IsProved}
 use Rattle.command.specs.Queries.{IsPlanned, IsRefused}
 use Rattle.command.specs.Ranges.{within}
@@ -29,6 +30,7 @@ use Rattle.command.specs.Runs.{EntryFunction, entry_of}
 use Rattle.command.specs.Said.{Said}
 use Rattle.command.specs.Sampling.{IsSampled, default_bounds, default_budget}
 use Rattle.command.specs.Stages.{OfCertificate, OfGoal, OfQuery, no_such_entry, no_such_goal}
+use Rattle.command.specs.Sufficing.{IsAskedOfBounds, IsDueOfBounds}
 use Rattle.command.specs.Watched.{Watched}
 use Rattle.command.proofs.GivesLaws.{gives_map, tells_map}
 use Rattle.command.proofs.ReadsLaws.{refused_map}
@@ -78,6 +80,40 @@ module _ (m : Proving) (graph : GraphParts) where
           gives_map (ProveThen entry p plan found.0) (IsDueOfProve m graph) m.sources w r
           (λ said due. prove_at said (inr (p, (plan, planned, goal_some plan m.goal (ProveThen entry p plan) found.0 found.1 said due))))
           (gives found.0 found.1)
+
+module _ (m : Proving) (graph : GraphParts) where
+  abbrev LeastThen : EntryFunction → Predicates → Plan → GoalForm → Said → Type 0
+  LeastThen entry p plan goal = IsLowered graph entry p plan (within m.bounds) m.ends m.goal goal m.sources m.budget
+
+  pub least_no_entry : entry_of graph m.entry ≡ None → IsDueOfLeast m graph no_such_entry
+  least_no_entry none = rw none refl
+
+  module _ (entry : EntryFunction) (some : entry_of graph m.entry ≡ Some entry) where
+    least_at : (said : Said) → OfQuery m.sources graph m.query (λ p plan. OfGoal plan m.goal (LeastThen entry p plan)) said → IsDueOfLeast m graph said
+    least_at said due = rw some due
+
+    pub least_no_query : (e : Fault) → IfRefused e (IsRefused graph m.query) → IfRefused e (λ x. IsDueOfLeast m graph (said_by m.sources x))
+    least_no_query e cause = refused_map e cause (λ x why. least_at (said_by m.sources x) (inl (x, why, refl)))
+
+    module _ (p : Predicates) (plan : Plan) (planned : IsPlanned graph m.query p plan) where
+      pub least_no_goal : length plan.goals < m.goal → IsDueOfLeast m graph no_such_goal
+      least_no_goal past = least_at no_such_goal (inr (p, (plan, planned, goal_none plan m.goal (LeastThen entry p plan) past)))
+
+      pub least_gives : 1 ≤ m.goal → m.goal ≤ length plan.goals → (w : Watched) (r : Result Reply Fault)
+          → ((goal : GoalForm) → slice_get plan.goals (m.goal - 1) ≡ Some goal → Gives (LeastThen entry p plan goal) m.sources w r) → Gives (IsDueOfLeast m graph) m.sources w r
+      least_gives one there w r gives =
+          let found = goal_found plan m.goal (LeastThen entry p plan) one there in
+          gives_map (LeastThen entry p plan found.0) (IsDueOfLeast m graph) m.sources w r
+          (λ said due. least_at said (inr (p, (plan, planned, goal_some plan m.goal (LeastThen entry p plan) found.0 found.1 said due))))
+          (gives found.0 found.1)
+
+module _ (m : Sufficing) (graph : GraphParts) where
+  pub bounds_no_entry : entry_of graph m.entry ≡ None → IsDueOfBounds m graph no_such_entry
+  bounds_no_entry none = rw none refl
+
+  pub bounds_gives : (entry : EntryFunction) → entry_of graph m.entry ≡ Some entry → (w : Watched) (r : Result Reply Fault)
+      → Gives (IsAskedOfBounds graph entry (within m.bounds) m.sources m.budget) m.sources w r → Gives (IsDueOfBounds m graph) m.sources w r
+  bounds_gives entry some w r = gives_map (IsAskedOfBounds graph entry (within m.bounds) m.sources m.budget) (IsDueOfBounds m graph) m.sources w r (λ said due. rw some due)
 
 module _ (r : Reads) (m : Checking) (graph : GraphParts) where
   abbrev CheckThen : EntryFunction → Predicates → Plan → GoalForm → Said → Type 0

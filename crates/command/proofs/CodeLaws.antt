@@ -1,5 +1,5 @@
 -- Which codes a refusal of each stage has.
-use Rattle.std.proofs.Common.{◌≡◌, ℕ, ◌+◌, Bool, true, false, List, [], ◌∷◌, ◌++◌, Option, Some, None, Result, Ok, Err, refl, sym, subst}
+use Rattle.std.proofs.Common.{◌≡◌, ℕ, ◌+◌, Bool, true, false, List, [], ◌∷◌, ◌++◌, Option, Some, None, Result, Ok, Err, inl, inr, length, refl, sym, subst}
 use Rattle.std.specs.Prelude.{◌==◌, ◌||◌, IfSome, IsSomeAnd, IsTrue, cond, nat_le, option_map}
 use Rattle.std.specs.List.{AllByRecursion, list_any}
 use Rattle.std.proofs.lemmas.Bool.Decides.{Decides-eqb}
@@ -8,7 +8,9 @@ use Rattle.fq_core.specs.declared.refusal.Place.{Place}
 use Rattle.fq_core.specs.declared.refusal.Place.TheVariants as place
 use Rattle.fq_core.specs.declared.refusal.Refusal.{Refusal}
 use Rattle.c_front.specs.Codes.{RefusedByTheseCodes, text_codes}
+use Rattle.cfa.specs.declared.parts.Function.{Function}
 use Rattle.cfa.specs.declared.parts.GraphParts.{GraphParts}
+use Rattle.c_meaning.specs.declared.ends.Ends.{Ends}
 use Rattle.c_meaning.specs.declared.input.Input.{Input}
 use Rattle.certificate.specs.Refusals.{IsRefusedAtLine}
 use Rattle.fql_read.specs.Asks as asks
@@ -23,14 +25,18 @@ use Rattle.input_text.specs.declared.misfit.Misfit.{Misfit}
 use Rattle.input_text.specs.declared.misfit.Misfit.TheVariants as misfit
 use Rattle.predicates.specs.Outcome as predicates
 use Rattle.typing_faults.specs.Laws.{IsOneOf}
+use Rattle.trace_file.specs.Form.{Form, form_of}
+use Rattle.trace_file.specs.Reading.{IsRefusedAs, line_place, most_traces}
+use Rattle.trace_file.specs.Reading as reading
 use Rattle.command_words.specs.Reading.{Text}
 use Rattle.command.specs.Certificates as certificates
-use Rattle.command.specs.Codes.{NoneIsUsage, RefusalsHaveTheirCodes, certificate_codes, input_codes, is_usage, query_codes, unread_codes}
+use Rattle.command.specs.Codes.{NoneIsUsage, RefusalsHaveTheirCodes, certificate_codes, input_codes, is_usage, query_codes, trace_codes, unread_codes}
 use Rattle.command.specs.Inputs as inputs
 use Rattle.command.specs.Queries as queries
 use Rattle.command.specs.Reads.{Reads}
 use Rattle.command.specs.Refusal.{status_of}
 use Rattle.command.specs.Sources.{IsUnread, fails, is_past, most_source}
+use Rattle.command.specs.Traces as traces
 
 -- ---- files
 
@@ -139,6 +145,21 @@ inputs_told : (r : Reads) (file : Text) (parameters : ℕ) (x : Refusal) → inp
 inputs_told r file parameters x (inputs.at_read h) = unread_told r inputs.most_inputs file (50 ∷ 51 ∷ 52 ∷ 53 ∷ []) x h
 inputs_told r file parameters x (inputs.at_form bytes seen short h) = subst FormTold h (form_told parameters bytes)
 
+-- ---- traces
+
+module _ (graph : GraphParts) (entry : Function) (ends : Ends) where
+  trace_code : (x y : Refusal) → x ≡ y → IsOneOf trace_codes y.code → IsOneOf trace_codes x.code
+  trace_code x y is told = subst (λ (z : Refusal). IsOneOf trace_codes z.code) (sym is) told
+
+  lines_told : (form : Form) (x : Refusal) → IsRefusedAs graph entry ends form x → IsOneOf trace_codes x.code
+  lines_told (Err number) x is = trace_code x (reading.refused_at 55 (line_place number)) is refl
+  lines_told (Ok lines) x (inl many) = trace_code x (reading.refused_at 53 (place.Limit most_traces)) many.1 refl
+  lines_told (Ok lines) x (inr wrong) = trace_code x (reading.refused_at 56 (line_place (length wrong.1.before + 2))) wrong.1.is refl
+
+  traces_told : (r : Reads) (file : Text) (x : Refusal) → traces.AreRefused r graph entry ends file x → IsOneOf trace_codes x.code
+  traces_told r file x (traces.at_read h) = unread_told r traces.most_trace_bytes file (53 ∷ 55 ∷ 56 ∷ []) x h
+  traces_told r file x (traces.at_form bytes seen short h) = lines_told (form_of (length entry.parameters) bytes) x h
+
 -- ---- certificates
 
 line_told : (bytes : List ℕ) (x : Refusal) → IsRefusedAtLine bytes x → IsOneOf certificate_codes x.code
@@ -159,6 +180,7 @@ their_codes law = record {
   sources = λ r files x h. law h.texts x.code x.place h.cause;
   query = query_told;
   inputs = inputs_told;
+  traces = λ r graph entry ends. traces_told graph entry ends r;
   certificate = certificate_told;
 }
 
@@ -176,10 +198,10 @@ one_of P [] h code k = absurd (cc)
 one_of P (c ∷ codes) h code k = this_or P c code (list_any (λ (d : ℕ). d == code) codes) (c == code) refl h.0 (one_of P codes h.1 code) k
 
 abbrev all_codes : List ℕ
-all_codes = unread_codes ++ text_codes ++ query_codes ++ input_codes ++ certificate_codes
+all_codes = unread_codes ++ text_codes ++ query_codes ++ input_codes ++ trace_codes ++ certificate_codes
 
 pub none_is_usage : NoneIsUsage
 none_is_usage code h = one_of NoUsage all_codes statuses code h
   where
     statuses : AllByRecursion NoUsage all_codes
-    statuses = (refl, (refl, (refl, (refl, (refl, (refl, (refl, (refl, (refl, (refl, (refl, (refl, (refl, (refl, (refl, (refl, (refl, (refl, (refl, (refl, (refl, (refl, (refl, (refl, (refl, (refl, (refl, (refl, (refl, (refl, (refl, (refl, (refl, (refl, (refl, (refl, (refl, (refl, (refl, (refl, (refl, (refl, (refl, tt)))))))))))))))))))))))))))))))))))))))))))
+    statuses = (refl, (refl, (refl, (refl, (refl, (refl, (refl, (refl, (refl, (refl, (refl, (refl, (refl, (refl, (refl, (refl, (refl, (refl, (refl, (refl, (refl, (refl, (refl, (refl, (refl, (refl, (refl, (refl, (refl, (refl, (refl, (refl, (refl, (refl, (refl, (refl, (refl, (refl, (refl, (refl, (refl, (refl, (refl, (refl, (refl, (refl, (refl, (refl, tt))))))))))))))))))))))))))))))))))))))))))))))))

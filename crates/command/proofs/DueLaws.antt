@@ -9,16 +9,19 @@ use Rattle.cfa.specs.declared.parts.Function.{Function}
 use Rattle.cfa.specs.declared.parts.GraphParts.{GraphParts}
 use Rattle.c_meaning.specs.declared.input.Input.{Input}
 use Rattle.c_meaning.specs.Starts.{CanStart}
+use Rattle.c_meaning.specs.declared.ends.Ends.{Ends}
 use Rattle.cnf.specs.declared.derivation.Derivation.{Derivation}
 use Rattle.cnf.specs.declared.formula.Formula.{Formula}
 use Rattle.goals.specs.GoalForm.{GoalForm}
+use Rattle.cfa.specs.declared.state.Predicates.{Predicates}
 use Rattle.goals.specs.declared.plan.Plan.{Plan}
+use Rattle.trace_file.specs.declared.trace.Trace.{Trace}
 use Rattle.command_words.specs.Reading.{Text}
-use Rattle.command_words.specs.Request.{Checking, Measuring, Running}
+use Rattle.command_words.specs.Request.{Checking, Measuring, Replaying, Running, Tracing}
 use Rattle.command.specs.Certificates as certificates
 use Rattle.command.specs.Certificates.{AreCertificateOf}
 use Rattle.command.specs.Checking.{IsChecked, IsDueOfCheck}
-use Rattle.command.specs.Due.{IsDueOfMeasure, IsDueOfRuns}
+use Rattle.command.specs.Due.{IsDueOfMeasure, IsDueOfReplay, IsDueOfRuns, IsDueOfTraces}
 use Rattle.command.specs.Inputs.{AreRefused, at_read, at_form}
 use Rattle.command.specs.Inputs as inputs
 use Rattle.command.specs.Measured.{IsMeasured}
@@ -30,7 +33,10 @@ use Rattle.command.specs.Runs.{EntryFunction, entry_of}
 use Rattle.command.specs.Said.{Said}
 use Rattle.command.specs.Sources.{HaveAutomaton, IsReadUpTo}
 use Rattle.command.specs.Sources as sources
-use Rattle.command.specs.Stages.{OfCertificate, OfEntry, OfGoal, OfInputs, OfQuery, OfSources, no_such_entry, no_such_goal, nowhere}
+use Rattle.command.specs.Stages.{OfCertificate, OfEntry, OfGoal, OfInputs, OfQuery, OfSources, OfTraces, no_such_entry, no_such_goal, nowhere}
+use Rattle.command.specs.Traces as traces
+use Rattle.command.specs.Traces.{inputs_in, longest}
+use Rattle.command.specs.Tracing.{traced}
 use Rattle.command.proofs.ReadsLaws.{late, refused_map, unread_since, whole}
 
 -- ---- refusals without a place
@@ -69,6 +75,26 @@ module _ (r : Reads) (m : Running) (graph : GraphParts) where
   pub runs_at : (entry : EntryFunction) (said : Said) → entry_of graph m.entry ≡ Some entry
       → OfInputs r m.sources m.inputs (length entry.function.parameters) (λ given x. x ≡ recorded graph entry m.steps given) said → IsDueOfRuns r m graph said
   runs_at entry said some due = rw some due
+
+module _ (r : Reads) (m : Tracing) (graph : GraphParts) where
+  pub traces_no_entry : entry_of graph m.entry ≡ None → IsDueOfTraces r m graph no_such_entry
+  traces_no_entry none = rw none refl
+
+  pub traces_at : (entry : EntryFunction) (said : Said) → entry_of graph m.entry ≡ Some entry
+      → OfInputs r m.sources m.inputs (length entry.function.parameters) (λ given x. x ≡ traced graph entry m.ends m.steps given) said → IsDueOfTraces r m graph said
+  traces_at entry said some due = rw some due
+
+module _ (r : Reads) (m : Replaying) (graph : GraphParts) where
+  -- the report of the traces of the file
+  abbrev pub ReplayThen : EntryFunction → Predicates → Plan → Said → Type 0
+  ReplayThen entry p plan =
+      OfTraces r m.sources graph entry.function m.ends m.traces p (λ given. IsMeasured graph entry p plan m.ends (longest given) m.json (inputs_in given))
+
+  pub replay_no_entry : entry_of graph m.entry ≡ None → IsDueOfReplay r m graph no_such_entry
+  replay_no_entry none = rw none refl
+
+  pub replay_at : (entry : EntryFunction) (said : Said) → entry_of graph m.entry ≡ Some entry → OfQuery m.sources graph m.query (ReplayThen entry) said → IsDueOfReplay r m graph said
+  replay_at entry said some due = rw some due
 
 -- ---- what is due since some reads is due since before them
 
@@ -121,6 +147,45 @@ module _ (holds held : List ℕ → Option (List ℕ)) (last : Option (Option (L
       (λ entry. OfInputs since m.sources m.inputs (length entry.function.parameters) (λ given x. x ≡ recorded graph entry m.steps given))
       (λ entry. OfInputs all m.sources m.inputs (length entry.function.parameters) (λ given x. x ≡ recorded graph entry m.steps given))
       said (λ entry. inputs_since m.sources m.inputs (length entry.function.parameters) (λ given x. x ≡ recorded graph entry m.steps given) said) due
+
+  pub traces_since : (m : Tracing) (graph : GraphParts) (said : Said) → IsDueOfTraces since m graph said → IsDueOfTraces all m graph said
+  traces_since m graph said due =
+      entry_since graph m.entry
+      (λ entry. OfInputs since m.sources m.inputs (length entry.function.parameters) (λ given x. x ≡ traced graph entry m.ends m.steps given))
+      (λ entry. OfInputs all m.sources m.inputs (length entry.function.parameters) (λ given x. x ≡ traced graph entry m.ends m.steps given))
+      said (λ entry. inputs_since m.sources m.inputs (length entry.function.parameters) (λ given x. x ≡ traced graph entry m.ends m.steps given) said) due
+
+  module _ (graph : GraphParts) (entry : Function) (ends : Ends) (file : Text) where
+    traces_refused_since : (x : Refusal) → traces.AreRefused since graph entry ends file x → traces.AreRefused all graph entry ends file x
+    traces_refused_since x (traces.at_read unread) =
+        traces.at_read (unread_since holds held last first middle after one two three same no_fault received traces.most_trace_bytes file x unread)
+    traces_refused_since x (traces.at_form bytes seen short refused) = traces.at_form bytes (sees_since file bytes seen) short refused
+
+    file_since : (names : List Text) (p : Predicates) (Then : List Trace → Said → Type 0) (said : Said)
+        → OfTraces since names graph entry ends file p Then said → OfTraces all names graph entry ends file p Then said
+    file_since names p Then said (inl refusal) = inl (refusal.0, traces_refused_since refusal.0 refusal.1, refusal.2)
+    file_since names p Then said (inr given) =
+        let are = given.1 in
+        inr (given.0, record { bytes = are.bytes; seen = sees_since file are.bytes are.seen; short = are.short; is = are.is }, given.2)
+
+  pub replay_since : (m : Replaying) (graph : GraphParts) (said : Said) → IsDueOfReplay since m graph said → IsDueOfReplay all m graph said
+  replay_since m graph said due =
+      entry_since graph m.entry
+      (λ entry. OfQuery m.sources graph m.query (ReplayThen since m graph entry))
+      (λ entry. OfQuery m.sources graph m.query (ReplayThen all m graph entry))
+      said by_query due
+    where
+      by_query : (entry : EntryFunction) → OfQuery m.sources graph m.query (ReplayThen since m graph entry) said → OfQuery m.sources graph m.query (ReplayThen all m graph entry) said
+      by_query entry (inl refusal) = inl refusal
+      by_query entry (inr made) =
+          inr (
+            made.0,
+            (
+              made.1.0,
+              made.1.1,
+              file_since graph entry.function m.ends m.traces m.sources made.0 (λ given. IsMeasured graph entry made.0 made.1.0 m.ends (longest given) m.json (inputs_in given)) said made.1.2,
+            ),
+          )
 
   certificate_refused_since : (file : Text) (x : Refusal) → certificates.IsRefused since file x → certificates.IsRefused all file x
   certificate_refused_since file x (certificates.at_read unread) =

@@ -22,6 +22,8 @@ use Rattle.goal_formula.specs.declared.goal.GoalFormula.{GoalFormula}
 use Rattle.goals.specs.GoalForm.{GoalForm}
 use Rattle.goals.specs.declared.plan.Plan.{Plan}
 use Rattle.input_text.specs.Laws.{HasWords}
+use Rattle.least_input.specs.Answers.{IsAnswered, IsOpenWhereShort}
+use Rattle.least_input.specs.declared.least.Least.{Least}
 use Rattle.path_runner.specs.Paths.{record_of}
 use Rattle.path_runner.specs.declared.path.PathRecord.{PathRecord}
 use Rattle.reached.specs.declared.bounds.Bounds.{Bounds}
@@ -96,6 +98,14 @@ module _ (parts : GraphParts) (p : Predicates) (f : Function) (entry : ℕ) (bou
     decided_at budget d decided =
         subst (λ (e : Ends). IsDecided parts f p plan bounds e goal budget d) is.given_ends
         (subst (λ (b : Bounds). IsDecided parts f p plan b u.ends goal budget d) is.given_bounds decided)
+
+    pub answered_at : (budget : ℕ) (l : Least) → IsAnswered parts f p plan u.bounds u.ends goal budget l → IsAnswered parts f p plan bounds ends goal budget l
+    answered_at budget l answered =
+        subst (λ (e : Ends). IsAnswered parts f p plan bounds e goal budget l) is.given_ends
+        (subst (λ (b : Bounds). IsAnswered parts f p plan b u.ends goal budget l) is.given_bounds answered)
+
+    pub short_at : (budget : ℕ) (l : Least) → IsOpenWhereShort parts f p plan u.bounds goal budget l → IsOpenWhereShort parts f p plan bounds goal budget l
+    short_at budget l short = subst (λ (b : Bounds). IsOpenWhereShort parts f p plan b goal budget l) is.given_bounds short
 
     pub said_at : (e : EntryFunction) (number : ℕ) (d : Decided) (said : Said) → IsSaidOf parts e p plan u.bounds u.ends number goal d said
         → IsSaidOf parts e p plan bounds ends number goal d said

@@ -1,4 +1,5 @@
 pub mod AtEntry
+pub mod BoundsLaws
 pub mod CertificateLaws
 pub mod CertifiedLaws
 pub mod CodeLaws
@@ -16,3 +17,5 @@ pub mod ReadsLaws
 pub mod RecordedLaws
 pub mod StageLaws
 pub mod StatusLaws
+pub mod TracesLaws
+pub mod TracingLaws

@@ -12,7 +12,7 @@ use Rattle.command_words.specs.declared.command_option.CommandOption.TheVariants
 use Rattle.command_words.specs.declared.requests.Bounds.{Bounds}
 use Rattle.command_words.specs.Reading.{Text, Use, reading, values}
 use Rattle.command_words.specs.Request as asks
-use Rattle.command_words.specs.Request.{Asked, asked_by, bounds_of, bounds_with, check_of, checked, generate_of, generated, goal_in, goals_of, graph_of, listed, measure_of, measured, number_in, number_of, positionals_of, printed, prove_of, proved, request_of, run_with, runs_of, sample_of, sampled}
+use Rattle.command_words.specs.Request.{Asked, asked_by, bounds_of, bounds_with, check_of, checked, generate_of, generated, goal_in, goals_of, graph_of, least_of, listed, lowered, measure_of, measured, number_in, number_of, positionals_of, printed, prove_of, proved, replay_of, replayed, request_of, run_with, runs_of, sample_of, sampled, suffice_of, sufficed, traced, traces_of}
 use Rattle.command.specs.Ranges.{AreBounds, IsInRange}
 
 -- ---- numbers
@@ -77,6 +77,24 @@ module _ (a : Asked) where
       numbered (goal_in number) _ 1 10000 (number_within 1 10000 number) (λ goal within. (ok, within.0)) is
   checked_within words bounds ends ok is = none_asked is
 
+  sufficed_within : (words : List Text) (bounds : Option Bounds) (budget : Option ℕ) → IfSome bounds AreBounds → sufficed words bounds budget ≡ Some a → IsInRange a
+  sufficed_within (entry ∷ source ∷ sources) (Some b) (Some n) ok is = asked_is _ ok is
+  sufficed_within words bounds budget ok is = none_asked is
+
+  lowered_within : (words : List Text) (bounds : Option Bounds) (ends : Option Ends) (budget : Option ℕ)
+      → IfSome bounds AreBounds → lowered words bounds ends budget ≡ Some a → IsInRange a
+  lowered_within (entry ∷ query ∷ number ∷ source ∷ sources) (Some b) (Some e) (Some n) ok is =
+      numbered (goal_in number) _ 1 10000 (number_within 1 10000 number) (λ goal within. (ok, within.0)) is
+  lowered_within words bounds ends budget ok is = none_asked is
+
+  traced_within : (words : List Text) (steps : Option ℕ) (ends : Option Ends) → traced words steps ends ≡ Some a → IsInRange a
+  traced_within (entry ∷ inputs ∷ source ∷ sources) (Some n) (Some e) is = asked_is _ tt is
+  traced_within words steps ends is = none_asked is
+
+  replayed_within : (words : List Text) (ends : Option Ends) (json : Option Bool) → replayed words ends json ≡ Some a → IsInRange a
+  replayed_within (entry ∷ query ∷ traces ∷ source ∷ sources) (Some e) (Some j) is = asked_is _ tt is
+  replayed_within words ends json is = none_asked is
+
   printed_within : (words : List Text) → printed words ≡ Some a → IsInRange a
   printed_within [] is = none_asked is
   printed_within (source ∷ sources) is = asked_is (asks.graph (source ∷ sources)) tt is
@@ -125,5 +143,9 @@ module _ (a : Asked) where
       (choose (bytes_eq name (codes "runs")) _ _ (asked_within runs_of (Steps ∷ []) words (λ uses. run_within _ _))
       (choose (bytes_eq name (codes "prove")) _ _ (asked_within prove_of (Turns ∷ Frames ∷ Answers ∷ ends_option ∷ Budget ∷ []) words (λ uses. proved_within _ _ _ _ (bounds_ok uses)))
       (choose (bytes_eq name (codes "check")) _ _ (asked_within check_of (Turns ∷ Frames ∷ Answers ∷ ends_option ∷ []) words (λ uses. checked_within _ _ _ (bounds_ok uses)))
+      (choose (bytes_eq name (codes "bounds")) _ _ (asked_within suffice_of (Turns ∷ Frames ∷ Answers ∷ Budget ∷ []) words (λ uses. sufficed_within _ _ _ (bounds_ok uses)))
+      (choose (bytes_eq name (codes "least")) _ _ (asked_within least_of (Turns ∷ Frames ∷ Answers ∷ ends_option ∷ Budget ∷ []) words (λ uses. lowered_within _ _ _ _ (bounds_ok uses)))
+      (choose (bytes_eq name (codes "traces")) _ _ (asked_within traces_of (Steps ∷ ends_option ∷ []) words (λ uses. traced_within _ _ _))
+      (choose (bytes_eq name (codes "replay")) _ _ (asked_within replay_of (ends_option ∷ Json ∷ []) words (λ uses. replayed_within _ _ _))
       (choose (bytes_eq name (codes "graph")) _ _ (asked_within graph_of [] words (λ uses. printed_within (positionals_of uses)))
-      (choose (bytes_eq name (codes "sample")) _ _ (asked_within sample_of [] words (λ uses. sampled_within (positionals_of uses))) none_asked))))))) is
+      (choose (bytes_eq name (codes "sample")) _ _ (asked_within sample_of [] words (λ uses. sampled_within (positionals_of uses))) none_asked))))))))))) is

@@ -23,7 +23,7 @@ module _ (graph : GraphParts) (entry : EntryFunction) (steps : ℕ) (inputs : Li
       rw (sym (take-map (run_of graph entry.function no_predicates steps) n inputs))
       (sum_by-take-le (λ (run : PathRecord). length run.edges) (runs_at inputs) n)
 
-  said_limit : (names : List (List ℕ)) → said_by names (record { code = 54; place = place.Limit most_listed }) ≡ said_by [] (record { code = 54; place = place.Limit most_listed })
+  pub said_limit : (names : List (List ℕ)) → said_by names (record { code = 54; place = place.Limit most_listed }) ≡ said_by [] (record { code = 54; place = place.Limit most_listed })
   unfolding said_by
   said_limit names = refl
 

@@ -26,23 +26,30 @@ use Rattle.path_runner.specs.declared.path.PathRecord.{PathRecord}
 use Rattle.reached.specs.declared.bounds.Bounds.{Bounds}
 use Rattle.report.specs.Generated.{sample_text}
 use Rattle.report.specs.Texts.{goals_text, runs_text}
+use Rattle.trace_file.specs.Written.{traces_text}
 use Rattle.sample.specs.Sample.{query_text}
 use Rattle.suite.specs.Generated.{IsGenerateFault}
 use Rattle.suite.specs.declared.decided.Decided.{Decided}
 use Rattle.suite.specs.declared.decided.Decided.TheVariants as decided
 use Rattle.suite.specs.declared.generated.Generated.{Generated}
+use Rattle.bounds_check.specs.declared.suffice.Suffice.{Suffice}
+use Rattle.bounds_check.specs.declared.suffice.Suffice.TheVariants as suffice
+use Rattle.least_input.specs.declared.least.Least.{Least}
+use Rattle.least_input.specs.declared.least.Least.TheVariants as least
+use Rattle.trace_file.specs.declared.trace.Trace.{Trace}
 use Rattle.typing_faults.specs.Laws.{IsOneOf}
 use Rattle.unwinder.specs.Unwinding.{IsUnwindFault}
 use Rattle.command_words.specs.Reading.{Text}
 use Rattle.command_words.specs.Request as asks
-use Rattle.command_words.specs.Request.{Asked, Checking, Generating, Listing, Measuring, Proving, Running}
+use Rattle.command_words.specs.Request.{Asked, Checking, Generating, Listing, Measuring, Proving, Replaying, Running, Sufficing, Tracing}
 use Rattle.command.specs.Asked.{sample_file}
 use Rattle.command.specs.Certificates as certificates
 use Rattle.command.specs.Checking.{IsChecked, IsCompared, IsDueOfCheck, said_of_verdict}
-use Rattle.command.specs.Codes.{RefusalsHaveTheirCodes, certificate_codes, input_codes, query_codes, unread_codes}
-use Rattle.command.specs.Due.{IsDueOf, IsDueOfGoals, IsDueOfGraph, IsDueOfMeasure, IsDueOfRuns}
+use Rattle.command.specs.Codes.{RefusalsHaveTheirCodes, certificate_codes, input_codes, query_codes, trace_codes, unread_codes}
+use Rattle.command.specs.Due.{IsDueOf, IsDueOfGoals, IsDueOfGraph, IsDueOfMeasure, IsDueOfReplay, IsDueOfRuns, IsDueOfTraces}
 use Rattle.command.specs.Generating.{IsDueOfGenerate, IsGeneration, generated_report}
 use Rattle.command.specs.Inputs as inputs
+use Rattle.command.specs.Lowering.{IsDueOfLeast, IsLowered, said_of_least}
 use Rattle.command.specs.Measured.{IsMeasured}
 use Rattle.command.specs.OneGoal.{IsGoalRefused}
 use Rattle.command.specs.Proving.{IsDueOfProve, IsProved, IsSaidOf}
@@ -55,7 +62,11 @@ use Rattle.command.specs.Runs.{EntryFunction, entry_of, no_predicates, runs_of}
 use Rattle.command.specs.Said.{Said, answered}
 use Rattle.command.specs.Sampling.{IsSampled, default_bounds, default_budget, sample_source}
 use Rattle.command.specs.Sources.{AreRefused, IsReadUpTo}
-use Rattle.command.specs.Stages.{OfCertificate, OfEntry, OfGoal, OfInputs, OfQuery, OfSources, OfTexts, Says, no_such_entry, no_such_goal}
+use Rattle.command.specs.Stages.{OfCertificate, OfEntry, OfGoal, OfInputs, OfQuery, OfSources, OfTexts, OfTraces, Says, no_such_entry, no_such_goal}
+use Rattle.command.specs.Sufficing.{IsAskedOfBounds, IsDueOfBounds, said_of_bounds}
+use Rattle.command.specs.Traces as traces
+use Rattle.command.specs.Traces.{inputs_in, longest}
+use Rattle.command.specs.Tracing.{traced, traces_of}
 use Rattle.command.proofs.CodeLaws.{one_of, their_codes}
 
 abbrev HasStatus : Said → Type 0
@@ -81,6 +92,9 @@ query_coded code h = one_of IsCode query_codes (refl, (refl, (refl, (refl, (refl
 
 input_coded : (code : ℕ) → IsOneOf input_codes code → IsCode code
 input_coded code h = one_of IsCode input_codes (refl, (refl, (refl, (refl, (refl, (refl, tt)))))) code h
+
+trace_coded : (code : ℕ) → IsOneOf trace_codes code → IsCode code
+trace_coded code h = one_of IsCode trace_codes (refl, (refl, (refl, (refl, (refl, tt))))) code h
 
 certificate_coded : (code : ℕ) → IsOneOf certificate_codes code → IsCode code
 certificate_coded code h = one_of IsCode certificate_codes (refl, (refl, (refl, tt))) code h
@@ -108,17 +122,17 @@ fault_coded code p x h is =
     let same : x ≡ record { code = code; place = p } = cc in
     subst (λ (y : Refusal). IsCode y.code) (sym same) h
 
-module _ (graph : GraphParts) (f : Function) (p : Predicates) (plan : Plan) (bounds : Bounds) where
-  unwind_coded : (x : Refusal) → IsUnwindFault graph p bounds f (fault.Refused x) → IsCode x.code
-  unwind_coded x (inl many) = fault_coded 80 (place.Limit 50000) x refl many.0
-  unwind_coded x (inr large) = fault_coded 81 (place.Limit 4194304) x refl large.0
+unwind_coded : (graph : GraphParts) (f : Function) (p : Predicates) (bounds : Bounds) (x : Refusal) → IsUnwindFault graph p bounds f (fault.Refused x) → IsCode x.code
+unwind_coded graph f p bounds x (inl many) = fault_coded 80 (place.Limit 50000) x refl many.0
+unwind_coded graph f p bounds x (inr large) = fault_coded 81 (place.Limit 4194304) x refl large.0
 
+module _ (graph : GraphParts) (f : Function) (p : Predicates) (plan : Plan) (bounds : Bounds) where
   generate_coded : (ends : Ends) (x : Refusal) → IsGenerateFault graph f p plan bounds ends (fault.Refused x) → IsCode x.code
-  generate_coded ends x (inl unwound) = unwind_coded x unwound
+  generate_coded ends x (inl unwound) = unwind_coded graph f p bounds x unwound
   generate_coded ends x (inr large) = fault_coded 82 (place.Limit 8388608) x refl large.0
 
   goal_coded : (goal : GoalForm) (x : Refusal) → IsGoalRefused graph f p plan bounds goal x → IsCode x.code
-  goal_coded goal x (inl unwound) = unwind_coded x unwound
+  goal_coded goal x (inl unwound) = unwind_coded graph f p bounds x unwound
   goal_coded goal x (inr large) = fault_coded 82 (place.Limit 8388608) x refl large.0
 
 -- ---- the stages
@@ -167,6 +181,12 @@ module _ (law : RefusedByTheseCodes) where
       says_coded sources (inputs.AreRefused r file parameters) said (λ x h. input_coded x.code (told.inputs r file parameters x h)) says
   of_inputs r sources file parameters Then each said (inr made) = each made.0 said made.2
 
+  of_traces : (r : Reads) (sources : List Text) (graph : GraphParts) (entry : Function) (ends : Ends) (file : Text) (p : Predicates) (Then : List Trace → Said → Type 0)
+      → ((given : List Trace) (said : Said) → Then given said → HasStatus said) → (said : Said) → OfTraces r sources graph entry ends file p Then said → HasStatus said
+  of_traces r sources graph entry ends file p Then each said (inl says) =
+      says_coded sources (traces.AreRefused r graph entry ends file) said (λ x h. trace_coded x.code (told.traces r graph entry ends file x h)) says
+  of_traces r sources graph entry ends file p Then each said (inr made) = each made.0 said made.2
+
   of_certificate : (r : Reads) (sources : List Text) (file : Text) (Then : Formula → Derivation → Said → Type 0)
       → ((formula : Formula) (derivation : Derivation) (said : Said) → Then formula derivation said → HasStatus said)
       → (said : Said) → OfCertificate r sources file Then said → HasStatus said
@@ -182,6 +202,30 @@ listed_told graph entry runs said is = by (nat_lt most_listed (edges_in runs)) i
     by : (many : Bool) → said ≡ cond many (said_by [] (record { code = 54; place = place.Limit most_listed })) (answered (runs_text graph entry (map ending runs))) → HasStatus said
     by true e = nowhere_coded 54 (place.Limit most_listed) said refl e
     by false e = answered_done _ said e
+
+traced_told : (graph : GraphParts) (entry : EntryFunction) (ends : Ends) (steps : ℕ) (given : List Input) (said : Said) → said ≡ traced graph entry ends steps given → HasStatus said
+traced_told graph entry ends steps given said is = by (nat_lt most_listed (edges_in (runs_of graph entry.function no_predicates steps given))) is
+  where
+    by : (many : Bool) → said ≡ cond many (said_by [] (record { code = 54; place = place.Limit most_listed })) (answered (traces_text entry.function.parameters (traces_of graph entry.function ends steps given))) → HasStatus said
+    by true e = nowhere_coded 54 (place.Limit most_listed) said refl e
+    by false e = answered_done _ said e
+
+module _ (graph : GraphParts) (entry : EntryFunction) (bounds : Bounds) where
+  found_told : (s : Suffice) (said : Said) → said ≡ said_of_bounds graph entry bounds s → HasStatus said
+  found_told (suffice.Yes formula derivation) said is = answered_done _ said is
+  found_told (suffice.Left input) said is = answered_done _ said is
+  found_told (suffice.Open formula history) said is = subst HasStatus (sym is) refl
+
+  asked_told : (names : List Text) (budget : ℕ) (said : Said) → IsAskedOfBounds graph entry bounds names budget said → HasStatus said
+  asked_told names budget said (inl says) =
+      says_coded names (λ (x : Refusal). IsUnwindFault graph no_predicates bounds entry.function (fault.Refused x)) said
+      (unwind_coded graph entry.function no_predicates bounds) says
+  asked_told names budget said (inr made) = found_told made.1.0 said made.1.3
+
+least_told : (number : ℕ) (bounds : Bounds) (ends : Ends) (l : Least) (said : Said) → said ≡ said_of_least number bounds ends l → HasStatus said
+least_told number bounds ends (least.Found input formula fixed) said is = answered_done _ said is
+least_told number bounds ends (least.Refuted formula derivation) said is = answered_done _ said is
+least_told number bounds ends (least.Open formula history) said is = subst HasStatus (sym is) refl
 
 generation_told : (names : List Text) (graph : GraphParts) (entry : EntryFunction) (p : Predicates) (plan : Plan) (bounds : Bounds) (ends : Ends) (budget : ℕ) (text : Generated → List ℕ)
     (said : Said) → IsGeneration names graph entry p plan bounds ends budget text said → HasStatus said
@@ -199,6 +243,11 @@ module _ (graph : GraphParts) (entry : EntryFunction) (p : Predicates) (plan : P
   proved_told names budget said (inl says) =
       says_coded names (IsGoalRefused graph entry.function p plan bounds goal) said (goal_coded graph entry.function p plan bounds goal) says
   proved_told names budget said (inr made) = decided_told made.1.0 said made.1.2
+
+  lowered_told : (names : List Text) (budget : ℕ) (said : Said) → IsLowered graph entry p plan bounds ends number goal names budget said → HasStatus said
+  lowered_told names budget said (inl says) =
+      says_coded names (IsGoalRefused graph entry.function p plan bounds goal) said (goal_coded graph entry.function p plan bounds goal) says
+  lowered_told names budget said (inr made) = least_told number bounds ends made.1.0 said made.1.3
 
 module _ (m : Checking) where
   verdict_told : (v : Verdict) (said : Said) → said ≡ said_of_verdict m v → HasStatus said
@@ -250,6 +299,25 @@ module _ (law : RefusedByTheseCodes) (r : Reads) where
       of_entry law graph m.entry _ (λ entry. of_query law m.sources graph m.query _ (λ p plan. of_goal law plan m.goal _ (λ goal.
       of_certificate law r m.sources m.certificate _ (checked_told m graph entry p plan goal))))
 
+  bounds_told : (m : Sufficing) (graph : GraphParts) (said : Said) → IsDueOfBounds m graph said → HasStatus said
+  bounds_told m graph = of_entry law graph m.entry _ (λ entry. asked_told graph entry (within m.bounds) m.sources m.budget)
+
+  lowest_told : (m : Proving) (graph : GraphParts) (said : Said) → IsDueOfLeast m graph said → HasStatus said
+  lowest_told m graph =
+      of_entry law graph m.entry _ (λ entry. of_query law m.sources graph m.query _ (λ p plan. of_goal law plan m.goal _ (λ goal.
+      lowered_told graph entry p plan (within m.bounds) m.ends m.goal goal m.sources m.budget)))
+
+  traces_told : (m : Tracing) (graph : GraphParts) (said : Said) → IsDueOfTraces r m graph said → HasStatus said
+  traces_told m graph =
+      of_entry law graph m.entry _ (λ entry. of_inputs law r m.sources m.inputs (length entry.function.parameters) (λ given said. said ≡ traced graph entry m.ends m.steps given)
+      (λ given said is. traced_told graph entry m.ends m.steps given said is))
+
+  replay_told : (m : Replaying) (graph : GraphParts) (said : Said) → IsDueOfReplay r m graph said → HasStatus said
+  replay_told m graph =
+      of_entry law graph m.entry _ (λ entry. of_query law m.sources graph m.query _ (λ p plan.
+      of_traces law r m.sources graph entry.function m.ends m.traces p (λ given. IsMeasured graph entry p plan m.ends (longest given) m.json (inputs_in given))
+      (λ given said due. answered_done _ said due.2)))
+
   sampled_told : (number : ℕ) (graph : GraphParts) (said : Said) → IsSampled number graph said → HasStatus said
   sampled_told number graph =
       of_entry law graph (codes "f") _ (λ entry. of_query law (sample_file ∷ []) graph query_text _ (λ p plan.
@@ -262,6 +330,10 @@ module _ (law : RefusedByTheseCodes) (r : Reads) where
   due_told (asks.runs m) said due = of_sources law r m.sources (IsDueOfRuns r m) (runs_told m) said due
   due_told (asks.prove m) said due = of_sources law r m.sources (IsDueOfProve m) (prove_told m) said due
   due_told (asks.check m) said due = of_sources law r m.sources (IsDueOfCheck r m) (check_told m) said due
+  due_told (asks.suffice m) said due = of_sources law r m.sources (IsDueOfBounds m) (bounds_told m) said due
+  due_told (asks.least m) said due = of_sources law r m.sources (IsDueOfLeast m) (lowest_told m) said due
+  due_told (asks.traces m) said due = of_sources law r m.sources (IsDueOfTraces r m) (traces_told m) said due
+  due_told (asks.replay m) said due = of_sources law r m.sources (IsDueOfReplay r m) (replay_told m) said due
   due_told (asks.graph sources) said due = of_sources law r sources IsDueOfGraph graph_told said due
   due_told (asks.sample number) said due = of_texts law (sample_file ∷ []) (sample_source number ∷ []) (IsSampled number) (sampled_told number) said due
 

@@ -1,5 +1,6 @@
 mod Accepted
 mod Agreement
 mod OneDue
+mod OneFile
 mod OneKind
 mod Printed

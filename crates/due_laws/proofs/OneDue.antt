@@ -12,6 +12,7 @@ use Rattle.c_lex.specs.declared.token.SourceText.{SourceText}
 use Rattle.c_front.specs.Automata.{IsAutomatonOf}
 use Rattle.c_front.specs.Automata as automata
 use Rattle.c_front.specs.Laws as front
+use Rattle.cfa.specs.declared.parts.Function.{Function}
 use Rattle.cfa.specs.declared.parts.GraphParts.{GraphParts}
 use Rattle.cfa.specs.declared.state.Predicates.{Predicates}
 use Rattle.c_meaning.specs.declared.ends.Ends.{Ends}
@@ -29,9 +30,12 @@ use Rattle.hits.specs.Laws.{OneListOfHits}
 use Rattle.input_text.specs.Inputs.{inputs_of}
 use Rattle.report.specs.GraphText.{graph_text}
 use Rattle.report.specs.Texts.{goals_text}
+use Rattle.trace_file.specs.Reading as reading
+use Rattle.trace_file.specs.Form.{form_of}
+use Rattle.trace_file.specs.declared.trace.Trace.{Trace}
 use Rattle.command_words.specs.Reading.{Text}
 use Rattle.command_words.specs.Request as asks
-use Rattle.command_words.specs.Request.{Asked, measure, generate, goals, runs, prove, check, sample, Listing, Measuring, Running, request_of}
+use Rattle.command_words.specs.Request.{Asked, measure, generate, goals, runs, prove, check, suffice, sample, Listing, Measuring, Replaying, Running, Tracing, request_of}
 use Rattle.due_laws.specs.Determined.{AtMostOneIsDue, IsTold, are_told, files_of}
 use Rattle.command.specs.Due.{IsDueOf}
 use Rattle.command.specs.Inputs.{AreInputsOf}
@@ -45,7 +49,11 @@ use Rattle.command.specs.Refusal.{said_by}
 use Rattle.command.specs.Runs.{EntryFunction, entry_of, runs_of}
 use Rattle.command.specs.Said.{Said, answered}
 use Rattle.command.specs.Sources.{AreRead, AreRefused, HaveAutomaton, IsRead, IsReadUpTo, IsUnread, fails, is_past, most_source}
-use Rattle.command.specs.Stages.{OfEntry, OfInputs, OfQuery, OfSources, Says, no_such_entry, usage}
+use Rattle.command.specs.Stages.{OfEntry, OfInputs, OfQuery, OfSources, OfTraces, Says, no_such_entry, usage}
+use Rattle.command.specs.Traces as traces
+use Rattle.command.specs.Traces.{AreTracesOf, inputs_in, longest}
+use Rattle.command.specs.Tracing.{traced}
+use Rattle.due_laws.proofs.OneFile.{not_read, read_alike, refused_once}
 
 -- at most one
 abbrev pub Once : {X : Type 0} → (X → Type 0) → Type 0
@@ -331,6 +339,31 @@ module _ (r : Reads) (still : Rose r.faults_before r.faults_after → ⊥) where
     one_of_inputs sources Then once x y (inr a) (inl b) = absurd (not_given b.0 a.0 b.1 a.1)
     one_of_inputs sources Then once x y (inr a) (inr b) = once b.0 x y (subst (λ (given : List Input). Then given x) (one_given a.0 b.0 a.1 b.1) a.2) b.2
 
+  -- ---- traces
+
+  module _ (file : Text) (h : Told file) (graph : GraphParts) (f : Function) (ends : Ends) where
+    one_refused_traces : Once (traces.AreRefused r graph f ends file)
+    one_refused_traces x y (traces.at_read a) (traces.at_read b) = unread_is traces.most_trace_bytes file x a ∙ sym (unread_is traces.most_trace_bytes file y b)
+    one_refused_traces x y (traces.at_read a) (traces.at_form bytes seen short b) = absurd (not_seen traces.most_trace_bytes file x bytes h a seen short)
+    one_refused_traces x y (traces.at_form bytes seen short a) (traces.at_read b) = absurd (not_seen traces.most_trace_bytes file y bytes h b seen short)
+    one_refused_traces x y (traces.at_form bytes seen short a) (traces.at_form others sight few b) =
+        refused_once graph f ends (form_of (length f.parameters) others) x y (subst (λ (bs : List ℕ). reading.IsRefused graph f ends bs x) (one_seen file bytes others h seen sight) a) b
+
+    not_traces : (p : Predicates) (x : Refusal) (given : List Trace) → traces.AreRefused r graph f ends file x → AreTracesOf r graph f ends file p given → ⊥
+    not_traces p x given (traces.at_read a) b = not_seen traces.most_trace_bytes file x b.bytes h a b.seen b.short
+    not_traces p x given (traces.at_form bytes seen short a) b =
+        not_read graph f ends p (form_of (length f.parameters) b.bytes) x given (subst (λ (bs : List ℕ). reading.IsRefused graph f ends bs x) (one_seen file bytes b.bytes h seen b.seen) a) b.is
+
+    one_of_traces : (p : Predicates) (sources : List Text) (Report : ℕ → List Input → Said → Type 0) → ((steps : ℕ) (given : List Input) → AnyTwo IsSame (Report steps given))
+        → AnyTwo IsSame (OfTraces r sources graph f ends file p (λ given. Report (longest given) (inputs_in given)))
+    one_of_traces p sources Report once x y (inl a) (inl b) = one_saying sources (traces.AreRefused r graph f ends file) one_refused_traces x y a b
+    one_of_traces p sources Report once x y (inl a) (inr b) = absurd (not_traces p a.0 b.0 a.1 b.1)
+    one_of_traces p sources Report once x y (inr a) (inl b) = absurd (not_traces p b.0 a.0 b.1 a.1)
+    one_of_traces p sources Report once x y (inr a) (inr b) =
+        let bytes = one_seen file a.1.bytes b.1.bytes h a.1.seen b.1.seen in
+        let same = read_alike graph f ends p (form_of (length f.parameters) b.1.bytes) a.0 b.0 (subst (λ (bs : List ℕ). reading.IsFileOf graph f ends p bs a.0) bytes a.1.is) b.1.is in
+        once (longest b.0) (inputs_in b.0) x y (subst (λ (n : ℕ). Report n (inputs_in b.0) x) same.1 (subst (λ (given : List Input). Report (longest a.0) given x) same.0 a.2)) b.2
+
 -- ---- the report
 
 module _ (law : OneListOfHits) (plan : Plan) (ends : Ends) where
@@ -386,6 +419,27 @@ module _ (front_law : (texts : List SourceText) → front.HasOneOutcome texts) (
       one_by IsSame is_same (entry_of graph m.entry) no_such_entry (Given graph) (λ entry.
       one_of_inputs r still m.inputs t.1 (length entry.function.parameters) m.sources (Listed graph entry) (λ given x y e f. e ∙ sym f))) said other c d
 
+  pub traced_once : (m : Tracing) → IsTrue (are_told r (m.sources ++ m.inputs ∷ [])) → AnyTwo IsSame (IsDueOf r (asks.traces m))
+  traced_once m h said other c d =
+      let t = both_told m.sources m.inputs h in
+      let Listed : GraphParts → EntryFunction → List Input → Said → Type 0 = λ graph entry given x. x ≡ traced graph entry m.ends m.steps given in
+      let Given : GraphParts → EntryFunction → Said → Type 0 = λ graph entry. OfInputs r m.sources m.inputs (length entry.function.parameters) (Listed graph entry) in
+      one_of_sources r still front_law m.sources t.0 IsSame is_same (λ graph. OfEntry graph m.entry (Given graph)) (λ graph.
+      one_by IsSame is_same (entry_of graph m.entry) no_such_entry (Given graph) (λ entry.
+      one_of_inputs r still m.inputs t.1 (length entry.function.parameters) m.sources (Listed graph entry) (λ given x y e f. e ∙ sym f))) said other c d
+
+  pub replayed_once : (m : Replaying) → IsTrue (are_told r (m.sources ++ m.traces ∷ [])) → AnyTwo IsSame (IsDueOf r (asks.replay m))
+  replayed_once m h said other c d =
+      let t = both_told m.sources m.traces h in
+      let Reported : GraphParts → EntryFunction → Predicates → Plan → ℕ → List Input → Said → Type 0 = λ graph entry p plan steps given. IsMeasured graph entry p plan m.ends steps m.json given in
+      let Given : GraphParts → EntryFunction → Predicates → Plan → Said → Type 0 = λ graph entry p plan.
+      OfTraces r m.sources graph entry.function m.ends m.traces p (λ given. Reported graph entry p plan (longest given) (inputs_in given)) in
+      let Asking : GraphParts → EntryFunction → Said → Type 0 = λ graph entry. OfQuery m.sources graph m.query (Given graph entry) in
+      one_of_sources r still front_law m.sources t.0 IsSame is_same (λ graph. OfEntry graph m.entry (Asking graph)) (λ graph.
+      one_by IsSame is_same (entry_of graph m.entry) no_such_entry (Asking graph) (λ entry.
+      one_of_query predicates_law graph m.query IsSame is_same m.sources (Given graph entry) (λ p plan.
+      one_of_traces r still m.traces t.1 graph entry.function m.ends p m.sources (Reported graph entry p plan) (λ steps. one_measured hits_law plan m.ends graph entry p steps m.json)))) said other c d
+
   pub printed_once : (sources : List Text) → IsTrue (are_told r sources) → AnyTwo IsSame (IsDueOf r (asks.graph sources))
   printed_once sources h said other c d =
       let Printed : GraphParts → Said → Type 0 = λ graph x. x ≡ answered (graph_text graph) in
@@ -404,6 +458,10 @@ at_most_one front_law predicates_law hits_law r words still told said other a b 
     asked_once (generate m) h c d = absurd (none_told (are_told r (files_of (generate m))) h)
     asked_once (prove m) h c d = absurd (none_told (are_told r (files_of (prove m))) h)
     asked_once (check m) h c d = absurd (none_told (are_told r (files_of (check m))) h)
+    asked_once (suffice m) h c d = absurd (none_told (are_told r (files_of (suffice m))) h)
+    asked_once (asks.least m) h c d = absurd (none_told (are_told r (files_of (asks.least m))) h)
+    asked_once (asks.traces m) h c d = traced_once front_law predicates_law hits_law r still m h said other c d
+    asked_once (asks.replay m) h c d = replayed_once front_law predicates_law hits_law r still m h said other c d
     asked_once (asks.graph sources) h c d = printed_once front_law predicates_law hits_law r still sources h said other c d
     asked_once (sample number) h c d = absurd (none_told (are_told r (files_of (sample number))) h)
 

@@ -35,6 +35,11 @@ use Rattle.reached.specs.declared.step.Step.{Step}
 use Rattle.reached_laws.specs.Laws.{NotTooMany, OneCount, OneSize}
 use Rattle.report.specs.Generated.{sample_text}
 use Rattle.sample.specs.Sample.{query_text}
+use Rattle.bounds_check.specs.Sufficing as sufficing
+use Rattle.bounds_check.specs.declared.suffice.Suffice.{Suffice}
+use Rattle.bounds_check.specs.declared.suffice.Suffice.TheVariants as found
+use Rattle.least_input.specs.declared.least.Least.{Least}
+use Rattle.least_input.specs.declared.least.Least.TheVariants as least
 use Rattle.suite.specs.Generated.{Shown, HasTooLargeGoal, IsGenerateFault, IsWithinLimits}
 use Rattle.suite.specs.declared.decided.Decided.{Decided}
 use Rattle.suite.specs.declared.decided.Decided.TheVariants.{Covered, Refuted, Undecided}
@@ -43,7 +48,7 @@ use Rattle.unwinder.specs.Unwinding.{AreTooLarge, IsUnwindFault}
 use Rattle.unwinding_size.specs.Sizes.{size_sum}
 use Rattle.command_words.specs.Reading.{Text}
 use Rattle.command_words.specs.Request as asks
-use Rattle.command_words.specs.Request.{Asked, measure, generate, goals, runs, prove, check, sample, Checking, Generating, Proving, request_of}
+use Rattle.command_words.specs.Request.{Asked, measure, generate, goals, runs, prove, check, suffice, sample, Checking, Generating, Proving, Sufficing, request_of}
 use Rattle.command.specs.Asked.{sample_file}
 use Rattle.command.specs.Certificates.{AreCertificateOf}
 use Rattle.command.specs.Certificates as certificates
@@ -51,16 +56,18 @@ use Rattle.command.specs.Checking.{IsChecked, IsCompared, said_of_verdict}
 use Rattle.due_laws.specs.Determined.{AreAlike, AreOfOneKind, AtMostOneKindIsDue, SaysNoCertificate, answers, are_told, files_of}
 use Rattle.command.specs.Due.{IsDueOf}
 use Rattle.command.specs.Generating.{IsGeneration, concluded, generated_report, is_open}
+use Rattle.command.specs.Lowering.{IsLowered, said_of_least}
 use Rattle.command.specs.OneGoal.{IsGoalRefused, IsGoalTooLarge, IsGoalWithin}
 use Rattle.command.specs.Proving.{IsProved, IsSaidOf}
 use Rattle.command.specs.Ranges.{within}
 use Rattle.command.specs.Reads.{Reads}
-use Rattle.command.specs.Runs.{EntryFunction, entry_of}
+use Rattle.command.specs.Runs.{EntryFunction, entry_of, no_predicates}
 use Rattle.command.specs.Refusal.{said_by}
 use Rattle.command.specs.Said.{Said, status_with}
 use Rattle.command.specs.Sampling.{IsDueOfSample, IsSampled, default_bounds, default_budget, sample_source}
 use Rattle.command.specs.Stages.{OfCertificate, OfEntry, OfGoal, OfQuery, OfTexts, Says, no_such_entry, no_such_goal, usage}
-use Rattle.due_laws.proofs.OneDue.{AnyTwo, Once, TellsSame, both_told, listed_once, measured_once, not_seen, one_by, one_of_query, one_of_sources, one_saying, one_seen, printed_once, recorded_once, same_refusal, unread_is}
+use Rattle.command.specs.Sufficing.{IsAskedOfBounds, said_of_bounds}
+use Rattle.due_laws.proofs.OneDue.{AnyTwo, Once, TellsSame, both_told, listed_once, measured_once, not_seen, one_by, one_of_query, one_of_sources, one_saying, one_seen, printed_once, recorded_once, replayed_once, same_refusal, traced_once, unread_is}
 
 one_kind : TellsSame AreOfOneKind
 one_kind x y e = inl e
@@ -74,7 +81,7 @@ same_refused x y e = cc
 by_one : (x y : Refusal) (f : Fault) → fault.Refused x ≡ f → fault.Refused y ≡ f → x ≡ y
 by_one x y f a b = same_refused x y (a ∙ sym b)
 
-module _ (count : OneCount) (size : OneSize) (few : NotTooMany) (graph : GraphParts) (f : Function) (p : Predicates) (plan : Plan) (bounds : Bounds) (ends : Ends) where
+module _ (size : OneSize) (few : NotTooMany) (graph : GraphParts) (f : Function) (p : Predicates) (bounds : Bounds) where
   -- what some list of the pairs that are reached says
   record Counted : Type 0 where
     pairs : List Pair
@@ -108,22 +115,23 @@ module _ (count : OneCount) (size : OneSize) (few : NotTooMany) (graph : GraphPa
   one_unwound x y (inr a) (inl b) = absurd (not_many (of_large a.1) b.1)
   one_unwound x y (inr a) (inr b) = by_one x y (refusal 81 (place.Limit 4194304)) a.0 b.0
 
+module _ (count : OneCount) (size : OneSize) (few : NotTooMany) (graph : GraphParts) (f : Function) (p : Predicates) (plan : Plan) (bounds : Bounds) (ends : Ends) where
   -- ---- of all goals
 
-  abbrev of_goal : HasTooLargeGoal graph f p plan bounds ends → Counted
+  abbrev of_goal : HasTooLargeGoal graph f p plan bounds ends → Counted size few graph f p bounds
   of_goal h = record { pairs = h.pairs; steps = h.steps; reached = h.reached; few_pairs = h.few_pairs }
 
-  abbrev of_limits : IsWithinLimits graph f p plan bounds ends → Counted
+  abbrev of_limits : IsWithinLimits graph f p plan bounds ends → Counted size few graph f p bounds
   of_limits h = record { pairs = h.pairs; steps = h.steps; reached = h.reached; few_pairs = h.few_pairs }
 
   one_fault : Once (λ (x : Refusal). IsGenerateFault graph f p plan bounds ends (fault.Refused x))
-  one_fault x y (inl a) (inl b) = one_unwound x y a b
-  one_fault x y (inl a) (inr b) = absurd (not_unwound (of_goal b.1) b.1.small x a)
-  one_fault x y (inr a) (inl b) = absurd (not_unwound (of_goal a.1) a.1.small y b)
+  one_fault x y (inl a) (inl b) = one_unwound size few graph f p bounds x y a b
+  one_fault x y (inl a) (inr b) = absurd (not_unwound size few graph f p bounds (of_goal b.1) b.1.small x a)
+  one_fault x y (inr a) (inl b) = absurd (not_unwound size few graph f p bounds (of_goal a.1) a.1.small y b)
   one_fault x y (inr a) (inr b) = by_one x y (refusal 82 (place.Limit 8388608)) a.0 b.0
 
   no_fault : IsWithinLimits graph f p plan bounds ends → (x : Refusal) → IsGenerateFault graph f p plan bounds ends (fault.Refused x) → ⊥
-  no_fault h x (inl a) = not_unwound (of_limits h) h.small x a
+  no_fault h x (inl a) = not_unwound size few graph f p bounds (of_limits h) h.small x a
   no_fault h x (inr a) =
       let same = count graph bounds f h.pairs a.1.pairs h.steps a.1.steps h.reached a.1.reached in
       let fits = subst (λ (n : ℕ). goal_size plan a.1.goal n ≤ 8388608) same (h.goals a.1.place a.1.goal a.1.there) in
@@ -133,20 +141,20 @@ module _ (count : OneCount) (size : OneSize) (few : NotTooMany) (graph : GraphPa
   -- ---- of one goal
 
   module _ (goal : GoalForm) where
-    abbrev of_one : IsGoalTooLarge graph f p plan bounds goal → Counted
+    abbrev of_one : IsGoalTooLarge graph f p plan bounds goal → Counted size few graph f p bounds
     of_one h = record { pairs = h.pairs; steps = h.steps; reached = h.reached; few_pairs = h.few_pairs }
 
-    abbrev of_within : IsGoalWithin graph f p plan bounds goal → Counted
+    abbrev of_within : IsGoalWithin graph f p plan bounds goal → Counted size few graph f p bounds
     of_within h = record { pairs = h.pairs; steps = h.steps; reached = h.reached; few_pairs = h.few_pairs }
 
     one_goal_refused : Once (IsGoalRefused graph f p plan bounds goal)
-    one_goal_refused x y (inl a) (inl b) = one_unwound x y a b
-    one_goal_refused x y (inl a) (inr b) = absurd (not_unwound (of_one b.1) b.1.small x a)
-    one_goal_refused x y (inr a) (inl b) = absurd (not_unwound (of_one a.1) a.1.small y b)
+    one_goal_refused x y (inl a) (inl b) = one_unwound size few graph f p bounds x y a b
+    one_goal_refused x y (inl a) (inr b) = absurd (not_unwound size few graph f p bounds (of_one b.1) b.1.small x a)
+    one_goal_refused x y (inr a) (inl b) = absurd (not_unwound size few graph f p bounds (of_one a.1) a.1.small y b)
     one_goal_refused x y (inr a) (inr b) = by_one x y (refusal 82 (place.Limit 8388608)) a.0 b.0
 
     pub not_goal_refused : IsGoalWithin graph f p plan bounds goal → (x : Refusal) → IsGoalRefused graph f p plan bounds goal x → ⊥
-    not_goal_refused h x (inl a) = not_unwound (of_within h) h.small x a
+    not_goal_refused h x (inl a) = not_unwound size few graph f p bounds (of_within h) h.small x a
     not_goal_refused h x (inr a) =
         let same = count graph bounds f h.pairs a.1.pairs h.steps a.1.steps h.reached a.1.reached in
         let fits = subst (λ (n : ℕ). goal_size plan goal n ≤ 8388608) same h.size in
@@ -188,6 +196,39 @@ module _ (count : OneCount) (size : OneSize) (few : NotTooMany) where
   one_proof graph entry p plan bounds ends number goal names budget x y (inr a) (inl b) = absurd (not_goal_refused count size few graph entry.function p plan bounds ends goal a.0 b.0 b.1)
   one_proof graph entry p plan bounds ends number goal names budget x y (inr a) (inr b) =
       inr (answer_said graph entry p plan bounds ends number goal a.1.0 x a.1.2, answer_said graph entry p plan bounds ends number goal b.1.0 y b.1.2)
+
+  -- ---- what is said of the least input of a goal
+
+  least_said : (number : ℕ) (bounds : Bounds) (ends : Ends) (l : Least) (said : Said) → said ≡ said_of_least number bounds ends l → IsTrue (answers said.status)
+  least_said number bounds ends (least.Found input formula fixed) said is = subst (λ (s : Said). IsTrue (answers s.status)) (sym is) refl
+  least_said number bounds ends (least.Refuted formula derivation) said is = subst (λ (s : Said). IsTrue (answers s.status)) (sym is) refl
+  least_said number bounds ends (least.Open formula history) said is = subst (λ (s : Said). IsTrue (answers s.status)) (sym is) refl
+
+  one_lowering : (graph : GraphParts) (entry : EntryFunction) (p : Predicates) (plan : Plan) (bounds : Bounds) (ends : Ends) (number : ℕ) (goal : GoalForm) (names : List Text) (budget : ℕ)
+      → AnyTwo AreOfOneKind (IsLowered graph entry p plan bounds ends number goal names budget)
+  one_lowering graph entry p plan bounds ends number goal names budget x y (inl a) (inl b) =
+      inl (one_saying names (IsGoalRefused graph entry.function p plan bounds goal) (one_goal_refused count size few graph entry.function p plan bounds ends goal) x y a b)
+  one_lowering graph entry p plan bounds ends number goal names budget x y (inl a) (inr b) = absurd (not_goal_refused count size few graph entry.function p plan bounds ends goal b.0 a.0 a.1)
+  one_lowering graph entry p plan bounds ends number goal names budget x y (inr a) (inl b) = absurd (not_goal_refused count size few graph entry.function p plan bounds ends goal a.0 b.0 b.1)
+  one_lowering graph entry p plan bounds ends number goal names budget x y (inr a) (inr b) =
+      inr (least_said number bounds ends a.1.0 x a.1.3, least_said number bounds ends b.1.0 y b.1.3)
+
+  -- ---- what is said of bounds
+
+  suffice_said : (graph : GraphParts) (entry : EntryFunction) (bounds : Bounds) (s : Suffice) (said : Said) → said ≡ said_of_bounds graph entry bounds s → IsTrue (answers said.status)
+  suffice_said graph entry bounds (found.Yes formula derivation) said is = subst (λ (s : Said). IsTrue (answers s.status)) (sym is) refl
+  suffice_said graph entry bounds (found.Left input) said is = subst (λ (s : Said). IsTrue (answers s.status)) (sym is) refl
+  suffice_said graph entry bounds (found.Open formula history) said is = subst (λ (s : Said). IsTrue (answers s.status)) (sym is) refl
+
+  abbrev limited : (graph : GraphParts) (entry : EntryFunction) (bounds : Bounds) → sufficing.IsWithinLimits graph entry.function bounds → Counted size few graph entry.function no_predicates bounds
+  limited graph entry bounds h = record { pairs = h.pairs; steps = h.steps; reached = h.reached; few_pairs = h.few_pairs }
+
+  one_sufficing : (graph : GraphParts) (entry : EntryFunction) (bounds : Bounds) (names : List Text) (budget : ℕ) → AnyTwo AreOfOneKind (IsAskedOfBounds graph entry bounds names budget)
+  one_sufficing graph entry bounds names budget x y (inl a) (inl b) =
+      inl (one_saying names (λ (z : Refusal). IsUnwindFault graph no_predicates bounds entry.function (fault.Refused z)) (one_unwound size few graph entry.function no_predicates bounds) x y a b)
+  one_sufficing graph entry bounds names budget x y (inl a) (inr b) = absurd (not_unwound size few graph entry.function no_predicates bounds (limited graph entry bounds b.0) b.0.small a.0 a.1)
+  one_sufficing graph entry bounds names budget x y (inr a) (inl b) = absurd (not_unwound size few graph entry.function no_predicates bounds (limited graph entry bounds a.0) a.0.small b.0 b.1)
+  one_sufficing graph entry bounds names budget x y (inr a) (inr b) = inr (suffice_said graph entry bounds a.1.0 x a.1.3, suffice_said graph entry bounds b.1.0 y b.1.3)
 
 -- ---- the certificate's file
 
@@ -324,6 +365,24 @@ module _ (front_law : (texts : List SourceText) → front.HasOneOutcome texts) (
         one_by AreOfOneKind one_kind (slice_get plan.goals (m.goal - 1)) no_such_goal (Proved graph entry p plan) (λ goal.
         one_proof count size few graph entry p plan (within m.bounds) m.ends m.goal goal m.sources m.budget))))
 
+    one_bounds : (m : Sufficing) → IsTrue (are_told r m.sources) → AnyTwo AreOfOneKind (IsDueOf r (suffice m))
+    one_bounds m h =
+        let Asking : GraphParts → EntryFunction → Said → Type 0 = λ graph entry. IsAskedOfBounds graph entry (within m.bounds) m.sources m.budget in
+        one_of_sources r still front_law m.sources h AreOfOneKind one_kind (λ graph. OfEntry graph m.entry (Asking graph)) (λ graph.
+        one_by AreOfOneKind one_kind (entry_of graph m.entry) no_such_entry (Asking graph) (λ entry. one_sufficing count size few graph entry (within m.bounds) m.sources m.budget))
+
+    one_least : (m : Proving) → IsTrue (are_told r m.sources) → AnyTwo AreOfOneKind (IsDueOf r (asks.least m))
+    one_least m h =
+        let Lowered : GraphParts → EntryFunction → Predicates → Plan → GoalForm → Said → Type 0 = λ graph entry p plan goal.
+        IsLowered graph entry p plan (within m.bounds) m.ends m.goal goal m.sources m.budget in
+        let Goal : GraphParts → EntryFunction → Predicates → Plan → Said → Type 0 = λ graph entry p plan. OfGoal plan m.goal (Lowered graph entry p plan) in
+        let Asking : GraphParts → EntryFunction → Said → Type 0 = λ graph entry. OfQuery m.sources graph m.query (Goal graph entry) in
+        one_of_sources r still front_law m.sources h AreOfOneKind one_kind (λ graph. OfEntry graph m.entry (Asking graph)) (λ graph.
+        one_by AreOfOneKind one_kind (entry_of graph m.entry) no_such_entry (Asking graph) (λ entry.
+        one_of_query predicates_law graph m.query AreOfOneKind one_kind m.sources (Goal graph entry) (λ p plan.
+        one_by AreOfOneKind one_kind (slice_get plan.goals (m.goal - 1)) no_such_goal (Lowered graph entry p plan) (λ goal.
+        one_lowering count size few graph entry p plan (within m.bounds) m.ends m.goal goal m.sources m.budget))))
+
     one_checked : (m : Checking) → IsTrue (are_told r (m.sources ++ m.certificate ∷ [])) → AnyTwo (AreAlike (check m)) (IsDueOf r (check m))
     one_checked m h =
         let t = both_told front_law predicates_law hits_law r still m.sources m.certificate h in
@@ -345,6 +404,10 @@ module _ (front_law : (texts : List SourceText) → front.HasOneOutcome texts) (
     one_asked (generate m) h said other c d = one_generate m h said other c d
     one_asked (prove m) h said other c d = one_prove m h said other c d
     one_asked (check m) h said other c d = one_checked m h said other c d
+    one_asked (suffice m) h said other c d = one_bounds m h said other c d
+    one_asked (asks.least m) h said other c d = one_least m h said other c d
+    one_asked (asks.traces m) h said other c d = traced_once front_law predicates_law hits_law r still m h said other c d
+    one_asked (asks.replay m) h said other c d = replayed_once front_law predicates_law hits_law r still m h said other c d
     one_asked (asks.graph sources) h said other c d = printed_once front_law predicates_law hits_law r still sources h said other c d
     one_asked (sample number) h said other c d = one_sample number said other c d
 

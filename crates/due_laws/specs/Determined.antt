@@ -1,5 +1,5 @@
--- The words and the files determine what is due of the commands that measure and list. What is due of generate, prove and sample
--- leaves open which inputs and derivations are found, but not whether something is refused, nor by which line; what is due of
+-- The words and the files determine what is due of the commands that measure and list. What is due of generate, prove, bounds, least
+-- and sample leaves open which inputs and derivations are found, but not whether something is refused, nor by which line; what is due of
 -- check leaves open how the goal's formula is made.
 use Rattle.std.specs.Prelude.{◌≡◌, ◌⊎◌, ℕ, Bool, true, false, ◌&&◌, List, [], ◌∷◌, ◌++◌, Option, None, Some, IfSome, IsTrue, MatchOption}
 use Rattle.std.specs.List.{list_all}
@@ -10,7 +10,7 @@ use Rattle.fq_core.specs.declared.refusal.Place.TheVariants as place
 use Rattle.fq_io.specs.Counts.{Rose}
 use Rattle.command_words.specs.Reading.{Text}
 use Rattle.command_words.specs.Request as asks
-use Rattle.command_words.specs.Request.{Asked, measure, generate, goals, runs, prove, check, sample, request_of}
+use Rattle.command_words.specs.Request.{Asked, measure, generate, goals, runs, prove, check, suffice, sample, request_of}
 use Rattle.command.specs.declared.status.Status.{Status}
 use Rattle.command.specs.declared.status.Status.TheVariants as status
 use Rattle.command.specs.Checking.{other_formula}
@@ -26,6 +26,10 @@ measures_or_lists (runs m) = true
 measures_or_lists (generate m) = false
 measures_or_lists (prove m) = false
 measures_or_lists (check m) = false
+measures_or_lists (suffice m) = false
+measures_or_lists (asks.least m) = false
+measures_or_lists (asks.traces m) = true
+measures_or_lists (asks.replay m) = true
 measures_or_lists (asks.graph sources) = true
 measures_or_lists (sample number) = false
 
@@ -37,6 +41,10 @@ files_of (runs m) = m.sources ++ m.inputs ∷ []
 files_of (generate m) = m.sources
 files_of (prove m) = m.sources
 files_of (check m) = m.sources ++ m.certificate ∷ []
+files_of (suffice m) = m.sources
+files_of (asks.least m) = m.sources
+files_of (asks.traces m) = m.sources ++ m.inputs ∷ []
+files_of (asks.replay m) = m.sources ++ m.traces ∷ []
 files_of (asks.graph sources) = sources
 files_of (sample number) = []
 
@@ -98,9 +106,13 @@ abbrev pub AreAlike : Asked → Said → Said → Type 0
 AreAlike (measure m) said other = said ≡ other
 AreAlike (goals m) said other = said ≡ other
 AreAlike (runs m) said other = said ≡ other
+AreAlike (asks.traces m) said other = said ≡ other
+AreAlike (asks.replay m) said other = said ≡ other
 AreAlike (asks.graph sources) said other = said ≡ other
 AreAlike (generate m) said other = AreOfOneKind said other
 AreAlike (prove m) said other = AreOfOneKind said other
+AreAlike (suffice m) said other = AreOfOneKind said other
+AreAlike (asks.least m) said other = AreOfOneKind said other
 AreAlike (sample number) said other = AreOfOneKind said other
 AreAlike (check m) said other =
     (said ≡ other) ⊎ ((SaysNoCertificate said × SaysNoCertificate other) ⊎ (SaysOtherFormula said ⊎ SaysOtherFormula other))
