@@ -28,7 +28,7 @@ const R_C: &str =
 const U_C: &str =
     "#include <stdint.h>\nint f(uint8_t x) {\n  if (x + 1 == 256) {\n    return 1;\n  }\n  return 0;\n}\n";
 
-const SOURCES: [(&str, &str); 9] = [
+pub const SOURCES: [(&str, &str); 9] = [
     ("a.c", A_C),
     ("c.c", C_C),
     ("d.c", D_C),

@@ -69,7 +69,7 @@ fn compare_source(
     )
 }
 
-const TWO_INPUTS: &str = "goals 4 inputs 2\ninput 1 returned 0\ninput 2 returned 1\n\
+pub const TWO_INPUTS: &str = "goals 4 inputs 2\ninput 1 returned 0\ninput 2 returned 1\n\
 goal 1 covered 2 e0@a.c:2\ngoal 2 covered 1 e1@a.c:2\ngoal 3 covered 2 e2@a.c:3\ngoal 4 covered 1 e3@a.c:5\n\
 suite 1 2\ncovered 4 of 4\n";
 

@@ -552,14 +552,16 @@ pub fn replay_with<'a>(
         return Err(Refused::Usage);
     };
     match positionals {
-        [entry, query, traces, sources @ ..] if !sources.is_empty() => Ok(Request::Replay(Replay {
-            entry: *entry,
-            query: *query,
-            traces: *traces,
-            sources: sources.to_vec(alloc)?,
-            ends,
-            json,
-        })),
+        [entry, query, traces, sources @ ..] if !sources.is_empty() => Ok(Request::Replay(
+            Replay {
+                entry: *entry,
+                query: *query,
+                traces: *traces,
+                sources: sources.to_vec(alloc)?,
+                ends,
+                json,
+            },
+        )),
         _ => Err(Refused::Usage),
     }
 }

@@ -86,6 +86,43 @@ fn show(alloc: Global, request: &Request) -> Result<String, Fail> {
                 show_ends(m.ends)
             )?
         }
+        Request::Bounds(m) => {
+            let bounds = show_bounds(alloc, m.bounds)?;
+            format!(in alloc; "bounds {} {:?} {bounds} {}", m.entry, m.sources, m.budget)?
+        }
+        Request::Least(m) => {
+            let bounds = show_bounds(alloc, m.bounds)?;
+            format!(in alloc;
+                "least {} {} {} {:?} {bounds} {} {}",
+                m.entry,
+                m.query,
+                m.goal,
+                m.sources,
+                show_ends(m.ends),
+                m.budget
+            )?
+        }
+        Request::Traces(m) => {
+            format!(in alloc;
+                "traces {} {} {:?} {} {}",
+                m.entry,
+                m.inputs,
+                m.sources,
+                m.steps,
+                show_ends(m.ends)
+            )?
+        }
+        Request::Replay(m) => {
+            format!(in alloc;
+                "replay {} {} {} {:?} {} {}",
+                m.entry,
+                m.query,
+                m.traces,
+                m.sources,
+                show_ends(m.ends),
+                m.json
+            )?
+        }
         Request::Graph(sources) => format!(in alloc; "graph {:?}", sources)?,
         Request::Sample(size) => format!(in alloc; "sample {size}")?,
     };
@@ -102,7 +139,7 @@ fn answer(alloc: Global, line: &str) -> Result<String, Fail> {
 }
 
 // What lines ask for.
-static ASKED: [(&str, &str); 31] = [
+static ASKED: [(&str, &str); 38] = [
     (
         "measure f q in a.c",
         "measure f q in [\"a.c\"] 100000 returned false",
@@ -180,6 +217,25 @@ static ASKED: [(&str, &str); 31] = [
         "check f q 1 c a.c --ends any",
         "check f q 1 c [\"a.c\"] 4/8/16 any",
     ),
+    ("bounds f a.c", "bounds f [\"a.c\"] 4/8/16 5000000"),
+    (
+        "bounds --turns 3 f --budget 1 a.c b.c",
+        "bounds f [\"a.c\", \"b.c\"] 3/8/16 1",
+    ),
+    (
+        "least f q 2 a.c --ends any --answers 0",
+        "least f q 2 [\"a.c\"] 4/8/0 any 5000000",
+    ),
+    ("traces f in a.c", "traces f in [\"a.c\"] 100000 returned"),
+    (
+        "traces --steps 7 --ends trapped f in a.c",
+        "traces f in [\"a.c\"] 7 trapped",
+    ),
+    ("replay f q t a.c", "replay f q t [\"a.c\"] returned false"),
+    (
+        "replay --json f q t a.c --ends any",
+        "replay f q t [\"a.c\"] any true",
+    ),
     ("graph a.c", "graph [\"a.c\"]"),
     ("graph a.c b.c a.c", "graph [\"a.c\", \"b.c\", \"a.c\"]"),
     ("graph _ -- --json -", "graph [\"\", \"--json\", \"-\"]"),
@@ -191,7 +247,7 @@ static ASKED: [(&str, &str); 31] = [
 ];
 
 // Lines that ask for nothing.
-static REFUSED: [&str; 62] = [
+static REFUSED: [&str; 74] = [
     "measure f q in a.c --ends",
     "measure f q in a.c --ends blocked",
     "measure f q in a.c --ends Returned",
@@ -244,6 +300,18 @@ static REFUSED: [&str; 62] = [
     "check f q 1 c",
     "check f q 0 c a.c",
     "check f q 1 c a.c --budget 1",
+    "bounds f",
+    "bounds f a.c --ends any",
+    "bounds f a.c --json",
+    "bounds f a.c --frames 0",
+    "least f q 0 a.c",
+    "least f q 1",
+    "least f q 1 a.c --json",
+    "traces f in",
+    "traces f in a.c --json",
+    "replay f q t",
+    "replay f q t a.c --steps 7",
+    "trees f in a.c",
     "graph",
     "graph --",
     "graph a.c --json",

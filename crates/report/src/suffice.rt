@@ -56,12 +56,7 @@ pub fn suffice_text(
 
 /// The line of an input to the function of the number `entry` that leaves bounds: its arguments, and its answers as signed
 /// numbers of 64 bits where there are any. The input has one word for each parameter.
-pub fn left_text(
-    alloc: Global,
-    graph: &Graph,
-    entry: u32,
-    input: &Input,
-) -> Result<Vec<u8>, Memory>
+pub fn left_text(alloc: Global, graph: &Graph, entry: u32, input: &Input) -> Result<Vec<u8>, Memory>
     requires { HasWords (length (parameter_kinds graph.now entry)) input.now }
     ensures { IfOk result (λ text. text.items ≡ left_text graph.now entry input.now) }
 {
