@@ -20,6 +20,11 @@ search-requires-clause-formula c =
     let it = taken (λ (f : Function). f.arrays ≡ []) (slice_get c.args.graph.now.functions c.args.entry) c.requires.entry in
     (c.requires.exact it.0 it.1).over
 
+pub confirm-requires-clause-formula : goal.confirm-requires-clause-formula
+confirm-requires-clause-formula c =
+    let it = taken (λ (f : Function). f.arrays ≡ []) (slice_get c.args.graph.now.functions c.args.entry) c.requires.entry in
+    (c.requires.exact it.0 it.1).over
+
 pub bounds-functions-entry : goal.bounds-functions-entry
 bounds-functions-entry c =
     let it = taken (λ (f : Function). f.arrays ≡ []) (slice_get c.args.graph.now.functions c.args.entry) c.requires.entry in
