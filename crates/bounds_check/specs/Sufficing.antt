@@ -3,6 +3,7 @@ use Rattle.std.specs.Prelude.{◌≢◌, ℕ, ◌-◌, ◌<◌, ◌≤◌, ◌^�
 use Rattle.std.specs.List.{AllZip}
 use Rattle.c_meaning.specs.declared.input.Input.{Input}
 use Rattle.c_values.specs.Kind.{IsValue}
+use Rattle.certificate.specs.Certificates.{IsPair}
 use Rattle.cfa.specs.Contexts.{Pair}
 use Rattle.cfa.specs.declared.parts.Function.{Function}
 use Rattle.cfa.specs.declared.parts.GraphParts.{GraphParts}
@@ -46,7 +47,7 @@ pub record IsWithinLimits (parts : GraphParts) (f : Function) (bounds : Bounds) 
 -- what is said of an answer with a budget of so many moves
 abbrev pub IsSuffice : GraphParts → Function → Bounds → ℕ → Suffice → Type 0
 IsSuffice parts f bounds budget (Yes formula derivation) =
-    NoneLeaves parts f bounds × IsForLeaving parts f bounds formula × IsRefutation formula budget derivation
+    NoneLeaves parts f bounds × IsForLeaving parts f bounds formula × IsRefutation formula budget derivation × IsPair formula derivation
 IsSuffice parts f bounds budget (Left input) = IsLeft parts f bounds input
 IsSuffice parts f bounds budget (Open formula history) = IsForLeaving parts f bounds formula × IsSpent formula budget history
 

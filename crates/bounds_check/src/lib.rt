@@ -3,8 +3,8 @@
 //! Start at [`bounds_suffice`] in sufficing.rt. It unwinds the runs of a function within bounds, where any end counts
 //! (`unwinder`): by unwound_laws an input leaves the bounds exactly where no entry that holds in its world has ended. One
 //! literal of the unwinding's circuit says so, and goal_formula gives its formula (`staying.rt`), which is searched (`search`).
-//! A model is an input that leaves the bounds (`leaving.rt`); a derivation is looked at by the checker (`derivation_check`)
-//! before the bounds are said to suffice; a search that spent its budget is handed out with its formula.
+//! A model is an input that leaves the bounds (`leaving.rt`); a derivation is confirmed (`confirmation`) before the bounds are
+//! said to suffice; a search that spent its budget is handed out with its formula.
 //!
 //! The definitions are in specs/: `Leaving` (when a formula is exact for leaving the bounds), `Sufficing` (what is said of each
 //! answer), `Laws` (where no input leaves the bounds, a goal that is refuted within them is unreachable), and for the parts

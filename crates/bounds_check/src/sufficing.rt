@@ -3,7 +3,6 @@ ghost use Rattle.std.specs.Prelude.{◌≡◌, ◌≤◌, ◌^◌, [], IfErr, If
 ghost use Rattle.std.specs.Option.{IsSomeAnd};
 ghost use Rattle.cfa.specs.Contexts.{IsOnce};
 ghost use Rattle.cfa.specs.declared.parts.Function.{Function as OneFunction};
-ghost use Rattle.cnf.specs.Checks.{Checks};
 ghost use Rattle.unwinder.specs.Unwinding.{IsUnwindFault};
 ghost use Rattle.bounds_check.specs.Leaving.{IsExactForLeaving, no_predicates};
 ghost use Rattle.bounds_check.specs.Sufficing.{IsOpenWhereShort, IsSuffice, IsWithinLimits};
@@ -13,31 +12,14 @@ use crate::staying::open_formula;
 use crate::suffice::Suffice;
 use c_meaning::Ends;
 use cfa::{Graph, Predicates};
-use cnf::{Derivation, Formula};
+use confirmation::confirm;
 use containers::Vector;
-use derivation_check::{Checker, Verdict};
 use fq_core::{Fault, Memory};
 use goal_formula::GoalFormula;
 use reached::Bounds;
 use search::{Found, search};
 use std::alloc::Global;
 use unwinder::unwind;
-
-/// Has the checker look at a derivation, whose answer is known: it checks over the formula.
-fn confirm(alloc: Global, formula: &Formula, derivation: &Derivation) -> Result<(), Memory>
-    requires { Checks formula.now derivation.now }
-{
-    // The checker numbers lines in 32 bits.
-    if derivation.lines.len() >= 0x1_0000_0000 {
-        return Err(Memory);
-    }
-    let mut checker = Checker::prepare(alloc, formula, derivation)?;
-    match checker.check() {
-        Verdict::Yes => Ok(()),
-        Verdict::BadStep { line: _line } => unreachable!(),
-        Verdict::NoEmptyClause => unreachable!(),
-    }
-}
 
 /// What the search of the formula finds.
 fn searched(
@@ -108,10 +90,11 @@ fn leaving_formula(
 ///
 /// The runs of all inputs are unwound within the bounds, so that any end counts. An input leaves the bounds exactly where no
 /// entry that holds in its world has ended there, and that is made a formula, which is searched. Where there is no model the
-/// checker looks at the derivation, and no input leaves the bounds: then a goal that is refuted within them is unreachable. An
-/// input that is found leaves the bounds; its words are values of their kinds, and it has at most as many answers as the
-/// bounds, the last of them not 0. The answer is open only where the search made as many moves as the budget allows and isn't
-/// finished, and only with a budget below 3 to the most variables of the formula.
+/// checker looks at the derivation, and no input leaves the bounds: then a goal that is refuted within them is unreachable. A
+/// certificate can write the formula and the derivation. An input that is found leaves the bounds; its words are values of
+/// their kinds, and it has at most as many answers as the bounds, the last of them not 0. The answer is open only where the
+/// search made as many moves as the budget allows and isn't finished, and only with a budget below 3 to the most variables of
+/// the formula.
 ///
 /// # Errors
 ///

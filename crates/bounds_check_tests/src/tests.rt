@@ -143,6 +143,31 @@ fn rows(rt: HostRuntime) -> Result<(), Fail> {
     Ok(())
 }
 
+// The statements `x = x / y` of 64 bits weigh 65,536 each, and 64 of them are just at the limit.
+fn quotients(alloc: Global, count: u32) -> Result<String, Fail> {
+    let mut source = String::new(alloc);
+    source.push_str("long f(long x, long y) {")?;
+    for _ in 0..count {
+        source.push_str(" x = x / y;")?;
+    }
+    source.push_str(" return x; }")?;
+    Ok(source)
+}
+
+#[test]
+fn too_many_sizes(rt: HostRuntime) -> Result<(), Fail> {
+    let bounds = Bounds {
+        turns: 0,
+        frames: 1,
+        answers: 0,
+    };
+    let source = quotients(rt.alloc(), 65)?;
+    let suffice = suffice_in(rt.alloc(), source.as_str(), bounds, 1_000_000)?;
+    let text = text_of(rt.alloc(), &suffice)?;
+    assert_eq!(rt; text.as_str(), "refused 81 limit 4194304");
+    Ok(())
+}
+
 fn left_in(alloc: Global, source: &str, turns: u32, answers: u32) -> Result<Input, Fail> {
     let bounds = Bounds {
         turns,

@@ -6,6 +6,7 @@ use Rattle.std.proofs.lemmas.Bool.{lt-ltb}
 use Rattle.std.proofs.lemmas.Int.{to_z-of_z, to_z_pos}
 use Rattle.std.proofs.lemmas.List.{length-map, length-take-le, map-append, take_at}
 use Rattle.std.proofs.lemmas.List.Elements.{All-nil, All-push}
+use Rattle.certificate.specs.Certificates.{IsPair}
 use Rattle.cnf.specs.Clauses.{IsLiteral}
 use Rattle.cnf.specs.Formulas.{Satisfies, is_true_literal}
 use Rattle.cnf.specs.declared.derivation.Derivation.{Derivation}
@@ -17,7 +18,7 @@ use Rattle.search.specs.Laws.{IsFormula, is_over}
 use Rattle.search.specs.Nexts.{IsModel, IsRefutation}
 use Rattle.search.specs.declared.moves.History.{History}
 use Rattle.suite.specs.Made.{IsSpent}
-use Rattle.least_input.specs.Fixing.{AreRefuted, literal_of, parts_of, variable_of}
+use Rattle.least_input.specs.Fixing.{AreRefuted, IsRefuted, literal_of, parts_of, variable_of}
 use Rattle.least_input.specs.Parts.{Adds, HasUnits, IsDescent, IsLowest, IsStuck, set_as}
 use Rattle.least_input.specs.declared.descent.Descent.{Descent}
 use Rattle.least_input.specs.declared.least.Fixed.{Fixed}
@@ -131,15 +132,15 @@ module _ (base : Formula) (budget : ℕ) (vs : List ℕ) (d : Descent) (v : ℕ)
 
   -- set to 1, which can't be 0
   pub one_fixed : (unset last : Descent) (derivation : Derivation) (fixed : List Fixed) → IsDescent base budget vs d → v ≤ d.formula.variables → assignment d.model v ≡ true → Adds d (literal_of false v) unset
-      → IsRefutation unset.formula budget derivation → fixed ≡ d.fixed ++ record { units = unset.units; derivation = derivation } ∷ []
+      → IsRefutation unset.formula budget derivation → IsPair unset.formula derivation → fixed ≡ d.fixed ++ record { units = unset.units; derivation = derivation } ∷ []
       → Adds (record d { fixed = fixed }) (literal_of true v) last → IsDescent base budget More last
-  one_fixed unset last derivation fixed h there e a refutes more b =
+  one_fixed unset last derivation fixed h there e a refutes pair more b =
       let own : Adds d (literal_of true v) (record last { fixed = d.fixed }) = record { formula = b.formula; units = b.units; model = b.model; fixed = refl } in
       let has = has_more true (record last { fixed = d.fixed }) h.has there own in
       let low = has_more false unset h.has there a in
       let part : Fixed = record { units = unset.units; derivation = derivation } in
-      let refuted : IsRefutation (with_units base part.units) budget part.derivation = subst (λ q. IsRefutation q budget derivation) low.formula refutes in
-      let all : AreRefuted base budget (d.fixed ++ part ∷ []) = All-push (λ (x : Fixed). IsRefutation (with_units base x.units) budget x.derivation) d.fixed part h.refuted refuted in
+      let refuted : IsRefuted base budget part = (subst (λ q. IsRefutation q budget derivation) low.formula refutes, subst (λ q. IsPair q derivation) low.formula pair) in
+      let all : AreRefuted base budget (d.fixed ++ part ∷ []) = All-push (IsRefuted base budget) d.fixed part h.refuted refuted in
       record {
         has = record { formula = has.formula; set = has.set; over = has.over };
         model = model_more true (record last { fixed = d.fixed }) h.model e own;
@@ -163,7 +164,7 @@ begun base budget d formula units fixed over model = record {
   };
   model = subst (λ q. IsModel q d.model) (sym formula) model;
   parts = ap (map (λ (x : Fixed). x.units)) fixed ∙ ap parts_of (sym units);
-  refuted = subst (AreRefuted base budget) (sym fixed) (All-nil (λ (x : Fixed). IsRefutation (with_units base x.units) budget x.derivation));
+  refuted = subst (AreRefuted base budget) (sym fixed) (All-nil (IsRefuted base budget));
 }
 
 pub ended : (base : Formula) (budget : ℕ) (vs : List ℕ) (d : Descent) → IsDescent base budget vs d → IsLowest base budget vs d.model d.fixed

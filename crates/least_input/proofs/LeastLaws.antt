@@ -17,7 +17,6 @@ use Rattle.cnf.specs.Formulas.{Satisfies, is_true_literal}
 use Rattle.formula_laws.proofs.Orders.{first_bit_decides, lower_is_before}
 use Rattle.formula_laws.proofs.Units.{units_refuted}
 use Rattle.formula_laws.specs.Orders.{FirstDifferAt, IsBefore, bits_in_order}
-use Rattle.formula_laws.specs.Units.{with_units}
 use Rattle.goal_formula.proofs.InputWorlds.{input_given}
 use Rattle.goal_formula.specs.Bits.{assignment, bit_in, input_from, number_in}
 use Rattle.goal_formula.specs.Exact.{IsExact}
@@ -27,12 +26,11 @@ use Rattle.goals.specs.declared.plan.Plan.{Plan}
 use Rattle.hits.specs.Inputs.{InputHitsWithin}
 use Rattle.path_runner.specs.Masks.{number_of_bits}
 use Rattle.reached.specs.declared.bounds.Bounds.{Bounds}
-use Rattle.search.specs.Nexts.{IsRefutation}
 use Rattle.run_laws.proofs.Taken.{fitted_words_alike}
 use Rattle.unwinder.proofs.Made.{parameter_kinds}
 use Rattle.unwinder.specs.Lists.{IsInputFor}
 use Rattle.least_input.specs.Answers.{IsFoundLeast}
-use Rattle.least_input.specs.Fixing.{AreFixed, InputBit, parts_of, settings, variables_in_order}
+use Rattle.least_input.specs.Fixing.{AreFixed, InputBit, IsRefuted, parts_of, settings, variables_in_order}
 use Rattle.least_input.specs.Order.{IsLower, numbers_of}
 use Rattle.least_input.specs.Parts.{IsLowest, numbers_in}
 use Rattle.least_input.specs.declared.least.Fixed.{Fixed}
@@ -123,9 +121,9 @@ module _ (parts : GraphParts) (p : Predicates) (k : ℕ) (f : Function) (plan : 
       let part = part_there value other [] (in_order g) at positive differ refl in
       let there : slice_get (map (λ (x : Fixed). x.units) fixed) part.at ≡ Some part.units = ap (λ ps. slice_get ps part.at) lowest.parts ∙ part.there in
       let it = mapped_at (λ (x : Fixed). x.units) fixed part.at part.units there in
-      let refuted = all_at (λ (x : Fixed). IsRefutation (with_units g.formula x.units) budget x.derivation) fixed part.at it.0 lowest.refuted it.1 in
+      let refuted = all_at (IsRefuted g.formula budget) fixed part.at it.0 lowest.refuted it.1 in
       let holds : list_all (is_true_literal other) it.0.units ≡ true = ap (list_all (is_true_literal other)) it.2 ∙ part.holds in
-      units_refuted other g.formula it.0.units it.0.derivation refuted.0 sat holds
+      units_refuted other g.formula it.0.units it.0.derivation refuted.0.0 sat holds
 
   least : (other : Input) → IsInputFor f other → InputHitsWithin parts f p plan ends bounds.turns bounds.frames bounds.answers goal other → IsLower bounds.answers other found → ⊥
   least other other_given other_hits lower =

@@ -5,6 +5,7 @@ use Rattle.c_meaning.specs.declared.input.Input.{Input}
 use Rattle.cfa.specs.declared.parts.Function.{Function}
 use Rattle.cfa.specs.declared.parts.GraphParts.{GraphParts}
 use Rattle.cfa.specs.declared.state.Predicates.{Predicates}
+use Rattle.certificate.specs.Certificates.{IsPair}
 use Rattle.cnf.specs.declared.formula.Formula.{Formula}
 use Rattle.formula_laws.specs.Units.{with_units}
 use Rattle.goal_formula.specs.Exact.{IsExact}
@@ -46,7 +47,7 @@ module _ (parts : GraphParts) (f : Function) (p : Predicates) (plan : Plan) (bou
   abbrev pub IsAnswered : GoalForm → ℕ → Least → Type 0
   IsAnswered goal budget (Found input formula fixed) = IsFoundLeast goal budget input formula fixed
   IsAnswered goal budget (Refuted formula derivation) =
-      IsExact parts p f bounds ends plan goal formula × IsRefutation formula.formula budget derivation × NoneHits parts f p plan bounds ends goal
+      IsExact parts p f bounds ends plan goal formula × IsRefutation formula.formula budget derivation × NoneHits parts f p plan bounds ends goal × IsPair formula.formula derivation
   IsAnswered goal budget (Open formula history) = IsOpen goal budget formula history
 
 -- a goal stays open only where its budget falls short

@@ -2,6 +2,7 @@
 use Rattle.std.specs.Prelude.{◌≡◌, ℕ, ◌+◌, ℤ, pos, negsuc, neg_ℤ, All, Bool, true, false, if◌then◌else◌, List, [], ◌∷◌, ◌++◌, map, reverse, Option, None, option_map}
 use Rattle.std.specs.List.{filter_map, flat_map, zip}
 use Rattle.c_meaning.specs.declared.input.Input.{Input}
+use Rattle.certificate.specs.Certificates.{IsPair}
 use Rattle.cnf.specs.declared.formula.Formula.{Formula}
 use Rattle.formula_laws.specs.Units.{with_units}
 use Rattle.goal_formula.specs.declared.goal.GoalFormula.{GoalFormula}
@@ -68,10 +69,14 @@ parts_from before (x ∷ xs) =
 abbrev pub parts_of : List ℤ → List (List ℤ)
 parts_of settings = parts_from [] settings
 
--- Each part's derivation checks over a formula with the part's literals added at its end as unit clauses, in order. It has
--- at most one line more than the budget.
+-- A part's derivation checks over a formula with the part's literals added at its end as unit clauses, in order. It has at
+-- most one line more than the budget. A certificate can write the two.
+abbrev pub IsRefuted : Formula → ℕ → Fixed → Type 0
+IsRefuted formula budget part =
+    IsRefutation (with_units formula part.units) budget part.derivation × IsPair (with_units formula part.units) part.derivation
+
 abbrev pub AreRefuted : Formula → ℕ → List Fixed → Type 0
-AreRefuted formula budget fixed = All (λ (part : Fixed). IsRefutation (with_units formula part.units) budget part.derivation) fixed
+AreRefuted formula budget fixed = All (IsRefuted formula budget) fixed
 
 -- For each bit of an input that is 1 there is one part, in the order in which the bits decide: its literals set each earlier
 -- bit that has a variable as it is in the input, and this bit to 0, and no assignment satisfies the formula with them, as a

@@ -7,9 +7,9 @@ ghost use Rattle.search.specs.Laws.{IsFormula};
 ghost use Rattle.least_input.specs.Parts.{Adds, IsDescent, IsLowered};
 ghost use Rattle.least_input.specs.declared.descent.Descent.{Descent as OneDescent};
 
-use crate::checking::confirm;
 use crate::least::Fixed;
 use cnf::{Clause, Derivation, Formula, negation};
+use confirmation::confirm;
 use containers::Vector;
 use fq_core::Memory;
 use search::{Found, History, search};

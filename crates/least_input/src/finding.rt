@@ -15,11 +15,11 @@ ghost use Rattle.unwinder.specs.Unwinding.{IsUnwound};
 ghost use Rattle.least_input.specs.Answers.{IsAnswered, IsOpenWhereShort};
 ghost use Rattle.least_input.specs.Parts.{IsFor};
 
-use crate::checking::confirm;
 use crate::input::numbers_of;
 use crate::least::Least;
 use crate::lowest::{Lowest, lowest_model};
 use cfa::{Graph, Predicates};
+use confirmation::confirm;
 use containers::Vector;
 use fq_core::{Fault, Memory};
 use goal_formula::{GoalFormula, formula};
@@ -97,9 +97,9 @@ fn searched(
 /// Inputs compare by their words, and then by their answers, 0 past the list, as many as the bounds allow, each as an unsigned
 /// number of 64 bits; the first difference decides. The input that is found has a run within the bounds that hits the goal,
 /// and no input at all that compares less has one. With it comes, for each of its bits that is 1, a derivation that shows that
-/// the bit can't be 0 while those before it are as they are. A goal is refuted, or stays open, as where it is decided: open
-/// only where a search made as many moves as the budget allows and isn't finished, and only with a budget below 3 to the most
-/// variables of its formula. The unwinding stays as it was.
+/// the bit can't be 0 while those before it are as they are. A certificate can write each derivation with its formula. A goal
+/// is refuted, or stays open, as where it is decided: open only where a search made as many moves as the budget allows and
+/// isn't finished, and only with a budget below 3 to the most variables of its formula. The unwinding stays as it was.
 ///
 /// The bits are set one by one, from the first word's highest on. One that is 0 in the last model that was found costs no
 /// search.

@@ -20,6 +20,11 @@ search-requires-clause-formula c =
     let it = taken (λ (f : Function). f.arrays ≡ []) (slice_get c.args.graph.now.functions c.args.entry) c.requires.entry in
     (c.requires.exact it.0 it.1).over
 
+pub confirm-requires-clause-formula : goal.confirm-requires-clause-formula
+confirm-requires-clause-formula c =
+    let it = taken (λ (f : Function). f.arrays ≡ []) (slice_get c.args.graph.now.functions c.args.entry) c.requires.entry in
+    (c.requires.exact it.0 it.1).over
+
 pub bounds-functions-entry : goal.bounds-functions-entry
 bounds-functions-entry c =
     let it = taken (λ (f : Function). f.arrays ≡ []) (slice_get c.args.graph.now.functions c.args.entry) c.requires.entry in
@@ -64,7 +69,7 @@ pub returns-in_ok-confirm-in-NoModel : goal.returns-in_ok-confirm-in-NoModel
 returns-in_ok-confirm-in-NoModel c = λ f own.
     let exact = c.requires.exact f own in
     let is : IsRefutation c.args.formula.formula c.args.budget c.in-NoModel.derivation = subst (IsFound c.args.formula.formula c.args.budget) c.in-NoModel.is c.in_ok-model.ensures.found in
-    (none_leaves c.args.graph.now f c.args.bounds c.args.formula c.in-NoModel.derivation exact is.0, own_bits c.args.graph.now f c.args.bounds c.args.formula exact, is)
+    (none_leaves c.args.graph.now f c.args.bounds c.args.formula c.in-NoModel.derivation exact is.0, own_bits c.args.graph.now f c.args.bounds c.args.formula exact, is, c.in_ok-confirm-in-NoModel.ensures)
 
 pub returns-in-Spent : goal.returns-in-Spent
 returns-in-Spent c = λ f own.

@@ -53,4 +53,4 @@ returns-in_ok-add_unit-in-NoModel c = λ base variables h.
     let dropped : c.drop_unit.new.descent ≡ before = c.drop_unit.ensures before (literal_of false v) with_unit in
     let with_one : Adds c.drop_unit.new.descent (literal_of true v) last = subst (λ x. Adds c.drop_unit.new.descent x last) (one_is v few) c.in_ok-add_unit-in-NoModel.ensures in
     let one : Adds before (literal_of true v) last = subst (λ x. Adds x (literal_of true v) last) dropped with_one in
-    one_fixed base c.args.budget variables d v c.requires.some unset last derivation fixed h c.requires.there on adds refutes more one
+    one_fixed base c.args.budget variables d v c.requires.some unset last derivation fixed h c.requires.there on adds refutes c.in_ok-confirm-in-NoModel.ensures more one
