@@ -62,11 +62,16 @@ class Assignments(Calls):
                 "use two statements",
             )
 
-    def stepped(self, node: Any) -> Value:
-        """`++` and `--` as a value: the old one, which is kept, or the new one, which is read (6.5.2.4, 6.5.3.1)."""
+    def step_place(self, node: Any) -> Place:
+        """What `++` or `--` steps."""
         place = self.places.place(node.expr)
         if not isinstance(place.type, Int) or place.type.boolean:
             raise Refused(node.coord, "a step of what is no integer", "assign its value")
+        return place
+
+    def stepped(self, node: Any) -> Value:
+        """`++` and `--` as a value: the old one, which is kept, or the new one, which is read (6.5.2.4, 6.5.3.1)."""
+        place = self.step_place(node)
         before = not node.op.startswith("p")
         target, _ = self.leaf(place, True)
         step = f"{target}{node.op[-2:]};"
@@ -91,10 +96,7 @@ class Assignments(Calls):
             else:
                 self.plain_effect(node, lambda: self.assign(node))
         elif isinstance(node, c_ast.UnaryOp) and node.op in STEPS:
-            place = self.places.place(node.expr)
-            if not isinstance(place.type, Int) or place.type.boolean:
-                raise Refused(node.coord, "a step of what is no integer", "assign its value")
-            self.emit(f"{self.leaf(place)[0]}{node.op[-2:]};")
+            self.emit(f"{self.leaf(self.step_place(node))[0]}{node.op[-2:]};")
         elif isinstance(node, c_ast.FuncCall):
             self.call_effect(node)
         elif isinstance(node, c_ast.TernaryOp):
