@@ -121,7 +121,7 @@ def files_that_were_removed_or_cut_are_made_anew(folder):
         yield campaign(folder).returncode == 0 and is_right(folder)
     found = os.path.join(folder, "new", "found")
     one = os.listdir(found)[0]
-    for text in ("", "goal 1 cov", f"goal {one} covered args 0 0 0\n"):
+    for text in ("", "goal 1 cov", f"goal {one} covered args 0 0", f"goal {one} covered args 0 0 0\n"):
         put(found, {one: text})
         yield campaign(folder).returncode == 0 and is_right(folder)
 
