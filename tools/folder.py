@@ -124,7 +124,10 @@ class Folder:
         for goal in self.numbers("found"):
             path = self.at("found", str(goal))
             try:
-                (known[goal],) = inputs.of_text(program.read(path).decode(), False)
+                text = program.read(path).decode()
+                if not text.endswith("\n"):
+                    raise ValueError("it is cut short")
+                (known[goal],) = inputs.of_text(text, False)
             except ValueError:
                 os.remove(path)
         return known

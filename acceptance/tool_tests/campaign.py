@@ -121,7 +121,7 @@ def files_that_were_removed_or_cut_are_made_anew(folder):
         yield campaign(folder).returncode == 0 and is_right(folder)
     found = os.path.join(folder, "new", "found")
     one = os.listdir(found)[0]
-    for text in ("", "goal 1 cov", f"goal {one} covered args 0 0 0\n"):
+    for text in ("", "goal 1 cov", f"goal {one} covered args 0 0", f"goal {one} covered args 0 0 0\n"):
         put(found, {one: text})
         yield campaign(folder).returncode == 0 and is_right(folder)
 
@@ -146,7 +146,13 @@ def killed_at_any_moment_it_goes_on(folder):
             os.remove(path) if chance.random() < 0.5 else os.truncate(path, os.path.getsize(path) // 2)
     ended = subprocess.run([*words, *first], cwd=folder, capture_output=True, text=True, timeout=SECONDS)
     yield ended.returncode == 0 and is_right(folder)
-    yield not any(name.startswith(".new") for _, _, names in os.walk(os.path.join(folder, "new")) for name in names)
+    # (GNU parallel gives each job a process group of its own, so that one may outlive the kill, and be writing still)
+    for _ in range(100):
+        half = [name for _, _, names in os.walk(os.path.join(folder, "new")) for name in names if name.startswith(".new")]
+        if not half:
+            break
+        time.sleep(0.1)
+    yield not half
 
 
 def two_machines_share_the_work(folder):

@@ -5,7 +5,7 @@ from typing import Any
 
 from tools import harness, inputs, program
 
-from .compare import answering, plain
+from .compare import answering, plain, undefined
 from .kinds import Int
 from .refusals import Stop
 from .units import Units
@@ -44,12 +44,7 @@ def text_of(writer: Units, source: str, made: list[str], entry: str, given: str)
         raise Stop(f"{entry} is no function of the source that takes integers alone and gives one or nothing")
     runs = program.report(["runs", entry, given, *made]).runs
     read = inputs.of_file(given)
-    outer = [
-        one
-        for one in writer.names.functions
-        if one.definition is None and one.calls and one.name not in ("assert", "assume")
-    ]
-    heads = "".join(answering(writer, one, "fshell_answer()") for one in outer)
+    heads = "".join(answering(writer, one, "fshell_answer()") for one in undefined(writer))
     words = "".join(f"{harness.word(number)}, " for one in read for number in (*one.args, *one.answers))
     kinds = [one.type.text for one in function.parameters if isinstance(one.type, Int)]
     call = f"{entry}({', '.join(f'({kind}) given[{number}]' for number, kind in enumerate(kinds))})"
