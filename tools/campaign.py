@@ -97,12 +97,10 @@ class Told:
         self.campaign, self.report, self.asked = campaign, report, campaign.asked
         self.refuted = set(campaign.folder.refuted(self.asked))
         self.open = campaign.folder.open(self.asked.budget)
-        self.suffice = self.bounds_suffice() if self.refuted else None
+        self.suffice = bool(self.refuted) and self.bounds_suffice()
 
-    def bounds_suffice(self) -> bool | None:
-        """Whether the program says that no run leaves the bounds; None where it has no such command."""
-        if not program.has_command("bounds"):
-            return None
+    def bounds_suffice(self) -> bool:
+        """Whether the program says that no run leaves the bounds."""
         words = ["bounds", self.asked.entry, *self.asked.sources, "--budget", str(self.asked.budget)]
         bounds = [word for name, value in self.asked.bounds.items() for word in (f"--{name}", str(value))]
         return program.answer([*words, *bounds], self.asked.place).startswith("bounds suffice")

@@ -2,7 +2,7 @@
 
 Each FILE is a report of `generate` as text or JSON, lines of `prove` or `least` that name an input, a trace file, or a file of
 inputs in either form. All their inputs are written as one file that `measure` reads, in order, each once. With `--to traces`
-the file has the edges of each counted run beside it, as `runs` tells them.
+it is a file that `replay` reads, as `traces` writes it of the inputs whose runs are counted.
 """
 
 import argparse
@@ -128,11 +128,7 @@ def best_text(inputs: list[Input]) -> str:
 def traces_text(inputs: list[Input], entry: str, sources: list[str], ends: str) -> str:
     """A trace file of the inputs whose runs are counted."""
     with program.as_file(json_text(inputs)) as path:
-        runs = program.report(["runs", entry, path, *sources]).runs
-    lines = [
-        " ".join([one.line(), "edges", *map(str, run.edges)]) for one, run in zip(inputs, runs) if run.is_counted(ends)
-    ]
-    return "\n".join(["fshell traces 1", *lines]) + "\n"
+        return program.answer(["traces", entry, path, *sources, "--ends", ends])
 
 
 def words() -> argparse.Namespace:

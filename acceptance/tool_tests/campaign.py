@@ -166,14 +166,11 @@ def two_machines_share_the_work(folder):
 
 
 def bounds_that_suffice_are_told(folder):
-    """Where the program says that no run leaves the bounds, a refuted goal is unreachable. A script stands for such a program."""
-    for said, verdict in (("bounds suffice turns 4 frames 8 answers 16", "unreachable"), ("bounds left args 0 5 0", "refuted within the bounds")):
-        script = f'#!/bin/sh\ncase "$1 $3" in\n"bounds /no/source.c") echo error 7 >&2; exit 7 ;;\nbounds*) echo "{said}"; exit 0 ;;\nesac\n'
-        put(folder, {**FEE, "program": script + f'exec {programs.LAUNCHER} "$@"\n'})
-        os.chmod(os.path.join(folder, "program"), 0o755)
-        ended = campaign(folder, "fee", PAIRS, "fee.c", env={**os.environ, "FSHELL": os.path.join(folder, "program")})
-        yield ended.returncode == 0 and [verdicts(folder)[goal - 1] for goal in REFUTED] == [verdict] * 2
-        yield f"goals 12: 10 covered, 2 {verdict}, 0 undecided\n" in ended.stdout
+    """Where no run leaves the bounds, a refuted goal is unreachable."""
+    put(folder, {"never.c": example("never/never.c")})
+    ended = campaign(folder, "f", "cover @CONDITIONEDGE", "never.c")
+    yield ended.returncode == 0 and verdicts(folder) == ["covered", "covered", "unreachable", "covered"]
+    yield "goals 4: 3 covered, 1 unreachable, 0 undecided\n" in ended.stdout
 
 
 def goals_are_decided_one_by_one(folder):
