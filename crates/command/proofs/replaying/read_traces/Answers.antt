@@ -10,7 +10,7 @@ use Rattle.command.proofs.TracesLaws.{at_function, traces_given}
 use Rattle.command.proofs.replaying.read_traces.Goals as goal
 
 pub read_trace-requires-clause-start : goal.read_trace-requires-clause-start
-read_trace-requires-clause-start g c = some_function _ _ _ c.requires.number c.requires.startable
+read_trace-requires-clause-start g c = some_function c.args.graph.now c.args.entry.now.number c.args.entry.now.function.now c.requires.number c.requires.startable
 
 pub returns-clause-given : goal.returns-clause-given
 returns-clause-given g c =
