@@ -1,6 +1,5 @@
-use Rattle.std.proofs.Common.{[], ◌∷◌, ap, refl}
-use Rattle.command.specs.Said.{answered}
-use Rattle.command.proofs.GivesLaws.{same_open, shown_nothing}
+use Rattle.std.proofs.Common.{[], ◌∷◌}
+use Rattle.command.proofs.GivesLaws.{same_open}
 use Rattle.command.proofs.lowering.said_of.Goals as goal
 
 pub returns-in_ok-shown-in-Open : goal.returns-in_ok-shown-in-Open
