@@ -55,10 +55,7 @@ pub(crate) fn first_edges(budget: u64) -> u64 {
 pub(crate) const LATER: u64 = 10;
 
 /// The values of the answers that a run reads.
-pub(crate) fn values_of(
-    alloc: Global,
-    taken: &[(Kind, u64)],
-) -> Result<Vector<u64>, AllocError>
+pub(crate) fn values_of(alloc: Global, taken: &[(Kind, u64)]) -> Result<Vector<u64>, AllocError>
     ensures { IfOk result (λ values. values ≡ map (λ (answer : OneKind × ℕ). answer.1) taken.now) }
 {
     let values: Vec<u64> = taken.iter().map(|answer| answer.1).collect(alloc)?;
@@ -89,7 +86,13 @@ fn is_proper(
         return Ok(false);
     }
     let function = &graph.functions()[unwound.entry as usize];
-    is_within(alloc, graph, function, path.edges.as_slice(), &unwound.bounds)
+    is_within(
+        alloc,
+        graph,
+        function,
+        path.edges.as_slice(),
+        &unwound.bounds,
+    )
 }
 
 impl Pool {

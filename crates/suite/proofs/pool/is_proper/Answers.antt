@@ -16,11 +16,10 @@ returns c =
     let counted : IsTrue (counts_end u.ends c.args.path.now.end) = sym c.is_counted.ensures ∙ c.if-not-is_counted.false in
     let Has : Bool → Type 0 = λ within. IsTrue within → AreEdgesWithin parts u.bounds read edges in
     let Gives : Bool → Type 0 = λ proper. IsTrue proper → IsTrue (counts_end u.ends c.args.path.now.end) × ((f : Function) → slice_get parts.functions u.entry ≡ Some f → AreEdgesWithin parts u.bounds f c.args.path.now.edges) in
-    let gives : (b : Bool) → Has b → Gives b = λ b h yes.
-    (
+    let gives : (b : Bool) → Has b → Gives b = λ b h yes. (
       counted,
       λ f own.
-        let same = own_function parts.functions c.functions.result.now u.entry read f c.functions.ensures c.index-functions-unwound.is own in
-        subst (λ (es : List ℕ). AreEdgesWithin parts u.bounds f es) c.as_slice.ensures (subst (λ (g : Function). AreEdgesWithin parts u.bounds g edges) same (h yes)),
+          let same = own_function parts.functions c.functions.result.now u.entry read f c.functions.ensures c.index-functions-unwound.is own in
+          subst (λ (es : List ℕ). AreEdgesWithin parts u.bounds f es) c.as_slice.ensures (subst (λ (g : Function). AreEdgesWithin parts u.bounds g edges) same (h yes)),
     ) in
     IfOk-weaker c.is_within.result Has Gives gives c.is_within.ensures
