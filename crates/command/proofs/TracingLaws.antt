@@ -1,5 +1,5 @@
 -- Laws of the traces of inputs.
-use Rattle.std.proofs.Common.{◌≡◌, ℕ, ◌+◌, ◌<◌, ◌≤◌, All, List, [], ◌∷◌, ◌++◌, length, map, Some, slice_get, refl, sym, ap, subst, ◌∙◌, arith}
+use Rattle.std.proofs.Common.{◌≡◌, ℕ, ◌+◌, ◌<◌, ◌≤◌, All, List, [], ◌∷◌, ◌++◌, length, map, Some, slice_get, refl, sym, ap, ◌∙◌, arith}
 use Rattle.std.specs.Prelude.{IsTrue, if◌then◌else◌}
 use Rattle.std.specs.List.{filter, list_all}
 use Rattle.std.proofs.lemmas.Bool.{le-ltb, lt-ltb}
@@ -75,3 +75,14 @@ module _ (graph : GraphParts) (entry : EntryFunction) (ends : Ends) (steps : ℕ
 -- the parameters of a function of a graph are of kinds
 pub own_kinds : (graph : GraphParts) → IsGraph graph → (k : ℕ) (f : Function) → slice_get graph.functions k ≡ Some f → IsTrue (list_all is_kind f.parameters)
 own_kinds graph g k f own = and_left (list_all is_kind f.parameters) (result_kind_fits f.result) (g.rest.functions k f own).signature
+
+module _ (graph : GraphParts) (entry : EntryFunction) (ends : Ends) (steps : ℕ) (xs : List Input) (x : Input) (run : PathRecord) where
+  -- the traces with one more, where its run is counted
+  pub trace_kept : (traces new : List Trace) → (let trace : Trace = record { input = x; run = run } in new ≡ traces ++ (if is_counted ends trace then trace ∷ [] else []))
+      → traces ≡ traces_of graph entry.function ends steps xs → run ≡ run_of graph entry.function no_predicates steps x
+      → new ≡ traces_of graph entry.function ends steps (xs ++ x ∷ [])
+  trace_kept traces new kept so_far is =
+      let trace : Trace = record { input = x; run = run } in
+      let made : trace ≡ trace_of graph entry.function steps x = ap (λ (r : PathRecord). record { input = x; run = r }) is in
+      kept ∙ ap (λ (list : List Trace). list ++ (if is_counted ends trace then trace ∷ [] else [])) so_far
+      ∙ sym (traces_after graph entry ends steps xs x trace made)

@@ -33,6 +33,7 @@ pub fn run_of(
 ) -> Result<PathRecord, Memory>
     requires number { slice_get graph.now.functions entry.now.number ≡ Some entry.now.function.now }
     requires start { CanStart entry.now.function.now input.now.words }
+    requires few { steps + 1 < 2 ^ 64 }
     requires predicates { IsPredicates graph.now predicates.now }
     ensures { IfOk result (λ run. run ≡ run_of graph.now entry.now.function.now predicates.now steps input.now) }
 {
@@ -58,6 +59,7 @@ fn measure_all(
 ) -> Result<Measured, Memory>
     requires number { slice_get graph.now.functions entry.now.number ≡ Some entry.now.function.now }
     requires start { All (λ input. CanStart entry.now.function.now input.words) inputs.now }
+    requires few_steps { steps + 1 < 2 ^ 64 }
     requires predicates { IsPredicates graph.now planned.now.predicates }
     ensures ends { IfOk result (λ made. made.ends.items ≡ ends_of (runs_of graph.now entry.now.function.now planned.now.predicates steps inputs.now)) }
     ensures hits { IfOk result (λ made. AreAllHits planned.now.plan ends (runs_of graph.now entry.now.function.now planned.now.predicates steps inputs.now) (hits_of made.measurer)) }
@@ -104,6 +106,7 @@ pub fn report(
     requires few { length inputs.now < 2 ^ 32 }
     requires number { slice_get graph.now.functions entry.now.number ≡ Some entry.now.function.now }
     requires start { All (λ input. CanStart entry.now.function.now input.words) inputs.now }
+    requires few_steps { steps + 1 < 2 ^ 64 }
     requires predicates { IsPredicates graph.now planned.now.predicates }
     requires plan { IsPlanOver graph.now planned.now.plan }
     ensures { IfOk result (λ text. IsMeasured graph.now (seen entry.now) planned.now.predicates planned.now.plan ends steps json inputs.now (answered text.items)) }

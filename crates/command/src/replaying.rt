@@ -1,7 +1,5 @@
 // The trace file that the words name, and the report of measuring it.
-ghost use Rattle.std.specs.Prelude.{◌≡◌, ◌≤◌, ◌<◌, ◌^◌, [], IfOk, IfErr, OnOk, Some, length, slice_get};
-ghost use Rattle.std.specs.List.{All};
-ghost use Rattle.c_meaning.specs.Starts.{CanStart};
+ghost use Rattle.std.specs.Prelude.{◌≡◌, ◌+◌, ◌<◌, ◌^◌, [], IfOk, IfErr, Some, slice_get};
 ghost use Rattle.cfa.specs.Predicates.{IsPredicates};
 ghost use Rattle.fq_core.specs.Refusals.{IfRefused};
 ghost use Rattle.command_words.specs.Request.{replaying};
@@ -50,11 +48,12 @@ fn read_traces<F: Files>(
 
 // The most edges of a trace.
 fn longest(traces: &[Trace]) -> u64
-    ensures { result ≡ longest traces.now }
+    ensures longest { result ≡ longest traces.now }
+    ensures few { result + 1 < 2 ^ 64 }
 {
     let mut most = 0;
     for trace in traces {
-        most = most.max(trace.run.edges.len() as u64);
+        most = most.max(trace.run.edges.as_slice().len() as u64);
     }
     most
 }

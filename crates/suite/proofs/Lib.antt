@@ -9,3 +9,4 @@ pub mod Nexts
 pub mod Refuted
 pub mod SuiteLaws
 pub mod Trimming
+pub mod PoolLaws

@@ -2,5 +2,6 @@ pub mod Generated
 pub mod Laws
 pub mod Made
 pub mod Marks
+pub mod Pool
 pub mod Progress
 pub mod Suite

@@ -1,7 +1,6 @@
 // A goal decided: its formula is searched.
-ghost use Rattle.std.specs.Prelude.{◌≡◌, ℕ, ◌-◌, ◌<◌, ◌≤◌, ◌^◌, IfErr, IfOk, Some, length, map, slice_get};
+ghost use Rattle.std.specs.Prelude.{◌≡◌, ◌-◌, ◌<◌, ◌≤◌, ◌^◌, IfErr, IfOk, IfSome, OnOk, Some, length, slice_get};
 ghost use Rattle.std.specs.Option.{IsSomeAnd};
-ghost use Rattle.c_values.specs.declared.kinds.Kind.{Kind as OneKind};
 ghost use Rattle.cfa.specs.Predicates.{IsPredicates};
 ghost use Rattle.cfa.specs.declared.parts.Function.{Function as OneFunction};
 ghost use Rattle.goal_formula.specs.Exact.{IsExact};
@@ -10,29 +9,21 @@ ghost use Rattle.goals.specs.GoalForm.{GoalForm};
 ghost use Rattle.goals.specs.declared.plan.Plan.{Plan as OnePlan};
 ghost use Rattle.search.specs.Nexts.{IsModel};
 ghost use Rattle.suite.specs.Made.{IsDecided, IsMadeFor, IsOpenWhereShort};
+ghost use Rattle.suite.specs.Pool.{HasPool};
 ghost use Rattle.unwinder.specs.Unwinding.{IsUnwound};
 
 use crate::decided::Decided;
+use crate::pool::{LATER, Pool, first_count, first_edges, values_of};
 use crate::replaying::replay;
 use c_meaning::Input;
-use c_values::Kind;
 use cfa::{Graph, Predicates};
 use confirmation::confirm;
-use containers::Vector;
-use fq_core::{Fault, Memory};
-use goal_formula::{GoalFormula, formula, input_of};
+use fq_core::{Fault, Memory, Place, Refusal};
+use goal_formula::{GoalFormula, formula, input_of, is_goal_too_large};
 use goals::Plan;
 use search::{Found, search};
-use std::alloc::{AllocError, Global};
+use std::alloc::Global;
 use unwinder::Unwound;
-
-/// The values of the answers that a run reads.
-fn values_of(alloc: Global, taken: &[(Kind, u64)]) -> Result<Vector<u64>, AllocError>
-    ensures { IfOk result (λ values. values ≡ map (λ (answer : OneKind × ℕ). answer.1) taken.now) }
-{
-    let values: Vec<u64> = taken.iter().map(|answer| answer.1).collect(alloc)?;
-    Ok(Vector::from_vec(values))
-}
 
 /// The input of a model of a goal's formula, with the answers alone that its run reads, each as a value of the kind as which
 /// it is read.
@@ -92,6 +83,139 @@ fn searched(
     }
 }
 
+/// What the search of a goal's formula finds, of a goal of any size.
+fn sought(
+    alloc: Global,
+    graph: &Graph,
+    predicates: &Predicates,
+    unwound: &mut Unwound,
+    plan: &Plan,
+    goal: u32,
+    budget: u64,
+) -> Result<Decided, Fault>
+    requires predicates { IsPredicates graph.now predicates.now }
+    requires unwound { IsSomeAnd (slice_get graph.now.functions unwound.old.entry) (λ f. IsUnwound graph.now predicates.now f unwound.old.entry unwound.old.bounds unwound.old.ends unwound.old) }
+    requires some { 0 < goal }
+    requires there { goal ≤ length plan.now.goals }
+    ensures decided { IfOk result (λ decided. (f : OneFunction) (g : GoalForm) → slice_get graph.now.functions unwound.old.entry ≡ Some f → slice_get plan.now.goals (goal - 1) ≡ Some g → IsDecided graph.now f predicates.now plan.now unwound.old.bounds unwound.old.ends g budget decided) }
+    ensures enough { IfOk result (λ decided. (f : OneFunction) (g : GoalForm) → slice_get graph.now.functions unwound.old.entry ≡ Some f → slice_get plan.now.goals (goal - 1) ≡ Some g → IsOpenWhereShort graph.now f predicates.now plan.now unwound.old.bounds g budget decided) }
+    ensures size { IfOk result (λ _. (g : GoalForm) → slice_get plan.now.goals (goal - 1) ≡ Some g → goal_size plan.now g unwound.old.pairs ≤ 8388608) }
+    ensures refused { IfErr result (λ fault. (g : GoalForm) → slice_get plan.now.goals (goal - 1) ≡ Some g → IsFormulaFault (goal_size plan.now g unwound.old.pairs) fault) }
+    ensures unwound { unwound.new ≡ unwound.old }
+{
+    let formula = formula(alloc, graph, predicates, unwound, plan, goal)?;
+    match searched(alloc, graph, predicates, unwound, formula, budget) {
+        Ok(decided) => Ok(decided),
+        Err(Memory) => Err(Fault::Memory),
+    }
+}
+
+/// What the search of a goal's formula finds, of a goal whose size is within its limit.
+fn searched_goal(
+    alloc: Global,
+    graph: &Graph,
+    predicates: &Predicates,
+    unwound: &mut Unwound,
+    plan: &Plan,
+    goal: u32,
+    budget: u64,
+) -> Result<Decided, Memory>
+    requires predicates { IsPredicates graph.now predicates.now }
+    requires unwound { IsSomeAnd (slice_get graph.now.functions unwound.old.entry) (λ f. IsUnwound graph.now predicates.now f unwound.old.entry unwound.old.bounds unwound.old.ends unwound.old) }
+    requires some { 0 < goal }
+    requires there { goal ≤ length plan.now.goals }
+    requires small { (g : GoalForm) → slice_get plan.now.goals (goal - 1) ≡ Some g → goal_size plan.now g unwound.old.pairs ≤ 8388608 }
+    ensures decided { IfOk result (λ decided. (f : OneFunction) (g : GoalForm) → slice_get graph.now.functions unwound.old.entry ≡ Some f → slice_get plan.now.goals (goal - 1) ≡ Some g → IsDecided graph.now f predicates.now plan.now unwound.old.bounds unwound.old.ends g budget decided) }
+    ensures enough { IfOk result (λ decided. (f : OneFunction) (g : GoalForm) → slice_get graph.now.functions unwound.old.entry ≡ Some f → slice_get plan.now.goals (goal - 1) ≡ Some g → IsOpenWhereShort graph.now f predicates.now plan.now unwound.old.bounds g budget decided) }
+    ensures unwound { unwound.new ≡ unwound.old }
+{
+    match sought(alloc, graph, predicates, unwound, plan, goal, budget) {
+        Ok(decided) => Ok(decided),
+        Err(Fault::Memory) => Err(Memory),
+        Err(Fault::Refused(_)) => unreachable!(),
+    }
+}
+
+/// What the later candidates of a pool find of a goal that the search leaves open: an input, or nothing more.
+fn later_found(
+    alloc: Global,
+    graph: &Graph,
+    predicates: &Predicates,
+    unwound: &Unwound,
+    plan: &Plan,
+    goal: u32,
+    budget: u64,
+    pool: &mut Pool,
+) -> Result<Option<Input>, Memory>
+    requires predicates { IsPredicates graph.now predicates.now }
+    requires unwound { IsSomeAnd (slice_get graph.now.functions unwound.now.entry) (λ f. IsUnwound graph.now predicates.now f unwound.now.entry unwound.now.bounds unwound.now.ends unwound.now) }
+    requires some { 0 < goal }
+    requires pool { HasPool graph.now predicates.now plan.now unwound.now pool.old }
+    ensures found { IfOk result (λ found. IfSome found (λ input. (f : OneFunction) (g : GoalForm) → slice_get graph.now.functions unwound.now.entry ≡ Some f → slice_get plan.now.goals (goal - 1) ≡ Some g → IsMadeFor graph.now f predicates.now plan.now unwound.now.bounds unwound.now.ends g input)) }
+    ensures pool { OnOk result (HasPool graph.now predicates.now plan.now unwound.now pool.new) }
+{
+    let count = first_count(budget).saturating_mul(LATER);
+    let edges = first_edges(budget).saturating_mul(LATER);
+    pool.fill(alloc, graph, plan, predicates, unwound, count, edges)?;
+    pool.first(alloc, goal)
+}
+
+/// Decides a goal whose size is within its limit, beside a pool: the first input of the pool that hits the goal covers it,
+/// else it is searched, and where that leaves it open the later candidates are tried.
+pub(crate) fn decide_beside(
+    alloc: Global,
+    graph: &Graph,
+    predicates: &Predicates,
+    unwound: &mut Unwound,
+    plan: &Plan,
+    goal: u32,
+    budget: u64,
+    pool: &mut Pool,
+) -> Result<Decided, Memory>
+    requires predicates { IsPredicates graph.now predicates.now }
+    requires unwound { IsSomeAnd (slice_get graph.now.functions unwound.old.entry) (λ f. IsUnwound graph.now predicates.now f unwound.old.entry unwound.old.bounds unwound.old.ends unwound.old) }
+    requires some { 0 < goal }
+    requires there { goal ≤ length plan.now.goals }
+    requires small { (g : GoalForm) → slice_get plan.now.goals (goal - 1) ≡ Some g → goal_size plan.now g unwound.old.pairs ≤ 8388608 }
+    requires pool { HasPool graph.now predicates.now plan.now unwound.old pool.old }
+    ensures decided { IfOk result (λ decided. (f : OneFunction) (g : GoalForm) → slice_get graph.now.functions unwound.old.entry ≡ Some f → slice_get plan.now.goals (goal - 1) ≡ Some g → IsDecided graph.now f predicates.now plan.now unwound.old.bounds unwound.old.ends g budget decided) }
+    ensures enough { IfOk result (λ decided. (f : OneFunction) (g : GoalForm) → slice_get graph.now.functions unwound.old.entry ≡ Some f → slice_get plan.now.goals (goal - 1) ≡ Some g → IsOpenWhereShort graph.now f predicates.now plan.now unwound.old.bounds g budget decided) }
+    ensures pool { OnOk result (HasPool graph.now predicates.now plan.now unwound.old pool.new) }
+    ensures unwound { unwound.new ≡ unwound.old }
+{
+    if let Some(input) = pool.first(alloc, goal)? {
+        return Ok(Decided::Covered(input));
+    }
+    let decided = searched_goal(alloc, graph, predicates, unwound, plan, goal, budget)?;
+    if !matches!(&decided, Decided::Undecided { .. }) {
+        return Ok(decided);
+    }
+    match later_found(alloc, graph, predicates, unwound, plan, goal, budget, pool)? {
+        Some(input) => Ok(Decided::Covered(input)),
+        None => Ok(decided),
+    }
+}
+
+/// The pool of a plan's goals, with the candidates that are tried before goals are searched.
+pub(crate) fn first_pool(
+    alloc: Global,
+    graph: &Graph,
+    predicates: &Predicates,
+    unwound: &Unwound,
+    plan: &Plan,
+    budget: u64,
+) -> Result<Pool, Memory>
+    requires predicates { IsPredicates graph.now predicates.now }
+    requires unwound { IsSomeAnd (slice_get graph.now.functions unwound.now.entry) (λ f. IsUnwound graph.now predicates.now f unwound.now.entry unwound.now.bounds unwound.now.ends unwound.now) }
+    ensures { IfOk result (λ pool. HasPool graph.now predicates.now plan.now unwound.now pool) }
+{
+    let mut pool = Pool::new(alloc, graph, plan, unwound.entry)?;
+    let count = first_count(budget);
+    let edges = first_edges(budget);
+    pool.fill(alloc, graph, plan, predicates, unwound, count, edges)?;
+    Ok(pool)
+}
+
 /// Decides a goal of a plan, by its number from 1, over an unwinding, with a budget of so many moves of the search.
 ///
 /// An input that is made has a run within the bounds that hits the goal, exactly the answers that this run reads, and values
@@ -99,6 +223,9 @@ fn searched(
 /// line more than the budget: then no input at all has such a run. A certificate can write the two. It stays undecided only where a search of such a formula
 /// made as many moves as the budget allows and isn't finished, and only with a budget below 3 to the most variables of its
 /// formula. The unwinding stays as it was.
+///
+/// Beside the search some candidates are run, one for a thousand moves of the budget, and ten times as many where the search
+/// leaves the goal open: an input may come from there.
 ///
 /// # Errors
 ///
@@ -123,9 +250,15 @@ pub fn decide(
     ensures refused { IfErr result (λ fault. (g : GoalForm) → slice_get plan.now.goals (goal - 1) ≡ Some g → IsFormulaFault (goal_size plan.now g unwound.old.pairs) fault) }
     ensures unwound { unwound.new ≡ unwound.old }
 {
-    let formula = formula(alloc, graph, predicates, unwound, plan, goal)?;
-    match searched(alloc, graph, predicates, unwound, formula, budget) {
-        Ok(decided) => Ok(decided),
-        Err(Memory) => Err(Fault::Memory),
+    if is_goal_too_large(alloc, plan, goal, unwound.pairs)? {
+        return Err(Fault::Refused(Refusal {
+            code: 82,
+            place: Place::Limit { number: 8_388_608 },
+        }));
     }
+    let mut pool = first_pool(alloc, graph, predicates, unwound, plan, budget)?;
+    let decided = decide_beside(
+        alloc, graph, predicates, unwound, plan, goal, budget, &mut pool,
+    )?;
+    Ok(decided)
 }

@@ -9,12 +9,13 @@ ghost use Rattle.goal_formula.specs.Sizes.{goal_size};
 ghost use Rattle.goals.specs.GoalForm.{GoalForm};
 ghost use Rattle.measurer.specs.Measurers.{IsMadeFor as MeasuresFor};
 ghost use Rattle.suite.specs.Generated.{AreAnswered, IsGenerateFault, IsGenerated, Shown, seen_also};
-ghost use Rattle.suite.specs.Made.{FallsShort, IsDecided, IsMadeFor};
+ghost use Rattle.suite.specs.Made.{FallsShort, IsMadeFor};
+ghost use Rattle.suite.specs.Pool.{HasPool};
 ghost use Rattle.suite.specs.Progress.{AddsInput, AllAnswered, AnswersMore, AreSmall, IsNext, IsSizeFault, Tried, so_far};
 ghost use Rattle.unwinder.specs.Unwinding.{IsUnwound};
 
 use crate::decided::Decided;
-use crate::deciding::decide;
+use crate::deciding::{decide_beside, first_pool};
 use crate::generated::Generated;
 use crate::making::{Making, nothing_made};
 use crate::replaying::replay;
@@ -60,6 +61,7 @@ fn add_input(
     requires input { IsSomeAnd (slice_get graph.now.functions unwound.now.entry) (λ f. (goal : GoalForm) × IsMadeFor graph.now f predicates.now plan.now unwound.now.bounds unwound.now.ends goal input) }
     requires plan { MeasuresFor plan.now making.old.measurer }
     ensures plan { MeasuresFor plan.now making.new.measurer }
+    ensures pool { making.new.pool ≡ making.old.pool }
     ensures added { OnOk result ((f : OneFunction) (goal : GoalForm) → slice_get graph.now.functions unwound.now.entry ≡ Some f → IsMadeFor graph.now f predicates.now plan.now unwound.now.bounds unwound.now.ends goal input → AddsInput graph.now f predicates.now plan.now unwound.now.bounds unwound.now.ends goal input (so_far making.old) (so_far making.new)) }
 {
     let run = replay(alloc, graph, predicates, unwound, &input)?;
@@ -67,31 +69,6 @@ fn add_input(
     making.inputs.push(input)?;
     making.taken.push(run.taken)?;
     Ok(())
-}
-
-/// Decides a goal whose size is within its limit.
-fn decided(
-    alloc: Global,
-    graph: &Graph,
-    plan: &Plan,
-    predicates: &Predicates,
-    unwound: &mut Unwound,
-    budget: u64,
-    goal: u32,
-) -> Result<Decided, Memory>
-    requires predicates { IsPredicates graph.now predicates.now }
-    requires unwound { IsSomeAnd (slice_get graph.now.functions unwound.old.entry) (λ f. IsUnwound graph.now predicates.now f unwound.old.entry unwound.old.bounds unwound.old.ends unwound.old) }
-    requires some { 0 < goal }
-    requires there { goal ≤ length plan.now.goals }
-    requires small { AreSmall plan.now unwound.old.pairs }
-    ensures decided { IfOk result (λ decided. (f : OneFunction) (g : GoalForm) → slice_get graph.now.functions unwound.old.entry ≡ Some f → slice_get plan.now.goals (goal - 1) ≡ Some g → IsDecided graph.now f predicates.now plan.now unwound.old.bounds unwound.old.ends g budget decided) }
-    ensures unwound { unwound.new ≡ unwound.old }
-{
-    match decide(alloc, graph, predicates, unwound, plan, goal, budget) {
-        Ok(decided) => Ok(decided),
-        Err(Fault::Memory) => Err(Memory),
-        Err(Fault::Refused(_)) => unreachable!(),
-    }
 }
 
 /// The answer of a goal that no input hits so far: an input that is made for it is added, and where it stays undecided the
@@ -113,11 +90,14 @@ fn tried<W: Watch>(
     requires there { goal ≤ length plan.now.goals }
     requires small { AreSmall plan.now unwound.old.pairs }
     requires plan { MeasuresFor plan.now making.old.measurer }
+    requires pool { HasPool graph.now predicates.now plan.now unwound.old making.old.pool }
     ensures unwound { unwound.new ≡ unwound.old }
     ensures plan { MeasuresFor plan.now making.new.measurer }
+    ensures pool { OnOk result (HasPool graph.now predicates.now plan.now unwound.old making.new.pool) }
     ensures tried { IfOk result (λ answer. (f : OneFunction) (g : GoalForm) → slice_get graph.now.functions unwound.old.entry ≡ Some f → slice_get plan.now.goals (goal - 1) ≡ Some g → Tried graph.now f predicates.now plan.now unwound.old.bounds unwound.old.ends budget goal g (so_far making.old) (so_far making.new) (W.seen watch.old) (W.seen watch.new) answer) }
 {
-    match decided(alloc, graph, plan, predicates, unwound, budget, goal)? {
+    let pool = &mut making.pool;
+    match decide_beside(alloc, graph, predicates, unwound, plan, goal, budget, pool)? {
         Decided::Covered(input) => {
             let before = making.inputs.len();
             if before >= u32::MAX as usize {
@@ -157,8 +137,10 @@ fn next_answer<W: Watch>(
     requires there { goal ≤ length plan.now.goals }
     requires small { AreSmall plan.now unwound.old.pairs }
     requires plan { MeasuresFor plan.now making.old.measurer }
+    requires pool { HasPool graph.now predicates.now plan.now unwound.old making.old.pool }
     ensures unwound { unwound.new ≡ unwound.old }
     ensures plan { MeasuresFor plan.now making.new.measurer }
+    ensures pool { OnOk result (HasPool graph.now predicates.now plan.now unwound.old making.new.pool) }
     ensures next { IfOk result (λ answer. (f : OneFunction) (g : GoalForm) → slice_get graph.now.functions unwound.old.entry ≡ Some f → slice_get plan.now.goals (goal - 1) ≡ Some g → IsNext graph.now f predicates.now plan.now unwound.old.bounds unwound.old.ends budget goal g (so_far making.old) (so_far making.new) (W.seen watch.old) (W.seen watch.new) answer) }
 {
     match making.measurer.first(goal) {
@@ -186,8 +168,10 @@ fn answer_next<W: Watch>(
     requires open { length making.old.answers < length plan.now.goals }
     requires small { AreSmall plan.now unwound.old.pairs }
     requires plan { MeasuresFor plan.now making.old.measurer }
+    requires pool { HasPool graph.now predicates.now plan.now unwound.old making.old.pool }
     ensures unwound { unwound.new ≡ unwound.old }
     ensures plan { MeasuresFor plan.now making.new.measurer }
+    ensures pool { OnOk result (HasPool graph.now predicates.now plan.now unwound.old making.new.pool) }
     ensures count { OnOk result (length making.new.answers ≡ length making.old.answers + 1) }
     ensures more { (f : OneFunction) (made_for : List ℕ) (shown : List Shown) → slice_get graph.now.functions unwound.old.entry ≡ Some f → AreAnswered graph.now f predicates.now plan.now unwound.old.bounds unwound.old.ends budget (so_far making.old) made_for shown → OnOk result (AnswersMore graph.now f predicates.now plan.now unwound.old.bounds unwound.old.ends budget (so_far making.new) shown (W.seen watch.old) (W.seen watch.new)) }
 {
@@ -208,6 +192,7 @@ fn generated(making: Making) -> Generated
         answers,
         inputs,
         taken,
+        pool: _pool,
     } = making;
     Generated {
         answers,
@@ -234,7 +219,8 @@ fn all_answered<W: Watch>(
     ensures count { IfOk result (λ made. length made.answers ≡ length plan.now.goals) }
     ensures answered { (f : OneFunction) → slice_get graph.now.functions unwound.old.entry ≡ Some f → IfOk result (λ made. AllAnswered graph.now f predicates.now plan.now unwound.old.bounds unwound.old.ends budget made (W.seen watch.old) (W.seen watch.new)) }
 {
-    let mut making = nothing_made(alloc, plan)?;
+    let pool = first_pool(alloc, graph, predicates, unwound, plan, budget)?;
+    let mut making = nothing_made(alloc, plan, pool)?;
     'goals: for _place in 0..plan.goals.len() {
         answer_next(
             alloc,

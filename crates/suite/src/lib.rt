@@ -3,7 +3,8 @@
 //! Start at [`generate`] in generating.rt: it unwinds the runs of a function within bounds (`unwinder`), and answers each goal
 //! of a plan in order. A goal that no input hits so far is decided ([`decide`] in deciding.rt): its formula (`goal_formula`)
 //! is searched (`search`); a model is made into an input, which is replayed (`path_runner`) and measured (`measurer`); a
-//! derivation is confirmed (`confirmation`); and who watches is shown a search that spent its budget. The
+//! derivation is confirmed (`confirmation`); and who watches is shown a search that spent its budget. Before goals are
+//! searched, and before one stays open, inputs are run beside the search (`candidates`, pool.rt). The
 //! layers above use the contract of [`generate`]: the answers are true of the goals as specs/Generated.antt says
 //! (`IsGenerated`), by specs/Made.antt for one goal (`IsDecided`).
 //!
@@ -19,6 +20,7 @@ mod generating;
 mod laws;
 mod making;
 mod marking;
+mod pool;
 mod reduction;
 mod replaying;
 

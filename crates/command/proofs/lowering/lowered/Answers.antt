@@ -12,7 +12,7 @@ use Rattle.command.proofs.lowering.lowered.Goals as goal
 pub returns-in_err-unwound : goal.returns-in_err-unwound
 returns-in_err-unwound g c = λ one is.
     let m = proving c.args.request.now in
-    let why = rw c.within.ensures at (c.in_err-unwound.ensures.refused c.args.entry.now.function.now c.requires.number) in
+    let why = rw c.within-bounds.ensures at (c.in_err-unwound.ensures.refused c.args.entry.now.function.now c.requires.number) in
     let p = err_from_is_err_and c.from_residual.result c.from_residual.ensures.1 in
     rw (p.1, p.2) (gives_refused (IsLowered c.args.graph.now (seen c.args.entry.now) c.args.planned.now.predicates c.args.planned.now.plan (within m.bounds) m.ends m.goal one m.sources m.budget)
     m.sources _ c.in_err-unwound.field-0.0
@@ -26,7 +26,7 @@ find_least-requires-clause-unwound g c =
 pub returns-in_err-least : goal.returns-in_err-least
 returns-in_err-least g c = λ one is.
     let m = proving c.args.request.now in
-    let unwound = rw c.within.ensures at (c.in_ok-unwound.ensures.accepted c.args.entry.now.function.now c.requires.number) in
+    let unwound = rw c.within-bounds.ensures at (c.in_ok-unwound.ensures.accepted c.args.entry.now.function.now c.requires.number) in
     let why = c.in_err-least.ensures.refused one is in
     let p = err_from_is_err_and c.from_residual-in_err-least.result c.from_residual-in_err-least.ensures.1 in
     rw (p.1, p.2) (gives_refused (IsLowered c.args.graph.now (seen c.args.entry.now) c.args.planned.now.predicates c.args.planned.now.plan (within m.bounds) m.ends m.goal one m.sources m.budget)
@@ -36,11 +36,11 @@ returns-in_err-least g c = λ one is.
 
 pub returns : goal.returns
 returns g c = λ one is.
-    let unwound = rw c.within.ensures at (c.in_ok-unwound.ensures.accepted c.args.entry.now.function.now c.requires.number) in
+    let unwound = rw c.within-bounds.ensures at (c.in_ok-unwound.ensures.accepted c.args.entry.now.function.now c.requires.number) in
     let there = there_still _ _ _ _ _ _ _ unwound c.requires.number in
     let answered = c.in_ok-least.ensures.answered c.args.entry.now.function.now one there is in
     let short = c.in_ok-least.ensures.enough c.args.entry.now.function.now one there is in
-    let given = rw c.within.ensures at c.in_ok-reply.ensures in (
+    let given = rw c.within-bounds.ensures at c.in_ok-reply.ensures in (
       given.0,
       inr (
         goal_is_within _ _ _ _ _ _ _ unwound c.args.planned.now.plan one (c.in_ok-least.ensures.size one is),

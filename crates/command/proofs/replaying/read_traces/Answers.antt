@@ -1,16 +1,13 @@
-use Rattle.std.proofs.Common.{◌≤◌, length, ap, arith}
-use Rattle.std.specs.Prelude.{slice_get}
-use Rattle.std.proofs.lemmas.Result.{err_from_is_err_and}
+use Rattle.std.proofs.Common.{◌≤◌, length, arith}
 use Rattle.trace_file.specs.Reading.{IsFileOf, IsRefused}
-use Rattle.command.specs.Traces.{at_form, at_read, most_trace_bytes}
+use Rattle.command.specs.Traces.{at_form, most_trace_bytes}
 use Rattle.command.proofs.BoundsLaws.{some_function}
 use Rattle.command.proofs.DueLaws.{err_map, ok_map}
-use Rattle.command.proofs.ReadsLaws.{refused_map}
 use Rattle.command.proofs.TracesLaws.{at_function, traces_given}
 use Rattle.command.proofs.replaying.read_traces.Goals as goal
 
 pub read_trace-requires-clause-start : goal.read_trace-requires-clause-start
-read_trace-requires-clause-start g c = some_function _ _ _ c.requires.number c.requires.startable
+read_trace-requires-clause-start g c = some_function c.args.graph.now c.args.entry.now.number c.args.entry.now.function.now c.requires.number c.requires.startable
 
 pub returns-clause-given : goal.returns-clause-given
 returns-clause-given g c =

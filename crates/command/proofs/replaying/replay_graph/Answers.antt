@@ -42,6 +42,6 @@ report-requires-clause-start g c =
 pub returns-clause-ok : goal.returns-clause-ok
 returns-clause-ok g c =
     let some = rw (c.in-Some.is, c.as_bytes.ensures.value) at c.entry_named.ensures.entry in
-    let measured = rw (c.deref-2.ensures.value, c.in_ok-inputs.ensures, c.longest.ensures, c.deref.ensures.value) at c.in_ok-text.ensures in
+    let measured = rw (c.deref-2.ensures.value, c.in_ok-inputs.ensures, c.longest-steps.ensures.longest, c.deref.ensures.value) at c.in_ok-text.ensures in
     replay_at _ (replaying c.args.request.now) c.args.graph.now (seen c.in-Some.entry) _ (sym some)
     (inr (c.in_ok-planned.planned.predicates, (c.in_ok-planned.planned.plan, c.in_ok-planned.ensures.planned, inr (c.in_ok-traces.traces.items, c.in_ok-traces.ensures.given, measured))))

@@ -25,6 +25,24 @@ returns-in-Runs g c =
     (watched g.W.Watch.seen c.args.watch.now c.args.watch.now) c.runs.result c.plain-in-Runs.result c.plain-in-Runs.ensures
     (rw c.in-Runs.is c.runs.ensures.ok) (rw c.in-Runs.is c.runs.ensures.err) refl
 
+pub returns-in-Traces : goal.returns-in-Traces
+returns-in-Traces g c =
+    gives_plain (IsDueOf (reads g.F.Files.holds g.F.Files.last_failed g.F.Files.faults g.F.Files.received c.args.files.now c.traces.new.files) (asked c.args.request.now)) (sources_of (asked c.args.request.now))
+    (watched g.W.Watch.seen c.args.watch.now c.args.watch.now) c.traces.result c.plain-in-Traces.result c.plain-in-Traces.ensures
+    (rw c.in-Traces.is c.traces.ensures.ok) (rw c.in-Traces.is c.traces.ensures.err) refl
+
+pub returns-in-Replay : goal.returns-in-Replay
+returns-in-Replay g c =
+    gives_plain (IsDueOf (reads g.F.Files.holds g.F.Files.last_failed g.F.Files.faults g.F.Files.received c.args.files.now c.replay.new.files) (asked c.args.request.now)) (sources_of (asked c.args.request.now))
+    (watched g.W.Watch.seen c.args.watch.now c.args.watch.now) c.replay.result c.plain-in-Replay.result c.plain-in-Replay.ensures
+    (rw c.in-Replay.is c.replay.ensures.ok) (rw c.in-Replay.is c.replay.ensures.err) refl
+
+pub returns-in-Bounds : goal.returns-in-Bounds
+returns-in-Bounds g c = rw c.in-Bounds.is c.bounds.ensures
+
+pub returns-in-Least : goal.returns-in-Least
+returns-in-Least g c = rw c.in-Least.is c.least.ensures
+
 pub returns-in-Graph : goal.returns-in-Graph
 returns-in-Graph g c =
     gives_plain (IsDueOf (reads g.F.Files.holds g.F.Files.last_failed g.F.Files.faults g.F.Files.received c.args.files.now c.graph.new.files) (asked c.args.request.now)) (sources_of (asked c.args.request.now))

@@ -24,6 +24,6 @@ pub returns-clause-err : goal.returns-clause-err
 returns-clause-err g c =
     let some = rw (c.in-Some.is, c.as_bytes.ensures.value) at c.entry_named.ensures.entry in
     let given = rw c.in_ok-parameters.ensures at c.in_ok-inputs.ensures.given in
-    let told = rw c.deref.ensures.value at c.trace_inputs.ensures.err in
+    let told = c.trace_inputs.ensures.err in
     err_map c.trace_inputs.result told (λ x is.
     traces_at _ (tracing c.args.request.now) c.args.graph.now (seen c.in-Some.entry) _ (sym some) (inr (c.in_ok-inputs.inputs.items, given, sym (is _))))

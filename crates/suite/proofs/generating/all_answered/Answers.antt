@@ -1,7 +1,9 @@
-use Rattle.std.proofs.Common.{◌≡◌, ℕ, ◌+◌, List, length, Some, refl, ap, subst, ◌∙◌}
+use Rattle.std.proofs.Common.{◌≡◌, ℕ, ◌+◌, List, length, Some, refl, sym, ap, subst, ◌∙◌}
 use Rattle.std.specs.Prelude.{slice_get}
 use Rattle.suite.specs.Generated.{AreAnswered, Shown}
-use Rattle.suite.specs.Progress.{AnswersMore, so_far}
+use Rattle.suite.specs.Pool.{HasPool}
+use Rattle.suite.specs.Progress.{AnswersMore, AreSmall, so_far}
+use Rattle.suite.specs.declared.pool.Pool.{Pool}
 use Rattle.suite.specs.declared.generated.Generated.{Generated}
 use Rattle.unwinder.specs.declared.unwound.Unwound.{Unwound}
 use Rattle.suite.proofs.Answering.{all_begin, all_more}
@@ -11,6 +13,7 @@ pub goals-init : goal.goals-init
 goals-init g c = record {
   same = refl;
   plan = c.in_ok-making.ensures.plan;
+  pool = subst (λ (q : Pool). HasPool c.args.graph.now c.args.predicates.now c.args.plan.now c.args.unwound.now q) (sym c.in_ok-making.ensures.pool) c.in_ok-pool.ensures;
   count = ap (λ (made : Generated). length made.answers) c.in_ok-making.ensures.nothing;
   answered = λ f own.
       let u = c.args.unwound.now in
@@ -21,6 +24,7 @@ pub goals-preserved : goal.goals-preserved
 goals-preserved g c = record {
   same = c.in_ok-answer_next.ensures.unwound ∙ c.goals.invariant.same;
   plan = c.in_ok-answer_next.ensures.plan;
+  pool = subst (λ (v : Unwound). HasPool c.args.graph.now c.args.predicates.now c.args.plan.now v c.answer_next.new.making.pool) (sym c.in_ok-answer_next.ensures.unwound) c.in_ok-answer_next.ensures.pool;
   count = c.in_ok-answer_next.ensures.count ∙ ap (λ n. n + 1) c.goals.invariant.count;
   answered = λ f own.
       let parts = c.args.graph.now in
@@ -37,3 +41,6 @@ goals-preserved g c = record {
       let more = subst More c.goals.invariant.same (λ made_for shown. c.in_ok-answer_next.ensures.more f made_for shown) in
       all_more parts f p plan u.bounds u.ends budget old new first before after (c.goals.invariant.answered f own) (λ made_for shown h. more made_for shown own h);
 }
+
+pub answer_next-requires-clause-small : goal.answer_next-requires-clause-small
+answer_next-requires-clause-small g c = subst (λ (v : Unwound). AreSmall c.args.plan.now v.pairs) (sym c.goals.invariant.same) c.requires.small

@@ -11,7 +11,7 @@ use Rattle.unwinder.specs.declared.unwound.Unwound.{Unwound}
 use Rattle.suite.specs.Made.{IsDecided}
 use Rattle.suite.proofs.Firsts.{there_at}
 use Rattle.suite.proofs.Short.{open_where_short}
-use Rattle.suite.proofs.deciding.decide.Goals as goal
+use Rattle.suite.proofs.deciding.sought.Goals as goal
 
 pub searched-requires-clause-exact : goal.searched-requires-clause-exact
 searched-requires-clause-exact c =

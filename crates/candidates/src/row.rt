@@ -1,0 +1,217 @@
+// The row of candidates.
+ghost use Rattle.std.specs.Prelude.{◌≤◌, ◌<◌, All, IfOk, length};
+ghost use Rattle.std.specs.List.{AllZip};
+ghost use Rattle.c_values.specs.Kind.{IsKind, IsValue};
+ghost use Rattle.candidates.specs.Row.{IsCandidate};
+
+use crate::constants::constants_of;
+use crate::mixing::drawn;
+use crate::values::values_of;
+use c_meaning::Input;
+use c_values::{Kind, convert};
+use cfa::Graph;
+use containers::Vector;
+use fq_core::Memory;
+use std::alloc::Global;
+
+/// A row of inputs of a function.
+///
+/// Of eight numbers the first has an input whose words and answers are all one of the values, the second one where they rise
+/// from a value or go through the values, the third to the fifth one of a grid of small numbers, and the others, and those
+/// past the end of these, one whose words and answers are drawn: values, small numbers, sums of two values, or any numbers.
+#[derive(Drop)]
+pub struct Candidates {
+    values: Vec<u64>,
+}
+
+/// A grid of small numbers: how many there are in each direction, and how many inputs that makes.
+#[derive(Clone, Copy)]
+struct Grid {
+    side: u64,
+    count: u64,
+}
+
+/// The grids that come first, for inputs of so many words and answers.
+fn small_grid(slots: u64) -> Grid
+    ensures { 0 < result.side }
+{
+    match slots {
+        0 | 1 => Grid {
+            side: 64,
+            count: 64,
+        },
+        2 => Grid { side: 8, count: 64 },
+        3 => Grid { side: 4, count: 64 },
+        _ => Grid { side: 3, count: 81 },
+    }
+}
+
+/// Those that come then.
+fn large_grid(slots: u64) -> Grid
+    ensures { 0 < result.side }
+{
+    match slots {
+        0 | 1 => Grid {
+            side: 2048,
+            count: 2048,
+        },
+        2 => Grid {
+            side: 43,
+            count: 1849,
+        },
+        3 => Grid {
+            side: 12,
+            count: 1728,
+        },
+        _ => Grid {
+            side: 6,
+            count: 1296,
+        },
+    }
+}
+
+/// The word for a place of an input of a grid: a digit of its number in base `side`, of the first four places.
+fn digit(index: u64, slot: u64, side: u64) -> u64
+    requires { 0 < side }
+{
+    match slot {
+        0 => index % side,
+        1 => index / side % side,
+        2 => index / side / side % side,
+        3 => index / side / side / side % side,
+        _ => 0,
+    }
+}
+
+impl Candidates {
+    /// The row for a function of a graph, by its number.
+    ///
+    /// # Errors
+    ///
+    /// Want of memory alone.
+    pub fn new(alloc: Global, graph: &Graph, function: u32) -> Result<Candidates, Memory> {
+        let constants = constants_of(alloc, graph, function)?;
+        Ok(Candidates {
+            values: values_of(alloc, &constants)?,
+        })
+    }
+
+    /// The value of a number; the numbers go round.
+    fn value(&self, number: u64) -> u64 {
+        let count = self.values.len();
+        if count == 0 {
+            return number;
+        }
+        self.values[(number % count as u64) as usize]
+    }
+
+    /// A word that is drawn.
+    fn drawn_word(&self, number: u64, slot: u64) -> u64 {
+        let shared = drawn(number, 0);
+        let own = drawn(number, slot.wrapping_add(1));
+        // In each fourth input the words are near each other.
+        let (from, more) = if shared % 4 == 0 {
+            (shared / 4, own % 3)
+        } else {
+            (own / 4, 0)
+        };
+        let rest = from / 8;
+        let word = match from % 8 {
+            0 | 1 => self.value(rest),
+            2 => rest % 16,
+            3 => rest % 256,
+            4 => rest % 4096,
+            5 => 0u64.wrapping_sub(rest % 64),
+            6 => self.value(rest).wrapping_add(self.value(rest / 4096)),
+            _ => drawn(rest, number),
+        };
+        word.wrapping_add(more)
+    }
+
+    /// A word of a grid, or one that is drawn where the grids are at their end.
+    fn grid_word(&self, number: u64, index: u64, slot: u64, slots: u64) -> u64 {
+        let small = small_grid(slots);
+        if index < small.count {
+            return digit(index, slot, small.side);
+        }
+        let large = large_grid(slots);
+        let behind = index - small.count;
+        if behind < large.count {
+            return digit(behind, slot, large.side);
+        }
+        self.drawn_word(number, slot)
+    }
+
+    /// The word for a place of the input of a number: the places are those of the parameters, and then those of the answers.
+    fn word(&self, number: u64, slot: u64, slots: u64) -> u64 {
+        let index = number / 8;
+        let count = self.values.len() as u64;
+        match number % 8 {
+            0 if index < count => self.value(index),
+            1 if index < count => self.value(index).wrapping_add(slot),
+            1 if index - count < count => self.value(index.wrapping_add(slot)),
+            2 => self.grid_word(number, 3 * index, slot, slots),
+            3 => self.grid_word(number, 3 * index + 1, slot, slots),
+            4 => self.grid_word(number, 3 * index + 2, slot, slots),
+            _ => self.drawn_word(number, slot),
+        }
+    }
+
+    /// The input of a number, for parameters of these kinds and with so many answers.
+    ///
+    /// # Errors
+    ///
+    /// Want of memory alone.
+    pub fn input(
+        &self,
+        alloc: Global,
+        kinds: &[Kind],
+        answers: u32,
+        number: u64,
+    ) -> Result<Input, Memory>
+        requires { All IsKind kinds.now }
+        ensures { IfOk result (λ input. IsCandidate kinds.now answers input) }
+    {
+        let slots = kinds.len() as u64 + answers as u64;
+        let words = self.words(alloc, kinds, number, slots)?;
+        let answers = self.answers(alloc, kinds.len() as u64, answers, number, slots)?;
+        Ok(Input { words, answers })
+    }
+
+    /// The words of an input, each as a value of its kind.
+    fn words(
+        &self,
+        alloc: Global,
+        kinds: &[Kind],
+        number: u64,
+        slots: u64,
+    ) -> Result<Vector<u64>, Memory>
+        requires { All IsKind kinds.now }
+        ensures { IfOk result (λ words. AllZip IsValue kinds.now words) }
+    {
+        let mut words = Vector::new(alloc);
+        for (slot, kind) in kinds.iter().enumerate() {
+            let word = self.word(number, slot as u64, slots);
+            words.push(convert(word, Kind::UNSIGNED_LONG, *kind))?;
+        }
+        Ok(words)
+    }
+
+    /// The answers of an input, whose places begin at a number.
+    fn answers(
+        &self,
+        alloc: Global,
+        first: u64,
+        count: u32,
+        number: u64,
+        slots: u64,
+    ) -> Result<Vector<u64>, Memory>
+        ensures { IfOk result (λ answers. length answers ≤ count) }
+    {
+        let mut answers = Vector::new(alloc);
+        for slot in 0..count {
+            answers.push(self.word(number, first.wrapping_add(slot as u64), slots))?;
+        }
+        Ok(answers)
+    }
+}

@@ -1,0 +1,186 @@
+// Inputs that are run beside the search.
+ghost use Rattle.std.specs.Prelude.{◌≡◌, ◌-◌, ◌<◌, ◌≤◌, ℕ, IfOk, IfSome, IsTrue, OnOk, Some, length, map, slice_get};
+ghost use Rattle.std.specs.Option.{IsSomeAnd};
+ghost use Rattle.c_meaning.specs.declared.ends.Ends.{Ends as OneEnds};
+ghost use Rattle.c_values.specs.declared.kinds.Kind.{Kind as OneKind};
+ghost use Rattle.candidates.specs.Within.{AreEdgesWithin};
+ghost use Rattle.cfa.specs.Predicates.{IsPredicates};
+ghost use Rattle.cfa.specs.declared.parts.Function.{Function as OneFunction};
+ghost use Rattle.cfa.specs.declared.parts.GraphParts.{GraphParts};
+ghost use Rattle.cfa.specs.declared.state.Predicates.{Predicates as SomePredicates};
+ghost use Rattle.goals.specs.GoalForm.{GoalForm};
+ghost use Rattle.goals.specs.declared.plan.Plan.{Plan as OnePlan};
+ghost use Rattle.path_runner.specs.Counted.{counts_end};
+ghost use Rattle.reached.specs.declared.bounds.Bounds.{Bounds as RunBounds};
+ghost use Rattle.suite.specs.Made.{IsMadeFor};
+ghost use Rattle.suite.specs.Pool.{HasPool, IsPool};
+ghost use Rattle.unwinder.specs.Unwinding.{IsUnwound};
+
+use c_meaning::Input;
+use c_values::Kind;
+use candidates::{Candidates, is_within};
+use cfa::{Graph, Predicates};
+use containers::{TryClone, Vector};
+use fq_core::Memory;
+use goals::Plan;
+use measurer::Measurer;
+use path_runner::{PathRecord, trace_run};
+use std::alloc::{AllocError, Global};
+use unwinder::Unwound;
+
+/// Inputs that are run beside the search of goals: of the candidates that were tried those whose runs count and are within the
+/// bounds, with the answers alone that these read, and the goals that they hit.
+#[derive(Drop)]
+pub struct Pool {
+    candidates: Candidates,
+    /// How many candidates were tried.
+    tried: u64,
+    /// How many edges their runs took.
+    edges: u64,
+    pub(crate) measurer: Measurer,
+    pub(crate) inputs: Vector<Input>,
+}
+
+/// How many candidates of a pool are tried for a budget before goals are searched: one for a thousand moves.
+pub(crate) fn first_count(budget: u64) -> u64 {
+    budget / 1000
+}
+
+/// How many edges their runs may take: two for five moves.
+pub(crate) fn first_edges(budget: u64) -> u64 {
+    budget / 5 * 2
+}
+
+/// How many times as many candidates, and edges, are tried before a goal stays undecided.
+pub(crate) const LATER: u64 = 10;
+
+/// The values of the answers that a run reads.
+pub(crate) fn values_of(alloc: Global, taken: &[(Kind, u64)]) -> Result<Vector<u64>, AllocError>
+    ensures { IfOk result (λ values. values ≡ map (λ (answer : OneKind × ℕ). answer.1) taken.now) }
+{
+    let values: Vec<u64> = taken.iter().map(|answer| answer.1).collect(alloc)?;
+    Ok(Vector::from_vec(values))
+}
+
+/// The same input.
+fn copy_of(alloc: Global, input: &Input) -> Result<Input, Memory>
+    ensures { IfOk result (λ copy. copy ≡ input.now) }
+{
+    let words = input.words.try_clone(alloc)?;
+    let answers = input.answers.try_clone(alloc)?;
+    Ok(Input { words, answers })
+}
+
+/// Whether a run that was recorded counts and is within the bounds.
+fn is_proper(
+    alloc: Global,
+    graph: &Graph,
+    unwound: &Unwound,
+    path: &PathRecord,
+) -> Result<bool, Memory>
+    requires frames { 1 ≤ unwound.now.bounds.frames }
+    requires entry { unwound.now.entry < length graph.now.functions }
+    ensures { IfOk result (λ proper. IsTrue proper → IsTrue (counts_end unwound.now.ends path.now.end) × ((f : OneFunction) → slice_get graph.now.functions unwound.now.entry ≡ Some f → AreEdgesWithin graph.now unwound.now.bounds f path.now.edges)) }
+{
+    if !path.end.is_counted(unwound.ends) {
+        return Ok(false);
+    }
+    let function = &graph.functions()[unwound.entry as usize];
+    is_within(
+        alloc,
+        graph,
+        function,
+        path.edges.as_slice(),
+        &unwound.bounds,
+    )
+}
+
+impl Pool {
+    /// The pool of a plan's goals from an entry, of which nothing was tried.
+    pub(crate) fn new(alloc: Global, graph: &Graph, plan: &Plan, entry: u32) -> Result<Pool, Memory>
+        ensures { IfOk result (λ pool. (f : OneFunction) (p : SomePredicates) (bounds : RunBounds) (ends : OneEnds) → IsPool graph.now f p plan.now bounds ends pool) }
+    {
+        Ok(Pool {
+            candidates: Candidates::new(alloc, graph, entry)?,
+            tried: 0,
+            edges: 0,
+            measurer: Measurer::new(alloc, plan)?,
+            inputs: Vector::new(alloc),
+        })
+    }
+
+    /// The first input of the pool that hits a goal.
+    pub(crate) fn first(&self, alloc: Global, goal: u32) -> Result<Option<Input>, Memory>
+        requires { 0 < goal }
+        ensures { IfOk result (λ found. IfSome found (λ input. (parts : GraphParts) (f : OneFunction) (p : SomePredicates) (plan : OnePlan) (bounds : RunBounds) (ends : OneEnds) (g : GoalForm) → IsPool parts f p plan bounds ends self.now → slice_get plan.goals (goal - 1) ≡ Some g → IsMadeFor parts f p plan bounds ends g input)) }
+    {
+        let Some(number) = self.measurer.first(goal) else {
+            return Ok(None);
+        };
+        let place = (number as usize).saturating_sub(1);
+        let Some(input) = self.inputs.get(place) else {
+            return Ok(None);
+        };
+        Ok(Some(copy_of(alloc, input)?))
+    }
+
+    /// Runs the next candidate, and measures its run where that counts and is within the bounds.
+    fn try_next(
+        &mut self,
+        alloc: Global,
+        graph: &Graph,
+        plan: &Plan,
+        predicates: &Predicates,
+        unwound: &Unwound,
+    ) -> Result<(), Memory>
+        requires predicates { IsPredicates graph.now predicates.now }
+        requires unwound { IsSomeAnd (slice_get graph.now.functions unwound.now.entry) (λ f. IsUnwound graph.now predicates.now f unwound.now.entry unwound.now.bounds unwound.now.ends unwound.now) }
+        requires pool { HasPool graph.now predicates.now plan.now unwound.now self.old }
+        ensures { OnOk result (HasPool graph.now predicates.now plan.now unwound.now self.new) }
+    {
+        graph.well_formed();
+        let function = &graph.functions()[unwound.entry as usize];
+        let kinds = function.parameters.as_slice();
+        let answers = unwound.bounds.answers;
+        let input = self.candidates.input(alloc, kinds, answers, self.tried)?;
+        self.tried = self.tried.wrapping_add(1);
+        let limit = unwound.entries.len() as u64;
+        let path = trace_run(alloc, graph, unwound.entry, &input, predicates, limit)?;
+        self.edges = self.edges.saturating_add(path.edges.len() as u64);
+        if !is_proper(alloc, graph, unwound, &path)? {
+            return Ok(());
+        }
+        let answers = values_of(alloc, path.taken.as_slice())?;
+        self.measurer.add(plan, &path, unwound.ends)?;
+        self.inputs.push(Input {
+            words: input.words,
+            answers,
+        })?;
+        Ok(())
+    }
+
+    /// Tries the candidates that weren't tried up to so many, until the runs of all took so many edges.
+    pub(crate) fn fill(
+        &mut self,
+        alloc: Global,
+        graph: &Graph,
+        plan: &Plan,
+        predicates: &Predicates,
+        unwound: &Unwound,
+        count: u64,
+        edges: u64,
+    ) -> Result<(), Memory>
+        requires predicates { IsPredicates graph.now predicates.now }
+        requires unwound { IsSomeAnd (slice_get graph.now.functions unwound.now.entry) (λ f. IsUnwound graph.now predicates.now f unwound.now.entry unwound.now.bounds unwound.now.ends unwound.now) }
+        requires pool { HasPool graph.now predicates.now plan.now unwound.now self.old }
+        ensures { OnOk result (HasPool graph.now predicates.now plan.now unwound.now self.new) }
+    {
+        'candidates: for _number in self.tried..count {
+            if self.edges >= edges {
+                return Ok(());
+            }
+            self.try_next(alloc, graph, plan, predicates, unwound)?;
+        }
+        Ok(())
+    }
+}
