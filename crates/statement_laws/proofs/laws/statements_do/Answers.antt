@@ -1,0 +1,4 @@
+use Rattle.statement_laws.proofs.laws.statements_do.Goals as goal
+
+pub returns : goal.returns
+returns c = ?
