@@ -260,7 +260,7 @@ module _ (c : Context) (ok : IsContext c) where
       by one none v s to false e there = subst (λ w. Follows (parts_of c) c.input to s.turns s.turns (In ho cell (n + 2)) (Gives w s)) (sym e) (none s to there)
 
   -- the second and the third part of `?:`
-  chosen_lands : (ho : Held) (low high cell : ℕ) (m : Meant) (x : Value) (u : Around) (z : ℕ) → cell < low → Proper c ho → Clear c ho low high → Spare c ho cell → Does c ho low high m x
+  pub chosen_lands : (ho : Held) (low high cell : ℕ) (m : Meant) (x : Value) (u : Around) (z : ℕ) → cell < low → Proper c ho → Clear c ho low high → Spare c ho cell → Does c ho low high m x
       → (a n e k : ℕ) → Sits (parts_of c) (part_row x cell u a z n e k) n e k → (s : Store) (st : State) → Related c ho a s st → Follows (parts_of c) c.input st s.turns s.turns (In ho cell z) (evaluate m s)
   chosen_lands ho low high cell m x u z before proper clear spare hx a n e k sits s st at =
       value_then c ho low high m (x.pure u) (λ v b. put u cell v.value v.reads b z) (In ho cell z) (λ v s. Gives v s) proper clear (hx.pure u)

@@ -110,12 +110,12 @@ module _ (c : Context) (ok : IsContext c) where
           let last = ok.within _ (own m (omega (arith, is, count))) in
           omega (arith, last, ok.small, ok.most_frames, is)
 
-  start_is : (ys : List ℕ) (p : VariablePlace) → array_start ys (own_frame c) (array_of p) ≡ start_of (own_activation c) p
+  pub start_is : (ys : List ℕ) (p : VariablePlace) → array_start ys (own_frame c) (array_of p) ≡ start_of (own_activation c) p
   start_is ys (variable.Global first) = refl
   start_is ys (variable.Local first) = refl
   start_is ys (variable.Lent p) = refl
 
-  length_is : (o : Option ℕ) → graph_length o ≡ length_of o
+  pub length_is : (o : Option ℕ) → graph_length o ≡ length_of o
   length_is None = refl
   length_is (Some n) = refl
 
