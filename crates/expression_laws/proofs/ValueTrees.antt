@@ -93,17 +93,17 @@ module _ (c : Context) (ok : IsContext c) (calls : Calls) (works : CallsDo c cal
 
   -- ---- room
 
-  room_at : (cell : ℕ) (names : Named) (ho : Held) (low high : ℕ) → Room (names_at cell names) ho low high → (low ≤ cell) × (cell < high) × Room names ho (cell + 1) high
+  pub room_at : (cell : ℕ) (names : Named) (ho : Held) (low high : ℕ) → Room (names_at cell names) ho low high → (low ≤ cell) × (cell < high) × Room names ho (cell + 1) high
   room_at cell names ho low high r =
       let inner : Stands c.locals (cell + 1) high names = record { ascend = r.stands.ascend.1; below = r.stands.below } in
       let l = r.stands.ascend.0 in
       let h = least c.locals (cell + 1) high names inner in
       (l, omega (arith, h), record { proper = r.proper; clear = λ i j q. r.clear i (omega (arith, l, j)) q; stands = inner })
 
-  room_spare : (cell : ℕ) (names : Named) (ho : Held) (low high : ℕ) → Room (names_at cell names) ho low high → Spare c ho cell
+  pub room_spare : (cell : ℕ) (names : Named) (ho : Held) (low high : ℕ) → Room (names_at cell names) ho low high → Spare c ho cell
   room_spare cell names ho low high r = let q = room_at cell names ho low high r in r.clear cell q.0 q.1
 
-  room_is : (names names' : Named) (ho : Held) (low high : ℕ) → names ≡ names' → Room names ho low high → Room names' ho low high
+  pub room_is : (names names' : Named) (ho : Held) (low high : ℕ) → names ≡ names' → Room names ho low high → Room names' ho low high
   room_is names names' ho low high e r = subst (λ m. Room m ho low high) e r
 
   -- ---- the forms
