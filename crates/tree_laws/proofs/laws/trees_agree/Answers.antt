@@ -1,0 +1,4 @@
+use Rattle.tree_laws.proofs.laws.trees_agree.Goals as goal
+
+pub returns : goal.returns
+returns c = ?
