@@ -1,1 +1,4 @@
 pub mod Bodies
+pub mod Frames
+pub mod Calling
+pub mod Law
