@@ -1,32 +1,26 @@
 -- Calls: their words, the edges of those of defined functions, and those of input functions.
-use Rattle.std.proofs.Common.{◌≡◌, ◌⊎◌, ℕ, zero, suc, ◌+◌, ◌<◌, ◌≤◌, Bool, true, false, List, [], ◌∷◌, ◌++◌, map, drop, length, Option, Some, None, Result, Ok, Err, refl, sym, ap, subst, ◌∙◌, arith, pos, inl, inr, ⊎_elim, append_assoc}
-use Rattle.std.specs.Prelude.{IsTrue, IfSome, ◌&&◌, nat_le, if◌then◌else◌, slice_get, slice_set, slice_index}
+use Rattle.std.proofs.Common.{◌≡◌, ℕ, zero, suc, ◌+◌, ◌<◌, Bool, true, false, List, [], ◌∷◌, ◌++◌, map, drop, length, Option, Some, None, Result, Ok, Err, refl, sym, ap, ◌∙◌, arith, pos, ⊎_elim, append_assoc}
+use Rattle.std.specs.Prelude.{IsTrue, IfSome, nat_le, if◌then◌else◌, slice_get, slice_set, slice_index}
 use Rattle.std.specs.Option.{option_map}
 use Rattle.std.specs.List.{AllByRecursion}
 use Rattle.std.proofs.lemmas.Bool.{le-leb, cases_lt}
-use Rattle.std.proofs.lemmas.List.{length-set, get_or-drop, drop-drop}
+use Rattle.std.proofs.lemmas.List.{length-set}
 use Rattle.c_values.specs.Kind.{wrapped}
-use Rattle.c_values.specs.declared.kinds.Kind.{Kind}
-use Rattle.c_values.proofs.Fitting.{and_left, and_right}
 use Rattle.cfa.specs.Each.{matched}
 use Rattle.cfa.specs.declared.expr.ArrayPlace.{ArrayPlace}
 use Rattle.cfa.specs.declared.expr.CellPlace.TheVariants as place
 use Rattle.cfa.specs.declared.expr.Expr.{Expr}
 use Rattle.cfa.specs.declared.parts.Edge.{Edge}
-use Rattle.cfa.specs.declared.parts.Function.{Function}
 use Rattle.cfa.specs.declared.parts.InputFunction.{InputFunction}
 use Rattle.cfa.specs.declared.parts.Operation.TheVariants.{Call, Answer}
 use Rattle.cfa.specs.declared.parts.Variable.{Variable}
-use Rattle.cfa.specs.declared.state.Frame.{Frame}
 use Rattle.cfa.specs.declared.state.State.{State}
 use Rattle.cfa.specs.declared.state.Trap.{Trap}
-use Rattle.cfa.specs.Graph.{is_return, is_guard}
-use Rattle.cfa.specs.Values.{value_of, cell_of}
+use Rattle.cfa.specs.Values.{cell_of}
 use Rattle.c_meaning.specs.declared.stepped.Stepped.{Stepped}
-use Rattle.c_meaning.specs.declared.stepped.Stepped.TheVariants.{Moved, TooDeep, Trapped}
+use Rattle.c_meaning.specs.declared.stepped.Stepped.TheVariants.{Moved, TooDeep}
 use Rattle.c_meaning.specs.Runs.{state_moved}
-use Rattle.c_meaning.specs.Starts.{fitted}
-use Rattle.c_meaning.specs.Steps.{next, operated, unless_trapped, cell_in, put, answered, answer_of, call_of as called_along, called as called_state, values_of, values_in, value_before, start_in}
+use Rattle.c_meaning.specs.Steps.{next, unless_trapped, cell_in, put, answered, answer_of, call_of as called_along, called as called_state, values_of, values_in, value_before, start_in}
 use Rattle.typed_trees.specs.declared.expression.Callee.TheVariants.{Defined, Input}
 use Rattle.typed_trees.specs.declared.unit.TypedFunction.{TypedFunction}
 use Rattle.typed_trees.specs.Fitting.{array_fits, array_lengths, word_kinds}
@@ -35,19 +29,18 @@ use Rattle.graph_of.specs.declared.parts.Operand.{Operand}
 use Rattle.graph_of.specs.Edges.{entry_of, edge_of}
 use Rattle.graph_of.specs.Expressions.{call_edges, array_of, reads_of}
 use Rattle.graph_of.specs.GraphOf.{graph_of, function_of, functions_from}
-use Rattle.graph_rules.proofs.Whole.{graph_fits}
 use Rattle.temporaries_apart.specs.Named.{IsBelow}
-use Rattle.tree_meaning.specs.Outcomes.{Store, Done, Gives, Ends, BlockedEnd, TooDeepEnd, ◌andthen◌, unless_trap}
+use Rattle.tree_meaning.specs.Outcomes.{Store, Gives, unless_trap}
 use Rattle.tree_meaning.specs.Activations.{as_kind}
 use Rattle.tree_meaning.specs.Expressions.{Meant}
-use Rattle.tree_meaning.specs.Calls.{Calls, word_values, unless_deep, called, answer}
+use Rattle.tree_meaning.specs.Calls.{Calls, word_values, unless_deep, called}
 use Rattle.expression_laws.specs.Sits.{Sits}
 use Rattle.expression_laws.specs.Follows.{Follows}
-use Rattle.expression_laws.specs.Contexts.{Context, IsContext, Held, holding, Agree, Related, Proper, Spare, parts_of, names_of, own_frame, own_activation}
-use Rattle.expression_laws.specs.Flows.{HasRest, Site, Came, landed, CallsDo}
+use Rattle.expression_laws.specs.Contexts.{Context, IsContext, Held, Agree, Related, Proper, Spare, parts_of, names_of, own_frame, own_activation}
+use Rattle.expression_laws.specs.Flows.{HasRest, Came, CallsDo}
 use Rattle.expression_laws.proofs.Sits.{all_sit}
 use Rattle.expression_laws.proofs.Going.{next_one}
-use Rattle.expression_laws.proofs.Cells.{Drops, related_less, drops_both, agree_less, agree_put, good, frame_is}
+use Rattle.expression_laws.proofs.Cells.{Drops, related_less, drops_both, agree_put, good, frame_is}
 use Rattle.expression_laws.proofs.Values.{local_cell, has_less, drop_front}
 
 -- ---- functions of the automaton

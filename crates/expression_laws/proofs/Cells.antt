@@ -1,11 +1,10 @@
 -- Cells that agree, and which temporaries are held.
-use Rattle.std.proofs.Common.{◌≡◌, ◌⊎◌, ℕ, zero, suc, ◌+◌, ◌-◌, ◌<◌, ◌≤◌, Bool, true, false, List, [], ◌∷◌, length, Ok, Option, Some, None, refl, sym, ap, ◌∙◌, arith, inl, inr, ⊎_elim}
-use Rattle.std.specs.Prelude.{slice_index, slice_set, slice_get, if◌then◌else◌, ◌==◌, IsTrue}
+use Rattle.std.proofs.Common.{◌≡◌, ◌⊎◌, ℕ, zero, suc, ◌+◌, ◌-◌, ◌<◌, ◌≤◌, Bool, true, false, List, [], ◌∷◌, length, Some, None, refl, sym, ap, ◌∙◌, arith, inl, inr, ⊎_elim}
+use Rattle.std.specs.Prelude.{slice_index, slice_set, slice_get, if◌then◌else◌, ◌==◌}
 use Rattle.std.proofs.lemmas.List.{length-set, get_or-set_same, get_or-set_other}
 use Rattle.std.proofs.lemmas.Bool.{eqb-true, eqb-false, eq-eqb, ne_eqb, cases_lt}
 use Rattle.std.proofs.lemmas.Option.{same_Some}
 use Rattle.cfa.specs.declared.parts.Edge.{Edge}
-use Rattle.cfa.specs.declared.parts.GraphParts.{GraphParts}
 use Rattle.cfa.specs.declared.state.Frame.{Frame}
 use Rattle.cfa.specs.declared.state.State.{State}
 use Rattle.cfa.specs.Graph.{IsGraph, is_return, is_guard}
@@ -15,7 +14,7 @@ use Rattle.c_meaning.specs.Steps.{operated}
 use Rattle.graph_rules.proofs.Whole.{graph_fits}
 use Rattle.tree_meaning.specs.Outcomes.{Store}
 use Rattle.expression_laws.specs.Follows.{Moves}
-use Rattle.expression_laws.specs.Contexts.{Context, IsContext, Held, holding, Agree, Related, Proper, Spare, Clear, Outside, parts_of, own_frame}
+use Rattle.expression_laws.specs.Contexts.{Context, Held, holding, Agree, Related, Proper, Spare, Clear, Outside, parts_of, own_frame}
 use Rattle.expression_laws.proofs.Follows.{move_one}
 use Rattle.expression_laws.proofs.Going.{next_one}
 

@@ -1,6 +1,5 @@
 -- What flows make, one after another.
-use Rattle.std.proofs.Common.{◌≡◌, ◌⊎◌, ℕ, zero, suc, ◌+◌, ◌-◌, ◌<◌, ◌≤◌, Bool, true, false, List, [], ◌∷◌, ◌++◌, length, Option, Some, None, Result, Ok, Err, refl, sym, ap, subst, ◌∙◌, arith, inl, inr, ⊎_elim, append_assoc, length-append}
-use Rattle.std.specs.Prelude.{IsTrue}
+use Rattle.std.proofs.Common.{◌≡◌, ℕ, ◌+◌, ◌≤◌, List, [], ◌++◌, length, Result, Ok, Err, refl, sym, ap, ◌∙◌, arith, inl, inr, ⊎_elim, append_assoc, length-append}
 use Rattle.std.proofs.lemmas.List.{append-nil}
 use Rattle.cfa.specs.declared.state.State.{State}
 use Rattle.cfa.specs.declared.state.Trap.{Trap}
@@ -12,11 +11,11 @@ use Rattle.tree_meaning.specs.Outcomes.{Store, Done, Gives, Ends, OutOfTurns, �
 use Rattle.tree_meaning.specs.Expressions.{First, Rest, Meant, no_parts, both_parts, evaluate}
 use Rattle.expression_laws.specs.Sits.{Sits}
 use Rattle.expression_laws.specs.Follows.{Follows}
-use Rattle.expression_laws.specs.Contexts.{Context, Held, Agree, Related, Proper, Clear, Outside, parts_of, own_frame}
+use Rattle.expression_laws.specs.Contexts.{Context, Held, Related, Proper, Clear, Outside, parts_of}
 use Rattle.expression_laws.specs.Flows.{Ended, Flows, HasRest}
 use Rattle.expression_laws.proofs.Sits.{all_sit}
 use Rattle.expression_laws.proofs.Follows.{follows_give, follows_then, follows_less}
-use Rattle.expression_laws.proofs.Cells.{Drops, agree_less, drops_after, proper_after, clear_after, frame_is}
+use Rattle.expression_laws.proofs.Cells.{Drops, drops_after, proper_after, clear_after, frame_is}
 
 -- nothing behind a list
 pub nil_behind : (xs : List ℕ) → xs ++ [] ≡ xs
@@ -94,7 +93,7 @@ module _ (c : Context) where
   pub value_then : {B : Type 0} (ho : Held) (low high : ℕ) (m : Meant) (x : Flow Operand) (f : Operand → ℕ → Builder) (Reach : B → Store → State → Type 0) (k' : ℕ → Store → Done B) → Proper c ho → Clear c ho low high
       → Flows c ho low high m.parts m.first (HasRest c m.kind m.rest) x
       → ((held : Held) → Drops held ho → Proper c held → ((i : ℕ) → Outside c low high i → held i ≡ ho i) → (o : Operand) (b n e k : ℕ) → Sits (parts_of c) (f o b n e k) n e k → (s : Store) (st : State) → Related c held b s st → (r : Result ℕ Trap) → value_in st o.value ≡ r
-          → Follows (parts_of c) c.input st s.turns s.turns Reach (unless_trap r (λ v. k' v s)))
+      → Follows (parts_of c) c.input st s.turns s.turns Reach (unless_trap r (λ v. k' v s)))
       → (a n e k : ℕ) → Sits (parts_of c) (ending x f a n e k) n e k → (s : Store) (st : State) → Related c ho a s st
       → Follows (parts_of c) c.input st s.turns s.turns Reach (m.first [] s andthen λ vs s'. unless_trap (m.rest vs s'.cells) (λ v. k' v s'))
   value_then ho low high m x f Reach k' proper clear hx hf a n e k sits s st at =
@@ -102,8 +101,8 @@ module _ (c : Context) where
       let y = x a n e k in
       follows_then (parts_of c) c.input (Ended c ho low high m.parts (HasRest c m.kind m.rest) [] y.end y.gives) Reach st s.turns s.turns (m.first [] s) (λ vs s'. unless_trap (m.rest vs s'.cells) (λ v. k' v s')) (hx [] a n e k S.0 s st at)
       (λ ws s' to E few.
-          hf E.held (drops_after c ho E.held low high proper clear E.outside) (proper_after c ho E.held low high proper clear E.outside) E.outside y.gives y.end _ _ _ S.1.0 s' to E.related (m.rest ws s'.cells)
-          (rest_is m.kind m.rest E.held E.news y.gives y.end s' to E.means E.related ∙ ap (λ (ns : List ℕ). m.rest ns s'.cells) (sym E.are)))
+      hf E.held (drops_after c ho E.held low high proper clear E.outside) (proper_after c ho E.held low high proper clear E.outside) E.outside y.gives y.end _ _ _ S.1.0 s' to E.related (m.rest ws s'.cells)
+      (rest_is m.kind m.rest E.held E.news y.gives y.end s' to E.means E.related ∙ ap (λ (ns : List ℕ). m.rest ns s'.cells) (sym E.are)))
 
 -- an evaluation, and then more
 pub evaluate_then : {B : Type 0} (m : Meant) (s : Store) (k : ℕ → Store → Done B) → (evaluate m s andthen k) ≡ (m.first [] s andthen λ vs s'. unless_trap (m.rest vs s'.cells) (λ v. k v s'))

@@ -10,8 +10,8 @@ use Rattle.c_meaning.specs.declared.stepped.Stepped.{Stepped}
 use Rattle.c_meaning.specs.declared.stepped.Stepped.TheVariants.{Moved}
 use Rattle.c_meaning.specs.Runs.{state_moved, state_after, state_from}
 use Rattle.c_meaning.specs.Steps.{next}
-use Rattle.tree_meaning.specs.Outcomes.{Store, End, Done, Gives, Ends, OutOfTurns, ◌andthen◌}
-use Rattle.expression_laws.specs.Follows.{ended, Moves, Follows}
+use Rattle.tree_meaning.specs.Outcomes.{Store, Done, Gives, Ends, OutOfTurns, ◌andthen◌}
+use Rattle.expression_laws.specs.Follows.{Moves, Follows}
 
 module _ (parts : GraphParts) (input : Input) where
   pub move_one : (at : ℕ) (from to : State) → next parts input from ≡ Moved at to → Moves parts input 1 from to

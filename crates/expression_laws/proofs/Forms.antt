@@ -1,7 +1,7 @@
 -- What each form of an expression is made into, which cells it names, and when it fits, by those of its parts.
-use Rattle.std.proofs.Common.{◌≡◌, ℕ, Bool, List, [], ◌∷◌, map, Option, Some, None, rules}
+use Rattle.std.proofs.Common.{◌≡◌, ℕ, Bool, [], ◌∷◌, map, Some, None, rules}
 use Rattle.std.specs.Prelude.{◌&&◌}
-use Rattle.c_values.specs.Kind.{int, is_kind, is_value}
+use Rattle.c_values.specs.Kind.{int, is_kind}
 use Rattle.c_values.specs.Operations.{unary_kind, binary_kind}
 use Rattle.c_values.specs.declared.kinds.Kind.{Kind}
 use Rattle.c_values.specs.declared.operators.BinaryOp.{BinaryOp}

@@ -1,6 +1,6 @@
 -- Conditions, and the values of `&&`, `||` and `?:` in their temporaries.
-use Rattle.std.proofs.Common.{◌≡◌, ◌⊎◌, ℕ, zero, suc, ◌+◌, ◌<◌, ◌≤◌, Bool, true, false, List, [], ◌∷◌, ◌++◌, length, Option, Some, None, Result, Ok, Err, refl, sym, ap, subst, ◌∙◌, arith, pos, inl, inr, ⊎_elim}
-use Rattle.std.specs.Prelude.{IsTrue, ◌==◌, not, if◌then◌else◌, slice_get, slice_set, slice_index}
+use Rattle.std.proofs.Common.{◌≡◌, ℕ, ◌+◌, ◌<◌, ◌≤◌, Bool, true, false, List, [], ◌∷◌, ◌++◌, Some, Result, Ok, Err, refl, sym, ap, subst, ◌∙◌, arith, pos, ⊎_elim}
+use Rattle.std.specs.Prelude.{◌==◌, not, if◌then◌else◌, slice_get, slice_set, slice_index}
 use Rattle.std.proofs.lemmas.List.{length-set}
 use Rattle.fq_core.specs.declared.span.Span.{Span}
 use Rattle.c_values.specs.Kind.{int, wrapped, number_of, IsValue}
@@ -25,7 +25,7 @@ use Rattle.c_meaning.specs.Runs.{state_moved}
 use Rattle.c_meaning.specs.Steps.{next, operated, unless_trapped, cell_in, moved}
 use Rattle.graph_of.specs.declared.parts.Around.{Around}
 use Rattle.graph_of.specs.declared.parts.Operand.{Operand}
-use Rattle.graph_of.specs.Builder.{Builder, Flow, ending}
+use Rattle.graph_of.specs.Builder.{Builder, Flow}
 use Rattle.graph_of.specs.Edges.{guards, put, deciding}
 use Rattle.graph_of.specs.Expressions.{Value, both_cond, either_cond, other_cond, not_cond, truth_pure, choice_pure, part_row, temporary}
 use Rattle.tree_meaning.specs.Outcomes.{Store, Done, Gives, Ends, OutOfTurns, ◌andthen◌, unless_trap, Evaluation, is_true}

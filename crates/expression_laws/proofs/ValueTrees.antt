@@ -1,11 +1,11 @@
 -- The trees of expressions do what they mean.
-use Rattle.std.proofs.Common.{◌≡◌, ◌⊎◌, ℕ, suc, ◌+◌, ◌<◌, ◌≤◌, Bool, true, false, List, [], ◌∷◌, ◌++◌, map, drop, length, Option, Some, None, Result, Ok, Err, refl, sym, ap, subst, ◌∙◌, arith}
-use Rattle.std.specs.Prelude.{IsTrue, IfSome, ◌&&◌, not, slice_get, slice_index}
+use Rattle.std.proofs.Common.{◌≡◌, ℕ, suc, ◌+◌, ◌<◌, ◌≤◌, Bool, List, [], ◌∷◌, ◌++◌, map, length, Option, Some, None, Ok, refl, sym, ap, subst, ◌∙◌, arith}
+use Rattle.std.specs.Prelude.{IsTrue, IfSome, ◌&&◌, not, slice_get}
 use Rattle.std.specs.Option.{option_map, is_none}
 use Rattle.std.specs.List.{AllByRecursion}
 use Rattle.std.proofs.lemmas.List.{length-map}
 use Rattle.fq_core.specs.declared.span.Span.{Span}
-use Rattle.c_values.specs.Kind.{int, is_kind, is_value, IsValue}
+use Rattle.c_values.specs.Kind.{int, is_kind, IsValue}
 use Rattle.c_values.specs.Operations.{unary_kind, binary_kind}
 use Rattle.c_values.specs.declared.kinds.Kind.{Kind}
 use Rattle.c_values.specs.declared.operators.BinaryOp.{BinaryOp}
@@ -28,32 +28,30 @@ use Rattle.typed_trees.specs.declared.expression.TypedExprForm.{TypedExprForm, r
 use Rattle.typed_trees.specs.declared.expression.TypedExprForm.TheOpen.{TypedCall-F, TypedExpr-F, TypedExprForm-F, TypedPlace-F}
 use Rattle.typed_trees.specs.declared.expression.TypedPlace.{TypedPlace, ind-TypedPlace, map-TypedPlace, roll-TypedPlace}
 use Rattle.typed_trees.specs.declared.unit.TypedFunction.{TypedFunction}
-use Rattle.typed_trees.specs.Fitting.{Fit, CallFit, span_fits, is_cell, is_integer, is_array, is_variable, operands_meet, gives, in_cell, callee_fits, defined_fits, input_fits, word_fits, array_fits, array_lengths, word_kinds, expression_fit, place_fits, call_fit}
+use Rattle.typed_trees.specs.Fitting.{Fit, CallFit, span_fits, is_cell, is_integer, is_array, is_variable, in_cell, callee_fits, defined_fits, input_fits, word_fits, word_kinds, expression_fit, place_fits, call_fit}
 use Rattle.graph_of.specs.declared.parts.Around.{Around}
 use Rattle.graph_of.specs.declared.parts.Operand.{Operand}
-use Rattle.graph_of.specs.declared.parts.Target.{Target}
-use Rattle.graph_of.specs.Builder.{Flow, give, ◌then◌, ending}
-use Rattle.graph_of.specs.Expressions.{Value, Spot, Shaped, Calling, shape_of, value_of, spot_of, calling_of, form_step, spot_cell, words_in_order, call_edges, element_of, temporary, both_cond, either_cond, other_cond, truth_pure, choice_pure, call_pure, unary_pure, not_cond, unary_value}
-use Rattle.temporaries_apart.specs.Named.{Named, no_names, names_then, names_at, names_in_order, with_variables, named, place_named, call_named, Ascend, IsBelow}
+use Rattle.graph_of.specs.Builder.{ending}
+use Rattle.graph_of.specs.Expressions.{Value, Spot, Shaped, Calling, shape_of, value_of, spot_of, calling_of, spot_cell, words_in_order, call_edges, element_of, both_cond, either_cond, truth_pure, choice_pure, call_pure, unary_pure, unary_value}
+use Rattle.temporaries_apart.specs.Named.{Named, names_then, names_at, names_in_order, with_variables, named, place_named, call_named, IsBelow}
 use Rattle.temporaries_apart.proofs.Stands.{Stands, stands_split, least, all_front, all_behind}
-use Rattle.tree_meaning.specs.Outcomes.{Store, Gives, ◌andthen◌, unless_trap, Evaluation}
-use Rattle.tree_meaning.specs.Expressions.{First, Meant, Placed, evaluate, constant_meant, convert_meant, unary_meant, binary_meant, load_meant, placed_at, part_meant, both_does, either_does, choice_does}
+use Rattle.tree_meaning.specs.Outcomes.{Store, Evaluation}
+use Rattle.tree_meaning.specs.Expressions.{Meant, Placed, evaluate, constant_meant, convert_meant, unary_meant, binary_meant, load_meant, placed_at, part_meant, both_does, either_does, choice_does}
 use Rattle.tree_meaning.specs.Calls.{Calls, first_parts, word_values, call_of, answer}
 use Rattle.tree_meaning.specs.Trees.{meant_form, meant, placed, call_does}
-use Rattle.tree_meaning.specs.Trees as tree
 use Rattle.tree_meaning.proofs.TreeForms.{constant_is, load_is, convert_is, unary_is, binary_is, both_is, either_is, choice_is, call_form_is, expression_is, call_is, whole_is, element_is}
 use Rattle.tree_meaning.proofs.ValueKinds.{same_kind_is, known, values_are_of_kinds}
 use Rattle.expression_laws.specs.Sits.{Sits}
 use Rattle.expression_laws.specs.Follows.{Follows}
-use Rattle.expression_laws.specs.Contexts.{Context, IsContext, Held, Related, Proper, Spare, Clear, Outside, parts_of, names_of, own_frame, own_activation}
-use Rattle.expression_laws.specs.Flows.{Decides, Ended, Flows, HasRest, NamesCell, Does, CallsDo, Came}
+use Rattle.expression_laws.specs.Contexts.{Context, IsContext, Held, Related, Proper, Spare, Clear, parts_of, names_of, own_frame, own_activation}
+use Rattle.expression_laws.specs.Flows.{Ended, Flows, HasRest, NamesCell, Does, CallsDo, Came}
 use Rattle.expression_laws.specs.Laws.{ExpressionsDo}
 use Rattle.expression_laws.proofs.Sits.{all_sit}
 use Rattle.expression_laws.proofs.Follows.{follows_then, follows_less}
-use Rattle.expression_laws.proofs.Cells.{Drops, drops_after, proper_after, spare_after, frame_is}
+use Rattle.expression_laws.proofs.Cells.{drops_after, proper_after, spare_after, frame_is}
 use Rattle.expression_laws.proofs.Flows.{nil_behind, give_flows, map_flows, pair_flows}
-use Rattle.expression_laws.proofs.Values.{Owned, variable_owned, constant_value, convert_has, unary_has, binary_has, load_has, whole_names, element_names}
-use Rattle.expression_laws.proofs.Parts.{In, DecidesTruth, unsplit_does, both_decides, either_decides, truth_decides, not_decides, part_flows, truth_lands, choice_lands}
+use Rattle.expression_laws.proofs.Values.{variable_owned, constant_value, convert_has, unary_has, binary_has, load_has, whole_names, element_names}
+use Rattle.expression_laws.proofs.Parts.{DecidesTruth, unsplit_does, both_decides, either_decides, truth_decides, not_decides, part_flows, truth_lands, choice_lands}
 use Rattle.expression_laws.proofs.Calls.{HasValues, total, values_count, nothing_has, more_have, came_less, defined_lands, answer_lands}
 use Rattle.expression_laws.proofs.Forms
 

@@ -1,8 +1,7 @@
 -- What expressions of the automaton come to, and the cells of variables.
-use Rattle.std.proofs.Common.{◌≡◌, ◌⊎◌, ℕ, zero, suc, ◌+◌, ◌-◌, ◌*◌, ◌^◌, ◌<◌, ◌≤◌, Bool, true, false, List, [], ◌∷◌, ◌++◌, drop, length, Option, Some, None, Result, Ok, Err, refl, sym, ap, subst, ◌∙◌, arith, rules, pos, inl, inr, ⊎_elim, append_assoc}
-use Rattle.std.specs.Prelude.{IsTrue, ◌&&◌, ◌==◌, not, if◌then◌else◌, cond, slice_index, slice_get}
+use Rattle.std.proofs.Common.{◌≡◌, ℕ, zero, suc, ◌+◌, ◌^◌, ◌<◌, ◌≤◌, Bool, true, false, List, [], ◌∷◌, ◌++◌, drop, length, Option, Some, None, Result, Ok, Err, refl, sym, ap, subst, ◌∙◌, arith, rules, pos, inl, inr, append_assoc}
+use Rattle.std.specs.Prelude.{IsTrue, not, if◌then◌else◌, slice_index, slice_get}
 use Rattle.std.specs.Option.{is_none}
-use Rattle.std.specs.List.{AllByRecursion}
 use Rattle.std.proofs.lemmas.Bool.{eqb-true, leb-true}
 use Rattle.c_values.specs.Kind.{wrapped, converted, IsValue}
 use Rattle.c_values.specs.Operations.{unary_value, unary_kind, binary_kind}
@@ -25,18 +24,16 @@ use Rattle.cfa.specs.Graph.{variable_fits}
 use Rattle.cfa.specs.Rules.{cell_count, is_length}
 use Rattle.cfa.specs.Values.{valued, value_of, cell_of, after_value, operator_outcome, is_index, array_start, element_at as element_of_array}
 use Rattle.cfa.proofs.Indexes.{indexes_of_elements}
-use Rattle.typed_trees.specs.Fitting.{Nameable, is_variable, is_integer, is_array, is_lent}
+use Rattle.typed_trees.specs.Fitting.{is_variable, is_integer, is_lent}
 use Rattle.graph_of.specs.declared.parts.Operand.{Operand}
 use Rattle.graph_of.specs.declared.parts.Target.{Target}
 use Rattle.graph_of.specs.Expressions.{array_of, cell_of as graph_cell, length_of as graph_length, element_of, temporary}
 use Rattle.temporaries_apart.specs.Named.{IsBelow, PlaceBelow}
-use Rattle.temporaries_apart.specs.Reads.{IsOwn}
-use Rattle.tree_meaning.specs.declared.activation.Activation.{Activation}
 use Rattle.tree_meaning.specs.Activations.{start_of, length_of, element_at, as_kind, read}
-use Rattle.tree_meaning.specs.Expressions.{Rest, Meant, Placed, placed_at, load_meant, convert_meant, unary_meant, binary_meant, operated}
-use Rattle.expression_laws.specs.Contexts.{Context, IsContext, Held, holding, Agree, names_of, own_frame, own_activation}
+use Rattle.tree_meaning.specs.Expressions.{Rest, Meant, Placed, placed_at, load_meant, convert_meant, unary_meant, binary_meant}
+use Rattle.expression_laws.specs.Contexts.{Context, IsContext, Held, Agree, names_of, own_frame, own_activation}
 use Rattle.expression_laws.specs.Flows.{HasRest, NamesCell}
-use Rattle.expression_laws.proofs.Cells.{Drops, agree_less, holds_own}
+use Rattle.expression_laws.proofs.Cells.{Drops, agree_less}
 
 -- ---- expressions of the automaton
 

@@ -1,5 +1,5 @@
 -- What it is that the nodes and edges of an expression do what the expression means.
-use Rattle.std.specs.Prelude.{◌≡◌, ℕ, ◌+◌, ◌<◌, List, [], ◌∷◌, ◌++◌, map, length, Option, Some, None, IfSome, Result, Ok, IsTrue, if◌then◌else◌, slice_get}
+use Rattle.std.specs.Prelude.{◌≡◌, ℕ, ◌+◌, ◌<◌, List, ◌++◌, map, length, Option, Some, None, IfSome, Ok, IsTrue, if◌then◌else◌, slice_get}
 use Rattle.std.specs.Option.{option_map}
 use Rattle.std.specs.List.{AllByRecursion}
 use Rattle.c_values.specs.declared.kinds.Kind.{Kind}
@@ -19,10 +19,10 @@ use Rattle.graph_of.specs.declared.parts.Around.{Around}
 use Rattle.graph_of.specs.declared.parts.Operand.{Operand}
 use Rattle.graph_of.specs.declared.parts.Target.{Target}
 use Rattle.graph_of.specs.Builder.{Builder, Flow}
-use Rattle.graph_of.specs.Edges.{entry_of, exit_of}
+use Rattle.graph_of.specs.Edges.{entry_of}
 use Rattle.graph_of.specs.Expressions.{Value, array_of}
 use Rattle.temporaries_apart.specs.Named.{IsBelow}
-use Rattle.tree_meaning.specs.Outcomes.{Store, Done, Evaluation, is_true}
+use Rattle.tree_meaning.specs.Outcomes.{Store, Evaluation, is_true}
 use Rattle.tree_meaning.specs.Expressions.{First, Rest, Meant, evaluate}
 use Rattle.tree_meaning.specs.Calls.{Calls, called}
 use Rattle.expression_laws.specs.Sits.{Sits}

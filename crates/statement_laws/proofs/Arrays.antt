@@ -1,30 +1,27 @@
 -- Declarations of integers and of arrays.
-use Rattle.std.proofs.Common.{◌≡◌, ◌⊎◌, ℕ, zero, suc, ◌+◌, ◌<◌, ◌≤◌, ◌^◌, Bool, true, false, List, [], ◌∷◌, map, length, Option, Some, None, Result, Ok, Err, refl, sym, ap, subst, ◌∙◌, arith}
-use Rattle.std.specs.Prelude.{IsTrue, if◌then◌else◌, slice_get}
+use Rattle.std.proofs.Common.{◌≡◌, ℕ, ◌+◌, ◌<◌, ◌≤◌, List, [], ◌∷◌, length, Some, None, Result, Ok, Err, refl, sym, ap, subst, ◌∙◌, arith}
+use Rattle.std.specs.Prelude.{IsTrue, if◌then◌else◌}
 use Rattle.c_values.specs.Kind.{int}
-use Rattle.cfa.specs.declared.expr.CellPlace.{CellPlace}
 use Rattle.cfa.specs.declared.expr.Expr.TheVariants as expr
 use Rattle.cfa.specs.declared.parts.Edge.{Edge}
 use Rattle.cfa.specs.declared.parts.Operation.TheVariants as operations
 use Rattle.cfa.specs.declared.parts.Variable.{Variable}
-use Rattle.cfa.specs.declared.state.Frame.{Frame}
 use Rattle.cfa.specs.declared.state.State.{State}
 use Rattle.cfa.specs.declared.state.Trap.{Trap}
 use Rattle.cfa.specs.declared.state.Trap.TheVariants as trap
 use Rattle.cfa.specs.Rules.{cell_count}
-use Rattle.cfa.specs.States.{value_in}
-use Rattle.cfa.specs.Values.{valued, value_of, cell_of, after_value, is_index, array_start, element_at as element_of_array}
+use Rattle.cfa.specs.Values.{value_of, cell_of, after_value, array_start, element_at as element_of_array}
 use Rattle.cfa.proofs.Indexes.{indexes_of_elements}
-use Rattle.c_meaning.specs.Steps.{operated, cell_in, moved, start_in, cleared as graph_cleared}
+use Rattle.c_meaning.specs.Steps.{cell_in, moved, start_in, cleared as graph_cleared}
 use Rattle.typed_trees.specs.Fitting.{is_integer}
 use Rattle.graph_of.specs.declared.parts.Around.{Around}
 use Rattle.graph_of.specs.Edges.{edge_of}
 use Rattle.graph_of.specs.Expressions.{Value, array_of, cell_of as graph_cell, length_of as graph_length, element_of}
 use Rattle.graph_of.specs.Statements.{local_row, element_row, elements_row, clear, array_row}
 use Rattle.tree_meaning.specs.declared.way.Way.TheVariants.{GoesOn}
-use Rattle.tree_meaning.specs.Outcomes.{Store, Gives, ◌andthen◌, Meaning}
-use Rattle.tree_meaning.specs.Activations.{start_of, length_of, stored, zeros_at, cleared}
-use Rattle.tree_meaning.specs.Expressions.{Meant, evaluate}
+use Rattle.tree_meaning.specs.Outcomes.{Store}
+use Rattle.tree_meaning.specs.Activations.{start_of, length_of, zeros_at, cleared}
+use Rattle.tree_meaning.specs.Expressions.{Meant}
 use Rattle.tree_meaning.specs.Statements.{then_next, declare, put, fill, declare_array}
 use Rattle.expression_laws.specs.Sits.{Sits}
 use Rattle.expression_laws.specs.Follows.{Follows}

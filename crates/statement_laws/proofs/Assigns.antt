@@ -1,15 +1,13 @@
 -- Statements that put values into cells, and those that test one.
-use Rattle.std.proofs.Common.{◌≡◌, ◌⊎◌, ℕ, zero, suc, ◌+◌, ◌-◌, ◌<◌, ◌≤◌, ◌^◌, Bool, true, false, List, [], ◌∷◌, ◌++◌, map, length, Option, Some, None, Result, Ok, Err, refl, sym, ap, subst, ◌∙◌, arith, pos, inl, inr, ⊎_elim}
-use Rattle.std.specs.Prelude.{IsTrue, ◌&&◌, ◌||◌, ◌==◌, not, if◌then◌else◌, slice_get, slice_index, slice_set, ok_or}
-use Rattle.std.specs.Option.{is_none}
-use Rattle.std.proofs.lemmas.Bool.{eqb-true}
+use Rattle.std.proofs.Common.{◌≡◌, ℕ, ◌+◌, ◌<◌, ◌≤◌, Bool, true, false, List, [], ◌∷◌, ◌++◌, Option, Some, None, Result, Ok, Err, refl, sym, ap, subst, ◌∙◌, arith, pos}
+use Rattle.std.specs.Prelude.{IsTrue, ◌||◌, ◌==◌, not, if◌then◌else◌, slice_get, slice_index, slice_set, ok_or}
 use Rattle.std.proofs.lemmas.List.{length-set}
-use Rattle.c_values.specs.Kind.{int, is_kind, IsKind, IsValue, wrapped, converted}
+use Rattle.c_values.specs.Kind.{IsKind, IsValue, wrapped, converted}
 use Rattle.c_values.specs.Operations.{binary_kind, binary_value, is_shift}
 use Rattle.c_values.specs.declared.kinds.Kind.{Kind}
 use Rattle.c_values.specs.declared.operators.BinaryOp.{BinaryOp}
 use Rattle.c_values.proofs.Consequences.{binary_values_are_values}
-use Rattle.c_values.proofs.Fitting.{and_left, and_right, IsValue-wrapped, IsValue-converted}
+use Rattle.c_values.proofs.Fitting.{IsValue-wrapped, IsValue-converted}
 use Rattle.cfa.specs.Kinds.{same_kind}
 use Rattle.cfa.specs.declared.expr.CellPlace.{CellPlace}
 use Rattle.cfa.specs.declared.expr.CellPlace.TheVariants as place
@@ -34,27 +32,27 @@ use Rattle.typed_trees.specs.Fitting.{operands_meet}
 use Rattle.graph_of.specs.declared.parts.Around.{Around}
 use Rattle.graph_of.specs.declared.parts.Operand.{Operand}
 use Rattle.graph_of.specs.declared.parts.Target.{Target}
-use Rattle.graph_of.specs.Builder.{Builder, Flow, give, ◌then◌, ending}
-use Rattle.graph_of.specs.Edges.{Lowering, step, edge_of}
+use Rattle.graph_of.specs.Builder.{◌then◌, ending}
+use Rattle.graph_of.specs.Edges.{step, edge_of}
 use Rattle.graph_of.specs.Expressions.{Value, Spot, spot_cell}
 use Rattle.graph_of.specs.Statements.{assign_row, combined as graph_combined, converted_to, reads_in_place, return_row, test_row}
 use Rattle.tree_meaning.specs.declared.way.Way.{Way}
 use Rattle.tree_meaning.specs.declared.way.Way.TheVariants.{GoesOn, Returns}
-use Rattle.tree_meaning.specs.Outcomes.{Store, End, TrapEnd, BlockedEnd, Done, Gives, ◌andthen◌, unless_trap, is_true}
+use Rattle.tree_meaning.specs.Outcomes.{Store, End, TrapEnd, BlockedEnd, Gives, ◌andthen◌, unless_trap, is_true}
 use Rattle.tree_meaning.specs.Activations.{read, stored}
 use Rattle.tree_meaning.specs.Expressions.{Meant, Placed, evaluate, operated as tree_operated}
-use Rattle.tree_meaning.specs.Statements.{combined, assign, put, unless_false, assert, assume, return_value}
+use Rattle.tree_meaning.specs.Statements.{combined, assign, unless_false, assert, assume, return_value}
 use Rattle.tree_meaning.proofs.ValueKinds.{same_kind_is}
 use Rattle.expression_laws.specs.Sits.{Sits}
 use Rattle.expression_laws.specs.Follows.{Follows, ended}
-use Rattle.expression_laws.specs.Contexts.{Context, IsContext, Held, Agree, Related, Proper, Clear, Outside, parts_of, own_frame, own_activation}
+use Rattle.expression_laws.specs.Contexts.{Context, IsContext, Held, Related, Proper, Clear, parts_of, own_frame, own_activation}
 use Rattle.expression_laws.specs.Flows.{Ended, Flows, HasRest, NamesCell, Does}
 use Rattle.expression_laws.proofs.Sits.{all_sit}
 use Rattle.expression_laws.proofs.Going.{next_one}
-use Rattle.expression_laws.proofs.Follows.{follows_then, follows_less}
+use Rattle.expression_laws.proofs.Follows.{follows_then}
 use Rattle.expression_laws.proofs.Cells.{Drops, agree_less, related_less, agree_set, good, frame_is, drops_after, proper_after, clear_after}
-use Rattle.expression_laws.proofs.Flows.{nil_behind, value_then, evaluate_then, rest_is}
-use Rattle.expression_laws.proofs.Values.{constant_value, load_value, convert_value, binary_is, local_cell}
+use Rattle.expression_laws.proofs.Flows.{nil_behind, value_then, evaluate_then}
+use Rattle.expression_laws.proofs.Values.{load_value, convert_value, binary_is, local_cell}
 use Rattle.statement_laws.specs.Simulates.{Arrives, Simulates}
 use Rattle.statement_laws.proofs.Cells.{free_of, same_converted}
 

@@ -1,9 +1,9 @@
 -- Cells that are set and cleared in a store and in a state.
-use Rattle.std.proofs.Common.{◌≡◌, ℕ, zero, suc, ◌+◌, ◌<◌, ◌≤◌, ◌^◌, Bool, true, false, List, [], ◌∷◌, ◌++◌, take, drop, length, Option, Some, None, refl, sym, ap, subst, ◌∙◌, arith, pos, ◌-ℤ◌, ◌-◌, replicate}
+use Rattle.std.proofs.Common.{◌≡◌, ℕ, zero, suc, ◌+◌, ◌<◌, ◌^◌, Bool, true, false, List, [], ◌∷◌, ◌++◌, take, drop, length, Option, Some, None, refl, sym, ap, subst, ◌∙◌, arith, pos, ◌-ℤ◌, ◌-◌, replicate}
 use Rattle.std.specs.Prelude.{IsTrue, nat_lt, if◌then◌else◌, slice_set}
 use Rattle.std.proofs.lemmas.List.{length-set}
 use Rattle.std.proofs.lemmas.Bool.{le-leb, lt-ltb}
-use Rattle.c_values.specs.Kind.{int, number_of, least, greatest, wrapped, converted, IsValue, IsInRange, is_value}
+use Rattle.c_values.specs.Kind.{int, number_of, least, greatest, wrapped, converted, IsValue, IsInRange}
 use Rattle.c_values.specs.declared.kinds.Kind.{Kind}
 use Rattle.c_values.proofs.Fitting.{le_is, value_parts, value_from_parts, wrapped-number_of, wrapped-pattern_of, pattern_of-number_of}
 use Rattle.c_meaning.specs.Steps.{cleared}

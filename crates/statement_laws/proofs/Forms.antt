@@ -15,7 +15,6 @@ use Rattle.typed_trees.specs.declared.statement.TypedStatement.{TypedStatement, 
 use Rattle.typed_trees.specs.Fitting.{Nameable, span_fits, statement_fits}
 use Rattle.typed_trees.specs.Fitting as fitting
 use Rattle.graph_of.specs.Table.{form_step, shape, group_of, piece}
-use Rattle.graph_of.specs.Statements.{Piece}
 use Rattle.temporaries_apart.specs.Named.{Named, statement_named, group_named, names_in_order}
 use Rattle.temporaries_apart.specs.Named as naming
 use Rattle.statement_laws.specs.Steps.{Stepping, stepping, form_stepping, group_stepping, all_steps}

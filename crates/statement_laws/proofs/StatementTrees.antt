@@ -1,19 +1,17 @@
 -- The trees of statements do what they mean.
-use Rattle.std.proofs.Common.{◌≡◌, ◌⊎◌, ℕ, ◌+◌, ◌<◌, ◌≤◌, Bool, true, false, List, [], ◌∷◌, map, length, Option, Some, None, Result, Ok, Err, refl, sym, ap, subst, ◌∙◌, arith, inl, inr}
-use Rattle.std.specs.Prelude.{IsTrue, IfSome, ◌&&◌, not, nat_le}
-use Rattle.std.specs.Option.{option_map, is_none}
+use Rattle.std.proofs.Common.{◌≡◌, ℕ, ◌+◌, Bool, false, List, [], ◌∷◌, map, length, Option, Some, None, Result, Ok, Err, refl, sym, ap, subst, ◌∙◌, arith, inl, inr}
+use Rattle.std.specs.Prelude.{IsTrue, IfSome, ◌&&◌}
+use Rattle.std.specs.Option.{option_map}
 use Rattle.std.specs.List.{AllByRecursion, list_all}
 use Rattle.std.proofs.lemmas.Bool.{leb-true}
 use Rattle.std.proofs.lemmas.List.{length-map}
 use Rattle.fq_core.specs.declared.span.Span.{Span}
 use Rattle.fq_core.specs.declared.statement_kind.StatementKind.{StatementKind}
-use Rattle.c_values.specs.Kind.{IsKind, IsValue, is_kind, is_value}
+use Rattle.c_values.specs.Kind.{IsKind, is_value}
 use Rattle.c_values.specs.declared.kinds.Kind.{Kind}
 use Rattle.c_values.specs.declared.operators.BinaryOp.{BinaryOp}
 use Rattle.c_values.proofs.Fitting.{and_left, and_right, and_both}
-use Rattle.cfa.specs.declared.parts.Operation.TheVariants.{Assert, Assume}
 use Rattle.cfa.specs.declared.parts.Variable.{Variable}
-use Rattle.cfa.specs.declared.state.State.{State}
 use Rattle.cfa.specs.declared.state.Trap.{Trap}
 use Rattle.cfa.specs.Values.{after_value}
 use Rattle.typed_trees.specs.declared.expression.TypedCall.{TypedCall}
@@ -24,39 +22,32 @@ use Rattle.typed_trees.specs.declared.statement.TypedForm.{TypedForm, roll-Typed
 use Rattle.typed_trees.specs.declared.statement.TypedForm.TheOpen.{TypedForm-F, TypedGroup-F, TypedStatement-F}
 use Rattle.typed_trees.specs.declared.statement.TypedGroup.{TypedGroup, roll-TypedGroup}
 use Rattle.typed_trees.specs.declared.statement.TypedStatement.{TypedStatement, ind-TypedStatement, roll-TypedStatement}
-use Rattle.typed_trees.specs.Fitting.{is_variable, is_integer, is_array, place_fits, expression_fits, option_fits, operator_fits, operands_meet, begins_within, arm_fits, arms_fit, statement_if, labels_fit, label_fits, statement_fits, is_cell, span_fits}
-use Rattle.typed_trees.specs.Fitting as fitting
-use Rattle.graph_of.specs.declared.parts.Around.{Around}
-use Rattle.graph_of.specs.Edges.{Lowering, stated, skip}
-use Rattle.graph_of.specs.Expressions.{Value, Spot, value_of, spot_of, calling_of}
-use Rattle.graph_of.specs.Statements.{Piece, block_row, arms_row, while_row, do_row, for_row, break_row, continue_row, return_row, label_row, test_row, assign_row, local_row, array_row, call_row}
+use Rattle.typed_trees.specs.Fitting.{is_variable, is_integer, is_array, place_fits, expression_fits, option_fits, operator_fits, operands_meet, begins_within, arm_fits, arms_fit, statement_if, labels_fit, statement_fits, is_cell, span_fits}
+use Rattle.graph_of.specs.Edges.{Lowering, stated}
+use Rattle.graph_of.specs.Expressions.{Spot, value_of, spot_of}
+use Rattle.graph_of.specs.Statements.{Piece, block_row, arms_row, return_row, local_row, array_row}
 use Rattle.graph_of.specs.Switch as graph
 use Rattle.graph_of.specs.Table.{stating, tested, shape, piece}
 use Rattle.graph_of.specs.Table as table
-use Rattle.temporaries_apart.specs.Named.{Named, no_names, names_then, names_at, names_in_order, names_if, with_variables, named, place_named, call_named, option_named, arm_named, statement_named, group_named, IsBelow}
-use Rattle.temporaries_apart.specs.Named as naming
+use Rattle.temporaries_apart.specs.Named.{Named, no_names, names_then, names_in_order, names_if, with_variables, named, place_named, option_named, arm_named, statement_named, group_named}
 use Rattle.tree_meaning.specs.declared.way.Way.{Way}
-use Rattle.tree_meaning.specs.declared.way.Way.TheVariants.{GoesOn, Returns}
-use Rattle.tree_meaning.specs.Outcomes.{Store, Done, Gives, Ends, OutOfTurns, ◌andthen◌, unless_trap, Meaning, Evaluation}
+use Rattle.tree_meaning.specs.declared.way.Way.TheVariants.{GoesOn}
+use Rattle.tree_meaning.specs.Outcomes.{Store, Done, Gives, Ends, OutOfTurns, ◌andthen◌, unless_trap, Meaning}
 use Rattle.tree_meaning.specs.Activations.{stored}
-use Rattle.tree_meaning.specs.Expressions.{Meant, Placed, evaluate, placed_at}
+use Rattle.tree_meaning.specs.Expressions.{Meant, Placed}
 use Rattle.tree_meaning.specs.Statements.{block, arms, assign, combined, declare, declare_array, return_value}
-use Rattle.tree_meaning.specs.Loops as loops
-use Rattle.tree_meaning.specs.Switch.{Group, switch_on}
+use Rattle.tree_meaning.specs.Switch.{Group}
 use Rattle.tree_meaning.specs.Calls.{Calls}
-use Rattle.tree_meaning.specs.Trees.{placed, call_does, value, arm_does, statement_form, form_does, group_of, does}
+use Rattle.tree_meaning.specs.Trees.{placed, call_does, value, arm_does, form_does, group_of, does}
 use Rattle.tree_meaning.proofs.TreeForms as tree
-use Rattle.expression_laws.specs.Sits.{Sits}
-use Rattle.expression_laws.specs.Follows.{Follows}
-use Rattle.expression_laws.specs.Contexts.{Context, IsContext, Held, Related, Proper, Clear, Spare, parts_of, names_of, own_frame, own_activation}
-use Rattle.expression_laws.specs.Flows.{Decides, Does, CallsDo, Came}
+use Rattle.expression_laws.specs.Contexts.{Context, IsContext, Held, Proper, parts_of, names_of, own_frame, own_activation}
+use Rattle.expression_laws.specs.Flows.{Decides, CallsDo, Came}
 use Rattle.expression_laws.proofs.Follows.{follows_give, follows_then}
 use Rattle.expression_laws.proofs.Forms as expressions
 use Rattle.expression_laws.proofs.Values.{Owned, variable_owned}
-use Rattle.expression_laws.proofs.ValueTrees.{Room, Two, two, room_second, room_at, room_spare, room_is, meaning, fit, same_fit, values_of_kind, value_does, place_does, does_call}
+use Rattle.expression_laws.proofs.ValueTrees.{Room, two, room_second, room_at, room_spare, room_is, meaning, fit, same_fit, values_of_kind, value_does, place_does, does_call}
 use Rattle.statement_laws.specs.Simulates.{Arrives, Simulates}
 use Rattle.statement_laws.specs.Steps.{Stepping, stepping, form_stepping, group_stepping, all_steps, steps_if, step_if, arms_steps, groups_steps}
-use Rattle.statement_laws.specs.Steps as steps
 use Rattle.statement_laws.specs.Laws.{StatementsDo}
 use Rattle.statement_laws.proofs.Rows.{AllDo, GoesOnly, skip_does, break_does, continue_does, return_does, label_does, block_does, while_does, do_does, for_does, TestDoes, StepDoes, ArmsDo, LastDoes, arms_do}
 use Rattle.statement_laws.proofs.Assigns.{OperatorFits, assign_does, return_value_does, assert_does, assume_does}

@@ -1,36 +1,32 @@
 -- The row of `switch` does what it means.
-use Rattle.std.proofs.Common.{◌≡◌, ◌⊎◌, ℕ, zero, suc, ◌+◌, ◌<◌, ◌≤◌, Bool, true, false, List, [], ◌∷◌, ◌++◌, map, length, Option, Some, None, Result, Ok, Err, refl, sym, ap, subst, ◌∙◌, arith, pos}
-use Rattle.std.specs.Prelude.{IsTrue, ◌==◌, ◌||◌, if◌then◌else◌, slice_get, slice_index}
+use Rattle.std.proofs.Common.{◌≡◌, ℕ, ◌+◌, ◌<◌, Bool, true, false, List, [], ◌∷◌, ◌++◌, map, length, Option, Some, None, Result, Ok, Err, refl, sym, ap, subst, ◌∙◌, arith}
+use Rattle.std.specs.Prelude.{◌==◌, ◌||◌, if◌then◌else◌}
 use Rattle.std.specs.List.{AllByRecursion}
 use Rattle.fq_core.specs.declared.span.Span.{Span}
-use Rattle.c_values.specs.Kind.{int, IsValue, wrapped}
-use Rattle.c_values.specs.Operations.{truth_of, is_equal}
+use Rattle.c_values.specs.Kind.{IsValue}
+use Rattle.c_values.specs.Operations.{truth_of}
 use Rattle.c_values.specs.declared.kinds.Kind.{Kind}
 use Rattle.c_values.specs.declared.operators.BinaryOp.TheVariants as binary
 use Rattle.c_values.proofs.Fitting.{value_parts}
 use Rattle.c_values.proofs.Machine.{machine_equal}
-use Rattle.cfa.specs.declared.expr.CellPlace.TheVariants as place
 use Rattle.cfa.specs.declared.expr.Expr.{Expr}
 use Rattle.cfa.specs.declared.expr.Expr.TheVariants as expr
-use Rattle.cfa.specs.declared.parts.Operation.TheVariants.{Guard}
 use Rattle.cfa.specs.declared.state.State.{State}
 use Rattle.cfa.specs.declared.state.Trap.{Trap}
 use Rattle.cfa.specs.States.{value_in}
-use Rattle.cfa.specs.Values.{valued, value_of, cell_of, after_value, operator_outcome}
+use Rattle.cfa.specs.Values.{valued, value_of, after_value, operator_outcome}
 use Rattle.c_meaning.specs.declared.stepped.Stepped.TheVariants.{Moved}
 use Rattle.c_meaning.specs.Runs.{state_moved}
 use Rattle.c_meaning.specs.Steps.{next, unless_trapped}
 use Rattle.graph_of.specs.declared.parts.Around.{Around}
-use Rattle.graph_of.specs.Builder.{Builder}
 use Rattle.graph_of.specs.Edges.{within}
 use Rattle.graph_of.specs.Expressions.{Value, temporary}
-use Rattle.graph_of.specs.Statements.{Piece, block_row}
+use Rattle.graph_of.specs.Statements.{block_row}
 use Rattle.graph_of.specs.Switch.{Case, cases_in, cases_from, has_default, default_at, default_from, cases_row, groups_row, switch_row}
 use Rattle.graph_of.specs.Switch as graph
 use Rattle.tree_meaning.specs.declared.way.Way.{Way}
 use Rattle.tree_meaning.specs.declared.way.Way.TheVariants.{GoesOn, Breaks, Continues, Returns}
-use Rattle.tree_meaning.specs.Outcomes.{Store, Done, Gives, Ends, OutOfTurns, ◌andthen◌, unless_trap, Meaning, Evaluation}
-use Rattle.tree_meaning.specs.Activations.{as_kind}
+use Rattle.tree_meaning.specs.Outcomes.{Store, Done, Gives, Ends, OutOfTurns, ◌andthen◌, unless_trap, Meaning}
 use Rattle.tree_meaning.specs.Expressions.{Meant, evaluate}
 use Rattle.tree_meaning.specs.Statements.{then_next, block}
 use Rattle.tree_meaning.specs.Switch.{Group, has_label, groups_from, groups_or, groups_at, after_switch, switch_on}
@@ -40,7 +36,7 @@ use Rattle.expression_laws.specs.Contexts.{Context, IsContext, Held, holding, Re
 use Rattle.expression_laws.specs.Flows.{Does}
 use Rattle.expression_laws.proofs.Sits.{AllSit, all_sit}
 use Rattle.expression_laws.proofs.Going.{next_two}
-use Rattle.expression_laws.proofs.Follows.{follows_give, follows_behind, follows_then, follows_less, follows_onto}
+use Rattle.expression_laws.proofs.Follows.{follows_give, follows_behind, follows_then, follows_onto}
 use Rattle.expression_laws.proofs.Cells.{related_less, drops_holding, holds_own, good, frame_is}
 use Rattle.expression_laws.proofs.Values.{constant_value, binary_is, temporary_has}
 use Rattle.expression_laws.proofs.Parts.{In, chosen_lands}
@@ -155,7 +151,7 @@ module _ (c : Context) (ok : IsContext c) (ho : Held) where
     case_runs kind v g (x ∷ gs) (p ∷ ps) other out h S r =
         let R = chosen (has_label (Some v) x.labels) g (target_of v (cases_from (g + 1) ps) other) x gs out (groups_from (Some v) gs) S.0 (case_runs kind v (g + 1) gs ps other out h.1 S.1 r) in
         let same : (if has_label (Some v) x.labels then g else target_of v (cases_from (g + 1) ps) other) ≡ target_of v (cases_from g (p ∷ ps)) other =
-            ap (λ l. if has_label (Some v) l then g else target_of v (cases_from (g + 1) ps) other) (h.0).labels ∙ sym (labels_target v g p.labels (cases_from (g + 1) ps) other) in
+        ap (λ l. if has_label (Some v) l then g else target_of v (cases_from (g + 1) ps) other) (h.0).labels ∙ sym (labels_target v g p.labels (cases_from (g + 1) ps) other) in
         subst (λ node. Runs node (groups_or (groups_from (Some v) (x ∷ gs)) out)) same R
 
     default_runs : (kind : Kind) (g : ℕ) (gs : List Group) (ps : List graph.Group) → GroupsDo kind gs ps → Suffixes g gs → Runs (default_from g ps z) (groups_or (groups_from None gs) [])
@@ -165,7 +161,7 @@ module _ (c : Context) (ok : IsContext c) (ho : Held) where
     default_runs kind g (x ∷ gs) (p ∷ ps) h S =
         let R = chosen (has_label None x.labels) g (default_from (g + 1) ps z) x gs [] (groups_from None gs) S.0 (default_runs kind (g + 1) gs ps h.1 S.1) in
         let same : (if has_label None x.labels then g else default_from (g + 1) ps z) ≡ default_from g (p ∷ ps) z =
-            ap (λ l. if has_label None l then g else default_from (g + 1) ps z) (h.0).labels ∙ ap (λ b. if b then g else default_from (g + 1) ps z) (sym (default_is p.labels)) ∙ sym (default_pick (has_default p.labels) g (default_from (g + 1) ps z)) in
+        ap (λ l. if has_label None l then g else default_from (g + 1) ps z) (h.0).labels ∙ ap (λ b. if b then g else default_from (g + 1) ps z) (sym (default_is p.labels)) ∙ sym (default_pick (has_default p.labels) g (default_from (g + 1) ps z)) in
         subst (λ node. Runs node (groups_or (groups_from None (x ∷ gs)) [])) same R
 
     -- ---- the labels

@@ -1,5 +1,5 @@
 -- The body of a function sits in its unit's automaton, and does there what its tree means.
-use Rattle.std.proofs.Common.{◌≡◌, ℕ, zero, suc, ◌+◌, ◌<◌, ◌≤◌, Bool, List, [], ◌∷◌, map, length, Option, Some, refl, sym, ap, subst, ◌∙◌, arith}
+use Rattle.std.proofs.Common.{◌≡◌, ℕ, zero, suc, ◌+◌, ◌≤◌, Bool, List, [], ◌∷◌, map, length, Option, Some, subst, arith}
 use Rattle.std.specs.Prelude.{IsTrue, slice_get, nat_le, ◌&&◌}
 use Rattle.std.specs.List.{AllByRecursion, list_all}
 use Rattle.std.proofs.lemmas.Bool.{leb-true}
@@ -69,5 +69,5 @@ pub function_has : (t : Typed) (files : ℕ) → IsFitting t files → (k : ℕ)
 function_has t files fitting k f there =
     let n = nameable t files f in
     let a6 : IsTrue (span_fits n f.span && span_fits n f.close && result_kind_fits f.result && list_all (is_variable n) f.parameters && nat_le (length (word_kinds f) + 1) f.cells && nat_le f.cells 16384 && list_all (statement_fits n) f.body) =
-        all_at (function_fits t files) t.functions k f fitting.functions there in
+    all_at (function_fits t files) t.functions k f fitting.functions there in
     record { most = leb-true f.cells 16384 (and_right _ _ (and_left _ _ a6)); body = and_right _ _ a6 }

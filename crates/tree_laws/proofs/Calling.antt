@@ -1,51 +1,47 @@
 -- Calls do what they mean, by induction on how many activations more may stand.
-use Rattle.std.proofs.Common.{◌≡◌, ◌⊎◌, ℕ, zero, suc, ◌+◌, ◌-◌, ◌<◌, ◌≤◌, Bool, true, false, List, [], ◌∷◌, ◌++◌, map, take, length, Option, Some, None, Result, Ok, refl, sym, ap, subst, ◌∙◌, arith, inl, inr, ⊎_elim}
+use Rattle.std.proofs.Common.{◌≡◌, ℕ, zero, suc, ◌+◌, ◌-◌, ◌<◌, ◌≤◌, Bool, true, false, List, [], ◌∷◌, ◌++◌, map, take, length, Option, Some, None, Ok, refl, sym, ap, subst, ◌∙◌, arith, inl, inr}
 use Rattle.std.specs.Prelude.{IsTrue, IfSome, nat_le, if◌then◌else◌, slice_get, slice_set, slice_index, option_and_then, ◌==◌}
 use Rattle.std.specs.Option.{option_map}
 use Rattle.std.specs.List.{AllByRecursion}
-use Rattle.std.proofs.lemmas.Bool.{eq-eqb, ne_eqb, le-leb, leb-true}
-use Rattle.std.proofs.lemmas.List.{length-set, length-map, take_all, take-append-le}
+use Rattle.std.proofs.lemmas.Bool.{eq-eqb, ne_eqb, leb-true}
+use Rattle.std.proofs.lemmas.List.{length-set, take_all, take-append-le}
 use Rattle.cfa.specs.Each.{matched}
 use Rattle.cfa.specs.declared.expr.ArrayPlace.{ArrayPlace}
 use Rattle.cfa.specs.declared.expr.CellPlace.TheVariants as place
 use Rattle.cfa.specs.declared.expr.Expr.{Expr}
 use Rattle.cfa.specs.declared.parts.Edge.{Edge}
-use Rattle.cfa.specs.declared.parts.Function.{Function}
 use Rattle.cfa.specs.declared.parts.Node.{Node}
-use Rattle.cfa.specs.declared.parts.Operation.TheVariants.{Call, Return}
 use Rattle.cfa.specs.declared.parts.Variable.{Variable}
 use Rattle.cfa.specs.declared.state.Frame.{Frame}
 use Rattle.cfa.specs.declared.state.State.{State}
 use Rattle.cfa.specs.Graph.{is_return, is_guard}
 use Rattle.cfa.specs.States.{running_frame}
 use Rattle.cfa.specs.Table.{outgoing_of}
-use Rattle.cfa.specs.Values.{array_start, cell_of}
+use Rattle.cfa.specs.Values.{array_start}
 use Rattle.cfa.proofs.Exits.{taken}
 use Rattle.c_meaning.specs.declared.stepped.Stepped.{Stepped}
 use Rattle.c_meaning.specs.declared.stepped.Stepped.TheVariants.{Moved, TooDeep, Returned}
 use Rattle.c_meaning.specs.Runs.{state_moved}
 use Rattle.c_meaning.specs.Starts.{fitted}
-use Rattle.c_meaning.specs.Steps.{next, next_within, operated, call_of, called as called_state, called_frame, values_in, start_in, unless_trapped, function_at, left, onward, returned_from, returned_along, returned_by, result_word, put, cell_in}
+use Rattle.c_meaning.specs.Steps.{next, next_within, operated, call_of, called as called_state, called_frame, values_in, start_in, unless_trapped, function_at, left, onward, returned_from, returned_along, returned_by, result_word, put}
 use Rattle.typed_trees.specs.declared.unit.TypedFunction.{TypedFunction}
 use Rattle.typed_trees.specs.Fitting.{array_fits, array_lengths, word_kinds}
-use Rattle.graph_of.specs.declared.parts.Around.{Around}
 use Rattle.graph_of.specs.Edges.{entry_of, exit_of}
 use Rattle.graph_of.specs.Expressions.{array_of}
-use Rattle.graph_of.specs.GraphOf.{graph_of, function_of, global_variables, around_of}
+use Rattle.graph_of.specs.GraphOf.{function_of, global_variables, around_of}
 use Rattle.temporaries_apart.specs.Named.{IsBelow, body_named}
 use Rattle.temporaries_apart.specs.Laws.{IsApart}
 use Rattle.temporaries_apart.proofs.Stands.{ascend_least}
 use Rattle.tree_meaning.specs.declared.way.Way.{Way}
 use Rattle.tree_meaning.specs.declared.way.Way.TheVariants.{GoesOn, Breaks, Continues, Returns}
-use Rattle.tree_meaning.specs.Outcomes.{Store, Done, Gives, Ends, OutOfTurns, ◌andthen◌, turn_of}
+use Rattle.tree_meaning.specs.Outcomes.{Store, Gives, ◌andthen◌, turn_of}
 use Rattle.tree_meaning.specs.declared.activation.Activation.{Activation}
 use Rattle.tree_meaning.specs.Activations.{start_of, first_cells, with_activation, without_activation}
-use Rattle.tree_meaning.specs.Statements.{block}
 use Rattle.tree_meaning.specs.Calls.{Calls, called, calling, run_function, give_result}
-use Rattle.tree_meaning.specs.Trees.{does, body_does, calls_within}
+use Rattle.tree_meaning.specs.Trees.{body_does, calls_within}
 use Rattle.expression_laws.specs.Follows.{Follows}
-use Rattle.expression_laws.specs.Contexts.{Context, IsContext, Held, holding, Related, Proper, Spare, parts_of, names_of, own_frame, own_activation}
-use Rattle.expression_laws.specs.Flows.{Site, Came, landed, CallsDo}
+use Rattle.expression_laws.specs.Contexts.{Context, IsContext, Held, Related, Proper, Spare, parts_of, names_of, own_frame, own_activation}
+use Rattle.expression_laws.specs.Flows.{Site, Came, CallsDo}
 use Rattle.expression_laws.proofs.Going.{next_one}
 use Rattle.expression_laws.proofs.Follows.{move_one, follows_behind, follows_then, follows_less}
 use Rattle.expression_laws.proofs.Cells.{agree_put, good, frame_is}
@@ -55,7 +51,7 @@ use Rattle.statement_laws.specs.Simulates.{Arrives}
 use Rattle.statement_laws.proofs.StatementTrees as statements
 use Rattle.tree_laws.specs.Laws.{HasSteps}
 use Rattle.tree_laws.proofs.Bodies.{all_there, body_sits, function_has}
-use Rattle.tree_laws.proofs.Frames.{frame, inner, inner_ok, more_frames, frame_of, own_is, base_is, activation_is, keeps_above, held_in, inner_proper, inner_clear, entered_related, left_related}
+use Rattle.tree_laws.proofs.Frames.{frame, inner, inner_ok, more_frames, frame_of, base_is, activation_is, held_in, inner_proper, inner_clear, entered_related, left_related}
 
 -- the function of an exit
 pub exit_function : (c : Context) (k : ℕ) (f : TypedFunction) → slice_get c.typed.functions k ≡ Some f → function_at (parts_of c) (exit_of k) ≡ Some (function_of k f)
@@ -138,8 +134,8 @@ module _ (c : Context) (ok : IsContext c) (callee : ℕ) (f : TypedFunction) (th
       let calls_back : (running_frame to).call ≡ Some at = ap (λ (x : Frame). x.call) fr in
       let base : (running_frame to).base ≡ c.size = ap (λ (x : Frame). x.base) fr in
       let rest : take (length to.frames - 1) to.frames ≡ c.frames =
-          ap (λ n. take n to.frames) (let place : length to.frames - 1 ≡ length c.frames = omega (arith, long) in place) ∙ ap (take (length c.frames)) h.frames
-          ∙ take-append-le (length c.frames) c.frames (frame c ok callee at f there apart few lent fits below ∷ []) (omega arith) ∙ take_all (length c.frames) c.frames (omega arith) in
+      ap (λ n. take n to.frames) (let place : length to.frames - 1 ≡ length c.frames = omega (arith, long) in place) ∙ ap (take (length c.frames)) h.frames
+      ∙ take-append-le (length c.frames) c.frames (frame c ok callee at f there apart few lent fits below ∷ []) (omega arith) ∙ take_all (length c.frames) c.frames (omega arith) in
       ap (next_within (parts_of c) c.input to) own
       ∙ ap (λ b. if b then left (parts_of c) to g else onward (parts_of c) c.input to (outgoing_of (parts_of c) to.node)) at_exit'
       ∙ ap (λ b. if b then Returned (option_map (λ kind. fitted kind (result_word to)) g.result) else returned_from (parts_of c) to (running_frame to).call) two
@@ -191,10 +187,10 @@ module _ (c : Context) (ok : IsContext c) (callee : ℕ) (f : TypedFunction) (th
         let held = held_in c ok callee at f there apart few lent fits below st in
         let ok' = inner_ok c ok callee at f there apart few lent fits below in
         let inside : Related C held (entry_of callee) (with_activation s' (first_cells f.cells ws)) (entered st ws) =
-            entered_related c ok callee at f there apart few lent fits below st ho e.source (entry_of callee) s (with_activation s' (first_cells f.cells ws)) ws (entered st ws) short h site.enters
-            (ap (λ (fs : List Frame). fs ++ called_frame st at starts ∷ []) h.frames ∙ ap (λ b. c.frames ++ record { call = Some at; base = b; arrays = starts } ∷ []) h.size) refl refl (ap (λ (xs : List ℕ). xs ++ first_cells f.cells ws) same) answers in
+        entered_related c ok callee at f there apart few lent fits below st ho e.source (entry_of callee) s (with_activation s' (first_cells f.cells ws)) ws (entered st ws) short h site.enters
+        (ap (λ (fs : List Frame). fs ++ called_frame st at starts ∷ []) h.frames ∙ ap (λ b. c.frames ++ record { call = Some at; base = b; arrays = starts } ∷ []) h.size) refl refl (ap (λ (xs : List ℕ). xs ++ first_cells f.cells ws) same) answers in
         let runs = body_runs C ok' calls works held callee apart steps there refl (inner_proper c ok callee at f there apart few lent fits below st) (inner_clear c ok callee at f there apart few lent fits below st)
-            (with_activation s' (first_cells f.cells ws)) (entered st ws) inside in
+        (with_activation s' (first_cells f.cells ws)) (entered st ws) inside in
         follows_then (parts_of c) c.input (λ (way : Way). Related C held (exit_of callee)) (Came c ho temp back.target) (entered st ws) s'.turns s'.turns (body_does c.typed calls f a (with_activation s' (first_cells f.cells ws))) (give_result (body_does c.typed) c.typed.functions a.base)
         (subst (λ (b : Activation). Follows (parts_of c) c.input (entered st ws) s'.turns s'.turns (λ (way : Way). Related C held (exit_of callee)) (body_does c.typed calls f b (with_activation s' (first_cells f.cells ws)))) is runs)
         (λ way s'' to at' few'.

@@ -1,33 +1,29 @@
 -- The context of a function that is called.
-use Rattle.std.proofs.Common.{◌≡◌, ◌⊎◌, ℕ, zero, suc, ◌+◌, ◌-◌, ◌*◌, ◌<◌, ◌≤◌, Bool, true, false, List, [], ◌∷◌, ◌++◌, map, take, drop, length, min, replicate, Option, Some, None, refl, sym, ap, subst, ◌∙◌, arith, inl, inr, ⊎_elim, length-append, length-take}
+use Rattle.std.proofs.Common.{◌≡◌, ℕ, zero, suc, ◌+◌, ◌-◌, ◌<◌, ◌≤◌, Bool, true, false, List, [], ◌∷◌, ◌++◌, map, take, drop, length, min, replicate, Option, Some, None, refl, sym, ap, subst, ◌∙◌, arith, inl, ⊎_elim, length-append, length-take}
 use Rattle.std.specs.Prelude.{IsTrue, ◌&&◌, not, nat_lt, if◌then◌else◌, slice_get, slice_index, unwrap_or}
 use Rattle.std.specs.List.{AllByRecursion}
-use Rattle.std.specs.Option.{is_none}
-use Rattle.std.proofs.lemmas.Bool.{ltb-true, lt-ltb, cases_lt, eqb-true}
+use Rattle.std.proofs.lemmas.Bool.{ltb-true, lt-ltb, eqb-true}
 use Rattle.std.proofs.lemmas.List.{get_or-take, get_or_append_left, length-replicate}
 use Rattle.std.proofs.lemmas.Option.{same_Some}
 use Rattle.c_values.proofs.Fitting.{and_left, and_right}
 use Rattle.cfa.specs.Each.{matched}
 use Rattle.cfa.specs.Rules.{is_length, cell_count}
-use Rattle.cfa.specs.declared.parts.Edge.{Edge}
 use Rattle.cfa.specs.declared.parts.Variable.{Variable}
 use Rattle.cfa.specs.declared.state.Frame.{Frame}
 use Rattle.cfa.specs.declared.state.State.{State}
 use Rattle.cfa.specs.States.{running_frame}
-use Rattle.c_meaning.specs.Starts.{frame_cells}
 use Rattle.c_meaning.proofs.Slices.{slice_get_last}
 use Rattle.typed_trees.specs.declared.unit.TypedFunction.{TypedFunction}
-use Rattle.typed_trees.specs.Fitting.{array_fits, array_lengths, word_kinds, is_variable}
+use Rattle.typed_trees.specs.Fitting.{array_fits, array_lengths, is_variable}
 use Rattle.temporaries_apart.specs.Named.{IsBelow}
-use Rattle.temporaries_apart.specs.Reads.{IsOwn}
 use Rattle.temporaries_apart.specs.Laws.{IsApart}
 use Rattle.temporaries_apart.proofs.Stands.{ascend_least}
 use Rattle.tree_meaning.specs.declared.activation.Activation.{Activation}
 use Rattle.tree_meaning.specs.Outcomes.{Store}
-use Rattle.tree_meaning.specs.Activations.{start_of, first_cells, with_activation, without_activation}
+use Rattle.tree_meaning.specs.Activations.{start_of, first_cells, without_activation}
 use Rattle.tree_meaning.specs.Calls.{called}
-use Rattle.expression_laws.specs.Contexts.{Context, IsContext, Held, Related, Proper, Clear, Spare, names_of, own_frame, own_activation}
-use Rattle.expression_laws.proofs.Values.{Owned, variable_owned}
+use Rattle.expression_laws.specs.Contexts.{Context, IsContext, Held, Related, Proper, Clear, names_of, own_frame, own_activation}
+use Rattle.expression_laws.proofs.Values.{variable_owned}
 use Rattle.tree_laws.proofs.Bodies.{function_has}
 
 -- ---- lists

@@ -1,8 +1,7 @@
 -- The tree and the automaton have the same ends.
-use Rattle.std.proofs.Common.{◌≡◌, ◌↔◌, ◌⊎◌, ℕ, zero, suc, ◌+◌, ◌-◌, ◌*◌, ◌<◌, ◌≤◌, Bool, true, false, List, [], ◌∷◌, ◌++◌, map, length, Option, Some, None, refl, sym, ap, subst, ◌∙◌, arith, inl, inr, ⊎_elim, length-append}
-use Rattle.std.specs.Prelude.{◌≢◌, IsTrue, nat_lt, nat_le, if◌then◌else◌, slice_get, slice_index, ◌==◌}
+use Rattle.std.proofs.Common.{◌≡◌, ◌↔◌, ℕ, ◌+◌, ◌<◌, ◌≤◌, Bool, true, false, List, [], ◌∷◌, length, Option, Some, None, refl, sym, ap, subst, ◌∙◌, arith, ⊎_elim, length-append}
+use Rattle.std.specs.Prelude.{◌≢◌, IsTrue, nat_lt, if◌then◌else◌, slice_get, slice_index, ◌==◌}
 use Rattle.std.specs.Option.{option_map}
-use Rattle.std.specs.List.{AllByRecursion}
 use Rattle.std.proofs.lemmas.Bool.{eq-eqb, lt-ltb, ltb-true}
 use Rattle.std.proofs.lemmas.List.{length-map}
 use Rattle.c_values.specs.declared.kinds.Kind.{Kind}
@@ -13,12 +12,12 @@ use Rattle.cfa.specs.Table.{outgoing_of}
 use Rattle.c_meaning.specs.declared.input.Input.{Input}
 use Rattle.c_meaning.specs.declared.stepped.Stepped.{Stepped}
 use Rattle.c_meaning.specs.declared.stepped.Stepped.TheVariants as next
-use Rattle.c_meaning.specs.Runs.{state_moved, state_after}
-use Rattle.c_meaning.specs.Starts.{CanStart, fitted, fitted_words, start_of, first_frame, first_globals}
+use Rattle.c_meaning.specs.Runs.{state_moved}
+use Rattle.c_meaning.specs.Starts.{CanStart, fitted, fitted_words, start_of, first_frame}
 use Rattle.c_meaning.specs.Steps.{next as next_of, next_within, function_at, left, onward, returned_from, result_word}
 use Rattle.typed_trees.specs.declared.unit.Typed.{Typed}
 use Rattle.typed_trees.specs.declared.unit.TypedFunction.{TypedFunction}
-use Rattle.typed_trees.specs.Fitting.{IsFitting, word_kinds, array_lengths, global_cells}
+use Rattle.typed_trees.specs.Fitting.{word_kinds, array_lengths, global_cells}
 use Rattle.graph_of.specs.Edges.{entry_of, exit_of}
 use Rattle.graph_of.specs.GraphOf.{graph_of, function_of}
 use Rattle.temporaries_apart.specs.Laws.{IsApart}
@@ -29,14 +28,11 @@ use Rattle.tree_meaning.specs.declared.ends.TreeEnd.TheVariants as ends
 use Rattle.tree_meaning.specs.declared.activation.Activation.{Activation}
 use Rattle.tree_meaning.specs.Outcomes.{Store, End, TrapEnd, BlockedEnd, TooDeepEnd, Done, Gives, Ends, OutOfTurns}
 use Rattle.tree_meaning.specs.Activations.{first_cells, as_kind}
-use Rattle.tree_meaning.specs.Calls.{Calls}
 use Rattle.tree_meaning.specs.Trees.{body_does, calls_within, calls_in}
-use Rattle.tree_meaning.specs.Ends.{first_values, first_activation, first_store, end_of, run_end, function_end, end_if, tree_end}
-use Rattle.tree_meaning.proofs.GrowTrees.{turns_suffice}
+use Rattle.tree_meaning.specs.Ends.{first_values, first_activation, first_store, end_of, run_end, end_if, tree_end}
 use Rattle.expression_laws.specs.Follows.{ended, Moves, Follows}
-use Rattle.expression_laws.specs.Contexts.{Context, IsContext, Held, Related, Proper, Spare, parts_of, names_of, own_frame, own_activation}
-use Rattle.expression_laws.specs.Flows.{CallsDo}
-use Rattle.expression_laws.proofs.Follows.{EndsIn, no_later, one_end}
+use Rattle.expression_laws.specs.Contexts.{Context, IsContext, Held, Related, Proper, Spare, own_frame, own_activation}
+use Rattle.expression_laws.proofs.Follows.{no_later, one_end}
 use Rattle.tree_laws.specs.Laws.{IsNext, IsMade, EndsSo, TreesAgree}
 use Rattle.tree_laws.proofs.Bodies.{all_there, function_has}
 use Rattle.tree_laws.proofs.Frames.{first_long}
