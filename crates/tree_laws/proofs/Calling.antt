@@ -49,7 +49,7 @@ use Rattle.expression_laws.proofs.Values.{local_cell, start_is}
 use Rattle.expression_laws.proofs.Calls.{function_there}
 use Rattle.statement_laws.specs.Simulates.{Arrives}
 use Rattle.statement_laws.proofs.StatementTrees as statements
-use Rattle.tree_laws.specs.Laws.{HasSteps}
+use Rattle.for_steps.specs.Laws.{HasSteps}
 use Rattle.tree_laws.proofs.Bodies.{all_there, body_sits, function_has}
 use Rattle.tree_laws.proofs.Frames.{frame, inner, inner_ok, more_frames, frame_of, base_is, activation_is, held_in, inner_proper, inner_clear, entered_related, left_related}
 

@@ -1,6 +1,13 @@
 -- The meaning on the tree and the automaton agree.
-use Rattle.std.specs.Prelude.{◌≡◌, ◌≢◌, ◌↔◌, ℕ, ◌+◌, List, map, length, Some, slice_get, IsTrue}
+use Rattle.std.specs.Prelude.{◌≡◌, ◌≢◌, ◌↔◌, ℕ, ◌+◌, List, [], map, length, Some, slice_get}
 use Rattle.std.specs.List.{AllByRecursion}
+use Rattle.c_lex.specs.declared.token.SourceText.{SourceText}
+use Rattle.c_lex.specs.declared.token.Token.{Token}
+use Rattle.c_lex.specs.Lexed.{Lexed}
+use Rattle.c_parse.specs.declared.unit.Item.{Item}
+use Rattle.c_parse.specs.Items.{DerivesItems}
+use Rattle.c_parse.specs.Signs.{terminal_of}
+use Rattle.c_types.specs.Units.{faults_of, typed_of}
 use Rattle.cfa.specs.declared.state.State.{State}
 use Rattle.c_meaning.specs.declared.input.Input.{Input}
 use Rattle.c_meaning.specs.declared.stepped.Stepped.{Stepped}
@@ -16,7 +23,7 @@ use Rattle.temporaries_apart.specs.Laws.{IsApart}
 use Rattle.tree_meaning.specs.declared.ends.TreeEnd.{TreeEnd}
 use Rattle.tree_meaning.specs.declared.ends.TreeEnd.TheVariants as ends
 use Rattle.tree_meaning.specs.Ends.{tree_end}
-use Rattle.statement_laws.specs.Steps.{stepping, all_steps}
+use Rattle.for_steps.specs.Laws.{HasSteps}
 
 -- what comes next in a state in which a run ends so
 abbrev pub IsNext : TreeEnd → Stepped → Type 0
@@ -25,10 +32,6 @@ IsNext (ends.Trapped trap) s = s ≡ next.Trapped trap
 IsNext ends.Blocked s = s ≡ next.Blocked
 IsNext ends.TooDeep s = s ≡ next.TooDeep
 IsNext ends.OutOfTurns s = ⊥
-
--- what follows the passes of each `for` of a function is an assignment or a call
-abbrev pub HasSteps : TypedFunction → Type 0
-HasSteps f = IsTrue (all_steps (map stepping f.body))
 
 -- A typed unit whose automaton does what its trees mean: it fits, its temporaries are apart, and its loops have steps.
 pub record IsMade (t : Typed) (files : ℕ) : Type 0 where
@@ -47,3 +50,11 @@ TreesAgree =
     (t : Typed) (files : List (List ℕ)) (entry : ℕ) (f : TypedFunction) (input : Input) (end : TreeEnd)
     → IsMade t (length files) → slice_get t.functions entry ≡ Some f → CanStart (function_of entry f) input.words → end ≢ ends.OutOfTurns
     → EndsSo t files entry f input end ↔ ((turns : ℕ) × ((more : ℕ) → tree_end t entry input (turns + more) ≡ end))
+
+-- So it is of each unit of texts in which nothing is wrong.
+abbrev pub UnitsAgree : Type 0
+UnitsAgree =
+    (texts : List SourceText) (tokens : List Token) (items : List Item) (files : List (List ℕ)) (entry : ℕ) (f : TypedFunction) (input : Input) (end : TreeEnd)
+    → Lexed texts tokens → DerivesItems items (map terminal_of tokens) → faults_of items ≡ [] → length files ≡ length texts
+    → slice_get (typed_of items).functions entry ≡ Some f → CanStart (function_of entry f) input.words → end ≢ ends.OutOfTurns
+    → EndsSo (typed_of items) files entry f input end ↔ ((turns : ℕ) × ((more : ℕ) → tree_end (typed_of items) entry input (turns + more) ≡ end))
