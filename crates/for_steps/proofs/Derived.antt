@@ -1,5 +1,5 @@
 -- The statements that the syntax has: what follows the passes of `for` is simple.
-use Rattle.std.proofs.Common.{◌≡◌, Bool, true, List, [], ◌∷◌, ◌++◌, map, Option, Some, None, refl, sym, subst, rules}
+use Rattle.std.proofs.Common.{◌≡◌, Bool, true, List, map, Option, refl, sym, subst, rules}
 use Rattle.std.specs.Prelude.{◌&&◌, IsTrue, option_map}
 use Rattle.c_values.proofs.Fitting.{and_both}
 use Rattle.fq_core.specs.declared.span.Span.{Span}
@@ -93,6 +93,7 @@ next_steps (a_next {s = s} d) = subst (λ (q : Simple). IsTrue (q.is_simple && q
 
 mutual
   unfolding simple
+
   statement_steps : {o : Bool} {s : Statement} {ts : List Terminal} → DerivesStatement o s ts → Steps s
   statement_steps (a_block {p = p} {ss = ss} q d) = made _ _ (block_is p ss) (body_steps d)
   statement_steps (an_empty {p = p}) = plain_is p form.Empty (search (rules, the_lemmas))

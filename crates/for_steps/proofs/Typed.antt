@@ -1,7 +1,6 @@
 -- The statements that typing makes of simple ones.
-use Rattle.std.proofs.Common.{◌≡◌, ℕ, Bool, true, false, List, [], ◌∷◌, ◌++◌, map, Option, Some, None, refl, sym, ap, subst, ◌∙◌, rules}
+use Rattle.std.proofs.Common.{◌≡◌, ℕ, Bool, true, false, List, [], ◌∷◌, ◌++◌, map, Option, Some, None, refl, sym, subst, rules}
 use Rattle.std.specs.Prelude.{◌&&◌, IsTrue, IfSome, option_map}
-use Rattle.std.specs.Option.{is_some}
 use Rattle.std.specs.List.{AllByRecursion}
 use Rattle.c_values.proofs.Fitting.{and_left, and_right, and_both}
 use Rattle.c_values.specs.declared.kinds.Kind.{Kind}
@@ -25,7 +24,7 @@ use Rattle.c_parse.specs.declared.unit.Parameter.{Parameter}
 use Rattle.typed_trees.specs.declared.expression.Callee.{Callee}
 use Rattle.typed_trees.specs.declared.expression.TypedCall.{TypedCall}
 use Rattle.typed_trees.specs.declared.expression.TypedExpr.{TypedExpr}
-use Rattle.typed_trees.specs.declared.expression.TypedPlace.{TypedPlace, out-TypedPlace}
+use Rattle.typed_trees.specs.declared.expression.TypedPlace.{TypedPlace}
 use Rattle.typed_trees.specs.declared.statement.TypedForm.{TypedForm, the_lemmas}
 use Rattle.typed_trees.specs.declared.statement.TypedForm.TheVariants as forms
 use Rattle.typed_trees.specs.declared.statement.TypedGroup.{TypedGroup}
@@ -42,7 +41,6 @@ use Rattle.c_types.specs.Functions.{framed, body_rule, in_function, function_of,
 use Rattle.c_types.specs.Units.{item_rule, items_rule, program_of, start, typed_of}
 use Rattle.statement_laws.specs.Steps.{Stepping, within, stepping, group_stepping, all_steps, steps_if, step_if, arms_steps, groups_steps}
 use Rattle.for_steps.specs.Simple.{Simple, inner, all_simple, if_simple, next_simple, arms_simple, groups_simple, form_simple, group_simple, simple, body_simple, item_simple, items_simple}
-use Rattle.for_steps.specs.Simple as parsed
 use Rattle.for_steps.specs.Laws.{HasSteps, UnitsHaveSteps}
 use Rattle.for_steps.proofs.Derived.{items_steps}
 
