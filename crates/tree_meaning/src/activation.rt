@@ -3,11 +3,11 @@ use containers::Vector;
 
 /// A function that was called and hasn't returned.
 #[derive(Drop)]
-pub(crate) struct Activation {
+pub struct Activation {
     /// How many stand, with this one: from 1 to 64.
-    pub(crate) depth: u32,
+    pub depth: u32,
     /// The place of its first cell among all cells.
-    pub(crate) base: u32,
+    pub base: u32,
     /// The places of the first cells of the arrays that it is lent, in the order of its parameters.
-    pub(crate) arrays: Vector<u32>,
+    pub arrays: Vector<u32>,
 }

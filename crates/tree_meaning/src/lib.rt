@@ -10,4 +10,6 @@ mod ends;
 pub mod laws;
 mod way;
 
+pub use activation::Activation;
 pub use ends::TreeEnd;
+pub use way::Way;

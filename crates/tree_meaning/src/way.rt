@@ -2,7 +2,7 @@
 
 /// Where a statement leaves off (ISO/IEC 9899:2011, 6.8.6).
 #[derive(Clone, Copy, Debug, PartialEq, Eq)]
-pub(crate) enum Way {
+pub enum Way {
     /// It goes on to the next.
     GoesOn,
     /// It breaks a loop or a `switch`.

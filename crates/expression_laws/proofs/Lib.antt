@@ -1,0 +1,10 @@
+pub mod Sits
+pub mod Going
+pub mod Follows
+pub mod Cells
+pub mod Flows
+pub mod Values
+pub mod Parts
+pub mod Calls
+pub mod Forms
+pub mod ValueTrees

@@ -1,0 +1,5 @@
+pub mod Sits
+pub mod Follows
+pub mod Contexts
+pub mod Flows
+pub mod Laws
