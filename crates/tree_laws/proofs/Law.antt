@@ -55,7 +55,7 @@ module _ (t : Typed) (files : List (List ℕ)) (input : Input) (k : ℕ) (f : Ty
   abbrev globals : ℕ
   globals = length (first_values t f)
 
-  abbrev C : Context
+  abbrev pub C : Context
   C = record {
     typed = t;
     files = files;
@@ -68,13 +68,13 @@ module _ (t : Typed) (files : List (List ℕ)) (input : Input) (k : ℕ) (f : Ty
     keeps = λ j. nat_lt j (globals + A.locals);
   }
 
-  abbrev started : State
+  abbrev pub started : State
   started = start_of (graph_of t files) (function_of k f) input.words
 
   abbrev words : List ℕ
   words = fitted_words input.words (word_kinds f)
 
-  abbrev nobody : Held
+  abbrev pub nobody : Held
   nobody i = None
 
   base_is : (own_frame C).base ≡ globals
@@ -143,10 +143,10 @@ module _ (t : Typed) (files : List (List ℕ)) (input : Input) (k : ℕ) (f : Ty
       by true e = let less = ltb-true ((own_frame C).base + cell) (globals + A.locals) e in absurd (omega (arith, less, low, base_is))
       by false e = refl
 
-  abbrev run : ℕ → Done Way
+  abbrev pub run : ℕ → Done Way
   run turns = body_does t (calls_in t (first_activation t f)) f (first_activation t f) (first_store t f input turns)
 
-  runs : (turns : ℕ) → Follows (graph_of t files) input started turns turns (λ (way : Way). Related C nobody (exit_of k)) (run turns)
+  pub runs : (turns : ℕ) → Follows (graph_of t files) input started turns turns (λ (way : Way). Related C nobody (exit_of k)) (run turns)
   unfolding calls_in
   runs turns =
       let works = calls_do 63 C context_ok made.apart made.steps (omega arith) in
@@ -158,7 +158,7 @@ module _ (t : Typed) (files : List (List ℕ)) (input : Input) (k : ℕ) (f : Ty
   abbrev value_of : Store → Option ℕ
   value_of s = option_map (λ (kind : Kind). as_kind kind (slice_index s.cells (first_activation t f).base)) f.result
 
-  gives_back : (s : Store) (to : State) → Related C nobody (exit_of k) s to → next_of (graph_of t files) input to ≡ next.Returned (value_of s)
+  pub gives_back : (s : Store) (to : State) → Related C nobody (exit_of k) s to → next_of (graph_of t files) input to ≡ next.Returned (value_of s)
   unfolding next_of
   gives_back s to h =
       let g = function_of k f in
@@ -176,7 +176,7 @@ module _ (t : Typed) (files : List (List ℕ)) (input : Input) (k : ℕ) (f : Ty
 
   -- ---- both ways
 
-  ends_stop : (end : End) → state_moved (ended end) ≡ None
+  pub ends_stop : (end : End) → state_moved (ended end) ≡ None
   ends_stop (TrapEnd trap) = refl
   ends_stop BlockedEnd = refl
   ends_stop TooDeepEnd = refl
@@ -233,7 +233,7 @@ module _ (t : Typed) (files : List (List ℕ)) (input : Input) (k : ℕ) (f : Ty
       same_stop end other (next_of (graph_of t files) input to) is (ap (next_of (graph_of t files) input) (sym same) ∙ F.stops)
   back turns n OutOfTurns F end to p is less = absurd (no_later (graph_of t files) input n F.moves started to F.to p (next_stops end _ is) F.path (omega (arith, F.enough, less)))
 
-  tree_is : (turns : ℕ) → tree_end t k input turns ≡ run_end t f (run turns)
+  pub tree_is : (turns : ℕ) → tree_end t k input turns ≡ run_end t f (run turns)
   tree_is turns = ap (λ o. end_if t o input turns) there
 
   agree : (end : TreeEnd) → end ≢ ends.OutOfTurns → EndsSo t files k f input end ↔ ((turns : ℕ) × ((more : ℕ) → tree_end t k input (turns + more) ≡ end))

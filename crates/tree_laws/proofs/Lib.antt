@@ -2,4 +2,5 @@ pub mod Bodies
 pub mod Frames
 pub mod Calling
 pub mod Law
+pub mod Unending
 pub mod Units

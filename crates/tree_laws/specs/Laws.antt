@@ -51,6 +51,17 @@ TreesAgree =
     → IsMade t (length files) → slice_get t.functions entry ≡ Some f → CanStart (function_of entry f) input.words → end ≢ ends.OutOfTurns
     → EndsSo t files entry f input end ↔ ((turns : ℕ) × ((more : ℕ) → tree_end t entry input (turns + more) ≡ end))
 
+-- the states of the automaton go on for ever
+abbrev pub GoesOn : Typed → List (List ℕ) → ℕ → TypedFunction → Input → Type 0
+GoesOn t files entry f input = (n : ℕ) → (s : State) × (state_at (graph_of t files) (function_of entry f) input n ≡ Some s)
+
+-- They do so exactly where no number of turns is enough.
+abbrev pub UnendingTreesAgree : Type 0
+UnendingTreesAgree =
+    (t : Typed) (files : List (List ℕ)) (entry : ℕ) (f : TypedFunction) (input : Input)
+    → IsMade t (length files) → slice_get t.functions entry ≡ Some f → CanStart (function_of entry f) input.words
+    → GoesOn t files entry f input ↔ ((turns : ℕ) → tree_end t entry input turns ≡ ends.OutOfTurns)
+
 -- So it is of each unit of texts in which nothing is wrong.
 abbrev pub UnitsAgree : Type 0
 UnitsAgree =
@@ -58,3 +69,10 @@ UnitsAgree =
     → Lexed texts tokens → DerivesItems items (map terminal_of tokens) → faults_of items ≡ [] → length files ≡ length texts
     → slice_get (typed_of items).functions entry ≡ Some f → CanStart (function_of entry f) input.words → end ≢ ends.OutOfTurns
     → EndsSo (typed_of items) files entry f input end ↔ ((turns : ℕ) × ((more : ℕ) → tree_end (typed_of items) entry input (turns + more) ≡ end))
+
+abbrev pub UnendingUnitsAgree : Type 0
+UnendingUnitsAgree =
+    (texts : List SourceText) (tokens : List Token) (items : List Item) (files : List (List ℕ)) (entry : ℕ) (f : TypedFunction) (input : Input)
+    → Lexed texts tokens → DerivesItems items (map terminal_of tokens) → faults_of items ≡ [] → length files ≡ length texts
+    → slice_get (typed_of items).functions entry ≡ Some f → CanStart (function_of entry f) input.words
+    → GoesOn (typed_of items) files entry f input ↔ ((turns : ℕ) → tree_end (typed_of items) entry input turns ≡ ends.OutOfTurns)
