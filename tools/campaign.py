@@ -25,8 +25,8 @@ LARGEST_ROUND, MOST_IN_A_JOB = 1024, 32
 
 
 def batches(goals: list[int], jobs: int) -> list[list[int]]:
-    """The goals in parts, each for one process: eight parts at least for each job, so that all of them end about then."""
-    size = max(1, min(MOST_IN_A_JOB, len(goals) // (8 * jobs)))
+    """The goals in parts, each for one process: four parts at least for each job, so that all jobs end about then."""
+    size = max(1, min(MOST_IN_A_JOB, len(goals) // (4 * jobs)))
     return [goals[at : at + size] for at in range(0, len(goals), size)]
 
 
