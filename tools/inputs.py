@@ -9,10 +9,10 @@ import argparse
 import json
 import re
 import sys
-from collections.abc import Iterator
+from collections.abc import Iterator, Sequence
 
 from tools import program
-from tools.program import Failure, Input
+from tools.program import Failure, Input, Run
 
 _WORD = re.compile(r"-?[0-9]+")
 _ONE = re.compile(r"goal \d+ (?:covered|least) (args(?: -?\d+)*(?: answers(?: -?\d+)+)?)")
@@ -97,6 +97,15 @@ def of_file(path: str, kept: bool = False) -> list[Input]:
         return of_text(program.read(path).decode(), kept)
     except (ValueError, KeyError, TypeError, IndexError, RecursionError) as fault:
         raise Failure(f"{path}: no inputs are read: {fault}") from None
+
+
+def runs_of(
+    entry: str, path: str, sources: Sequence[str], options: Sequence[str] = ()
+) -> tuple[list[Input], list[Run]]:
+    """The inputs of a file in any of its forms, and their runs."""
+    read = of_file(path)
+    with program.as_file(json_text(read)) as made:
+        return read, program.report(["runs", entry, made, *sources, *options]).runs
 
 
 def once(inputs: list[Input]) -> list[Input]:
