@@ -168,6 +168,17 @@ class Folder:
 
     # ---- one goal
 
+    def decide_all(self, goals: list[int]) -> None:
+        """Has goals decided one after the other; where some aren't, that is told behind the last."""
+        failures = []
+        for goal in goals:
+            try:
+                self.decide(goal)
+            except Failure as failure:
+                failures.append(failure)
+        if failures:
+            raise failures[0]
+
     def decide(self, goal: int) -> None:
         """Has a goal decided by `prove`, and keeps what it says; a certificate is kept where `check` accepts it."""
         asked = self.asked()
