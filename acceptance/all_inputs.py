@@ -7,6 +7,7 @@ them: `bounds` must say that they suffice exactly where none does, and else name
 the first input of those that stay within, that `measure` says covers it, and say that it is refuted where there is none.
 """
 
+import functools
 import itertools
 import json
 import os
@@ -76,8 +77,11 @@ TABLE = [
 ]
 
 
+built = functools.cache(programs.program)
+
+
 def run(words, folder):
-    ended = subprocess.run([programs.program(), *words], cwd=folder, stdin=subprocess.DEVNULL, capture_output=True, text=True, timeout=SECONDS)
+    ended = subprocess.run([built(), *words], cwd=folder, stdin=subprocess.DEVNULL, capture_output=True, text=True, timeout=SECONDS)
     return ended.returncode, ended.stdout, ended.stderr
 
 
