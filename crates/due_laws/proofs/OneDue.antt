@@ -53,7 +53,7 @@ use Rattle.command.specs.Stages.{OfEntry, OfInputs, OfQuery, OfSources, OfTraces
 use Rattle.command.specs.Traces as traces
 use Rattle.command.specs.Traces.{AreTracesOf, inputs_in, longest}
 use Rattle.command.specs.Tracing.{traced}
-use Rattle.due_laws.proofs.OneFile.{not_read, read_alike, refused_once}
+use Rattle.due_laws.proofs.OneFile.{read_alike, read_is_kept, refused_once}
 
 -- at most one
 abbrev pub Once : {X : Type 0} → (X → Type 0) → Type 0
@@ -352,7 +352,7 @@ module _ (r : Reads) (still : Rose r.faults_before r.faults_after → ⊥) where
     not_traces : (p : Predicates) (x : Refusal) (given : List Trace) → traces.AreRefused r graph f ends file x → AreTracesOf r graph f ends file p given → ⊥
     not_traces p x given (traces.at_read a) b = not_seen traces.most_trace_bytes file x b.bytes h a b.seen b.short
     not_traces p x given (traces.at_form bytes seen short a) b =
-        not_read graph f ends p (form_of (length f.parameters) b.bytes) x given (subst (λ (bs : List ℕ). reading.IsRefused graph f ends bs x) (one_seen file bytes b.bytes h seen b.seen) a) b.is
+        read_is_kept graph f ends p (form_of (length f.parameters) b.bytes) x given (subst (λ (bs : List ℕ). reading.IsRefused graph f ends bs x) (one_seen file bytes b.bytes h seen b.seen) a) b.is
 
     one_of_traces : (p : Predicates) (sources : List Text) (Report : ℕ → List Input → Said → Type 0) → ((steps : ℕ) (given : List Input) → AnyTwo IsSame (Report steps given))
         → AnyTwo IsSame (OfTraces r sources graph f ends file p (λ given. Report (longest given) (inputs_in given)))

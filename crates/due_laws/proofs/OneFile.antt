@@ -23,11 +23,11 @@ tails : (a b : Line) (rest more : List Line) → a ∷ rest ≡ b ∷ more → r
 tails a b rest more e = cc
 
 -- what lines say of the traces: the inputs, and the most edges
-inputs_of_lines : List Line → List Input
+abbrev inputs_of_lines : List Line → List Input
 inputs_of_lines [] = []
 inputs_of_lines (line ∷ lines) = line.input ∷ inputs_of_lines lines
 
-longest_of_lines : List Line → ℕ
+abbrev longest_of_lines : List Line → ℕ
 longest_of_lines [] = 0
 longest_of_lines (line ∷ lines) = max (length line.edges) (longest_of_lines lines)
 
@@ -66,10 +66,10 @@ module _ (graph : GraphParts) (f : Function) (ends : Ends) where
     right_at (l ∷ ls) line rest all = right_at ls line rest (All-tail Right l (ls ++ line ∷ rest) all)
 
     -- a form that is read isn't refused
-    pub not_read : (form : Form) (x : Refusal) (given : List Trace) → IsRefusedAs graph f ends form x → IsReadAs graph f ends p form given → ⊥
-    not_read (Err number) x given a b = b
-    not_read (Ok lines) x given (inl a) b = absurd (omega (arith, a.0, b.0))
-    not_read (Ok lines) x given (inr a) b =
+    pub read_is_kept : (form : Form) (x : Refusal) (given : List Trace) → IsRefusedAs graph f ends form x → IsReadAs graph f ends p form given → ⊥
+    read_is_kept (Err number) x given a b = b
+    read_is_kept (Ok lines) x given (inl a) b = absurd (omega (arith, a.0, b.0))
+    read_is_kept (Ok lines) x given (inr a) b =
         a.1.wrong (right_at a.1.before a.1.line a.1.rest (subst (All Right) a.1.all (all_right lines given b.1)))
 
     read_inputs : (lines : List Line) (given : List Trace) → AllZip (IsTraceOf graph f ends p) lines given → inputs_in given ≡ inputs_of_lines lines
