@@ -5,6 +5,7 @@ import re
 import resource
 import shutil
 import subprocess
+import tempfile
 import time
 
 ROOT = os.path.join(os.path.dirname(os.path.abspath(__file__)), "..")
@@ -80,3 +81,16 @@ def instructions(words, folder=None):
     counted = ["valgrind", "--tool=callgrind", "--callgrind-out-file=/dev/null", *words]
     said = subprocess.run(counted, cwd=folder, check=True, stdout=subprocess.DEVNULL, stderr=subprocess.PIPE, text=True).stderr
     return int(re.search(r"Collected : (\d+)", said).group(1))
+
+
+def ended(words):
+    """The last line that a run of a program writes, its seconds, and the most megabytes that it held."""
+    begun = time.perf_counter()
+    with tempfile.TemporaryFile("w+") as written:
+        child = subprocess.Popen(words, stdout=written, stderr=subprocess.STDOUT)
+        _, _, used = os.wait4(child.pid, 0)
+        taken = time.perf_counter() - begun
+        child.returncode = 0
+        written.seek(0)
+        lines = written.read().splitlines() or ["nothing"]
+    return lines[-1], taken, used.ru_maxrss / 1024

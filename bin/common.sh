@@ -9,32 +9,21 @@ fail() {
   exit 70
 }
 
-# the lines of crates.txt that speak of the program's crates, each after those of the crates that it uses
-lines_of_crates() {
-  awk '
+# The program's crates by crates.txt, each after those that it uses: their `lines` there, their `names`, or the `folders` from
+# the top that have sources of them, or would have.
+in_order() {
+  awk -v wanted="$1" '
     { sub(/#.*/, ""); $1 = $1 }
     /:/ { split($0, parts, ":"); split(parts[1], name, " "); line[name[1]] = $0; uses[name[1]] = parts[2] }
     function visit(crate,   used, count, i) {
       if (!(crate in uses) || seen[crate]++) return
       count = split(uses[crate], used, " ")
       for (i = 1; i <= count; i++) visit(used[i])
-      print line[crate]
+      if (wanted == "lines") print line[crate]
+      else if (wanted == "names") print crate
+      else print "crates/" crate "/src\ncrates/" crate "/specs\ncrates/" crate "/proofs"
     }
     END { visit("fshell") }' "$root/crates.txt"
-}
-
-# the program's crates, each after those that it uses
-crates() {
-  lines_of_crates | sed 's/[ :].*//'
-}
-
-# the folders of the program's sources, from the top
-folders_of_sources() {
-  for crate in $(crates); do
-    for part in src specs proofs; do
-      [ ! -d "$root/crates/$crate/$part" ] || echo "crates/$crate/$part"
-    done
-  done
 }
 
 # A source of the program that is newer than it, if there is one. Where the program is the released one, the time counts at
@@ -42,7 +31,7 @@ folders_of_sources() {
 newer_source() {
   newer=-newer
   ! cmp -s -- "$program" "$release/fshell" || newer=-newercm
-  (cd -- "$root" && find $(folders_of_sources) crates.txt HANDLES "$newer" "$program" -print 2>/dev/null | head -n 1)
+  (cd -- "$root" && find $(in_order folders) crates.txt HANDLES "$newer" "$program" -print 2>/dev/null | head -n 1)
 }
 
 # One sum of all that the program is made of: the lines of crates.txt that speak of its crates, HANDLES, the kit's line
@@ -52,9 +41,9 @@ sum_of_sources() {
     cd -- "$root" || exit
     export LC_ALL=C
     {
-      lines_of_crates | sort
+      in_order lines | sort
       sha256sum HANDLES release/KIT
-      find $(folders_of_sources) ! -type d -print0 | sort -z | xargs -0 sha256sum --
+      find $(in_order folders) ! -type d -print0 | sort -z | xargs -0 sha256sum --
     } 2>/dev/null | sha256sum | cut -c 1-64
   )
 }
@@ -136,9 +125,9 @@ build() {
   trap 'exit 70' HUP INT TERM
   : >"$copy/begun"
   mkdir "$copy/top" "$copy/top/.git"
-  lines_of_crates >"$copy/top/crates.txt"
+  in_order lines >"$copy/top/crates.txt"
   cp -- "$root/HANDLES" "$copy/top"
-  for crate in $(crates); do
+  for crate in $(in_order names); do
     mkdir -p "$copy/top/crates/$crate"
     for part in src specs proofs args stdin stdout status data; do
       [ ! -e "$root/crates/$crate/$part" ] || cp -R -- "$root/crates/$crate/$part" "$copy/top/crates/$crate"
@@ -146,7 +135,7 @@ build() {
   done
   echo "fshell: proving and building the program, which takes 40 minutes on four processors where nothing is kept of an earlier run" >&2
   { (cd -- "$copy/top" && "$rt" ci "$@") 2>&1 </dev/null; echo "$?" >"$copy/status"; } |
-    follow "$copy/log" "$(crates | wc -l)"
+    follow "$copy/log" "$(in_order names | wc -l)"
   built=$copy/top/crates/fshell/out/fshell
   # a source that was changed meanwhile is newer
   if [ "$(cat "$copy/status")" != 0 ] || [ ! -x "$built" ] || ! put_program "$built" "$copy/begun"; then

@@ -21,7 +21,13 @@ from tools.folder import STEPS, Asked, Folder, read_sums
 from tools.program import Failure, Goal, Input, Report
 
 DEFAULTS = {"turns": 4, "frames": 8, "answers": 16}
-LARGEST_ROUND = 1024
+LARGEST_ROUND, MOST_IN_A_JOB = 1024, 32
+
+
+def batches(goals: list[int], jobs: int) -> list[list[int]]:
+    """The goals in parts, each for one process: four parts at least for each job, so that all jobs end about then."""
+    size = max(1, min(MOST_IN_A_JOB, len(goals) // (4 * jobs)))
+    return [goals[at : at + size] for at in range(0, len(goals), size)]
 
 
 class Campaign:
@@ -66,13 +72,13 @@ class Campaign:
         words = ["parallel", "--will-cite", "--jobs", str(self.jobs), "--joblog", "+" + self.folder.at("joblog")]
         words += ["--sshloginfile", self.logins] if self.logins else []
         words += ["--bar"] if sys.stderr.isatty() else []
-        text = "".join(f"{goal}\n" for goal in goals)
+        text = "".join(",".join(map(str, batch)) + "\n" for batch in batches(goals, self.jobs))
         ended = subprocess.run([*words, "-q", *given], input=text, text=True, stdout=subprocess.DEVNULL, stderr=subprocess.PIPE
                                if not sys.stderr.isatty() else None, check=False)  # fmt: skip
         self.tried.update(goals)
         if ended.returncode:
             lines = (ended.stderr or "").strip().splitlines()
-            print(lines[-1] if lines else f"{ended.returncode} goals weren't decided", file=sys.stderr)
+            print(lines[-1] if lines else "some goals weren't decided", file=sys.stderr)
 
     def run(self) -> Report:
         """Goes on until something is known of each goal."""
@@ -97,12 +103,10 @@ class Told:
         self.campaign, self.report, self.asked = campaign, report, campaign.asked
         self.refuted = set(campaign.folder.refuted(self.asked))
         self.open = campaign.folder.open(self.asked.budget)
-        self.suffice = self.bounds_suffice() if self.refuted else None
+        self.suffice = bool(self.refuted) and self.bounds_suffice()
 
-    def bounds_suffice(self) -> bool | None:
-        """Whether the program says that no run leaves the bounds; None where it has no such command."""
-        if not program.has_command("bounds"):
-            return None
+    def bounds_suffice(self) -> bool:
+        """Whether the program says that no run leaves the bounds."""
         words = ["bounds", self.asked.entry, *self.asked.sources, "--budget", str(self.asked.budget)]
         bounds = [word for name, value in self.asked.bounds.items() for word in (f"--{name}", str(value))]
         return program.answer([*words, *bounds], self.asked.place).startswith("bounds suffice")
@@ -186,6 +190,11 @@ class Told:
 # ---- words
 
 
+def numbers(text: str) -> list[int]:
+    """Goals' numbers, parted by commas."""
+    return [int(word) for word in text.split(",")]
+
+
 def words() -> argparse.Namespace:
     parser = argparse.ArgumentParser(
         prog="campaign", description=__doc__, formatter_class=argparse.RawTextHelpFormatter
@@ -205,7 +214,7 @@ def words() -> argparse.Namespace:
         "--at-least", type=float, metavar="P", help="the status is 1 where less than P percent are covered"
     )
     parser.add_argument("--left", action="store_true", help="only prints the goals that are left, a line each")
-    parser.add_argument("--one", type=int, metavar="N", help="only decides goal N")
+    parser.add_argument("--one", type=numbers, metavar="N[,N..]", help="only decides goal N, or several")
     given = parser.parse_intermixed_args()
     if 0 < len(given.words) < 3:
         parser.error("ENTRY QUERY SOURCE.. or none of them")
@@ -260,7 +269,7 @@ def main() -> int:
     given = words()
     folder = Folder(given.folder)
     if given.one:
-        folder.decide(given.one)
+        folder.decide_all(given.one)
         return program.DONE
     if not given.left and not has_parallel():
         raise Failure("GNU parallel isn't there (Debian: apt-get install parallel)")

@@ -135,11 +135,11 @@ def main() -> int:
     given = words()
     automaton: Graph = graphs.of_sources(given.sources)
     report = program.report(["goals", given.what, *given.sources]) if is_query(given.what) else report_of(given.what)
-    read, runs = [], report.runs if report.command == "runs" else []
+    read: list[Input] = []
+    runs = report.runs if report.command == "runs" else []
     if given.inputs:
-        read = inputs.of_file(given.inputs)
         steps = ["--steps", given.steps] if given.steps else []
-        runs = program.report(["runs", given.entry, given.inputs, *given.sources, *steps]).runs
+        read, runs = inputs.runs_of(given.entry, given.inputs, given.sources, steps)
     if given.only:
         report.goals = [goal for goal in report.goals if goal.verdict == given.only]
     explained = Explained(Faces(automaton, given.sources), given.entry, report, read, runs)

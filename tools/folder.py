@@ -124,7 +124,10 @@ class Folder:
         for goal in self.numbers("found"):
             path = self.at("found", str(goal))
             try:
-                (known[goal],) = inputs.of_text(program.read(path).decode(), False)
+                text = program.read(path).decode()
+                if not text.endswith("\n"):
+                    raise ValueError("it is cut short")
+                (known[goal],) = inputs.of_text(text, False)
             except ValueError:
                 os.remove(path)
         return known
@@ -164,6 +167,17 @@ class Folder:
         return ""
 
     # ---- one goal
+
+    def decide_all(self, goals: list[int]) -> None:
+        """Has goals decided one after the other; where some aren't, that is told behind the last."""
+        failures = []
+        for goal in goals:
+            try:
+                self.decide(goal)
+            except Failure as failure:
+                failures.append(failure)
+        if failures:
+            raise failures[0]
 
     def decide(self, goal: int) -> None:
         """Has a goal decided by `prove`, and keeps what it says; a certificate is kept where `check` accepts it."""

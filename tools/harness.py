@@ -10,7 +10,7 @@ import argparse
 from collections.abc import Iterator
 
 from tools import inputs, items, program
-from tools.program import Failure, Input, Run
+from tools.program import Input, Run
 from tools.sources import Source
 
 HEAD = """/* Written by FShell's bin/harness: {count} tests of {entry}.
@@ -189,10 +189,7 @@ def words() -> argparse.Namespace:
 def main() -> int:
     given = words()
     steps = ["--steps", given.steps] if given.steps else []
-    runs = program.report(["runs", given.entry, given.inputs, *given.sources, *steps]).runs
-    read = inputs.of_file(given.inputs)
-    if len(read) != len(runs):
-        raise Failure(f"{given.inputs} changed while it was read")
+    read, runs = inputs.runs_of(given.entry, given.inputs, given.sources, steps)
     sources = [Source(name, program.read(name)) for name in given.sources]
     program.give(text_of(given.entry, read, runs, sources), given.out)
     if given.out is not None:

@@ -2,17 +2,17 @@
 
 Each FILE is a report of `generate` as text or JSON, lines of `prove` or `least` that name an input, a trace file, or a file of
 inputs in either form. All their inputs are written as one file that `measure` reads, in order, each once. With `--to traces`
-the file has the edges of each counted run beside it, as `runs` tells them.
+it is a file that `replay` reads, as `traces` writes it of the inputs whose runs are counted.
 """
 
 import argparse
 import json
 import re
 import sys
-from collections.abc import Iterator
+from collections.abc import Iterator, Sequence
 
 from tools import program
-from tools.program import Failure, Input
+from tools.program import Failure, Input, Run
 
 _WORD = re.compile(r"-?[0-9]+")
 _ONE = re.compile(r"goal \d+ (?:covered|least) (args(?: -?\d+)*(?: answers(?: -?\d+)+)?)")
@@ -99,6 +99,15 @@ def of_file(path: str, kept: bool = False) -> list[Input]:
         raise Failure(f"{path}: no inputs are read: {fault}") from None
 
 
+def runs_of(
+    entry: str, path: str, sources: Sequence[str], options: Sequence[str] = ()
+) -> tuple[list[Input], list[Run]]:
+    """The inputs of a file in any of its forms, and their runs."""
+    read = of_file(path)
+    with program.as_file(json_text(read)) as made:
+        return read, program.report(["runs", entry, made, *sources, *options]).runs
+
+
 def once(inputs: list[Input]) -> list[Input]:
     """The inputs in order, each once."""
     return list(dict.fromkeys(inputs))
@@ -128,11 +137,7 @@ def best_text(inputs: list[Input]) -> str:
 def traces_text(inputs: list[Input], entry: str, sources: list[str], ends: str) -> str:
     """A trace file of the inputs whose runs are counted."""
     with program.as_file(json_text(inputs)) as path:
-        runs = program.report(["runs", entry, path, *sources]).runs
-    lines = [
-        " ".join([one.line(), "edges", *map(str, run.edges)]) for one, run in zip(inputs, runs) if run.is_counted(ends)
-    ]
-    return "\n".join(["fshell traces 1", *lines]) + "\n"
+        return program.answer(["traces", entry, path, *sources, "--ends", ends])
 
 
 def words() -> argparse.Namespace:

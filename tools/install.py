@@ -31,7 +31,12 @@ def needs() -> list[tuple[str, bool, str, str]]:
         ("dot", shutil.which("dot") is not None, "graphviz", "the pictures of page"),
         ("pycparser", importlib.util.find_spec("pycparser") is not None, "python3-pycparser", "adapt"),
         ("genhtml", shutil.which("genhtml") is not None, "lcov", "looking at what lcov writes"),
-        ("a C compiler", any(map(shutil.which, ("cc", "gcc", "clang"))), "gcc", "adapt, and compiling what harness writes"),
+        (
+            "a C compiler",
+            any(map(shutil.which, ("cc", "gcc", "clang"))),
+            "gcc",
+            "adapt, and compiling what harness writes",
+        ),
     ]
 
 

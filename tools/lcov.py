@@ -13,7 +13,7 @@ from collections import Counter
 from collections.abc import Iterator
 
 from tools import graph as graphs
-from tools import program
+from tools import inputs, program
 from tools.explain import report_of
 from tools.graph import Edge, Graph
 from tools.program import Failure, Report, Run
@@ -141,7 +141,7 @@ def main() -> int:
     given = words()
     graph = graphs.of_sources(given.sources)
     steps = ["--steps", given.steps] if given.steps else []
-    runs = program.report(["runs", given.entry, given.inputs, *given.sources, *steps]).runs
+    _, runs = inputs.runs_of(given.entry, given.inputs, given.sources, steps)
     counted = [run for run in runs if run.is_counted(given.ends)]
     report = report_of(given.refuted) if given.refuted else None
     coverage = Coverage(graph, given.entry, counted, refuted_edges(graph, report) if report else set())

@@ -116,9 +116,8 @@ def answer(words: Sequence[str], folder: str | None = None) -> str:
 
 
 def has_command(name: str) -> bool:
-    """Whether the program knows a command: it answers some source that isn't there otherwise than as usage."""
-    words = {"graph": ["graph", "/no/source.c"], "bounds": ["bounds", "f", "/no/source.c"]}[name]
-    return "Usage" not in run(words).stderr
+    """Whether the program knows a command of sources alone: it answers one that isn't there otherwise than as usage."""
+    return "Usage" not in run([name, "/no/source.c"]).stderr
 
 
 # ---- texts of the program

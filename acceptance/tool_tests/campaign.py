@@ -121,7 +121,7 @@ def files_that_were_removed_or_cut_are_made_anew(folder):
         yield campaign(folder).returncode == 0 and is_right(folder)
     found = os.path.join(folder, "new", "found")
     one = os.listdir(found)[0]
-    for text in ("", "goal 1 cov", f"goal {one} covered args 0 0 0\n"):
+    for text in ("", "goal 1 cov", f"goal {one} covered args 0 0", f"goal {one} covered args 0 0 0\n"):
         put(found, {one: text})
         yield campaign(folder).returncode == 0 and is_right(folder)
 
@@ -146,7 +146,13 @@ def killed_at_any_moment_it_goes_on(folder):
             os.remove(path) if chance.random() < 0.5 else os.truncate(path, os.path.getsize(path) // 2)
     ended = subprocess.run([*words, *first], cwd=folder, capture_output=True, text=True, timeout=SECONDS)
     yield ended.returncode == 0 and is_right(folder)
-    yield not any(name.startswith(".new") for _, _, names in os.walk(os.path.join(folder, "new")) for name in names)
+    # (GNU parallel gives each job a process group of its own, so that one may outlive the kill, and be writing still)
+    for _ in range(100):
+        half = [name for _, _, names in os.walk(os.path.join(folder, "new")) for name in names if name.startswith(".new")]
+        if not half:
+            break
+        time.sleep(0.1)
+    yield not half
 
 
 def two_machines_share_the_work(folder):
@@ -160,14 +166,11 @@ def two_machines_share_the_work(folder):
 
 
 def bounds_that_suffice_are_told(folder):
-    """Where the program says that no run leaves the bounds, a refuted goal is unreachable. A script stands for such a program."""
-    for said, verdict in (("bounds suffice turns 4 frames 8 answers 16", "unreachable"), ("bounds left args 0 5 0", "refuted within the bounds")):
-        script = f'#!/bin/sh\ncase "$1 $3" in\n"bounds /no/source.c") echo error 7 >&2; exit 7 ;;\nbounds*) echo "{said}"; exit 0 ;;\nesac\n'
-        put(folder, {**FEE, "program": script + f'exec {programs.LAUNCHER} "$@"\n'})
-        os.chmod(os.path.join(folder, "program"), 0o755)
-        ended = campaign(folder, "fee", PAIRS, "fee.c", env={**os.environ, "FSHELL": os.path.join(folder, "program")})
-        yield ended.returncode == 0 and [verdicts(folder)[goal - 1] for goal in REFUTED] == [verdict] * 2
-        yield f"goals 12: 10 covered, 2 {verdict}, 0 undecided\n" in ended.stdout
+    """Where no run leaves the bounds, a refuted goal is unreachable."""
+    put(folder, {"never.c": example("never/never.c")})
+    ended = campaign(folder, "f", "cover @CONDITIONEDGE", "never.c")
+    yield ended.returncode == 0 and verdicts(folder) == ["covered", "covered", "unreachable", "covered"]
+    yield "goals 4: 3 covered, 1 unreachable, 0 undecided\n" in ended.stdout
 
 
 def goals_are_decided_one_by_one(folder):

@@ -28,12 +28,14 @@ CLAMPS = "1..3\nok 1 - clamp(5, 0, 9) returns 5\nok 2 - clamp(12, 0, 9) returns 
 CASES = [
     Case("harness: inputs that are refused", ["harness", "f", "in", "a.c", "-o", "new"], {"in": "1 2\n", "a.c": "int f(int x) { return x; }\n"},
          2, "", "harness: fshell runs: error 51 Shape input 1\n"),
+    Case("harness: inputs that aren't read", ["harness", "f", "in", "a.c", "-o", "new"], {"in": "x\n", "a.c": "int f(int x) { return x; }\n"},
+         2, "", "harness: in: no inputs are read: 'x' is no number\n"),
     Case("harness: an entry that isn't there", ["harness", "g", "in", "a.c", "-o", "new"], {"in": "1\n", "a.c": "int f(int x) { return x; }\n"},
          2, "", "harness: fshell runs: error 36 NoSuchEntry\n"),
     Case("harness: a source that is refused", ["harness", "f", "in", "a.c", "-o", "new"], {"in": "1\n", "a.c": "float f;\n"},
          2, "", "harness: fshell runs: error 21 OutOfProfile a.c:1\n"),
     Case("harness: inputs that aren't there", ["harness", "f", "in", "a.c", "-o", "new"], {"a.c": "int f(int x) { return x; }\n"},
-         2, "", "harness: fshell runs: error 7 ReadFault in\n"),
+         2, "", "harness: in: No such file or directory\n"),
 ]
 
 
@@ -124,6 +126,14 @@ def entries_without_a_value_and_runs_without_an_end(folder):
     yield prints(folder, {"a.c": source, "in": ""}, "g", "in", ["a.c"], "1..0\n")
 
 
+def inputs_of_any_form(folder):
+    """Lines of least, a trace file and a file of inputs give the same tests."""
+    put(folder, {"a.c": "int f(int x) { return x; }\n", "lines": "3\n7\n", "least": "goal 1 least args 3\ngoal 2 least args 7\n",
+                 "traces": "fshell traces 1\nargs 3 edges 0\nargs 7 edges 0\n"})
+    made = [run(folder, ["harness", "f", form, "a.c"]).stdout for form in ("lines", "least", "traces")]
+    yield "ok" in made[0] and made[1:] == made[:1] * 2
+
+
 TRIED = [(("gcc",), function) for function in (
     examples_pass, a_changed_constant_fails, an_assert_or_assume_that_fails_is_told, variables_have_their_first_values_again,
-    two_sources_with_macros_and_answers, values_of_all_widths, entries_without_a_value_and_runs_without_an_end)]
+    two_sources_with_macros_and_answers, values_of_all_widths, entries_without_a_value_and_runs_without_an_end)] + [((), inputs_of_any_form)]

@@ -41,7 +41,7 @@ CASES = [
     Case("an input without arguments is JSON", ["inputs", "a"], {"a": '[{"args": []}]'}, stdout='[{"args": []}]\n'),
     Case("answers aren't written as lines", ["inputs", "made", "--to", "lines", "-o", "new"], {"made": MADE}, 2, "",
          "inputs: an input with answers or without arguments isn't written as a line; --to json writes it\n"),
-    Case("traces by runs", ["inputs", "in.txt", "--to", "traces", "--entry", "f", "--source", "a.c"],
+    Case("traces of counted runs", ["inputs", "in.txt", "--to", "traces", "--entry", "f", "--source", "a.c"],
          {"in.txt": example("first/in.txt"), "a.c": example("first/a.c")},
          stdout="fshell traces 1\nargs 5 edges 1 3\nargs 11 edges 0 2\nargs 12 edges 0 2\n"),
     Case("a run that trapped has a trace where it counts",
@@ -50,7 +50,7 @@ CASES = [
     Case("a run that trapped has none where it doesn't", ["inputs", "in", "--to", "traces", "--entry", "f", "--source", "a.c"],
          {"in": "0\n1\n", "a.c": "int f(int x) { return 1 / x; }\n"}, stdout="fshell traces 1\nargs 1 edges 0\n"),
     Case("the program's refusal is told", ["inputs", "in", "--to", "traces", "--entry", "g", "--source", "a.c", "-o", "new"],
-         {"in": "0\n", "a.c": "int f(int x) { return x; }\n"}, 2, "", "inputs: fshell runs: error 36 NoSuchEntry\n"),
+         {"in": "0\n", "a.c": "int f(int x) { return x; }\n"}, 2, "", "inputs: fshell traces: error 36 NoSuchEntry\n"),
     Case("a file that isn't there", ["inputs", "no"], {}, 2, "", "inputs: no: No such file or directory\n"),
     Case("a folder in which nothing can be written", ["inputs", "a", "-o", "no/new"], {"a": "1\n"}, 2, "",
          "inputs: no/new: No such file or directory\n"),
@@ -65,6 +65,18 @@ CASES = [
 ]
 
 
+def least_inputs_are_measured(folder):
+    """The least inputs of two goals become one file, which covers them; and its traces are replayed."""
+    put(folder, {"both.c": example("counting/both.c")})
+    lines = [run(folder, ["fshell", "least", "both", "cover EDGES(@STMTTYPE(RETURN))", goal, "both.c"]).stdout for goal in "12"]
+    put(folder, {"least": "".join(lines)})
+    yield run(folder, ["inputs", "least", "-o", "in"]).returncode == 0
+    measured = run(folder, ["fshell", "measure", "both", "cover EDGES(@STMTTYPE(RETURN))", "in", "both.c"]).stdout
+    yield measured.endswith("suite 1 2\ncovered 2 of 2\n")
+    yield run(folder, ["inputs", "in", "--to", "traces", "--entry", "both", "--source", "both.c", "-o", "t"]).returncode == 0
+    yield run(folder, ["fshell", "replay", "both", "cover EDGES(@STMTTYPE(RETURN))", "t", "both.c"]).stdout == measured
+
+
 def made_inputs_are_measured(folder):
     """What generate made, kept as a file, covers what generate says."""
     query = "cover @CONDITIONEDGE"
@@ -77,4 +89,4 @@ def made_inputs_are_measured(folder):
         line for line in made.splitlines() if line.startswith("goal ")]
 
 
-TRIED = [((), made_inputs_are_measured)]
+TRIED = [((), made_inputs_are_measured), ((), least_inputs_are_measured)]

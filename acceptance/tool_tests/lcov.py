@@ -115,7 +115,7 @@ CASES = [
          {"never.c": NEVER, "in": "0\n", "report": "goals 0 inputs 0\nsuite\ncovered 0 of 0\n"}, 2, "",
          "lcov: --refuted wants a report of generate\n", needs=GRAPH),
     Case("lcov: inputs that are refused", ["lcov", "f", "in", "never.c", "-o", "new"], {"never.c": NEVER, "in": "x\n"}, 2, "",
-         "lcov: fshell runs: error 51 Shape input 1\n", needs=GRAPH),
+         "lcov: in: no inputs are read: 'x' is no number\n", needs=GRAPH),
     Case("lcov: a folder in which nothing can be written", ["lcov", "f", "in", "never.c", "-o", "no/new"], {"never.c": NEVER, "in": "0\n"},
          2, "", "lcov: no/new: No such file or directory\n", needs=GRAPH),
 ]

@@ -62,23 +62,23 @@ class Assignments(Calls):
                 "use two statements",
             )
 
-    def stepped(self, node: Any) -> Value:
-        """`++` and `--` as a value: the old one, which is kept, or the new one, which is read (6.5.2.4, 6.5.3.1)."""
+    def step(self, node: Any, stable: bool = False) -> tuple[str, Int]:
+        """The text and the type of what `++` or `--` steps."""
         place = self.places.place(node.expr)
         if not isinstance(place.type, Int) or place.type.boolean:
             raise Refused(node.coord, "a step of what is no integer", "assign its value")
-        before = not node.op.startswith("p")
-        target, _ = self.leaf(place, True)
-        step = f"{target}{node.op[-2:]};"
-        if before:
-            self.emit(step)
-            return Value(self.at(node) + target, place.type, PRIMARY)
-        if id(node) in self.behind:
-            self.after.append(step)
-            return Value(self.at(node) + target, place.type, PRIMARY)
-        old = self.temporary(place.type, target)
+        return self.leaf(place, stable)[0], place.type
+
+    def stepped(self, node: Any) -> Value:
+        """`++` and `--` as a value: the old one, which is kept, or the new one, which is read (6.5.2.4, 6.5.3.1)."""
+        target, kind = self.step(node, True)
+        step, before = f"{target}{node.op[-2:]};", not node.op.startswith("p")
+        if before or id(node) in self.behind:
+            self.emit(step) if before else self.after.append(step)
+            return Value(self.at(node) + target, kind, PRIMARY)
+        old = self.temporary(kind, target)
         self.emit(step)
-        return Value(old, place.type, PRIMARY)
+        return Value(old, kind, PRIMARY)
 
     def effect(self, node: Any) -> None:
         """Writes an expression for its effect alone."""
@@ -91,10 +91,7 @@ class Assignments(Calls):
             else:
                 self.plain_effect(node, lambda: self.assign(node))
         elif isinstance(node, c_ast.UnaryOp) and node.op in STEPS:
-            place = self.places.place(node.expr)
-            if not isinstance(place.type, Int) or place.type.boolean:
-                raise Refused(node.coord, "a step of what is no integer", "assign its value")
-            self.emit(f"{self.leaf(place)[0]}{node.op[-2:]};")
+            self.emit(f"{self.step(node)[0]}{node.op[-2:]};")
         elif isinstance(node, c_ast.FuncCall):
             self.call_effect(node)
         elif isinstance(node, c_ast.TernaryOp):

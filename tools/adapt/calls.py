@@ -220,27 +220,12 @@ class Calls(Writer):
         apart = not any(one in reads.reads for one in objects(target)) and not any(reads.reads.values())
         found = []
         for leaf in kinds.leaves(target.type):
-            texts = []
+            inits, texts = made.of(leaf), []
             for at in range(leaf.count):
-                init = next(
-                    (
-                        one
-                        for (path, spot), one in made.given.items()
-                        if path == leaf.path and self.flat(spot, leaf) == at
-                    ),
-                    None,
-                )
-                value = "0" if init is None else unmarked(self.converted(self.value(init), leaf.kind).text)
-                texts.append(value if apart or init is None else self.temporary(leaf.kind, value))
+                value = unmarked(self.converted(self.value(inits[at]), leaf.kind).text) if at in inits else "0"
+                texts.append(value if apart or at not in inits else self.temporary(leaf.kind, value))
             found.append((leaf, texts))
         return found
-
-    @staticmethod
-    def flat(spot: tuple[int, ...], leaf: Leaf) -> int:
-        number = 0
-        for one, length in zip(spot, leaf.dims):
-            number = number * length + one
-        return number
 
     def declared(self, variable: Variable) -> None:
         """Writes a local's declaration without values."""

@@ -45,34 +45,8 @@ WATCHED = [
     "-fsanitize=shift-exponent,integer-divide-by-zero,bounds,null,signed-integer-overflow",
     "-fsanitize-undefined-trap-on-error",
 ]
-TELLING = [
-    0,
-    1,
-    -1,
-    2,
-    3,
-    4,
-    5,
-    7,
-    8,
-    10,
-    16,
-    31,
-    64,
-    100,
-    127,
-    128,
-    200,
-    255,
-    256,
-    -128,
-    32767,
-    65535,
-    2**31 - 1,
-    -(2**31),
-    2**32 - 1,
-    2**63 - 1,
-]
+TELLING = [0, 1, -1, 2, 3, 4, 5, 7, 8, 10, 16, 31, 64, 100, 127, 128, 200, 255, 256, -128, 32767, 65535]
+TELLING += [2**31 - 1, -(2**31), 2**32 - 1, 2**63 - 1]
 
 
 def parts(
@@ -96,6 +70,12 @@ def plain(function: Function) -> bool:
     )
 
 
+def undefined(writer: Units) -> list[Function]:
+    """The functions that are called and that no source defines."""
+    known = ("assert", "assume", "__assert_fail")
+    return [one for one in writer.names.functions if one.definition is None and one.calls and one.name not in known]
+
+
 def answering(writer: Units, function: Function, answer: str) -> str:
     """The definition of an input function, as the original declares it."""
     node: Any = next(item for _, item in writer.names.items if writer.names.meaning.get(id(item)) is function)
@@ -115,11 +95,7 @@ class Comparison:
             raise Stop(
                 "there is no function that isn't static, takes integers alone and gives one or nothing, so nothing can be compared"
             )
-        outer = [
-            one
-            for one in writer.names.functions
-            if one.definition is None and one.calls and one.name not in ("assert", "assume", "__assert_fail")
-        ]
+        outer = undefined(writer)
         self.shared = [
             one
             for one in writer.names.variables
@@ -153,16 +129,9 @@ class Comparison:
         return "\n".join(lines)
 
     def declared(self, function: Function) -> str:
-        kind = (
-            "_Bool"
-            if isinstance(function.result, Int) and function.result.boolean
-            else getattr(function.result, "text", "void")
-        )
-        words = [
-            "_Bool" if isinstance(p.type, Int) and p.type.boolean else getattr(p.type, "text", "")
-            for p in function.parameters
-        ]
-        return f"{kind} {function.out}({', '.join(words) or 'void'});"
+        types = [function.result, *(one.type for one in function.parameters)]
+        words = ["_Bool" if isinstance(of, Int) and of.boolean else getattr(of, "text", "void") for of in types]
+        return f"{words[0]} {function.out}({', '.join(words[1:]) or 'void'});"
 
     def original(self, sources: list[str], flags: list[str], outer: list[Function]) -> None:
         texts, dumps = [], ""
@@ -233,13 +202,12 @@ class Comparison:
     def inputs(self, seed: int) -> list[str]:
         """The words of one run: answers, and calls with their arguments."""
         chance = random.Random(seed)
-        small = (
-            lambda: chance.choice(TELLING[:12])
-            if chance.random() < 0.7
-            else chance.choice(TELLING)
-            if chance.random() < 0.8
-            else chance.randrange(-(2**63), 2**63)
-        )  # noqa: E731
+
+        def small() -> int:
+            if chance.random() < 0.7:
+                return chance.choice(TELLING[:12])
+            return chance.choice(TELLING) if chance.random() < 0.8 else chance.randrange(-(2**63), 2**63)
+
         words = [ANSWERS] + [small() for _ in range(ANSWERS)]
         for _ in range(CALLS):
             which = chance.randrange(len(self.entries))

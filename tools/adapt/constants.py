@@ -39,15 +39,8 @@ def codes(text: str) -> list[int]:
     """The values of the characters between the quotes of a constant or a string, each as a `char`."""
     found = []
     for hexadecimal, octal, simple, plain in ESCAPE.findall(text[text.index(text[-1]) + 1 : -1]):
-        code = (
-            int(hexadecimal, 16)
-            if hexadecimal
-            else int(octal, 8)
-            if octal
-            else ESCAPES[simple]
-            if simple
-            else ord(plain)
-        )
+        code = ESCAPES[simple] if simple else ord(plain or "0")
+        code = int(hexadecimal, 16) if hexadecimal else int(octal, 8) if octal else code
         found.append(fit(code, kinds.Int(8, True, "char")))
     return found
 
@@ -63,25 +56,12 @@ def number(node: Any) -> tuple[int, Int]:
     if "int" not in node.type:
         raise Refused(node.coord, f"the constant {text}", "use integers in fixed point")
     digits, suffix = re.fullmatch(r"(0[xX][0-9a-fA-F]+|0[bB][01]+|\d+)([uUlL]*)", text).groups()  # type: ignore[union-attr]
-    base = (
-        16
-        if digits[:2] in ("0x", "0X")
-        else 2
-        if digits[:2] in ("0b", "0B")
-        else 8
-        if digits[0] == "0" and len(digits) > 1
-        else 10
-    )
+    base = {"0x": 16, "0b": 2}.get(digits[:2].lower(), 8 if digits[0] == "0" and len(digits) > 1 else 10)
     value = int(digits, base)
     long, unsigned = "l" in suffix.lower(), "u" in suffix.lower()
     for kind in (kinds.INT, kinds.UINT, kinds.LONG, kinds.SIZE):
-        if (
-            (kind.bits == 32 and long)
-            or (kind.signed and unsigned)
-            or (not kind.signed and base == 10 and not unsigned)
-        ):
-            continue
-        if fit(value, kind) == value:
+        sign = not unsigned if kind.signed else base != 10 or unsigned
+        if sign and (kind.bits == 64 or not long) and fit(value, kind) == value:
             return value, kind
     raise Refused(node.coord, f"the constant {text} is too large", "use at most 64 bits")
 
@@ -168,15 +148,8 @@ class Constants:
         if isinstance(init, c_ast.Constant):
             return len(codes(init.value)) + 1
         at, most = 0, 0
-        per = (
-            1
-            if all(
-                isinstance(one, (c_ast.InitList, c_ast.NamedInitializer)) or isinstance(of, (Int, kinds.Pointer))
-                for one in init.exprs or []
-            )
-            else 0
-        )
-        if not per:
+        braced = all(isinstance(one, (c_ast.InitList, c_ast.NamedInitializer)) for one in init.exprs or [])
+        if not braced and not isinstance(of, (Int, kinds.Pointer)):
             raise Refused(
                 init.coord, "an array without a length whose values have no braces of their own", "give its length"
             )

@@ -5,7 +5,7 @@ from typing import Any
 
 from tools import harness, inputs, program
 
-from .compare import answering, plain
+from .compare import answering, plain, undefined
 from .kinds import Int
 from .refusals import Stop
 from .units import Units
@@ -42,14 +42,8 @@ def text_of(writer: Units, source: str, made: list[str], entry: str, given: str)
     function = next((one for one in writer.names.functions if one.name == entry and one.definition is not None), None)
     if function is None or not plain(function):
         raise Stop(f"{entry} is no function of the source that takes integers alone and gives one or nothing")
-    runs = program.report(["runs", entry, given, *made]).runs
-    read = inputs.of_file(given)
-    outer = [
-        one
-        for one in writer.names.functions
-        if one.definition is None and one.calls and one.name not in ("assert", "assume")
-    ]
-    heads = "".join(answering(writer, one, "fshell_answer()") for one in outer)
+    read, runs = inputs.runs_of(entry, given, made)
+    heads = "".join(answering(writer, one, "fshell_answer()") for one in undefined(writer))
     words = "".join(f"{harness.word(number)}, " for one in read for number in (*one.args, *one.answers))
     kinds = [one.type.text for one in function.parameters if isinstance(one.type, Int)]
     call = f"{entry}({', '.join(f'({kind}) given[{number}]' for number, kind in enumerate(kinds))})"

@@ -1,12 +1,12 @@
 """Which expression gives each integer of an object its first value (6.7.9)."""
 
 from dataclasses import dataclass, field
-from typing import Any
+from typing import Any, Callable
 
 from pycparser import c_ast
 
 from .constants import Constants, codes
-from .kinds import Array, Int, Path, Struct, Type
+from .kinds import Array, Int, Leaf, Path, Struct, Type
 from .refusals import Refused
 
 Spot = tuple[Path, tuple[int, ...]]
@@ -19,6 +19,19 @@ class Filled:
     constants: Constants
     given: dict[Spot, Any] = field(default_factory=dict)
     wholes: list[tuple[Spot, Type, Any]] = field(default_factory=list)
+
+    def of(self, leaf: Leaf) -> dict[int, Any]:
+        """The expressions of a leaf by the numbers of its elements, in the order in which they are given."""
+        return {flat(spot, leaf.dims): one for (path, spot), one in self.given.items() if path == leaf.path}
+
+    def texts(self, leaf: Leaf, text: Callable[[Any], str]) -> list[str]:
+        """What is written of a leaf's first values: 0 where there is none, up to the last that is another text."""
+        found = ["0"] * leaf.count
+        for at, one in self.of(leaf).items():
+            found[at] = text(one)
+        while len(found) > 1 and found[-1] == "0":
+            found.pop()
+        return found
 
     def fill(self, of: Type, spot: Spot, init: Any) -> None:
         if isinstance(init, c_ast.InitList) and isinstance(of, Int):
@@ -74,21 +87,12 @@ class Filled:
         """Fills a part by the next items, of which it takes several where it has no braces of its own."""
         item = items[taken]
         string = isinstance(item, c_ast.Constant) and item.type == "string"
-        if (
-            isinstance(part, Int)
-            or string
-            or isinstance(item, c_ast.InitList)
-            or isinstance(self.constants.type_of(item), Struct)
-        ):
+        one = string or isinstance(part, Int) or isinstance(item, c_ast.InitList)
+        if one or isinstance(self.constants.type_of(item), Struct):
             self.fill(part, spot, item)
             return taken + 1
-        count = (
-            (part.length or 0)
-            if isinstance(part, Array)
-            else len(part.members or [])
-            if isinstance(part, Struct)
-            else 0
-        )
+        members = len(part.members or []) if isinstance(part, Struct) else 0
+        count = (part.length or 0) if isinstance(part, Array) else members
         for at in range(count):
             if taken >= len(items) or isinstance(items[taken], c_ast.NamedInitializer):
                 break

@@ -39,13 +39,11 @@ class Statements(Expressions):
 
     def go_to_end(self, node: Any) -> None:
         """What is written next stands on the line of the brace that closes a block."""
-        lines = (
-            self.closings.get((self.original, node.coord.line), [])
-            if isinstance(node, c_ast.Compound) and node.coord
-            else []
-        )
+        if not isinstance(node, c_ast.Compound) or not node.coord or str(node.coord.file) != self.original:
+            return
+        lines = self.closings.get((self.original, node.coord.line), [])
         behind = [line for line in lines if line >= self.line]
-        if behind and str(node.coord.file) == self.original:
+        if behind:
             self.line = min(behind)
             lines.remove(self.line)
 
@@ -56,8 +54,7 @@ class Statements(Expressions):
 
     def body(self, node: Any) -> None:
         """Writes a statement between braces, behind `{`."""
-        for one in (node.block_items or []) if isinstance(node, c_ast.Compound) else [node]:
-            self.statement(one)
+        self.inner(node)
         self.close(node)
 
     def write_Compound(self, node: Any) -> None:
@@ -68,13 +65,9 @@ class Statements(Expressions):
         self.emit(";")
 
     def write_Typedef(self, node: Any) -> None:
-        return
+        """Nothing is written of it; jumps that are left were refused where they were rewritten."""
 
-    def write_Pragma(self, node: Any) -> None:
-        return
-
-    def write_StaticAssert(self, node: Any) -> None:
-        return
+    write_Pragma = write_StaticAssert = write_Goto = write_Typedef
 
     # ---- declarations
 
@@ -102,17 +95,9 @@ class Statements(Expressions):
         made = filled(self.constants, variable.type, init)
         self.unsequenced(init, list(made.given.values()))
         for leaf in kinds.leaves(variable.type):
-            name, texts = self.spelling.leaf(variable, leaf.path), ["0"] * leaf.count
-            for (path, spot), one in made.given.items():
-                if path == leaf.path:
-                    texts[self.flat(spot, leaf)] = self.converted(self.value(one), leaf.kind).text
-            while len(texts) > 1 and texts[-1] == "0":
-                texts.pop()
-            self.emit(
-                f"{leaf.kind.text} {name}[{leaf.count}] = {{{', '.join(texts)}}};"
-                if leaf.dims
-                else f"{leaf.kind.text} {name} = {texts[0]};"
-            )
+            texts = made.texts(leaf, lambda one: self.converted(self.value(one), leaf.kind).text)
+            value = f"[{leaf.count}] = {{{', '.join(texts)}}}" if leaf.dims else f" = {texts[0]}"
+            self.emit(f"{leaf.kind.text} {self.spelling.leaf(variable, leaf.path)}{value};")
         for (path, spot), of, source in made.wholes:
             indexes = tuple(
                 (c_ast.Constant("int", str(one)), length)
@@ -168,9 +153,6 @@ class Statements(Expressions):
         self.emit(f"{node.name}: ;")
         self.statement(node.stmt)
 
-    def write_Goto(self, node: Any) -> None:
-        return  # (refused where the jumps were rewritten)
-
     # ---- loops
 
     def leave(self, node: Any) -> None:
@@ -208,7 +190,8 @@ class Statements(Expressions):
         self.emit("}")
 
     def write_For(self, node: Any) -> None:
-        init, local = self.head(node.init), isinstance(node.init, c_ast.DeclList) and not self.is_one(node.init)
+        init = self.head(node.init)
+        local = isinstance(node.init, c_ast.DeclList) and init is None
         if local:
             self.emit("{")
         if init is None and node.init is not None:
@@ -226,9 +209,6 @@ class Statements(Expressions):
             self.body(node.stmt)
         if local:
             self.emit("}")
-
-    def is_one(self, node: Any) -> bool:
-        return self.head(node) is not None
 
     def head(self, node: Any) -> Optional[str]:
         """A part of a `for` as the one statement that it is in the profile; None where it isn't one."""

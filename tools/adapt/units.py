@@ -6,7 +6,7 @@ from pycparser import c_ast
 
 from . import kinds
 from .effects import pointee
-from .initialisers import filled, flat
+from .initialisers import filled
 from .jumps import walk
 from .kinds import Array, Int, Pointer, Struct, Type
 from .declarators import Function, Variable
@@ -131,12 +131,7 @@ class Units(Statements):
                     f"{variable.name} has {leaf.count} elements",
                     f"the profile takes {MOST_ELEMENTS} at most",
                 )
-            texts = ["0"] * leaf.count
-            for (path, spot), one in made.given.items():
-                if path == leaf.path:
-                    texts[flat(spot, leaf.dims)] = self.first(one, leaf.kind, here and len(leaves) == 1)
-            while len(texts) > 1 and texts[-1] == "0":
-                texts.pop()
+            texts = made.texts(leaf, lambda one: self.first(one, leaf.kind, here and len(leaves) == 1))
             name = self.spelling.leaf(variable, leaf.path)
             whole = f"{{{', '.join(texts)}}}" if leaf.dims else texts[0]
             value = "" if variable.init is None else f" = {whole}"

@@ -1,0 +1,117 @@
+"""Traces beside measurements: for each case of `measure` in cases.json that ends with a report, `traces` of its inputs and then
+`replay` must give that report without the inputs whose runs aren't counted, the others numbered anew."""
+
+import json
+import os
+import re
+import subprocess
+import tempfile
+
+import programs
+
+SECONDS = 60
+LIMIT = 16 * 2**20
+COUNTED = {"returned": ("returned",), "trapped": ("returned", "trapped"), "any": ("returned", "trapped", "blocked", "too-deep")}
+
+
+def parted(words):
+    """The options of a command's words, each with its value, and the other words."""
+    options, others, waiting = {}, [], list(words)
+    while waiting:
+        word = waiting.pop(0)
+        if word == "--":
+            return options, others + waiting
+        if word == "--json":
+            options[word] = None
+        elif word.startswith("--"):
+            name, is_there, value = word.partition("=")
+            options[name] = value if is_there else waiting.pop(0)
+        else:
+            others.append(word)
+    return options, others
+
+
+def as_words(options, names):
+    """Those of the options that have one of the names."""
+    return [word for name, value in options.items() if name in names for word in ([name] if value is None else [name, value])]
+
+
+def new_numbers(ends, counted):
+    """The number that each input has among those that are counted, by its number."""
+    kept = [number for number, end in enumerate(ends, 1) if end.split(" ")[0] in counted]
+    return {number: place for place, number in enumerate(kept, 1)}
+
+
+def of_text(report, counted):
+    """A report without the inputs that aren't counted."""
+    lines = report.splitlines()
+    ends = [line.split(" ", 2)[2] for line in lines if re.match(r"input \d", line)]
+    new = new_numbers(ends, counted)
+    kept = [re.sub(r" inputs \d+", f" inputs {len(new)}", lines[0], count=1)]
+    for line in lines[1:]:
+        word, *rest = line.split(" ")
+        if word == "input":
+            kept += [f"input {new[int(rest[0])]} {' '.join(rest[1:])}"] if int(rest[0]) in new else []
+        elif word == "goal" and rest[1] == "covered":
+            kept.append(" ".join([word, rest[0], rest[1], str(new[int(rest[2])]), *rest[3:]]))
+        elif word == "suite":
+            kept.append(" ".join([word, *(str(new[int(number)]) for number in rest)]))
+        else:
+            kept.append(line)
+    return "\n".join(kept) + "\n"
+
+
+def of_json(report, counted):
+    """The same of a report as JSON."""
+    value = json.loads(report)
+    new = new_numbers([one["end"] for one in value["inputs"]], counted)
+    value["inputs"] = [one for number, one in enumerate(value["inputs"], 1) if number in new]
+    value["suite"] = [new[number] for number in value["suite"]]
+    for goal in value["goals"]:
+        if "input" in goal:
+            goal["input"] = new[goal["input"]]
+    return json.dumps(value, separators=(",", ":"), sort_keys=True) + "\n"
+
+
+def run(words, folder):
+    ended = subprocess.run([programs.LAUNCHER, *words], cwd=folder, stdin=subprocess.DEVNULL, capture_output=True, timeout=SECONDS)
+    return ended.returncode, ended.stdout.decode(), ended.stderr.decode()
+
+
+def wrong(words, report, folder):
+    """What is wrong with the traces of a measurement, or with what they are replayed as, if something is."""
+    options, (_, entry, query, inputs, *sources) = parted(words)
+    counted = COUNTED[options.get("--ends", "returned")]
+    status, traces, err = run(["traces", *as_words(options, ("--steps", "--ends")), entry, inputs, "--", *sources], folder)
+    if status or err:
+        return f"traces ends with {status}, {err!r}"
+    with open(os.path.join(folder, "of.traces"), "w", encoding="ascii") as file:
+        file.write(traces)
+    due = (0, (of_json if "--json" in options else of_text)(report, counted), "")
+    if len(traces) > LIMIT:
+        due = (6, "", "error 16 FileTooLong of.traces\n")
+    got = run(["replay", *as_words(options, ("--json", "--ends")), entry, query, "of.traces", "--", *sources], folder)
+    return "" if got == due else f"replay: {got!r}, not {due!r}"[:600]
+
+
+def measurements(cases, text):
+    """The cases that end with a report of `measure`, each with its words and its report."""
+    for case in cases:
+        words = [text(word).decode("utf-8", "replace") for word in case["words"]]
+        if words[:1] == ["measure"] and case["status"] == 0 and "each" not in case and "stdout" in case and "stdout_room" not in case:
+            yield case, words, text(case["stdout"]).decode()
+
+
+def failures(cases, text, make_files):
+    """How many measurements were replayed, and a line for each that differs."""
+    count, found = 0, []
+    for case, words, report in measurements(cases, text):
+        count += 1
+        with tempfile.TemporaryDirectory() as folder:
+            make_files(folder, case["files"])
+            try:
+                line = wrong(words, report, folder)
+            except subprocess.TimeoutExpired:
+                line = f"no end within {SECONDS} seconds"
+        found += [f"{case['name']}: {line}"] if line else []
+    return count, found
