@@ -37,7 +37,7 @@ def path(file):
 
 def loops():
     """Twenty functions f with loops of fixed turns, of as many as an argument or an answer says, and nested ones, each with the
-    turns of its bounds: as many as its loops take at most, and one less."""
+    turns of its bounds: 4, 8 or 32, and one less."""
     fixed = "int f(int x) {{ int s = 0; for (int i = 0; i < {0}; i++) {{ if (s < x) {{ s = s + {1}; }} }} return s; }}\n"
     given = "int f(int n) {{ assume(n <= {0}); int i = 0; while (i < n) {{ if (i == {1}) {{ i = i + 1; }} i = i + 1; }} return i; }}\n"
     asked = "int in(void); int f(int n) {{ int s = 0; while (s < {0}) {{ int a = in(); s = s + (a & {1}) + 1; }} return s + n; }}\n"
