@@ -56,7 +56,7 @@ same_kind_is a b h =
     ap (λ n. kind_made n a.signed) width ∙ ap (kind_made b.width) signed
 
 -- but for a shift the right operand is of the left one's kind
-meet_is : (op : BinaryOp) (left right : Kind) → IsTrue (operands_meet op left right) → is_shift op ≡ false → right ≡ left
+pub meet_is : (op : BinaryOp) (left right : Kind) → IsTrue (operands_meet op left right) → is_shift op ≡ false → right ≡ left
 meet_is op left right h e = same_kind_is right left (by (is_shift op) h e)
   where
     by : (s : Bool) → IsTrue (s || same_kind right left) → s ≡ false → IsTrue (same_kind right left)

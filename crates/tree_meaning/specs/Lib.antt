@@ -7,4 +7,7 @@ pub mod Switch
 pub mod Calls
 pub mod Trees
 pub mod Ends
+pub mod Running
+pub mod Stopping
+pub mod Tasks
 pub mod Laws

@@ -6,10 +6,27 @@
 #![tactic(auto)]
 
 mod activation;
+mod agenda;
+mod calls;
 mod ends;
 pub mod laws;
+mod loops;
+mod machine;
+mod numbers;
+mod places;
+mod rest;
+mod run;
+mod scene;
+mod statements;
+mod steps;
+mod stop;
+mod store;
+mod switch;
+mod task;
+mod values;
 mod way;
 
 pub use activation::Activation;
 pub use ends::TreeEnd;
+pub use run::tree_run;
 pub use way::Way;

@@ -1,0 +1,7 @@
+use Rattle.std.proofs.Common.{[]}
+use Rattle.std.proofs.lemmas.List.{nil_from_length}
+use Rattle.tree_meaning.proofs.StatementSteps.{choose_none}
+use Rattle.tree_meaning.proofs.statements.choose_arm.Goals as goal
+
+pub returns-in-None : goal.returns-in-None
+returns-in-None c = choose_none c.args.tasks.now [] c.args.machine.now c.args.list c.args.otherwise _ (nil_from_length c.args.list.now c.in-None.ensures.cases) c.leave_off.ensures
