@@ -51,7 +51,7 @@ other_formula theirs ours d = refused (Some status.CertificateRejected) (differe
 
 -- what is said of the verdict on the derivation
 abbrev pub said_of_verdict : Checking → Verdict → Said
-said_of_verdict m Yes = answered (refuted_text m.goal m.bounds.turns m.bounds.frames m.bounds.answers m.ends)
+said_of_verdict m Yes = answered (refuted_text m.goal (within m.bounds) m.ends)
 said_of_verdict m (BadStep line) = said_by [] (record { code = 92; place = place.Line line })
 said_of_verdict m NoEmptyClause = nowhere 93
 

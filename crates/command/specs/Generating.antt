@@ -41,8 +41,8 @@ IsGeneration names graph entry p plan bounds ends budget text said =
 abbrev pub generated_report : GraphParts → ℕ → Plan → Bounds → Ends → ℕ → Bool → Generated → List ℕ
 generated_report graph entry plan bounds ends budget json made =
     if json
-    then generated_json graph plan entry made.inputs made.taken made.answers (kept_of made.hits) bounds.turns bounds.frames bounds.answers budget ends
-    else generated_text graph plan entry made.inputs made.taken made.answers (kept_of made.hits) bounds.turns bounds.frames bounds.answers budget ends
+    then generated_json graph plan entry made (kept_of made.hits) bounds budget ends
+    else generated_text graph plan entry made (kept_of made.hits) bounds budget ends
 
 -- what is due of `generate`, by the sources' automaton
 abbrev pub IsDueOfGenerate : Generating → GraphParts → Said → Type 0

@@ -24,7 +24,7 @@ use Rattle.command.specs.Stages.{OfEntry, OfGoal, OfQuery, Says}
 -- watch is shown the formula, with unit clauses on input bits, and the history of its search.
 abbrev pub said_of_least : ℕ → Bounds → Ends → Least → Said
 said_of_least number bounds ends (Found input formula fixed) = answered (least_text number input)
-said_of_least number bounds ends (Refuted formula derivation) = answered (refuted_text number bounds.turns bounds.frames bounds.answers ends)
+said_of_least number bounds ends (Refuted formula derivation) = answered (refuted_text number bounds ends)
 said_of_least number bounds ends (Open formula history) =
     record { status = Some status.DoneOpen; out = open_text number; err = []; shown = (number, formula, history) ∷ [] }
 

@@ -29,7 +29,7 @@ module _ (graph : GraphParts) (entry : EntryFunction) (bounds : Bounds) where
   -- What is said of what is found: no input leaves the bounds; this input does; or it stays open, and the watch is shown, as
   -- number 0, the formula of the inputs that leave and the history of its search.
   abbrev pub said_of_bounds : Suffice → Said
-  said_of_bounds (Yes formula derivation) = answered (suffice_text bounds.turns bounds.frames bounds.answers)
+  said_of_bounds (Yes formula derivation) = answered (suffice_text bounds)
   said_of_bounds (Left input) = answered (left_text graph entry.number input)
   said_of_bounds (Open formula history) =
       record { status = Some status.DoneOpen; out = open_bounds_text; err = []; shown = (0, formula, history) ∷ [] }

@@ -62,15 +62,8 @@ fn verdict(
     let mut checker = Checker::prepare(alloc, formula, derivation)?;
     match checker.check() {
         Verdict::Yes => {
-            let bounds = request.bounds;
-            let text = refuted_text(
-                alloc,
-                request.goal,
-                bounds.turns,
-                bounds.frames,
-                bounds.answers,
-                request.ends,
-            )?;
+            let bounds = within(request.bounds);
+            let text = refuted_text(alloc, request.goal, bounds, request.ends)?;
             Ok(Reply::Answer {
                 text,
                 left_open: false,

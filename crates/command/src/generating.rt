@@ -68,37 +68,9 @@ fn report(
 {
     let kept = reduce(alloc, &made.hits)?;
     if json {
-        generated_json(
-            alloc,
-            graph,
-            plan,
-            entry,
-            &made.inputs,
-            &made.taken,
-            &made.answers,
-            &kept,
-            bounds.turns,
-            bounds.frames,
-            bounds.answers,
-            budget,
-            ends,
-        )
+        generated_json(alloc, graph, plan, entry, made, &kept, bounds, budget, ends)
     } else {
-        generated_text(
-            alloc,
-            graph,
-            plan,
-            entry,
-            &made.inputs,
-            &made.taken,
-            &made.answers,
-            &kept,
-            bounds.turns,
-            bounds.frames,
-            bounds.answers,
-            budget,
-            ends,
-        )
+        generated_text(alloc, graph, plan, entry, made, &kept, bounds, budget, ends)
     }
 }
 

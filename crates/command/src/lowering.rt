@@ -55,14 +55,7 @@ fn said_of<W: Watch>(
             formula: _formula,
             derivation: _derivation,
         } => {
-            let text = refuted_text(
-                alloc,
-                number,
-                bounds.turns,
-                bounds.frames,
-                bounds.answers,
-                ends,
-            )?;
+            let text = refuted_text(alloc, number, bounds, ends)?;
             Ok(Reply::Answer {
                 text,
                 left_open: false,

@@ -41,7 +41,7 @@ fn said_of<W: Watch>(
             formula: _formula,
             derivation: _derivation,
         } => {
-            let text = suffice_text(alloc, bounds.turns, bounds.frames, bounds.answers)?;
+            let text = suffice_text(alloc, bounds)?;
             Ok(Reply::Answer {
                 text,
                 left_open: false,

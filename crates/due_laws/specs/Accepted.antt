@@ -7,6 +7,7 @@ use Rattle.command_words.specs.Reading.{Text}
 use Rattle.command_words.specs.Request.{prove, check, Checking, Proving}
 use Rattle.command.specs.Certificates.{most_certificate}
 use Rattle.command.specs.Due.{IsDueOf}
+use Rattle.command.specs.Ranges.{within}
 use Rattle.command.specs.Reads.{Reads, Sees}
 use Rattle.command.specs.Said.{Said, answered}
 use Rattle.due_laws.specs.Determined.{SaysOtherFormula, are_told}
@@ -22,7 +23,7 @@ pub record SaysCertificate (said : Said) : Type 0 where
 
 -- it is said that the goal is refuted
 abbrev pub SaysRefuted : Checking → Said → Type 0
-SaysRefuted m said = said ≡ answered (refuted_text m.goal m.bounds.turns m.bounds.frames m.bounds.answers m.ends)
+SaysRefuted m said = said ≡ answered (refuted_text m.goal (within m.bounds) m.ends)
 
 -- Where `prove` says a certificate, the sources still hold the same, and a file holds its bytes, at most 256 MiB, `check` accepts
 -- it, or says that the certificate's formula is another one; nothing else is due of it.

@@ -1,17 +1,16 @@
 -- What was found by generation, from its parts.
 use Rattle.std.proofs.Common.{◌≡◌, ℕ, List, refl}
 use Rattle.c_meaning.specs.declared.ends.Ends.{Ends}
-use Rattle.c_meaning.specs.declared.input.Input.{Input}
 use Rattle.c_values.specs.declared.kinds.Kind.{Kind}
 use Rattle.cfa.specs.declared.parts.GraphParts.{GraphParts}
-use Rattle.goals.specs.declared.answer.Answer.{Answer}
 use Rattle.goals.specs.declared.plan.Plan.{Plan}
 use Rattle.serde_json.specs.Data.{Data}
+use Rattle.reached.specs.declared.bounds.Bounds.{Bounds}
+use Rattle.suite.specs.declared.generated.Generated.{Generated}
 use Rattle.report.specs.GeneratedJson.{bounds_data, found_data, generated_data, inputs_data}
 use Rattle.report.specs.Made.{parameter_kinds}
 
-pub found_is : (graph : GraphParts) (plan : Plan) (entry : ℕ) (inputs : List Input) (taken : List (List (Kind × ℕ))) (answers : List Answer) (kept : List ℕ)
-    (turns frames most_answers budget : ℕ) (ends : Ends) (bounds : Data) (kinds : List Kind) (listed : List Data) (value : Data)
-    → bounds ≡ bounds_data turns frames most_answers budget → kinds ≡ parameter_kinds graph entry → listed ≡ inputs_data kinds inputs taken
-    → value ≡ found_data graph plan bounds listed answers kept ends → value ≡ generated_data graph plan entry inputs taken answers kept turns frames most_answers budget ends
-found_is graph plan entry inputs taken answers kept turns frames most_answers budget ends bounds kinds listed value b k l v = rw (v, b, l, k) refl
+pub found_is : (graph : GraphParts) (plan : Plan) (entry : ℕ) (made : Generated) (kept : List ℕ) (within : Bounds) (budget : ℕ) (ends : Ends) (bounds : Data) (kinds : List Kind) (listed : List Data) (value : Data)
+    → bounds ≡ bounds_data within budget → kinds ≡ parameter_kinds graph entry → listed ≡ inputs_data kinds made.inputs made.taken
+    → value ≡ found_data graph plan bounds listed made.answers kept ends → value ≡ generated_data graph plan entry made kept within budget ends
+found_is graph plan entry made kept within budget ends bounds kinds listed value b k l v = rw (v, b, l, k) refl

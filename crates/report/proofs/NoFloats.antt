@@ -18,6 +18,8 @@ use Rattle.serde_json.specs.View.{items_of}
 use Rattle.serde_json.specs.Written.{has_float, items_have_float, members_have_float}
 use Rattle.report.specs.Ends.{end_value, result_kind}
 use Rattle.input_text.specs.Printed.{arguments_data, input_data, word_data}
+use Rattle.reached.specs.declared.bounds.Bounds.{Bounds}
+use Rattle.suite.specs.declared.generated.Generated.{Generated}
 use Rattle.report.specs.GeneratedJson.{generated_data, inputs_data}
 use Rattle.report.specs.Made.{parameter_kinds}
 use Rattle.report.specs.Json.{count_data, end_data, goal_data, goals_data, measured_data, value_member, with_ends}
@@ -76,10 +78,10 @@ inputs_no_float kinds [] taken = refl
 inputs_no_float kinds (input ∷ inputs) [] = refl
 inputs_no_float kinds (input ∷ inputs) (answers ∷ taken) = rw (input_no_float kinds input answers, inputs_no_float kinds inputs taken) refl
 
-pub generated_no_float : (graph : GraphParts) (plan : Plan) (entry : ℕ) (inputs : List Input) (taken : List (List (Kind × ℕ))) (answers : List Answer) (kept : List ℕ)
-    (turns frames most_answers budget : ℕ) (ends : Ends) → has_float (generated_data graph plan entry inputs taken answers kept turns frames most_answers budget ends) ≡ false
-generated_no_float graph plan entry inputs taken answers kept turns frames most_answers budget ends = ends_no_float ends _ (rw (
-  goals_no_float graph plan answers plan.goals,
-  inputs_no_float (parameter_kinds graph entry) inputs taken,
+pub generated_no_float : (graph : GraphParts) (plan : Plan) (entry : ℕ) (made : Generated) (kept : List ℕ)
+    (bounds : Bounds) (budget : ℕ) (ends : Ends) → has_float (generated_data graph plan entry made kept bounds budget ends) ≡ false
+generated_no_float graph plan entry made kept bounds budget ends = ends_no_float ends _ (rw (
+  goals_no_float graph plan made.answers plan.goals,
+  inputs_no_float (parameter_kinds graph entry) made.inputs made.taken,
   items_no_float count_data (λ n. refl) kept,
 ) refl)

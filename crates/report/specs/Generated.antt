@@ -8,6 +8,8 @@ use Rattle.cfa.specs.declared.parts.GraphParts.{GraphParts}
 use Rattle.goals.specs.declared.answer.Answer.{Answer}
 use Rattle.goals.specs.declared.answer.Answer.TheVariants as answer
 use Rattle.goals.specs.declared.plan.Plan.{Plan}
+use Rattle.reached.specs.declared.bounds.Bounds.{Bounds}
+use Rattle.suite.specs.declared.generated.Generated.{Generated}
 use Rattle.report.specs.Made.{made_lines, made_text, parameter_kinds}
 use Rattle.report.specs.Texts.{covered_count, ends_text, goal_lines, suite_line}
 
@@ -32,13 +34,13 @@ counts_text answers =
     ++ codes " undecided " ++ decimal (undecided_count answers)
 
 -- the bounds of an unwinding: turns of a loop, frames, answers of input functions
-abbrev pub bounds_text : ℕ → ℕ → ℕ → List ℕ
-bounds_text turns frames most_answers =
-    codes " turns " ++ decimal turns ++ codes " frames " ++ decimal frames ++ codes " answers " ++ decimal most_answers
+abbrev pub bounds_text : Bounds → List ℕ
+bounds_text bounds =
+    codes " turns " ++ decimal bounds.turns ++ codes " frames " ++ decimal bounds.frames ++ codes " answers " ++ decimal bounds.answers
 
-abbrev pub generated_head : ℕ → ℕ → ℕ → ℕ → ℕ → Ends → List ℕ
-generated_head goals turns frames most_answers budget ends =
-    codes "goals " ++ decimal goals ++ bounds_text turns frames most_answers ++ codes " budget " ++ decimal budget ++ ends_text ends
+abbrev pub generated_head : ℕ → Bounds → ℕ → Ends → List ℕ
+generated_head goals bounds budget ends =
+    codes "goals " ++ decimal goals ++ bounds_text bounds ++ codes " budget " ++ decimal budget ++ ends_text ends
     ++ codes "\n"
 
 abbrev pub generated_total : List Answer → ℕ → List ℕ
@@ -47,13 +49,13 @@ generated_total answers goals = counts_text answers ++ codes " of " ++ decimal g
 -- What was found of the goals of a plan by making inputs to this entry: the bounds and the budget of the search, and the
 -- ends that count; each input, with the answers that its run takes; the answer of each goal; the inputs that are kept in the
 -- reduced suite; how many goals are covered, refuted and undecided.
-abbrev pub generated_text : GraphParts → Plan → ℕ → List Input → List (List (Kind × ℕ)) → List Answer → List ℕ → ℕ → ℕ → ℕ → ℕ → Ends → List ℕ
-generated_text graph plan entry inputs taken answers kept turns frames most_answers budget ends =
-    generated_head (length plan.goals) turns frames most_answers budget ends
-    ++ made_lines (parameter_kinds graph entry) 1 inputs taken
-    ++ goal_lines graph plan 1 answers plan.goals
+abbrev pub generated_text : GraphParts → Plan → ℕ → Generated → List ℕ → Bounds → ℕ → Ends → List ℕ
+generated_text graph plan entry made kept bounds budget ends =
+    generated_head (length plan.goals) bounds budget ends
+    ++ made_lines (parameter_kinds graph entry) 1 made.inputs made.taken
+    ++ goal_lines graph plan 1 made.answers plan.goals
     ++ suite_line kept
-    ++ generated_total answers (length plan.goals)
+    ++ generated_total made.answers (length plan.goals)
 
 -- ---- one goal
 
@@ -67,9 +69,9 @@ abbrev pub undecided_text : ℕ → List ℕ
 undecided_text number = codes "goal " ++ decimal number ++ codes " undecided\n"
 
 -- a goal is refuted within these bounds, for runs with these ends
-abbrev pub refuted_text : ℕ → ℕ → ℕ → ℕ → Ends → List ℕ
-refuted_text number turns frames most_answers ends =
-    codes "goal " ++ decimal number ++ codes " refuted" ++ bounds_text turns frames most_answers ++ ends_text ends ++ codes "\n"
+abbrev pub refuted_text : ℕ → Bounds → Ends → List ℕ
+refuted_text number bounds ends =
+    codes "goal " ++ decimal number ++ codes " refuted" ++ bounds_text bounds ++ ends_text ends ++ codes "\n"
 
 -- ---- samples
 

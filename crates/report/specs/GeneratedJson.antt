@@ -10,16 +10,18 @@ use Rattle.serde_json.specs.Data.{Data, Members, array, member, no_members, obje
 use Rattle.serde_json.specs.View.{items_of}
 use Rattle.serde_json.specs.Written.{compact_text}
 use Rattle.input_text.specs.Printed.{input_data}
+use Rattle.reached.specs.declared.bounds.Bounds.{Bounds}
+use Rattle.suite.specs.declared.generated.Generated.{Generated}
 use Rattle.report.specs.Generated.{refuted_count, undecided_count}
 use Rattle.report.specs.Json.{count_data, goals_data, with_ends}
 use Rattle.report.specs.Made.{parameter_kinds}
 use Rattle.report.specs.Texts.{covered_count}
 
 -- the bounds of the unwinding, and the budget of the search
-abbrev pub bounds_data : ℕ → ℕ → ℕ → ℕ → Data
-bounds_data turns frames most_answers budget =
-    object (member (codes "answers") (count_data most_answers) (member (codes "budget") (count_data budget)
-    (member (codes "frames") (count_data frames) (member (codes "turns") (count_data turns) no_members))))
+abbrev pub bounds_data : Bounds → ℕ → Data
+bounds_data bounds budget =
+    object (member (codes "answers") (count_data bounds.answers) (member (codes "budget") (count_data budget)
+    (member (codes "frames") (count_data bounds.frames) (member (codes "turns") (count_data bounds.turns) no_members))))
 
 -- each input to a function with parameters of these kinds, with the answers that its run takes
 abbrev pub inputs_data : List Kind → List Input → List (List (Kind × ℕ)) → List Data
@@ -45,12 +47,12 @@ found_data graph plan bounds inputs answers kept ends =
     (array (items_of inputs)) (count_data (refuted_count answers)) (array (items_of (map count_data kept)))
     (count_data (undecided_count answers))
 
-abbrev pub generated_data : GraphParts → Plan → ℕ → List Input → List (List (Kind × ℕ)) → List Answer → List ℕ → ℕ → ℕ → ℕ → ℕ → Ends → Data
-generated_data graph plan entry inputs taken answers kept turns frames most_answers budget ends =
-    found_data graph plan (bounds_data turns frames most_answers budget) (inputs_data (parameter_kinds graph entry) inputs taken) answers kept
+abbrev pub generated_data : GraphParts → Plan → ℕ → Generated → List ℕ → Bounds → ℕ → Ends → Data
+generated_data graph plan entry made kept bounds budget ends =
+    found_data graph plan (bounds_data bounds budget) (inputs_data (parameter_kinds graph entry) made.inputs made.taken) made.answers kept
     ends
 
 -- the line
-abbrev pub generated_json : GraphParts → Plan → ℕ → List Input → List (List (Kind × ℕ)) → List Answer → List ℕ → ℕ → ℕ → ℕ → ℕ → Ends → List ℕ
-generated_json graph plan entry inputs taken answers kept turns frames most_answers budget ends =
-    compact_text (generated_data graph plan entry inputs taken answers kept turns frames most_answers budget ends) ++ codes "\n"
+abbrev pub generated_json : GraphParts → Plan → ℕ → Generated → List ℕ → Bounds → ℕ → Ends → List ℕ
+generated_json graph plan entry made kept bounds budget ends =
+    compact_text (generated_data graph plan entry made kept bounds budget ends) ++ codes "\n"

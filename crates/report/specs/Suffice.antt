@@ -4,13 +4,14 @@ use Rattle.std.specs.List.{flat_map}
 use Rattle.c_meaning.specs.declared.input.Input.{Input}
 use Rattle.c_values.specs.declared.kinds.Kind.{Kind}
 use Rattle.cfa.specs.declared.parts.GraphParts.{GraphParts}
+use Rattle.reached.specs.declared.bounds.Bounds.{Bounds}
 use Rattle.report.specs.Ends.{spaced_value}
 use Rattle.report.specs.Generated.{bounds_text}
 use Rattle.report.specs.Made.{arguments_text, parameter_kinds}
 
 -- no input leaves these bounds
-abbrev pub suffice_text : ℕ → ℕ → ℕ → List ℕ
-suffice_text turns frames most_answers = codes "bounds suffice" ++ bounds_text turns frames most_answers ++ codes "\n"
+abbrev pub suffice_text : Bounds → List ℕ
+suffice_text bounds = codes "bounds suffice" ++ bounds_text bounds ++ codes "\n"
 
 -- the kind of signed numbers of 64 bits
 abbrev pub long : Kind

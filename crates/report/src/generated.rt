@@ -9,47 +9,39 @@ use crate::counts::push_counts;
 use crate::lines::{ends_text, push_goals, push_suite};
 use crate::made::{parameter_kinds, push_made_lines};
 use crate::numbers::push_number;
-use c_meaning::Input;
-use c_values::Kind;
 use cfa::Graph;
-use containers::Vector;
 use fq_core::Memory;
 use goals::{Answer, Plan};
 use path_runner::Ends;
+use reached::Bounds;
 use std::alloc::{AllocError, Global};
+use suite::Generated;
 
 /// Appends the bounds of an unwinding.
-pub fn push_bounds(
-    text: &mut Vec<u8>,
-    turns: u32,
-    frames: u32,
-    most_answers: u32,
-) -> Result<(), AllocError>
-    ensures { OnOk result (text.new.items ≡ text.old.items ++ bounds_text turns frames most_answers) }
+pub fn push_bounds(text: &mut Vec<u8>, bounds: Bounds) -> Result<(), AllocError>
+    ensures { OnOk result (text.new.items ≡ text.old.items ++ bounds_text bounds) }
 {
     text.extend_from_slice(b" turns ")?;
-    push_number(text, turns)?;
+    push_number(text, bounds.turns)?;
     text.extend_from_slice(b" frames ")?;
-    push_number(text, frames)?;
+    push_number(text, bounds.frames)?;
     text.extend_from_slice(b" answers ")?;
-    push_number(text, most_answers)?;
+    push_number(text, bounds.answers)?;
     Ok(())
 }
 
 fn push_generated_head(
     text: &mut Vec<u8>,
     goals: usize,
-    turns: u32,
-    frames: u32,
-    most_answers: u32,
+    bounds: Bounds,
     budget: u64,
     ends: Ends,
 ) -> Result<(), AllocError>
-    ensures { OnOk result (text.new.items ≡ text.old.items ++ generated_head goals turns frames most_answers budget ends) }
+    ensures { OnOk result (text.new.items ≡ text.old.items ++ generated_head goals bounds budget ends) }
 {
     text.extend_from_slice(b"goals ")?;
     push_number(text, goals)?;
-    push_bounds(text, turns, frames, most_answers)?;
+    push_bounds(text, bounds)?;
     text.extend_from_slice(b" budget ")?;
     push_number(text, budget)?;
     text.extend_from_slice(ends_text(ends))?;
@@ -82,27 +74,28 @@ pub fn generated_text(
     graph: &Graph,
     plan: &Plan,
     entry: u32,
-    inputs: &[Input],
-    taken: &[Vector<(Kind, u64)>],
-    answers: &[Answer],
+    made: &Generated,
     kept: &[u32],
-    turns: u32,
-    frames: u32,
-    most_answers: u32,
+    bounds: Bounds,
     budget: u64,
     ends: Ends,
 ) -> Result<Vec<u8>, Memory>
-    requires words { All (HasWords (length (parameter_kinds graph.now entry))) inputs.now }
-    requires taken { length taken.now ≡ length inputs.now }
-    requires answers { length answers.now ≡ length plan.now.goals }
-    ensures { IfOk result (λ text. text.items ≡ generated_text graph.now plan.now entry inputs.now taken.now answers.now kept.now turns frames most_answers budget ends) }
+    requires words { All (HasWords (length (parameter_kinds graph.now entry))) made.now.inputs }
+    requires taken { length made.now.taken ≡ length made.now.inputs }
+    requires answers { length made.now.answers ≡ length plan.now.goals }
+    ensures { IfOk result (λ text. text.items ≡ generated_text graph.now plan.now entry made.now kept.now bounds budget ends) }
 {
     let mut text = Vec::new(alloc);
     let goals = plan.goals.len();
-    push_generated_head(&mut text, goals, turns, frames, most_answers, budget, ends)?;
-    push_made_lines(&mut text, parameter_kinds(graph, entry), inputs, taken)?;
-    push_goals(&mut text, graph, plan, answers)?;
+    push_generated_head(&mut text, goals, bounds, budget, ends)?;
+    push_made_lines(
+        &mut text,
+        parameter_kinds(graph, entry),
+        &made.inputs,
+        &made.taken,
+    )?;
+    push_goals(&mut text, graph, plan, &made.answers)?;
     push_suite(&mut text, kept)?;
-    push_generated_total(&mut text, answers, goals)?;
+    push_generated_total(&mut text, &made.answers, goals)?;
     Ok(text)
 }

@@ -18,19 +18,15 @@ use fq_core::Memory;
 use goals::{Answer, Plan};
 use input_text::input_json;
 use path_runner::Ends;
+use reached::Bounds;
 use serde_json::{Value, json};
 use std::alloc::{AllocError, Global};
+use suite::Generated;
 
-fn bounds_value(
-    alloc: Global,
-    turns: u32,
-    frames: u32,
-    most_answers: u32,
-    budget: u64,
-) -> Result<Value, AllocError>
-    ensures { IfOk result (λ value. view value ≡ bounds_data turns frames most_answers budget) }
+fn bounds_value(alloc: Global, bounds: Bounds, budget: u64) -> Result<Value, AllocError>
+    ensures { IfOk result (λ value. view value ≡ bounds_data bounds budget) }
 {
-    json!(in alloc; {"answers": most_answers, "budget": budget, "frames": frames, "turns": turns})
+    json!(in alloc; {"answers": bounds.answers, "budget": budget, "frames": bounds.frames, "turns": bounds.turns})
 }
 
 fn inputs_value(
@@ -129,24 +125,34 @@ pub fn generated_json(
     graph: &Graph,
     plan: &Plan,
     entry: u32,
-    inputs: &[Input],
-    taken: &[Vector<(Kind, u64)>],
-    answers: &[Answer],
+    made: &Generated,
     kept: &[u32],
-    turns: u32,
-    frames: u32,
-    most_answers: u32,
+    bounds: Bounds,
     budget: u64,
     ends: Ends,
 ) -> Result<Vec<u8>, Memory>
-    requires words { All (HasWords (length (parameter_kinds graph.now entry))) inputs.now }
-    requires taken { length taken.now ≡ length inputs.now }
-    requires answers { length answers.now ≡ length plan.now.goals }
-    ensures { IfOk result (λ text. text.items ≡ generated_json graph.now plan.now entry inputs.now taken.now answers.now kept.now turns frames most_answers budget ends) }
+    requires words { All (HasWords (length (parameter_kinds graph.now entry))) made.now.inputs }
+    requires taken { length made.now.taken ≡ length made.now.inputs }
+    requires answers { length made.now.answers ≡ length plan.now.goals }
+    ensures { IfOk result (λ text. text.items ≡ generated_json graph.now plan.now entry made.now kept.now bounds budget ends) }
 {
-    let bounds = bounds_value(alloc, turns, frames, most_answers, budget)?;
-    let inputs = inputs_value(alloc, parameter_kinds(graph, entry), inputs, taken)?;
-    let value = found_value(alloc, graph, plan, bounds, inputs, answers, kept, ends)?;
+    let bounds = bounds_value(alloc, bounds, budget)?;
+    let inputs = inputs_value(
+        alloc,
+        parameter_kinds(graph, entry),
+        &made.inputs,
+        &made.taken,
+    )?;
+    let value = found_value(
+        alloc,
+        graph,
+        plan,
+        bounds,
+        inputs,
+        &made.answers,
+        kept,
+        ends,
+    )?;
     let mut text = value.to_vec(alloc)?;
     text.extend_from_slice(b"\n")?;
     Ok(text)

@@ -15,6 +15,7 @@ use cfa::Graph;
 use fq_core::Memory;
 use goals::{Answer, Plan};
 use path_runner::Ends;
+use reached::Bounds;
 use std::alloc::Global;
 
 /// The line of a goal of this number that an input to the function of the number `entry` covers: its arguments, and the
@@ -53,17 +54,15 @@ pub fn undecided_text(alloc: Global, number: u32) -> Result<Vec<u8>, Memory>
 pub fn refuted_text(
     alloc: Global,
     number: u32,
-    turns: u32,
-    frames: u32,
-    most_answers: u32,
+    bounds: Bounds,
     ends: Ends,
 ) -> Result<Vec<u8>, Memory>
-    ensures { IfOk result (λ text. text.items ≡ refuted_text number turns frames most_answers ends) }
+    ensures { IfOk result (λ text. text.items ≡ refuted_text number bounds ends) }
 {
     let mut text = Vec::from_slice(alloc, b"goal ")?;
     push_number(&mut text, number)?;
     text.extend_from_slice(b" refuted")?;
-    push_bounds(&mut text, turns, frames, most_answers)?;
+    push_bounds(&mut text, bounds)?;
     text.extend_from_slice(ends_text(ends))?;
     text.extend_from_slice(b"\n")?;
     Ok(text)

@@ -13,6 +13,7 @@ use c_meaning::Input;
 use c_values::Kind;
 use cfa::Graph;
 use fq_core::Memory;
+use reached::Bounds;
 use std::alloc::{AllocError, Global};
 
 // Appends numbers, each after a space, as signed ones of 64 bits.
@@ -40,16 +41,11 @@ fn push_left_answers(text: &mut Vec<u8>, answers: &[u64]) -> Result<(), AllocErr
 }
 
 /// The line that says that no input leaves these bounds on a loop's turns, on frames and on answers.
-pub fn suffice_text(
-    alloc: Global,
-    turns: u32,
-    frames: u32,
-    most_answers: u32,
-) -> Result<Vec<u8>, Memory>
-    ensures { IfOk result (λ text. text.items ≡ suffice_text turns frames most_answers) }
+pub fn suffice_text(alloc: Global, bounds: Bounds) -> Result<Vec<u8>, Memory>
+    ensures { IfOk result (λ text. text.items ≡ suffice_text bounds) }
 {
     let mut text = Vec::from_slice(alloc, b"bounds suffice")?;
-    push_bounds(&mut text, turns, frames, most_answers)?;
+    push_bounds(&mut text, bounds)?;
     text.extend_from_slice(b"\n")?;
     Ok(text)
 }

@@ -12,11 +12,13 @@ use fq_core::Fault;
 use fql_read::read_query;
 use goals::{Answer, Plan, plan_of};
 use path_runner::Ends;
+use reached::Bounds;
 use report::{
     generated_json, generated_text, proved_text, refuted_text, sample_text, undecided_text,
 };
 use std::alloc::{AllocError, Global};
 use std::test::Fail;
+use suite::Generated;
 use test_programs::graph_of;
 
 const INT: Kind = Kind {
@@ -66,31 +68,46 @@ fn plan(alloc: Global, graph: &Graph, query: &str) -> Result<Plan, Fault> {
     plan_of(alloc, &read_query(alloc, query.as_bytes())?, graph)
 }
 
-// The text and the JSON of answers, with the bounds 4, 8 and 16.
+const BOUNDS: Bounds = Bounds {
+    turns: 4,
+    frames: 8,
+    answers: 16,
+};
+
+// What was made, with what each input's run reads. No report shows which goals an input hits.
+fn made(
+    alloc: Global,
+    inputs: Vec<Input>,
+    taken: Vec<Vector<(Kind, u64)>>,
+    answers: Vec<Answer>,
+) -> Generated {
+    Generated {
+        answers: Vector::from_vec(answers),
+        inputs: Vector::from_vec(inputs),
+        taken: Vector::from_vec(taken),
+        hits: Vector::new(alloc),
+    }
+}
+
+// The text and the JSON of what was made.
 fn generated(
     alloc: Global,
     graph: &Graph,
     query: &str,
-    inputs: &[Input],
-    taken: &[Vector<(Kind, u64)>],
-    answers: &[Answer],
+    made: &Generated,
     kept: &[u32],
     budget: u64,
     ends: Ends,
 ) -> Result<(Vec<u8>, Vec<u8>), Fault> {
     let plan = plan(alloc, graph, query)?;
-    if plan.goals.len() != answers.len()
-        || taken.len() != inputs.len()
-        || !are_of(inputs, parameter_count(graph))
+    if plan.goals.len() != made.answers.len()
+        || made.taken.len() != made.inputs.len()
+        || !are_of(&made.inputs, parameter_count(graph))
     {
         return Err(Fault::Memory);
     }
-    let text = generated_text(
-        alloc, graph, &plan, 0, inputs, taken, answers, kept, 4, 8, 16, budget, ends,
-    )?;
-    let line = generated_json(
-        alloc, graph, &plan, 0, inputs, taken, answers, kept, 4, 8, 16, budget, ends,
-    )?;
+    let text = generated_text(alloc, graph, &plan, 0, made, kept, BOUNDS, budget, ends)?;
+    let line = generated_json(alloc, graph, &plan, 0, made, kept, BOUNDS, budget, ends)?;
     Ok((text, line))
 }
 
@@ -101,8 +118,8 @@ fn covered_and_refuted(rt: HostRuntime) -> Result<(), Fail> {
     let Ok(graph) = graph_of(alloc, b"c.c", TWO_CONDITIONS) else {
         return Err(Fail::from("no graph"));
     };
-    let inputs = [input(alloc, 11, &[])?, input(alloc, u64::MAX - 2, &[])?];
-    let taken = [Vector::new(alloc), Vector::new(alloc)];
+    let inputs = vec![in alloc; input(alloc, 11, &[])?, input(alloc, u64::MAX - 2, &[])?]?;
+    let taken = vec![in alloc; Vector::new(alloc), Vector::new(alloc)]?;
     let answers = [
         Answer::Covered { input: 1 },
         Answer::Covered { input: 2 },
@@ -113,9 +130,7 @@ fn covered_and_refuted(rt: HostRuntime) -> Result<(), Fail> {
         alloc,
         &graph,
         "cover EDGES(@CONDITIONEDGE)",
-        &inputs,
-        &taken,
-        &answers,
+        &made(alloc, inputs, taken, answers.to_vec(alloc)?),
         &[1, 2],
         5_000_000,
         Ends::Returned,
@@ -154,9 +169,12 @@ fn covered_or_undecided(rt: HostRuntime) -> Result<(), Fail> {
         alloc,
         &graph,
         "cover @LINE(3)",
-        &[],
-        &[],
-        &undecided,
+        &made(
+            alloc,
+            Vec::new(alloc),
+            Vec::new(alloc),
+            undecided.to_vec(alloc)?,
+        ),
         &[],
         1,
         Ends::Any,
@@ -176,15 +194,14 @@ covered 0 refuted 0 undecided 1 of 1
         line.as_slice(),
         b"{\"bounds\":{\"answers\":16,\"budget\":1,\"frames\":8,\"turns\":4},\"covered\":0,\"ends\":\"any\",\"goals\":[{\"answer\":\"undecided\",\"text\":\"e2@d.c:3\"}],\"inputs\":[],\"refuted\":0,\"suite\":[],\"undecided\":1}\n".as_slice()
     );
-    let inputs = [input(alloc, 7, &[])?];
+    let inputs = vec![in alloc; input(alloc, 7, &[])?]?;
+    let taken = vec![in alloc; Vector::new(alloc)]?;
     let covered = [Answer::Covered { input: 1 }];
     let Ok((_text, line)) = generated(
         alloc,
         &graph,
         "cover @LINE(3)",
-        &inputs,
-        &[Vector::new(alloc)],
-        &covered,
+        &made(alloc, inputs, taken, covered.to_vec(alloc)?),
         &[1],
         5_000_000,
         Ends::Returned,
@@ -205,15 +222,14 @@ fn covered_with_answers(rt: HostRuntime) -> Result<(), Fail> {
         return Err(Fail::from("no graph"));
     };
     let read = [(INT, 5), (INT, 9)];
-    let inputs = [input(alloc, 1, &read)?];
-    let taken = [Vector::from_vec(read.to_vec(alloc)?)];
+    let inputs = vec![in alloc; input(alloc, 1, &read)?]?;
+    let taken = vec![in alloc; Vector::from_vec(read.to_vec(alloc)?)]?;
+    let answers = [Answer::Covered { input: 1 }];
     let Ok((text, line)) = generated(
         alloc,
         &graph,
         "cover @LINE(9)",
-        &inputs,
-        &taken,
-        &[Answer::Covered { input: 1 }],
+        &made(alloc, inputs, taken, answers.to_vec(alloc)?),
         &[1],
         5_000_000,
         Ends::Trapped,
@@ -287,7 +303,7 @@ fn lines_of_one_goal(rt: HostRuntime) -> Result<(), Fail> {
         ),
     ] {
         assert_eq!(rt;
-            refuted_text(alloc, 3, 4, 8, 16, ends)?.as_slice(),
+            refuted_text(alloc, 3, BOUNDS, ends)?.as_slice(),
             text.as_bytes()
         );
     }

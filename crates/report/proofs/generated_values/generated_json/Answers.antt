@@ -7,10 +7,10 @@ use Rattle.report.proofs.generated_values.generated_json.Goals as goal
 pub returns : goal.returns
 returns c =
     let value_is =
-    found_is c.args.graph.now c.args.plan.now c.args.entry c.args.inputs.now c.args.taken.now c.args.answers.now c.args.kept.now c.args.turns c.args.frames c.args.most_answers c.args.budget c.args.ends _ _ _ _
+    found_is c.args.graph.now c.args.plan.now c.args.entry c.args.made.now c.args.kept.now c.args.bounds c.args.budget c.args.ends _ _ _ _
     c.in_ok-bounds.ensures c.parameter_kinds.ensures c.in_ok-inputs.ensures c.in_ok-value.ensures in
     let none =
     ap has_float value_is
-    ∙ generated_no_float c.args.graph.now c.args.plan.now c.args.entry c.args.inputs.now c.args.taken.now c.args.answers.now c.args.kept.now c.args.turns c.args.frames c.args.most_answers c.args.budget c.args.ends in
+    ∙ generated_no_float c.args.graph.now c.args.plan.now c.args.entry c.args.made.now c.args.kept.now c.args.bounds c.args.budget c.args.ends in
     let text = c.in_ok-text.ensures.text none in
     rw (c.in_ok-extend_from_slice.ensures.items, text, value_is) refl
