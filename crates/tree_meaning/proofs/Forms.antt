@@ -1,27 +1,19 @@
 -- What trees mean where a function runs, form by form.
-use Rattle.std.proofs.Common.{◌≡◌, ℕ, ◌+◌, List, [], ◌∷◌, map, drop, Option, Some, None, Result, Ok, Err, refl, sym, ap, subst, ◌∙◌, rules}
-use Rattle.std.specs.Prelude.{slice_index}
+use Rattle.std.proofs.Common.{◌≡◌, ℕ, List, map, Ok, ap, ◌∙◌, rules}
 use Rattle.std.specs.Option.{option_map}
-use Rattle.c_values.specs.Kind.{IsValue, converted}
-use Rattle.c_values.specs.Operations.{unary_value}
+use Rattle.c_values.specs.Kind.{IsValue}
 use Rattle.c_values.specs.declared.kinds.Kind.{Kind}
 use Rattle.c_values.specs.declared.operators.BinaryOp.{BinaryOp}
 use Rattle.c_values.specs.declared.operators.UnaryOp.{UnaryOp}
-use Rattle.cfa.specs.Values.{after_value}
-use Rattle.cfa.specs.declared.parts.Variable.{Variable}
-use Rattle.cfa.specs.declared.state.Trap.{Trap}
-use Rattle.typed_trees.specs.Fitting.{expression_fit}
 use Rattle.typed_trees.specs.declared.expression.TypedCall.{TypedCall, out-TypedCall}
 use Rattle.typed_trees.specs.declared.expression.TypedExpr.{TypedExpr}
 use Rattle.typed_trees.specs.declared.expression.TypedExprForm.{TypedExprForm, the_lemmas}
-use Rattle.typed_trees.specs.declared.expression.TypedExprForm.TheOpen.{TypedExprForm-F}
 use Rattle.typed_trees.specs.declared.expression.TypedExprForm.TheVariants as forms
 use Rattle.typed_trees.specs.declared.expression.TypedPlace.{TypedPlace, out-TypedPlace}
-use Rattle.tree_meaning.specs.Activations.{as_kind, element_at, read, start_of}
 use Rattle.tree_meaning.specs.Calls.{call_of}
-use Rattle.tree_meaning.specs.Expressions.{Meant, Placed, evaluate, operated, constant_meant, convert_meant, placed_at, load_meant, unary_meant, binary_meant, part_meant, both_does, either_does, choice_does}
+use Rattle.tree_meaning.specs.Expressions.{Meant, constant_meant, convert_meant, placed_at, load_meant, unary_meant, binary_meant, part_meant, both_does, either_does, choice_does}
 use Rattle.tree_meaning.specs.Running.{Scene, meant_in, placed_in, call_in, value_in, FitExpression}
-use Rattle.tree_meaning.specs.Trees.{meant_form, meant, placed, call_does, form_step, calls_in}
+use Rattle.tree_meaning.specs.Trees.{meant_form, meant, placed, call_does, calls_in}
 use Rattle.tree_meaning.proofs.ValueKinds.{known, values_are_of_kinds}
 use Rattle.tree_meaning.proofs.Fits.{fit_kind}
 

@@ -20,7 +20,7 @@ use Rattle.tree_meaning.specs.declared.task.StatementTask.TheVariants as stateme
 use Rattle.tree_meaning.specs.declared.task.ValueTask.TheVariants as value
 use Rattle.tree_meaning.specs.declared.way.Way.{Way}
 use Rattle.tree_meaning.specs.declared.way.Way.TheVariants.{GoesOn, Breaks, Continues, Returns}
-use Rattle.tree_meaning.specs.Outcomes.{Store, Done, OutOfTurns, ◌andthen◌, is_true, turn_of}
+use Rattle.tree_meaning.specs.Outcomes.{Store, Done, ◌andthen◌, is_true, turn_of}
 use Rattle.tree_meaning.specs.Loops.{after_body, pass, passes, again_if, do_passes}
 use Rattle.tree_meaning.specs.Running.{value_in, does_in, is_on, FitExpression, FitStatement}
 use Rattle.tree_meaning.specs.Statements.{then_next}

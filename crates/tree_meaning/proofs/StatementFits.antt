@@ -1,13 +1,11 @@
 -- The parts of statements and calls that fit.
-use Rattle.std.proofs.Common.{◌≡◌, ℕ, ◌+◌, ◌<◌, Bool, true, false, List, [], ◌∷◌, map, length, get_or, Option, Some, None, refl, sym, ap, subst, ◌∙◌, rules, arith}
+use Rattle.std.proofs.Common.{◌≡◌, ℕ, ◌<◌, Bool, true, false, List, [], ◌∷◌, map, length, get_or, Option, Some, None, refl, sym, subst, rules}
 use Rattle.std.specs.Prelude.{IsTrue, ◌&&◌, slice_get}
 use Rattle.std.specs.List.{list_all}
 use Rattle.std.specs.Option.{option_map}
 use Rattle.std.proofs.lemmas.List.Folds.{list_all_at}
 use Rattle.std.proofs.lemmas.Option.{get_or_from_slice_get, slice_get_within}
-use Rattle.fq_core.specs.declared.span.Span.{Span}
 use Rattle.c_values.specs.Kind.{IsKind, is_kind}
-use Rattle.c_values.specs.Operations.{is_shift}
 use Rattle.c_values.specs.declared.kinds.Kind.{Kind}
 use Rattle.c_values.specs.declared.operators.BinaryOp.{BinaryOp}
 use Rattle.c_values.proofs.Fitting.{and_left, and_right, and_both}
@@ -17,19 +15,19 @@ use Rattle.cfa.specs.declared.parts.Variable.{Variable}
 use Rattle.typed_trees.specs.Fitting as fitting
 use Rattle.typed_trees.specs.Fitting.{Nameable, Fit, CallFit, IsFitting, span_fits, expression_fit, expression_fits, option_fits, place_fits, call_fit, operator_fits, statement_fits, nameable, function_fits, word_fits, word_kinds}
 use Rattle.typed_trees.specs.declared.expression.Callee.{Callee}
-use Rattle.typed_trees.specs.declared.expression.Callee.TheVariants.{Defined, Input}
+use Rattle.typed_trees.specs.declared.expression.Callee.TheVariants.{Defined}
 use Rattle.typed_trees.specs.declared.expression.TypedCall.{TypedCall, out-TypedCall}
 use Rattle.typed_trees.specs.declared.expression.TypedExpr.{TypedExpr}
 use Rattle.typed_trees.specs.declared.expression.TypedExprForm.{the_lemmas as expression_lemmas}
 use Rattle.typed_trees.specs.declared.expression.TypedPlace.{TypedPlace}
 use Rattle.typed_trees.specs.declared.statement.TypedForm.{TypedForm, fold-TypedForm, the_lemmas}
-use Rattle.typed_trees.specs.declared.statement.TypedForm.TheOpen.{TypedForm-F, TypedGroup-F, TypedStatement-F}
+use Rattle.typed_trees.specs.declared.statement.TypedForm.TheOpen.{TypedForm-F}
 use Rattle.typed_trees.specs.declared.statement.TypedForm.TheVariants as forms
 use Rattle.typed_trees.specs.declared.statement.TypedGroup.{TypedGroup, fold-TypedGroup, out-TypedGroup}
 use Rattle.typed_trees.specs.declared.statement.TypedStatement.{TypedStatement}
 use Rattle.typed_trees.specs.declared.unit.Typed.{Typed}
 use Rattle.typed_trees.specs.declared.unit.TypedFunction.{TypedFunction}
-use Rattle.tree_meaning.specs.Running.{FitExpression, FitExpressions, FitPlace, FitCall, FitStatement, FitStatements, FitUnit, FitOption, FitLast, FitArms, FitGroups, FitAssign, last_fits}
+use Rattle.tree_meaning.specs.Running.{FitExpression, FitExpressions, FitCall, FitStatement, FitStatements, FitUnit, FitOption, FitLast, FitArms, FitGroups, FitAssign, last_fits}
 
 unfoldable form_fits : Nameable → TypedForm → Bool
 form_fits n = fold-TypedForm Bool (Kind → Bool) Bool (fitting.statement_form n) (fitting.group_step n) (fitting.statement_step n)

@@ -1,7 +1,6 @@
 -- What statements do where a function runs, form by form.
-use Rattle.std.proofs.Common.{◌≡◌, ℕ, List, [], ◌∷◌, map, Option, Some, None, refl, sym, ap, ◌∙◌, rules}
+use Rattle.std.proofs.Common.{◌≡◌, ℕ, List, [], ◌∷◌, map, Option, refl, ap, ◌∙◌, rules}
 use Rattle.std.specs.Option.{option_map}
-use Rattle.fq_core.specs.declared.span.Span.{Span}
 use Rattle.c_values.specs.declared.kinds.Kind.{Kind}
 use Rattle.c_values.specs.declared.operators.BinaryOp.{BinaryOp}
 use Rattle.cfa.specs.declared.parts.Variable.{Variable}
@@ -17,7 +16,7 @@ use Rattle.tree_meaning.specs.Outcomes.{Gives, ◌andthen◌, Evaluation, Meanin
 use Rattle.tree_meaning.specs.Loops.{while_loop, do_loop, for_loop}
 use Rattle.tree_meaning.specs.Running.{Scene, meant_in, placed_in, call_in, value_in, does_in, group_in, arm_in}
 use Rattle.tree_meaning.specs.Statements.{block, arms, assign, declare, declare_array, return_value, assert, assume}
-use Rattle.tree_meaning.specs.Switch.{Group, switch_on}
+use Rattle.tree_meaning.specs.Switch.{switch_on}
 use Rattle.tree_meaning.specs.Trees.{form_does, does, group_of, calls_in}
 
 module _ (c : Scene) where

@@ -1,6 +1,6 @@
 -- The steps of an evaluation.
-use Rattle.std.proofs.Common.{◌≡◌, ℕ, Bool, true, false, List, [], ◌∷◌, ◌++◌, map, Option, Some, None, Result, Ok, Err, refl, sym, ap, subst, ◌∙◌, rules}
-use Rattle.std.specs.Prelude.{IsTrue, ◌&&◌}
+use Rattle.std.proofs.Common.{◌≡◌, ℕ, List, [], ◌∷◌, ◌++◌, map, Some, None, Ok, Err, refl, sym, ap, subst, ◌∙◌}
+use Rattle.std.specs.Prelude.{IsTrue}
 use Rattle.std.specs.Borrow.{Bor}
 use Rattle.c_values.specs.declared.operators.BinaryOp.{BinaryOp}
 use Rattle.c_values.specs.declared.operators.UnaryOp.{UnaryOp}
@@ -18,8 +18,8 @@ use Rattle.tree_meaning.specs.declared.task.ValueTask.TheVariants as value
 use Rattle.tree_meaning.specs.Outcomes.{Store, Done, Gives, ◌andthen◌, unless_trap, Evaluation, is_true}
 use Rattle.tree_meaning.specs.Calls.{first_parts}
 use Rattle.tree_meaning.specs.Expressions.{part_meant, truth}
-use Rattle.tree_meaning.specs.Running.{Scene, meant_in, placed_in, value_in, part_in, FitExpression, FitExpressions, FitPlace, FitCall}
-use Rattle.tree_meaning.specs.Tasks.{Cont, with_value, with_values, with_outer, without_values, value_does, task_does, behind, Leads, Stops}
+use Rattle.tree_meaning.specs.Running.{meant_in, placed_in, value_in, part_in, FitExpression, FitExpressions, FitPlace, FitCall}
+use Rattle.tree_meaning.specs.Tasks.{Cont, with_value, with_values, with_outer, without_values, value_does, behind, Leads, Stops}
 use Rattle.tree_meaning.specs.Stopping.{IsStop}
 use Rattle.tree_meaning.proofs.Firsts.{constant_first, load_first, convert_first, unary_first, binary_first, both_first, either_first, choice_first, call_first, both_part, either_part, choice_part, call_part, constant_part, load_part, convert_part, unary_part, binary_part, whole_first, element_first}
 use Rattle.tree_meaning.proofs.Fits.{expression_fits_laws, load_fit, convert_fit, unary_fit, left_fit, right_fit, both_left_fit, both_right_fit, either_left_fit, either_right_fit, choice_test_fit, choice_yes_fit, choice_no_fit, call_form_fit, index_fit}

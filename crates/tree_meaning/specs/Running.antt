@@ -1,5 +1,5 @@
 -- What is known where a function runs.
-use Rattle.std.specs.Prelude.{ℕ, Bool, true, false, ◌&&◌, nat_le, List, map, Option, Some, None, Result, Ok, IsTrue, slice_get}
+use Rattle.std.specs.Prelude.{ℕ, Bool, true, false, ◌&&◌, nat_le, List, Option, Some, None, Result, Ok, IsTrue}
 use Rattle.std.specs.List.{list_all}
 use Rattle.c_values.specs.declared.kinds.Kind.{Kind}
 use Rattle.c_values.specs.declared.operators.BinaryOp.{BinaryOp}
@@ -21,7 +21,7 @@ use Rattle.typed_trees.specs.declared.unit.TypedFunction.{TypedFunction}
 use Rattle.tree_meaning.specs.declared.activation.Activation.{Activation}
 use Rattle.tree_meaning.specs.declared.way.Way.{Way}
 use Rattle.tree_meaning.specs.declared.way.Way.TheVariants.{GoesOn, Breaks, Continues, Returns}
-use Rattle.tree_meaning.specs.Outcomes.{Store, Done, Gives, unless_trap, turn, Evaluation, Meaning}
+use Rattle.tree_meaning.specs.Outcomes.{Gives, unless_trap, turn, Evaluation, Meaning}
 use Rattle.tree_meaning.specs.Activations.{stored, as_kind}
 use Rattle.tree_meaning.specs.Calls.{word_values, unless_deep, called, run_function}
 use Rattle.tree_meaning.specs.Expressions.{Meant, Placed, evaluate, operated, both_does, either_does, choice_does}

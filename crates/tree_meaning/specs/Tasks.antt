@@ -1,6 +1,5 @@
 -- What is still to be done, in small steps: each takes what a machine holds, and leaves there what comes next.
-use Rattle.std.specs.Prelude.{◌≡◌, ℕ, ◌+◌, Bool, List, [], ◌∷◌, ◌++◌, map, Option, Some, None, slice_get, slice_index}
-use Rattle.std.specs.Borrow.{Bor}
+use Rattle.std.specs.Prelude.{◌≡◌, ℕ, ◌+◌, Bool, List, [], ◌∷◌, ◌++◌, map, Option, slice_get, slice_index}
 use Rattle.std.specs.Option.{option_map}
 use Rattle.typed_trees.specs.declared.expression.TypedCall.{TypedCall, out-TypedCall}
 use Rattle.typed_trees.specs.declared.expression.TypedExpr.{TypedExpr}
