@@ -1,6 +1,5 @@
 // Inputs that are run beside the search.
 ghost use Rattle.std.specs.Prelude.{◌≡◌, ◌-◌, ◌<◌, ◌≤◌, ℕ, IfOk, IfSome, IsTrue, OnOk, Some, length, map, slice_get};
-ghost use Rattle.std.specs.Option.{IsSomeAnd};
 ghost use Rattle.c_meaning.specs.declared.ends.Ends.{Ends as OneEnds};
 ghost use Rattle.c_values.specs.declared.kinds.Kind.{Kind as OneKind};
 ghost use Rattle.candidates.specs.Within.{AreEdgesWithin};
@@ -14,7 +13,7 @@ ghost use Rattle.path_runner.specs.Counted.{counts_end};
 ghost use Rattle.reached.specs.declared.bounds.Bounds.{Bounds as RunBounds};
 ghost use Rattle.suite.specs.Made.{IsMadeFor};
 ghost use Rattle.suite.specs.Pool.{HasPool, IsPool};
-ghost use Rattle.unwinder.specs.Unwinding.{IsUnwound};
+ghost use Rattle.suite.specs.Unwindings.{IsUnwindingOf};
 
 use c_meaning::Input;
 use c_values::Kind;
@@ -46,9 +45,9 @@ pub(crate) fn first_count(budget: u64) -> u64 {
     budget / 1000
 }
 
-/// How many edges their runs may take: two for five moves.
+/// How many edges their runs may take: one for ten moves.
 pub(crate) fn first_edges(budget: u64) -> u64 {
-    budget / 5 * 2
+    budget / 10
 }
 
 /// How many times as many candidates, and edges, are tried before a goal stays undecided.
@@ -134,7 +133,7 @@ impl Pool {
         unwound: &Unwound,
     ) -> Result<(), Memory>
         requires predicates { IsPredicates graph.now predicates.now }
-        requires unwound { IsSomeAnd (slice_get graph.now.functions unwound.now.entry) (λ f. IsUnwound graph.now predicates.now f unwound.now.entry unwound.now.bounds unwound.now.ends unwound.now) }
+        requires unwound { IsUnwindingOf graph.now predicates.now unwound.now }
         requires pool { HasPool graph.now predicates.now plan.now unwound.now self.old }
         ensures { OnOk result (HasPool graph.now predicates.now plan.now unwound.now self.new) }
     {
@@ -171,7 +170,7 @@ impl Pool {
         edges: u64,
     ) -> Result<(), Memory>
         requires predicates { IsPredicates graph.now predicates.now }
-        requires unwound { IsSomeAnd (slice_get graph.now.functions unwound.now.entry) (λ f. IsUnwound graph.now predicates.now f unwound.now.entry unwound.now.bounds unwound.now.ends unwound.now) }
+        requires unwound { IsUnwindingOf graph.now predicates.now unwound.now }
         requires pool { HasPool graph.now predicates.now plan.now unwound.now self.old }
         ensures { OnOk result (HasPool graph.now predicates.now plan.now unwound.now self.new) }
     {
