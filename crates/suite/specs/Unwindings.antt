@@ -1,9 +1,11 @@
--- What is said over an unwinding: of its function, and of goals by their numbers.
+-- What is said over an unwinding: of its function, of goals by their numbers, and of formulas.
 use Rattle.std.specs.Prelude.{◌≡◌, ℕ, ◌-◌, Some, slice_get}
 use Rattle.std.specs.Option.{IsSomeAnd}
 use Rattle.cfa.specs.declared.parts.Function.{Function}
 use Rattle.cfa.specs.declared.parts.GraphParts.{GraphParts}
 use Rattle.cfa.specs.declared.state.Predicates.{Predicates}
+use Rattle.goal_formula.specs.Exact.{IsExact}
+use Rattle.goal_formula.specs.declared.goal.GoalFormula.{GoalFormula}
 use Rattle.goals.specs.GoalForm.{GoalForm}
 use Rattle.goals.specs.declared.plan.Plan.{Plan}
 use Rattle.unwinder.specs.Unwinding.{IsUnwound}
@@ -17,3 +19,13 @@ IsUnwindingOf parts p u = IsSomeAnd (slice_get parts.functions u.entry) (λ f. I
 abbrev pub ForGoal : GraphParts → Plan → Unwound → ℕ → (Function → GoalForm → Type 0) → Type 0
 ForGoal parts plan u goal P =
     (f : Function) (g : GoalForm) → slice_get parts.functions u.entry ≡ Some f → slice_get plan.goals (goal - 1) ≡ Some g → P f g
+
+-- a formula is exact for a goal of a plan, over the function of an unwinding
+abbrev pub IsFormulaOver : GraphParts → Predicates → Unwound → GoalFormula → Type 0
+IsFormulaOver parts p u formula =
+    IsSomeAnd (slice_get parts.functions u.entry) (λ f. (plan : Plan) × ((g : GoalForm) × IsExact parts p f u.bounds u.ends plan g formula))
+
+-- this holds of the function of an unwinding, and of each plan and goal for which a formula is exact
+abbrev pub ForFormula : GraphParts → Predicates → Unwound → GoalFormula → (Function → Plan → GoalForm → Type 0) → Type 0
+ForFormula parts p u formula P =
+    (f : Function) (plan : Plan) (g : GoalForm) → slice_get parts.functions u.entry ≡ Some f → IsExact parts p f u.bounds u.ends plan g formula → P f plan g

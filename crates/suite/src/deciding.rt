@@ -1,16 +1,12 @@
 // A goal decided: its formula is searched.
 ghost use Rattle.std.specs.Prelude.{◌≡◌, ◌-◌, ◌<◌, ◌≤◌, ◌^◌, IfErr, IfOk, IfSome, OnOk, Some, length, slice_get};
-ghost use Rattle.std.specs.Option.{IsSomeAnd};
 ghost use Rattle.cfa.specs.Predicates.{IsPredicates};
-ghost use Rattle.cfa.specs.declared.parts.Function.{Function as OneFunction};
-ghost use Rattle.goal_formula.specs.Exact.{IsExact};
 ghost use Rattle.goal_formula.specs.Sizes.{IsFormulaFault, goal_size};
 ghost use Rattle.goals.specs.GoalForm.{GoalForm};
-ghost use Rattle.goals.specs.declared.plan.Plan.{Plan as OnePlan};
 ghost use Rattle.search.specs.Nexts.{IsModel};
 ghost use Rattle.suite.specs.Made.{IsDecided, IsMadeFor, IsOpenWhereShort};
 ghost use Rattle.suite.specs.Pool.{HasPool};
-ghost use Rattle.suite.specs.Unwindings.{ForGoal, IsUnwindingOf};
+ghost use Rattle.suite.specs.Unwindings.{ForFormula, ForGoal, IsFormulaOver, IsUnwindingOf};
 
 use crate::decided::Decided;
 use crate::pool::{LATER, Pool, first_count, first_edges, values_of};
@@ -37,9 +33,9 @@ fn made_input(
 ) -> Result<Input, Memory>
     requires predicates { IsPredicates graph.now predicates.now }
     requires unwound { IsUnwindingOf graph.now predicates.now unwound.now }
-    requires exact { IsSomeAnd (slice_get graph.now.functions unwound.now.entry) (λ f. (plan : OnePlan) × ((g : GoalForm) × IsExact graph.now predicates.now f unwound.now.bounds unwound.now.ends plan g formula.now)) }
+    requires exact { IsFormulaOver graph.now predicates.now unwound.now formula.now }
     requires model { IsModel formula.now.formula model.now }
-    ensures { IfOk result (λ input. (f : OneFunction) (plan : OnePlan) (g : GoalForm) → slice_get graph.now.functions unwound.now.entry ≡ Some f → IsExact graph.now predicates.now f unwound.now.bounds unwound.now.ends plan g formula.now → IsMadeFor graph.now f predicates.now plan unwound.now.bounds unwound.now.ends g input) }
+    ensures { IfOk result (λ input. ForFormula graph.now predicates.now unwound.now formula.now (λ f plan g. IsMadeFor graph.now f predicates.now plan unwound.now.bounds unwound.now.ends g input)) }
 {
     graph.well_formed();
     let function = &graph.functions()[unwound.entry as usize];
@@ -63,9 +59,9 @@ fn searched(
 ) -> Result<Decided, Memory>
     requires predicates { IsPredicates graph.now predicates.now }
     requires unwound { IsUnwindingOf graph.now predicates.now unwound.now }
-    requires exact { IsSomeAnd (slice_get graph.now.functions unwound.now.entry) (λ f. (plan : OnePlan) × ((g : GoalForm) × IsExact graph.now predicates.now f unwound.now.bounds unwound.now.ends plan g formula)) }
+    requires exact { IsFormulaOver graph.now predicates.now unwound.now formula }
     requires small { formula.formula.variables ≤ 2 ^ 30 }
-    ensures { IfOk result (λ decided. (f : OneFunction) (plan : OnePlan) (g : GoalForm) → slice_get graph.now.functions unwound.now.entry ≡ Some f → IsExact graph.now predicates.now f unwound.now.bounds unwound.now.ends plan g formula → IsDecided graph.now f predicates.now plan unwound.now.bounds unwound.now.ends g budget decided) }
+    ensures { IfOk result (λ decided. ForFormula graph.now predicates.now unwound.now formula (λ f plan g. IsDecided graph.now f predicates.now plan unwound.now.bounds unwound.now.ends g budget decided)) }
 {
     match search(alloc, &formula.formula, budget)? {
         Found::Model(model) => {

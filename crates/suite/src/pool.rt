@@ -5,14 +5,10 @@ ghost use Rattle.c_values.specs.declared.kinds.Kind.{Kind as OneKind};
 ghost use Rattle.candidates.specs.Within.{AreEdgesWithin};
 ghost use Rattle.cfa.specs.Predicates.{IsPredicates};
 ghost use Rattle.cfa.specs.declared.parts.Function.{Function as OneFunction};
-ghost use Rattle.cfa.specs.declared.parts.GraphParts.{GraphParts};
 ghost use Rattle.cfa.specs.declared.state.Predicates.{Predicates as SomePredicates};
-ghost use Rattle.goals.specs.GoalForm.{GoalForm};
-ghost use Rattle.goals.specs.declared.plan.Plan.{Plan as OnePlan};
 ghost use Rattle.path_runner.specs.Counted.{counts_end};
 ghost use Rattle.reached.specs.declared.bounds.Bounds.{Bounds as RunBounds};
-ghost use Rattle.suite.specs.Made.{IsMadeFor};
-ghost use Rattle.suite.specs.Pool.{HasPool, IsPool};
+ghost use Rattle.suite.specs.Pool.{HasPool, IsForGoal, IsPool};
 ghost use Rattle.suite.specs.Unwindings.{IsUnwindingOf};
 
 use c_meaning::Input;
@@ -111,7 +107,7 @@ impl Pool {
     /// The first input of the pool that hits a goal.
     pub(crate) fn first(&self, alloc: Global, goal: u32) -> Result<Option<Input>, Memory>
         requires { 0 < goal }
-        ensures { IfOk result (λ found. IfSome found (λ input. (parts : GraphParts) (f : OneFunction) (p : SomePredicates) (plan : OnePlan) (bounds : RunBounds) (ends : OneEnds) (g : GoalForm) → IsPool parts f p plan bounds ends self.now → slice_get plan.goals (goal - 1) ≡ Some g → IsMadeFor parts f p plan bounds ends g input)) }
+        ensures { IfOk result (λ found. IfSome found (IsForGoal self.now goal)) }
     {
         let Some(number) = self.measurer.first(goal) else {
             return Ok(None);
