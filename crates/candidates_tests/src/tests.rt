@@ -57,7 +57,11 @@ fn each_number_has_an_input(rt: HostRuntime) -> Result<(), Fail> {
         let row = Candidates::new(rt.alloc(), &graph, 0)?;
         for number in [0, 1, 2, 7, 4_999, 50_000, u64::MAX] {
             let input = input(rt.alloc(), &row, 3, 256, number)?;
-            assert_eq!(rt; (input.words.len(), input.answers.len()), (3, answers), "{number}");
+            assert_eq!(rt;
+                (input.words.len(), input.answers.len()),
+                (3, answers),
+                "{number}"
+            );
         }
     }
     Ok(())
@@ -68,7 +72,8 @@ fn is_there(alloc: Global, source: &str, words: &[u64], most: u64) -> Result<boo
     let graph = automaton_of(alloc, source)?;
     let row = Candidates::new(alloc, &graph, 0)?;
     for number in 0..most {
-        if input(alloc, &row, words.len(), 16, number)?.words.as_slice() == words {
+        let input = input(alloc, &row, words.len(), 16, number)?;
+        if input.words.as_slice() == words {
             return Ok(true);
         }
     }
