@@ -6,10 +6,11 @@ ghost use Rattle.candidates.specs.Row.{IsCandidate};
 
 use crate::constants::constants_of;
 use crate::mixing::drawn;
+use crate::progressions::{Progression, progressions_of};
 use crate::values::values_of;
 use c_meaning::Input;
 use c_values::{Kind, convert};
-use cfa::Graph;
+use cfa::{Graph, Operation};
 use containers::Vector;
 use fq_core::Memory;
 use std::alloc::Global;
@@ -17,12 +18,23 @@ use std::alloc::Global;
 /// A row of inputs of a function.
 ///
 /// Of eight numbers the first has an input whose words and answers are all one of the values, the second one where they rise
-/// from a value or go through the values, the third to the fifth one of a grid of small numbers, and the others, and those
-/// past the end of these, one whose words and answers are drawn: values, small numbers, sums of two values, or any numbers.
+/// from a value or go through the values, and past the end of these both have one where one of them is of a progression. The
+/// third to the fifth have one of a grid of small numbers, or of the same numbers times a power of ten. The others, and those
+/// past the end of the grids, have one whose words and answers are drawn: values, small numbers, sums of two values, or any
+/// numbers.
 #[derive(Drop)]
 pub struct Candidates {
     values: Vec<u64>,
+    progressions: Vec<Progression>,
+    /// Whether an edge of the graph reads an answer.
+    reads_answers: bool,
 }
+
+/// Of how many constants sums, products and progressions are made, two by two.
+const PAIRED: usize = 12;
+
+/// What the numbers of the small grid are multiplied by, one after another.
+const POWERS: [u64; 4] = [1, 10, 100, 1000];
 
 /// A grid of small numbers: how many there are in each direction, and how many inputs that makes.
 #[derive(Clone, Copy)]
@@ -31,7 +43,7 @@ struct Grid {
     count: u64,
 }
 
-/// The grids that come first, for inputs of so many words and answers.
+/// The grids that come first, once for each power of ten, for inputs of so many words and answers.
 fn small_grid(slots: u64) -> Grid
     ensures { 0 < result.side }
 {
@@ -40,8 +52,14 @@ fn small_grid(slots: u64) -> Grid
             side: 64,
             count: 64,
         },
-        2 => Grid { side: 8, count: 64 },
-        3 => Grid { side: 4, count: 64 },
+        2 => Grid {
+            side: 10,
+            count: 100,
+        },
+        3 => Grid {
+            side: 6,
+            count: 216,
+        },
         _ => Grid { side: 3, count: 81 },
     }
 }
@@ -83,6 +101,14 @@ fn digit(index: u64, slot: u64, side: u64) -> u64
     }
 }
 
+/// Whether an edge of a graph reads an answer.
+fn reads_answers(graph: &Graph) -> bool {
+    graph
+        .edges()
+        .iter()
+        .any(|edge| matches!(&edge.operation, Operation::Answer { .. }))
+}
+
 impl Candidates {
     /// The row for a function of a graph, by its number.
     ///
@@ -91,8 +117,11 @@ impl Candidates {
     /// Want of memory alone.
     pub fn new(alloc: Global, graph: &Graph, function: u32) -> Result<Candidates, Memory> {
         let constants = constants_of(alloc, graph, function)?;
+        let first = &constants[..constants.len().min(PAIRED)];
         Ok(Candidates {
-            values: values_of(alloc, &constants)?,
+            values: values_of(alloc, &constants, first)?,
+            progressions: progressions_of(alloc, first)?,
+            reads_answers: reads_answers(graph),
         })
     }
 
@@ -131,15 +160,29 @@ impl Candidates {
     /// A word of a grid, or one that is drawn where the grids are at their end.
     fn grid_word(&self, number: u64, index: u64, slot: u64, slots: u64) -> u64 {
         let small = small_grid(slots);
-        if index < small.count {
-            return digit(index, slot, small.side);
+        let mut behind = index;
+        for power in &POWERS {
+            if behind < small.count {
+                return digit(behind, slot, small.side).wrapping_mul(*power);
+            }
+            behind -= small.count;
         }
         let large = large_grid(slots);
-        let behind = index - small.count;
         if behind < large.count {
             return digit(behind, slot, large.side);
         }
         self.drawn_word(number, slot)
+    }
+
+    /// A word of an input in which one place, each in turn, has the next number of a progression, each in turn too; or one that
+    /// is drawn.
+    fn progression_word(&self, number: u64, index: u64, slot: u64, slots: u64) -> u64 {
+        let count = self.progressions.len() as u64;
+        if count == 0 || slots == 0 || index % slots != slot {
+            return self.drawn_word(number, slot);
+        }
+        let turn = index / slots;
+        self.progressions[(turn % count) as usize].at(turn / count)
     }
 
     /// The word for a place of the input of a number: the places are those of the parameters, and then those of the answers.
@@ -148,8 +191,10 @@ impl Candidates {
         let count = self.values.len() as u64;
         match number % 8 {
             0 if index < count => self.value(index),
+            0 => self.progression_word(number, 2 * (index - count), slot, slots),
             1 if index < count => self.value(index).wrapping_add(slot),
             1 if index - count < count => self.value(index.wrapping_add(slot)),
+            1 => self.progression_word(number, 2 * (index - count - count) + 1, slot, slots),
             2 => self.grid_word(number, 3 * index, slot, slots),
             3 => self.grid_word(number, 3 * index + 1, slot, slots),
             4 => self.grid_word(number, 3 * index + 2, slot, slots),
@@ -157,7 +202,7 @@ impl Candidates {
         }
     }
 
-    /// The input of a number, for parameters of these kinds and with so many answers.
+    /// The input of a number, for parameters of these kinds and with so many answers, or with none where no edge of the graph reads one.
     ///
     /// # Errors
     ///
@@ -172,6 +217,7 @@ impl Candidates {
         requires { All IsKind kinds.now }
         ensures { IfOk result (λ input. IsCandidate kinds.now answers input) }
     {
+        let answers = if self.reads_answers { answers } else { 0 };
         let slots = kinds.len() as u64 + answers as u64;
         let words = self.words(alloc, kinds, number, slots)?;
         let answers = self.answers(alloc, kinds.len() as u64, answers, number, slots)?;

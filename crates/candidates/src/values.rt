@@ -32,9 +32,6 @@ const COMMON: [u64; 26] = [
     0xffff_ffff_ffff_fffe,
 ];
 
-/// Of how many constants sums and products are made, two by two.
-const PAIRED: usize = 12;
-
 /// Adds a value that isn't there.
 fn add(values: &mut Vec<u64>, value: u64) -> Result<(), Memory> {
     if !values.contains(&value) {
@@ -60,15 +57,17 @@ fn add_pairs(values: &mut Vec<u64>, constant: u64, others: &[u64]) -> Result<(),
 }
 
 /// The values of a row: common ones, the constants with their neighbours, and sums and products of two of the first
-/// constants. Each stands there once.
-pub(crate) fn values_of(alloc: Global, constants: &[u64]) -> Result<Vec<u64>, Memory> {
+/// constants, which are given apart. Each stands there once.
+pub(crate) fn values_of(
+    alloc: Global,
+    constants: &[u64],
+    first: &[u64],
+) -> Result<Vec<u64>, Memory> {
     let mut values = Vec::new(alloc);
     for value in &COMMON {
         add(&mut values, *value)?;
     }
     add_constants(&mut values, constants)?;
-    let count = constants.len().min(PAIRED);
-    let first = &constants[..count];
     for constant in first {
         add_pairs(&mut values, *constant, first)?;
     }

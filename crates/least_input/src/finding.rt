@@ -11,9 +11,9 @@ ghost use Rattle.goals.specs.GoalForm.{GoalForm};
 ghost use Rattle.goals.specs.declared.plan.Plan.{Plan as OnePlan};
 ghost use Rattle.reached.specs.declared.bounds.Bounds.{Bounds as SomeBounds};
 ghost use Rattle.search.specs.Nexts.{IsModel};
-ghost use Rattle.unwinder.specs.Unwinding.{IsUnwound};
 ghost use Rattle.least_input.specs.Answers.{IsAnswered, IsOpenWhereShort};
 ghost use Rattle.least_input.specs.Parts.{IsFor};
+ghost use Rattle.suite.specs.Unwindings.{ForGoal, IsUnwindingOf};
 
 use crate::input::numbers_of;
 use crate::least::Least;
@@ -118,11 +118,11 @@ pub fn find_least(
     budget: u64,
 ) -> Result<Least, Fault>
     requires predicates { IsPredicates graph.now predicates.now }
-    requires unwound { IsSomeAnd (slice_get graph.now.functions unwound.old.entry) (λ f. IsUnwound graph.now predicates.now f unwound.old.entry unwound.old.bounds unwound.old.ends unwound.old) }
+    requires unwound { IsUnwindingOf graph.now predicates.now unwound.old }
     requires some { 0 < goal }
     requires there { goal ≤ length plan.now.goals }
-    ensures answered { IfOk result (λ least. (f : OneFunction) (g : GoalForm) → slice_get graph.now.functions unwound.old.entry ≡ Some f → slice_get plan.now.goals (goal - 1) ≡ Some g → IsAnswered graph.now f predicates.now plan.now unwound.old.bounds unwound.old.ends g budget least) }
-    ensures enough { IfOk result (λ least. (f : OneFunction) (g : GoalForm) → slice_get graph.now.functions unwound.old.entry ≡ Some f → slice_get plan.now.goals (goal - 1) ≡ Some g → IsOpenWhereShort graph.now f predicates.now plan.now unwound.old.bounds g budget least) }
+    ensures answered { IfOk result (λ least. ForGoal graph.now plan.now unwound.old goal (λ f g. IsAnswered graph.now f predicates.now plan.now unwound.old.bounds unwound.old.ends g budget least)) }
+    ensures enough { IfOk result (λ least. ForGoal graph.now plan.now unwound.old goal (λ f g. IsOpenWhereShort graph.now f predicates.now plan.now unwound.old.bounds g budget least)) }
     ensures size { IfOk result (λ _. (g : GoalForm) → slice_get plan.now.goals (goal - 1) ≡ Some g → goal_size plan.now g unwound.old.pairs ≤ 8388608) }
     ensures refused { IfErr result (λ fault. (g : GoalForm) → slice_get plan.now.goals (goal - 1) ≡ Some g → IsFormulaFault (goal_size plan.now g unwound.old.pairs) fault) }
     ensures unwound { unwound.new ≡ unwound.old }

@@ -5,3 +5,4 @@ pub mod Marks
 pub mod Pool
 pub mod Progress
 pub mod Suite
+pub mod Unwindings

@@ -1,5 +1,5 @@
 -- What the inputs of a pool are. No public clause needs it.
-use Rattle.std.specs.Prelude.{ℕ, List, slice_get}
+use Rattle.std.specs.Prelude.{◌≡◌, ℕ, ◌-◌, List, Some, slice_get}
 use Rattle.std.specs.List.{AllZip}
 use Rattle.std.specs.Option.{IsSomeAnd}
 use Rattle.c_meaning.specs.Runs.{Run}
@@ -8,13 +8,14 @@ use Rattle.c_meaning.specs.declared.input.Input.{Input}
 use Rattle.cfa.specs.declared.parts.Function.{Function}
 use Rattle.cfa.specs.declared.parts.GraphParts.{GraphParts}
 use Rattle.cfa.specs.declared.state.Predicates.{Predicates}
+use Rattle.goals.specs.GoalForm.{GoalForm}
 use Rattle.goals.specs.declared.plan.Plan.{Plan}
 use Rattle.hits.specs.Hits.{AreHits}
-use Rattle.measurer.specs.Measurers.{IsMadeFor, hits_of}
+use Rattle.measurer.specs.Measurers.{IsMadeFor as MeasuresFor, hits_of}
 use Rattle.path_runner.specs.Paths.{record_of}
 use Rattle.reached.specs.declared.bounds.Bounds.{Bounds}
 use Rattle.unwinder.specs.declared.unwound.Unwound.{Unwound}
-use Rattle.suite.specs.Made.{IsMade}
+use Rattle.suite.specs.Made.{IsMade, IsMadeFor}
 use Rattle.suite.specs.declared.pool.Pool.{Pool}
 
 module _ (parts : GraphParts) (f : Function) (p : Predicates) (plan : Plan) (bounds : Bounds) (ends : Ends) where
@@ -27,9 +28,15 @@ module _ (parts : GraphParts) (f : Function) (p : Predicates) (plan : Plan) (bou
 
   -- each input of the pool was made, and has the hits of its run
   pub record IsPool (pool : Pool) : Type 0 where
-    pub measures : IsMadeFor plan pool.measurer
+    pub measures : MeasuresFor plan pool.measurer
     pub inputs : AllZip IsPooled pool.inputs (hits_of pool.measurer)
 
 -- it is the pool of the function of an unwinding
 abbrev pub HasPool : GraphParts → Predicates → Plan → Unwound → Pool → Type 0
 HasPool parts p plan u pool = IsSomeAnd (slice_get parts.functions u.entry) (λ f. IsPool parts f p plan u.bounds u.ends pool)
+
+-- an input was made for the goal of a number, of whatever plan the pool is one
+abbrev pub IsForGoal : Pool → ℕ → Input → Type 0
+IsForGoal pool goal input =
+    (parts : GraphParts) (f : Function) (p : Predicates) (plan : Plan) (bounds : Bounds) (ends : Ends) (g : GoalForm) →
+    IsPool parts f p plan bounds ends pool → slice_get plan.goals (goal - 1) ≡ Some g → IsMadeFor parts f p plan bounds ends g input

@@ -1,16 +1,12 @@
 // A goal decided: its formula is searched.
 ghost use Rattle.std.specs.Prelude.{◌≡◌, ◌-◌, ◌<◌, ◌≤◌, ◌^◌, IfErr, IfOk, IfSome, OnOk, Some, length, slice_get};
-ghost use Rattle.std.specs.Option.{IsSomeAnd};
 ghost use Rattle.cfa.specs.Predicates.{IsPredicates};
-ghost use Rattle.cfa.specs.declared.parts.Function.{Function as OneFunction};
-ghost use Rattle.goal_formula.specs.Exact.{IsExact};
 ghost use Rattle.goal_formula.specs.Sizes.{IsFormulaFault, goal_size};
 ghost use Rattle.goals.specs.GoalForm.{GoalForm};
-ghost use Rattle.goals.specs.declared.plan.Plan.{Plan as OnePlan};
 ghost use Rattle.search.specs.Nexts.{IsModel};
 ghost use Rattle.suite.specs.Made.{IsDecided, IsMadeFor, IsOpenWhereShort};
 ghost use Rattle.suite.specs.Pool.{HasPool};
-ghost use Rattle.unwinder.specs.Unwinding.{IsUnwound};
+ghost use Rattle.suite.specs.Unwindings.{ForFormula, ForGoal, IsFormulaOver, IsUnwindingOf};
 
 use crate::decided::Decided;
 use crate::pool::{LATER, Pool, first_count, first_edges, values_of};
@@ -36,10 +32,10 @@ fn made_input(
     model: &[bool],
 ) -> Result<Input, Memory>
     requires predicates { IsPredicates graph.now predicates.now }
-    requires unwound { IsSomeAnd (slice_get graph.now.functions unwound.now.entry) (λ f. IsUnwound graph.now predicates.now f unwound.now.entry unwound.now.bounds unwound.now.ends unwound.now) }
-    requires exact { IsSomeAnd (slice_get graph.now.functions unwound.now.entry) (λ f. (plan : OnePlan) × ((g : GoalForm) × IsExact graph.now predicates.now f unwound.now.bounds unwound.now.ends plan g formula.now)) }
+    requires unwound { IsUnwindingOf graph.now predicates.now unwound.now }
+    requires exact { IsFormulaOver graph.now predicates.now unwound.now formula.now }
     requires model { IsModel formula.now.formula model.now }
-    ensures { IfOk result (λ input. (f : OneFunction) (plan : OnePlan) (g : GoalForm) → slice_get graph.now.functions unwound.now.entry ≡ Some f → IsExact graph.now predicates.now f unwound.now.bounds unwound.now.ends plan g formula.now → IsMadeFor graph.now f predicates.now plan unwound.now.bounds unwound.now.ends g input) }
+    ensures { IfOk result (λ input. ForFormula graph.now predicates.now unwound.now formula.now (λ f plan g. IsMadeFor graph.now f predicates.now plan unwound.now.bounds unwound.now.ends g input)) }
 {
     graph.well_formed();
     let function = &graph.functions()[unwound.entry as usize];
@@ -62,10 +58,10 @@ fn searched(
     budget: u64,
 ) -> Result<Decided, Memory>
     requires predicates { IsPredicates graph.now predicates.now }
-    requires unwound { IsSomeAnd (slice_get graph.now.functions unwound.now.entry) (λ f. IsUnwound graph.now predicates.now f unwound.now.entry unwound.now.bounds unwound.now.ends unwound.now) }
-    requires exact { IsSomeAnd (slice_get graph.now.functions unwound.now.entry) (λ f. (plan : OnePlan) × ((g : GoalForm) × IsExact graph.now predicates.now f unwound.now.bounds unwound.now.ends plan g formula)) }
+    requires unwound { IsUnwindingOf graph.now predicates.now unwound.now }
+    requires exact { IsFormulaOver graph.now predicates.now unwound.now formula }
     requires small { formula.formula.variables ≤ 2 ^ 30 }
-    ensures { IfOk result (λ decided. (f : OneFunction) (plan : OnePlan) (g : GoalForm) → slice_get graph.now.functions unwound.now.entry ≡ Some f → IsExact graph.now predicates.now f unwound.now.bounds unwound.now.ends plan g formula → IsDecided graph.now f predicates.now plan unwound.now.bounds unwound.now.ends g budget decided) }
+    ensures { IfOk result (λ decided. ForFormula graph.now predicates.now unwound.now formula (λ f plan g. IsDecided graph.now f predicates.now plan unwound.now.bounds unwound.now.ends g budget decided)) }
 {
     match search(alloc, &formula.formula, budget)? {
         Found::Model(model) => {
@@ -94,11 +90,11 @@ fn sought(
     budget: u64,
 ) -> Result<Decided, Fault>
     requires predicates { IsPredicates graph.now predicates.now }
-    requires unwound { IsSomeAnd (slice_get graph.now.functions unwound.old.entry) (λ f. IsUnwound graph.now predicates.now f unwound.old.entry unwound.old.bounds unwound.old.ends unwound.old) }
+    requires unwound { IsUnwindingOf graph.now predicates.now unwound.old }
     requires some { 0 < goal }
     requires there { goal ≤ length plan.now.goals }
-    ensures decided { IfOk result (λ decided. (f : OneFunction) (g : GoalForm) → slice_get graph.now.functions unwound.old.entry ≡ Some f → slice_get plan.now.goals (goal - 1) ≡ Some g → IsDecided graph.now f predicates.now plan.now unwound.old.bounds unwound.old.ends g budget decided) }
-    ensures enough { IfOk result (λ decided. (f : OneFunction) (g : GoalForm) → slice_get graph.now.functions unwound.old.entry ≡ Some f → slice_get plan.now.goals (goal - 1) ≡ Some g → IsOpenWhereShort graph.now f predicates.now plan.now unwound.old.bounds g budget decided) }
+    ensures decided { IfOk result (λ decided. ForGoal graph.now plan.now unwound.old goal (λ f g. IsDecided graph.now f predicates.now plan.now unwound.old.bounds unwound.old.ends g budget decided)) }
+    ensures enough { IfOk result (λ decided. ForGoal graph.now plan.now unwound.old goal (λ f g. IsOpenWhereShort graph.now f predicates.now plan.now unwound.old.bounds g budget decided)) }
     ensures size { IfOk result (λ _. (g : GoalForm) → slice_get plan.now.goals (goal - 1) ≡ Some g → goal_size plan.now g unwound.old.pairs ≤ 8388608) }
     ensures refused { IfErr result (λ fault. (g : GoalForm) → slice_get plan.now.goals (goal - 1) ≡ Some g → IsFormulaFault (goal_size plan.now g unwound.old.pairs) fault) }
     ensures unwound { unwound.new ≡ unwound.old }
@@ -121,12 +117,12 @@ fn searched_goal(
     budget: u64,
 ) -> Result<Decided, Memory>
     requires predicates { IsPredicates graph.now predicates.now }
-    requires unwound { IsSomeAnd (slice_get graph.now.functions unwound.old.entry) (λ f. IsUnwound graph.now predicates.now f unwound.old.entry unwound.old.bounds unwound.old.ends unwound.old) }
+    requires unwound { IsUnwindingOf graph.now predicates.now unwound.old }
     requires some { 0 < goal }
     requires there { goal ≤ length plan.now.goals }
     requires small { (g : GoalForm) → slice_get plan.now.goals (goal - 1) ≡ Some g → goal_size plan.now g unwound.old.pairs ≤ 8388608 }
-    ensures decided { IfOk result (λ decided. (f : OneFunction) (g : GoalForm) → slice_get graph.now.functions unwound.old.entry ≡ Some f → slice_get plan.now.goals (goal - 1) ≡ Some g → IsDecided graph.now f predicates.now plan.now unwound.old.bounds unwound.old.ends g budget decided) }
-    ensures enough { IfOk result (λ decided. (f : OneFunction) (g : GoalForm) → slice_get graph.now.functions unwound.old.entry ≡ Some f → slice_get plan.now.goals (goal - 1) ≡ Some g → IsOpenWhereShort graph.now f predicates.now plan.now unwound.old.bounds g budget decided) }
+    ensures decided { IfOk result (λ decided. ForGoal graph.now plan.now unwound.old goal (λ f g. IsDecided graph.now f predicates.now plan.now unwound.old.bounds unwound.old.ends g budget decided)) }
+    ensures enough { IfOk result (λ decided. ForGoal graph.now plan.now unwound.old goal (λ f g. IsOpenWhereShort graph.now f predicates.now plan.now unwound.old.bounds g budget decided)) }
     ensures unwound { unwound.new ≡ unwound.old }
 {
     match sought(alloc, graph, predicates, unwound, plan, goal, budget) {
@@ -148,10 +144,10 @@ fn later_found(
     pool: &mut Pool,
 ) -> Result<Option<Input>, Memory>
     requires predicates { IsPredicates graph.now predicates.now }
-    requires unwound { IsSomeAnd (slice_get graph.now.functions unwound.now.entry) (λ f. IsUnwound graph.now predicates.now f unwound.now.entry unwound.now.bounds unwound.now.ends unwound.now) }
+    requires unwound { IsUnwindingOf graph.now predicates.now unwound.now }
     requires some { 0 < goal }
     requires pool { HasPool graph.now predicates.now plan.now unwound.now pool.old }
-    ensures found { IfOk result (λ found. IfSome found (λ input. (f : OneFunction) (g : GoalForm) → slice_get graph.now.functions unwound.now.entry ≡ Some f → slice_get plan.now.goals (goal - 1) ≡ Some g → IsMadeFor graph.now f predicates.now plan.now unwound.now.bounds unwound.now.ends g input)) }
+    ensures found { IfOk result (λ found. IfSome found (λ input. ForGoal graph.now plan.now unwound.now goal (λ f g. IsMadeFor graph.now f predicates.now plan.now unwound.now.bounds unwound.now.ends g input))) }
     ensures pool { OnOk result (HasPool graph.now predicates.now plan.now unwound.now pool.new) }
 {
     let count = first_count(budget).saturating_mul(LATER);
@@ -173,13 +169,13 @@ pub(crate) fn decide_beside(
     pool: &mut Pool,
 ) -> Result<Decided, Memory>
     requires predicates { IsPredicates graph.now predicates.now }
-    requires unwound { IsSomeAnd (slice_get graph.now.functions unwound.old.entry) (λ f. IsUnwound graph.now predicates.now f unwound.old.entry unwound.old.bounds unwound.old.ends unwound.old) }
+    requires unwound { IsUnwindingOf graph.now predicates.now unwound.old }
     requires some { 0 < goal }
     requires there { goal ≤ length plan.now.goals }
     requires small { (g : GoalForm) → slice_get plan.now.goals (goal - 1) ≡ Some g → goal_size plan.now g unwound.old.pairs ≤ 8388608 }
     requires pool { HasPool graph.now predicates.now plan.now unwound.old pool.old }
-    ensures decided { IfOk result (λ decided. (f : OneFunction) (g : GoalForm) → slice_get graph.now.functions unwound.old.entry ≡ Some f → slice_get plan.now.goals (goal - 1) ≡ Some g → IsDecided graph.now f predicates.now plan.now unwound.old.bounds unwound.old.ends g budget decided) }
-    ensures enough { IfOk result (λ decided. (f : OneFunction) (g : GoalForm) → slice_get graph.now.functions unwound.old.entry ≡ Some f → slice_get plan.now.goals (goal - 1) ≡ Some g → IsOpenWhereShort graph.now f predicates.now plan.now unwound.old.bounds g budget decided) }
+    ensures decided { IfOk result (λ decided. ForGoal graph.now plan.now unwound.old goal (λ f g. IsDecided graph.now f predicates.now plan.now unwound.old.bounds unwound.old.ends g budget decided)) }
+    ensures enough { IfOk result (λ decided. ForGoal graph.now plan.now unwound.old goal (λ f g. IsOpenWhereShort graph.now f predicates.now plan.now unwound.old.bounds g budget decided)) }
     ensures pool { OnOk result (HasPool graph.now predicates.now plan.now unwound.old pool.new) }
     ensures unwound { unwound.new ≡ unwound.old }
 {
@@ -206,7 +202,7 @@ pub(crate) fn first_pool(
     budget: u64,
 ) -> Result<Pool, Memory>
     requires predicates { IsPredicates graph.now predicates.now }
-    requires unwound { IsSomeAnd (slice_get graph.now.functions unwound.now.entry) (λ f. IsUnwound graph.now predicates.now f unwound.now.entry unwound.now.bounds unwound.now.ends unwound.now) }
+    requires unwound { IsUnwindingOf graph.now predicates.now unwound.now }
     ensures { IfOk result (λ pool. HasPool graph.now predicates.now plan.now unwound.now pool) }
 {
     let mut pool = Pool::new(alloc, graph, plan, unwound.entry)?;
@@ -241,11 +237,11 @@ pub fn decide(
     budget: u64,
 ) -> Result<Decided, Fault>
     requires predicates { IsPredicates graph.now predicates.now }
-    requires unwound { IsSomeAnd (slice_get graph.now.functions unwound.old.entry) (λ f. IsUnwound graph.now predicates.now f unwound.old.entry unwound.old.bounds unwound.old.ends unwound.old) }
+    requires unwound { IsUnwindingOf graph.now predicates.now unwound.old }
     requires some { 0 < goal }
     requires there { goal ≤ length plan.now.goals }
-    ensures decided { IfOk result (λ decided. (f : OneFunction) (g : GoalForm) → slice_get graph.now.functions unwound.old.entry ≡ Some f → slice_get plan.now.goals (goal - 1) ≡ Some g → IsDecided graph.now f predicates.now plan.now unwound.old.bounds unwound.old.ends g budget decided) }
-    ensures enough { IfOk result (λ decided. (f : OneFunction) (g : GoalForm) → slice_get graph.now.functions unwound.old.entry ≡ Some f → slice_get plan.now.goals (goal - 1) ≡ Some g → IsOpenWhereShort graph.now f predicates.now plan.now unwound.old.bounds g budget decided) }
+    ensures decided { IfOk result (λ decided. ForGoal graph.now plan.now unwound.old goal (λ f g. IsDecided graph.now f predicates.now plan.now unwound.old.bounds unwound.old.ends g budget decided)) }
+    ensures enough { IfOk result (λ decided. ForGoal graph.now plan.now unwound.old goal (λ f g. IsOpenWhereShort graph.now f predicates.now plan.now unwound.old.bounds g budget decided)) }
     ensures size { IfOk result (λ _. (g : GoalForm) → slice_get plan.now.goals (goal - 1) ≡ Some g → goal_size plan.now g unwound.old.pairs ≤ 8388608) }
     ensures refused { IfErr result (λ fault. (g : GoalForm) → slice_get plan.now.goals (goal - 1) ≡ Some g → IsFormulaFault (goal_size plan.now g unwound.old.pairs) fault) }
     ensures unwound { unwound.new ≡ unwound.old }

@@ -12,7 +12,7 @@ ghost use Rattle.suite.specs.Generated.{AreAnswered, IsGenerateFault, IsGenerate
 ghost use Rattle.suite.specs.Made.{FallsShort, IsMadeFor};
 ghost use Rattle.suite.specs.Pool.{HasPool};
 ghost use Rattle.suite.specs.Progress.{AddsInput, AllAnswered, AnswersMore, AreSmall, IsNext, IsSizeFault, Tried, so_far};
-ghost use Rattle.unwinder.specs.Unwinding.{IsUnwound};
+ghost use Rattle.suite.specs.Unwindings.{ForGoal, IsUnwindingOf};
 
 use crate::decided::Decided;
 use crate::deciding::{decide_beside, first_pool};
@@ -57,7 +57,7 @@ fn add_input(
     making: &mut Making,
 ) -> Result<(), Memory>
     requires predicates { IsPredicates graph.now predicates.now }
-    requires unwound { IsSomeAnd (slice_get graph.now.functions unwound.now.entry) (λ f. IsUnwound graph.now predicates.now f unwound.now.entry unwound.now.bounds unwound.now.ends unwound.now) }
+    requires unwound { IsUnwindingOf graph.now predicates.now unwound.now }
     requires input { IsSomeAnd (slice_get graph.now.functions unwound.now.entry) (λ f. (goal : GoalForm) × IsMadeFor graph.now f predicates.now plan.now unwound.now.bounds unwound.now.ends goal input) }
     requires plan { MeasuresFor plan.now making.old.measurer }
     ensures plan { MeasuresFor plan.now making.new.measurer }
@@ -85,7 +85,7 @@ fn tried<W: Watch>(
     goal: u32,
 ) -> Result<Answer, Memory>
     requires predicates { IsPredicates graph.now predicates.now }
-    requires unwound { IsSomeAnd (slice_get graph.now.functions unwound.old.entry) (λ f. IsUnwound graph.now predicates.now f unwound.old.entry unwound.old.bounds unwound.old.ends unwound.old) }
+    requires unwound { IsUnwindingOf graph.now predicates.now unwound.old }
     requires some { 0 < goal }
     requires there { goal ≤ length plan.now.goals }
     requires small { AreSmall plan.now unwound.old.pairs }
@@ -94,7 +94,7 @@ fn tried<W: Watch>(
     ensures unwound { unwound.new ≡ unwound.old }
     ensures plan { MeasuresFor plan.now making.new.measurer }
     ensures pool { OnOk result (HasPool graph.now predicates.now plan.now unwound.old making.new.pool) }
-    ensures tried { IfOk result (λ answer. (f : OneFunction) (g : GoalForm) → slice_get graph.now.functions unwound.old.entry ≡ Some f → slice_get plan.now.goals (goal - 1) ≡ Some g → Tried graph.now f predicates.now plan.now unwound.old.bounds unwound.old.ends budget goal g (so_far making.old) (so_far making.new) (W.seen watch.old) (W.seen watch.new) answer) }
+    ensures tried { IfOk result (λ answer. ForGoal graph.now plan.now unwound.old goal (λ f g. Tried graph.now f predicates.now plan.now unwound.old.bounds unwound.old.ends budget goal g (so_far making.old) (so_far making.new) (W.seen watch.old) (W.seen watch.new) answer)) }
 {
     let pool = &mut making.pool;
     match decide_beside(alloc, graph, predicates, unwound, plan, goal, budget, pool)? {
@@ -132,7 +132,7 @@ fn next_answer<W: Watch>(
     goal: u32,
 ) -> Result<Answer, Memory>
     requires predicates { IsPredicates graph.now predicates.now }
-    requires unwound { IsSomeAnd (slice_get graph.now.functions unwound.old.entry) (λ f. IsUnwound graph.now predicates.now f unwound.old.entry unwound.old.bounds unwound.old.ends unwound.old) }
+    requires unwound { IsUnwindingOf graph.now predicates.now unwound.old }
     requires some { 0 < goal }
     requires there { goal ≤ length plan.now.goals }
     requires small { AreSmall plan.now unwound.old.pairs }
@@ -141,7 +141,7 @@ fn next_answer<W: Watch>(
     ensures unwound { unwound.new ≡ unwound.old }
     ensures plan { MeasuresFor plan.now making.new.measurer }
     ensures pool { OnOk result (HasPool graph.now predicates.now plan.now unwound.old making.new.pool) }
-    ensures next { IfOk result (λ answer. (f : OneFunction) (g : GoalForm) → slice_get graph.now.functions unwound.old.entry ≡ Some f → slice_get plan.now.goals (goal - 1) ≡ Some g → IsNext graph.now f predicates.now plan.now unwound.old.bounds unwound.old.ends budget goal g (so_far making.old) (so_far making.new) (W.seen watch.old) (W.seen watch.new) answer) }
+    ensures next { IfOk result (λ answer. ForGoal graph.now plan.now unwound.old goal (λ f g. IsNext graph.now f predicates.now plan.now unwound.old.bounds unwound.old.ends budget goal g (so_far making.old) (so_far making.new) (W.seen watch.old) (W.seen watch.new) answer)) }
 {
     match making.measurer.first(goal) {
         Some(input) => Ok(Answer::Covered { input }),
@@ -163,7 +163,7 @@ fn answer_next<W: Watch>(
     making: &mut Making,
 ) -> Result<(), Memory>
     requires predicates { IsPredicates graph.now predicates.now }
-    requires unwound { IsSomeAnd (slice_get graph.now.functions unwound.old.entry) (λ f. IsUnwound graph.now predicates.now f unwound.old.entry unwound.old.bounds unwound.old.ends unwound.old) }
+    requires unwound { IsUnwindingOf graph.now predicates.now unwound.old }
     requires few { length plan.now.goals < 2 ^ 32 }
     requires open { length making.old.answers < length plan.now.goals }
     requires small { AreSmall plan.now unwound.old.pairs }
@@ -213,7 +213,7 @@ fn all_answered<W: Watch>(
     watch: &mut W,
 ) -> Result<Generated, Memory>
     requires predicates { IsPredicates graph.now predicates.now }
-    requires unwound { IsSomeAnd (slice_get graph.now.functions unwound.old.entry) (λ f. IsUnwound graph.now predicates.now f unwound.old.entry unwound.old.bounds unwound.old.ends unwound.old) }
+    requires unwound { IsUnwindingOf graph.now predicates.now unwound.old }
     requires few { length plan.now.goals < 2 ^ 32 }
     requires small { AreSmall plan.now unwound.old.pairs }
     ensures count { IfOk result (λ made. length made.answers ≡ length plan.now.goals) }

@@ -1,20 +1,15 @@
 // Inputs that are run beside the search.
 ghost use Rattle.std.specs.Prelude.{◌≡◌, ◌-◌, ◌<◌, ◌≤◌, ℕ, IfOk, IfSome, IsTrue, OnOk, Some, length, map, slice_get};
-ghost use Rattle.std.specs.Option.{IsSomeAnd};
 ghost use Rattle.c_meaning.specs.declared.ends.Ends.{Ends as OneEnds};
 ghost use Rattle.c_values.specs.declared.kinds.Kind.{Kind as OneKind};
 ghost use Rattle.candidates.specs.Within.{AreEdgesWithin};
 ghost use Rattle.cfa.specs.Predicates.{IsPredicates};
 ghost use Rattle.cfa.specs.declared.parts.Function.{Function as OneFunction};
-ghost use Rattle.cfa.specs.declared.parts.GraphParts.{GraphParts};
 ghost use Rattle.cfa.specs.declared.state.Predicates.{Predicates as SomePredicates};
-ghost use Rattle.goals.specs.GoalForm.{GoalForm};
-ghost use Rattle.goals.specs.declared.plan.Plan.{Plan as OnePlan};
 ghost use Rattle.path_runner.specs.Counted.{counts_end};
 ghost use Rattle.reached.specs.declared.bounds.Bounds.{Bounds as RunBounds};
-ghost use Rattle.suite.specs.Made.{IsMadeFor};
-ghost use Rattle.suite.specs.Pool.{HasPool, IsPool};
-ghost use Rattle.unwinder.specs.Unwinding.{IsUnwound};
+ghost use Rattle.suite.specs.Pool.{HasPool, IsForGoal, IsPool};
+ghost use Rattle.suite.specs.Unwindings.{IsUnwindingOf};
 
 use c_meaning::Input;
 use c_values::Kind;
@@ -46,9 +41,9 @@ pub(crate) fn first_count(budget: u64) -> u64 {
     budget / 1000
 }
 
-/// How many edges their runs may take: two for five moves.
+/// How many edges their runs may take: one for ten moves.
 pub(crate) fn first_edges(budget: u64) -> u64 {
-    budget / 5 * 2
+    budget / 10
 }
 
 /// How many times as many candidates, and edges, are tried before a goal stays undecided.
@@ -112,7 +107,7 @@ impl Pool {
     /// The first input of the pool that hits a goal.
     pub(crate) fn first(&self, alloc: Global, goal: u32) -> Result<Option<Input>, Memory>
         requires { 0 < goal }
-        ensures { IfOk result (λ found. IfSome found (λ input. (parts : GraphParts) (f : OneFunction) (p : SomePredicates) (plan : OnePlan) (bounds : RunBounds) (ends : OneEnds) (g : GoalForm) → IsPool parts f p plan bounds ends self.now → slice_get plan.goals (goal - 1) ≡ Some g → IsMadeFor parts f p plan bounds ends g input)) }
+        ensures { IfOk result (λ found. IfSome found (IsForGoal self.now goal)) }
     {
         let Some(number) = self.measurer.first(goal) else {
             return Ok(None);
@@ -134,7 +129,7 @@ impl Pool {
         unwound: &Unwound,
     ) -> Result<(), Memory>
         requires predicates { IsPredicates graph.now predicates.now }
-        requires unwound { IsSomeAnd (slice_get graph.now.functions unwound.now.entry) (λ f. IsUnwound graph.now predicates.now f unwound.now.entry unwound.now.bounds unwound.now.ends unwound.now) }
+        requires unwound { IsUnwindingOf graph.now predicates.now unwound.now }
         requires pool { HasPool graph.now predicates.now plan.now unwound.now self.old }
         ensures { OnOk result (HasPool graph.now predicates.now plan.now unwound.now self.new) }
     {
@@ -171,7 +166,7 @@ impl Pool {
         edges: u64,
     ) -> Result<(), Memory>
         requires predicates { IsPredicates graph.now predicates.now }
-        requires unwound { IsSomeAnd (slice_get graph.now.functions unwound.now.entry) (λ f. IsUnwound graph.now predicates.now f unwound.now.entry unwound.now.bounds unwound.now.ends unwound.now) }
+        requires unwound { IsUnwindingOf graph.now predicates.now unwound.now }
         requires pool { HasPool graph.now predicates.now plan.now unwound.now self.old }
         ensures { OnOk result (HasPool graph.now predicates.now plan.now unwound.now self.new) }
     {

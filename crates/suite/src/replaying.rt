@@ -7,7 +7,7 @@ ghost use Rattle.cfa.specs.Predicates.{IsPredicates};
 ghost use Rattle.cfa.specs.declared.parts.Function.{Function as OneFunction};
 ghost use Rattle.path_runner.specs.Paths.{record_of};
 ghost use Rattle.suite.specs.Made.{HasRunWithin};
-ghost use Rattle.unwinder.specs.Unwinding.{IsUnwound};
+ghost use Rattle.suite.specs.Unwindings.{IsUnwindingOf};
 
 use c_meaning::Input;
 use cfa::{Graph, Predicates};
@@ -30,7 +30,7 @@ pub fn replay(
     input: &Input,
 ) -> Result<PathRecord, Memory>
     requires predicates { IsPredicates graph.now predicates.now }
-    requires unwound { IsSomeAnd (slice_get graph.now.functions unwound.now.entry) (λ f. IsUnwound graph.now predicates.now f unwound.now.entry unwound.now.bounds unwound.now.ends unwound.now) }
+    requires unwound { IsUnwindingOf graph.now predicates.now unwound.now }
     requires input { IsSomeAnd (slice_get graph.now.functions unwound.now.entry) (λ f. HasRunWithin graph.now f unwound.now.bounds unwound.now.ends input.now) }
     ensures { IfOk result (λ path. (f : OneFunction) (run : Run) → slice_get graph.now.functions unwound.now.entry ≡ Some f → IsRun graph.now f input.now unwound.now.ends run → path ≡ record_of graph.now input.now predicates.now run) }
 {
