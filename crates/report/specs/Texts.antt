@@ -65,6 +65,10 @@ abbrev pub input_lines : Option Kind → ℕ → List RunEnd → List ℕ
 input_lines kind number [] = []
 input_lines kind number (run_end ∷ ends) = input_line kind number run_end ++ input_lines kind (number + 1) ends
 
+-- how the runs of inputs from this entry end
+abbrev pub inputs_text : GraphParts → ℕ → List RunEnd → List ℕ
+inputs_text graph entry ends = input_lines (result_kind graph entry) 1 ends
+
 abbrev pub run_line : Option Kind → ℕ → RunEnd → List ℕ → List ℕ
 run_line kind number run_end edges =
     codes "input " ++ decimal number ++ codes " " ++ end_text kind run_end ++ codes " edges" ++ spaced edges ++ codes "\n"

@@ -1,11 +1,12 @@
-// The texts of goals and of runs.
+// The texts of goals, of runs and of ends.
 ghost use Rattle.std.specs.Prelude.{◌≡◌, ◌+◌, ◌++◌, IfOk, OnOk, codes, length};
 ghost use Rattle.std.specs.Fmt.{decimal};
 ghost use Rattle.report.specs.Letters.{word_text};
-ghost use Rattle.report.specs.Texts.{goals_text, listed_lines, run_line, run_lines, runs_text};
+ghost use Rattle.report.specs.Texts.{goals_text, inputs_text, listed_lines, run_line, run_lines, runs_text};
 
 use crate::ends::{push_end, result_kind};
 use crate::letters::push_word;
+use crate::lines::push_inputs;
 use crate::numbers::{push_number, push_spaced};
 use c_values::Kind;
 use cfa::Graph;
@@ -97,5 +98,19 @@ pub fn runs_text(
 {
     let mut text = Vec::new(alloc);
     push_runs(&mut text, result_kind(graph, entry), runs)?;
+    Ok(text)
+}
+
+/// How the runs of inputs to the function of this number end: a line for each.
+pub fn inputs_text(
+    alloc: Global,
+    graph: &Graph,
+    entry: u32,
+    ends: &[RunEnd],
+) -> Result<Vec<u8>, Memory>
+    ensures { IfOk result (λ text. text.items ≡ inputs_text graph.now entry ends.now) }
+{
+    let mut text = Vec::new(alloc);
+    push_inputs(&mut text, result_kind(graph, entry), ends)?;
     Ok(text)
 }

@@ -5,7 +5,7 @@ use fq_core::Fault;
 use fql_read::read_query;
 use goals::{Answer, Plan, plan_of};
 use path_runner::{Ends, RunEnd};
-use report::{goals_text, measured_json, measured_text, runs_text};
+use report::{goals_text, inputs_text, measured_json, measured_text, runs_text};
 use std::alloc::{AllocError, Global};
 use std::test::Fail;
 use test_programs::{graph_of, graph_of_texts, text_of};
@@ -185,6 +185,36 @@ fn runs(rt: HostRuntime) -> Result<(), Fail> {
 input 2 returned 1 edges 0 2
 input 3 returned -2147483648 edges
 input 4 cut edges 1
+"
+            .as_slice()
+    );
+    Ok(())
+}
+
+// The third value is -2147483648.
+#[test]
+fn ends_of_inputs(rt: HostRuntime) -> Result<(), Fail> {
+    let alloc = rt.alloc();
+    let Ok(graph) = graph_of(alloc, b"a.c", RETURNS) else {
+        return Err(Fail::from("no graph"));
+    };
+    let ends = [
+        returned(0),
+        RunEnd::Trapped(Trap::Index),
+        returned(18446744071562067968),
+        RunEnd::TooDeep,
+        RunEnd::Cut,
+    ];
+    let Ok(text) = inputs_text(alloc, &graph, 0, &ends) else {
+        return Err(Fail::from("no text"));
+    };
+    assert_eq!(rt;
+        text.as_slice(),
+        b"input 1 returned 0
+input 2 trapped index
+input 3 returned -2147483648
+input 4 too-deep
+input 5 cut
 "
             .as_slice()
     );
