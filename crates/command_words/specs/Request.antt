@@ -106,6 +106,8 @@ pub data Asked : Type 0 where
   least : Proving → Asked
   traces : Tracing → Asked
   replay : Replaying → Asked
+  -- for the ends of runs by the meaning of the trees, the steps being turns
+  trees : Running → Asked
   -- of these sources
   graph : List Text → Asked
   -- of this size
@@ -155,6 +157,7 @@ asked (request.Bounds m) = suffice (sufficing m)
 asked (request.Least m) = least (proving m)
 asked (request.Traces m) = traces (tracing m)
 asked (request.Replay m) = replay (replaying m)
+asked (request.Trees m) = trees (running m)
 asked (request.Graph sources) = graph (texts_at sources.items)
 asked (request.Sample size) = sample size
 
@@ -269,6 +272,10 @@ abbrev pub replayed : List Text → Option Ends → Option Bool → Option Asked
 replayed (entry ∷ query ∷ file ∷ source ∷ sources) (Some ends) (Some json) = Some (replay record { entry = entry; query = query; traces = file; sources = source ∷ sources; ends = ends; json = json })
 replayed _ _ _ = None
 
+abbrev pub run_on_trees : List Text → Option ℕ → Option Asked
+run_on_trees (entry ∷ inputs ∷ source ∷ sources) (Some steps) = Some (trees record { entry = entry; inputs = inputs; sources = source ∷ sources; steps = steps })
+run_on_trees _ _ = None
+
 abbrev pub printed : List Text → Option Asked
 printed (source ∷ sources) = Some (graph (source ∷ sources))
 printed _ = None
@@ -312,6 +319,9 @@ traces_of uses = traced (positionals_of uses) (steps_of uses) (ends_of uses)
 abbrev pub replay_of : List Use → Option Asked
 replay_of uses = replayed (positionals_of uses) (ends_of uses) (json_of uses)
 
+abbrev pub trees_of : List Use → Option Asked
+trees_of uses = run_on_trees (positionals_of uses) (steps_of uses)
+
 abbrev pub graph_of : List Use → Option Asked
 graph_of uses = printed (positionals_of uses)
 
@@ -336,5 +346,6 @@ request_of (name ∷ words) =
     (if bytes_eq name (codes "least") then asked_by least_of (Turns ∷ Frames ∷ Answers ∷ ends_option ∷ Budget ∷ []) words else
     (if bytes_eq name (codes "traces") then asked_by traces_of (Steps ∷ ends_option ∷ []) words else
     (if bytes_eq name (codes "replay") then asked_by replay_of (ends_option ∷ Json ∷ []) words else
+    (if bytes_eq name (codes "trees") then asked_by trees_of (Steps ∷ []) words else
     (if bytes_eq name (codes "graph") then asked_by graph_of [] words else
-    (if bytes_eq name (codes "sample") then asked_by sample_of [] words else None)))))))))))
+    (if bytes_eq name (codes "sample") then asked_by sample_of [] words else None))))))))))))

@@ -123,6 +123,12 @@ fn show(alloc: Global, request: &Request) -> Result<String, Fail> {
                 m.json
             )?
         }
+        Request::Trees(m) => {
+            format!(in alloc;
+                "trees {} {} {:?} {}",
+                m.entry, m.inputs, m.sources, m.steps
+            )?
+        }
         Request::Graph(sources) => format!(in alloc; "graph {:?}", sources)?,
         Request::Sample(size) => format!(in alloc; "sample {size}")?,
     };
@@ -139,7 +145,7 @@ fn answer(alloc: Global, line: &str) -> Result<String, Fail> {
 }
 
 // What lines ask for.
-static ASKED: [(&str, &str); 38] = [
+static ASKED: [(&str, &str); 40] = [
     (
         "measure f q in a.c",
         "measure f q in [\"a.c\"] 100000 returned false",
@@ -236,6 +242,11 @@ static ASKED: [(&str, &str); 38] = [
         "replay --json f q t a.c --ends any",
         "replay f q t [\"a.c\"] any true",
     ),
+    ("trees f in a.c", "trees f in [\"a.c\"] 100000"),
+    (
+        "trees --steps 7 f in a.c b.c",
+        "trees f in [\"a.c\", \"b.c\"] 7",
+    ),
     ("graph a.c", "graph [\"a.c\"]"),
     ("graph a.c b.c a.c", "graph [\"a.c\", \"b.c\", \"a.c\"]"),
     ("graph _ -- --json -", "graph [\"\", \"--json\", \"-\"]"),
@@ -247,7 +258,7 @@ static ASKED: [(&str, &str); 38] = [
 ];
 
 // Lines that ask for nothing.
-static REFUSED: [&str; 74] = [
+static REFUSED: [&str; 77] = [
     "measure f q in a.c --ends",
     "measure f q in a.c --ends blocked",
     "measure f q in a.c --ends Returned",
@@ -311,7 +322,10 @@ static REFUSED: [&str; 74] = [
     "traces f in a.c --json",
     "replay f q t",
     "replay f q t a.c --steps 7",
-    "trees f in a.c",
+    "trees f in",
+    "trees f in a.c --ends any",
+    "trees f in a.c --json",
+    "trees f in a.c --steps 0",
     "graph",
     "graph --",
     "graph a.c --json",
