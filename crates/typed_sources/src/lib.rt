@@ -1,0 +1,12 @@
+//! The typed tree of C sources.
+//!
+//! It stands on `c_lex` for tokens, on `c_parse` for the unit that they are and on `c_types` for its types, and on what
+//! `c_front` calls a unit of texts. The layers above use the contract of [`typed_of_texts`], which answers the typed tree of
+//! its texts exactly where they have one and otherwise refuses them for the cause that `specs/Trees.antt` says, and the law
+//! of [`laws`]: texts have one outcome. Start at sources.rt.
+#![tactic(auto)]
+
+pub mod laws;
+mod sources;
+
+pub use sources::typed_of_texts;
