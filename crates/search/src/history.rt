@@ -4,7 +4,7 @@ ghost use Rattle.search.specs.Steps.{jump_count, move_of, moves_of};
 
 use crate::moves::{History, Move, Step};
 use cnf::DerivationLine;
-use containers::Vector;
+use containers::{Boxed, Vector};
 use std::alloc::{AllocError, Global};
 
 // The move of a step that isn't a jump.
@@ -19,18 +19,27 @@ fn plain_move(step: &Step) -> Option<Move>
 }
 
 // Takes the last step away, with its line where it is a jump.
-fn last_move(steps: &mut Vec<Step>, lines: &mut Vector<DerivationLine>) -> Option<Move>
+fn last_move(
+    alloc: Global,
+    steps: &mut Vec<Step>,
+    lines: &mut Vector<DerivationLine>,
+) -> Result<Option<Move>, AllocError>
     requires { jump_count steps.old.items ≡ length lines.old }
-    ensures none { IfNone result ((steps.old.items ≡ []) × (lines.new ≡ lines.old)) }
-    ensures some { IfSome result (λ last. (jump_count steps.new.items ≡ length lines.new) × (moves_of steps.old.items lines.old ≡ moves_of steps.new.items lines.new ++ last ∷ []) × (length steps.new.items + 1 ≡ length steps.old.items)) }
+    ensures none { IfOk result (λ last. IfNone last ((steps.old.items ≡ []) × (lines.new ≡ lines.old))) }
+    ensures some { IfOk result (λ last. IfSome last (λ move. (jump_count steps.new.items ≡ length lines.new) × (moves_of steps.old.items lines.old ≡ moves_of steps.new.items lines.new ++ move ∷ []) × (length steps.new.items + 1 ≡ length steps.old.items))) }
 {
-    let step = steps.pop()?;
+    let Some(step) = steps.pop() else {
+        return Ok(None);
+    };
     match step {
         Step::Jump { cut } => match lines.pop() {
-            Some(line) => Some(Move::Jump { line, cut }),
+            Some(line) => {
+                let line = Boxed::new(alloc, line)?;
+                Ok(Some(Move::Jump { line, cut }))
+            }
             None => unreachable!(),
         },
-        _ => plain_move(&step),
+        _ => Ok(plain_move(&step)),
     }
 }
 
@@ -45,8 +54,8 @@ pub(crate) fn history_of(
 {
     let mut steps = steps;
     let mut lines = lines;
-    let mut moves = Vec::new(alloc);
-    while let Some(last) = last_move(&mut steps, &mut lines) {
+    let mut moves = Vec::with_capacity(alloc, steps.len())?;
+    while let Some(last) = last_move(alloc, &mut steps, &mut lines)? {
         moves.push(last)?;
     }
     moves.reverse();

@@ -1,6 +1,6 @@
 // The moves of the search machine.
 use cnf::DerivationLine;
-use containers::{TryClone, Vector};
+use containers::{Boxed, TryClone, Vector};
 use std::alloc::{AllocError, Global};
 
 /// A move of the search machine, which keeps a trail of literals, each decided or implied by a clause, and learned
@@ -8,12 +8,19 @@ use std::alloc::{AllocError, Global};
 #[derive(Drop)]
 pub enum Move {
     /// The one open literal of a clause, all others of which are false, is put on the trail as implied by the clause.
-    Propagate { clause: u32 },
+    Propagate {
+        clause: u32,
+    },
     /// An open literal is put on the trail as decided.
-    Decide { literal: i32 },
+    Decide {
+        literal: i32,
+    },
     /// A clause is false, and one that follows from it is learned. The trail is cut before one of its decided
     /// literals, by its place from 0, and the learned clause's one open literal is put on it.
-    Jump { line: DerivationLine, cut: u32 },
+    Jump {
+        line: Boxed<DerivationLine>,
+        cut: u32,
+    },
 }
 
 /// What a search keeps of a move while it runs: the line that a jump learned stands among the learned ones.
