@@ -16,24 +16,26 @@ use Rattle.goals.specs.GoalForm.{GoalForm}
 use Rattle.cfa.specs.declared.state.Predicates.{Predicates}
 use Rattle.goals.specs.declared.plan.Plan.{Plan}
 use Rattle.trace_file.specs.declared.trace.Trace.{Trace}
+use Rattle.typed_trees.specs.declared.unit.Typed.{Typed}
 use Rattle.command_words.specs.Reading.{Text}
 use Rattle.command_words.specs.Request.{Checking, Measuring, Replaying, Running, Tracing}
 use Rattle.command.specs.Certificates as certificates
 use Rattle.command.specs.Certificates.{AreCertificateOf}
 use Rattle.command.specs.Checking.{IsChecked, IsDueOfCheck}
-use Rattle.command.specs.Due.{IsDueOfMeasure, IsDueOfReplay, IsDueOfRuns, IsDueOfTraces}
+use Rattle.command.specs.Due.{IsDueOfMeasure, IsDueOfReplay, IsDueOfRuns, IsDueOfTraces, IsDueOfTrees}
 use Rattle.command.specs.Inputs.{AreRefused, at_read, at_form}
 use Rattle.command.specs.Inputs as inputs
 use Rattle.command.specs.Measured.{IsMeasured}
+use Rattle.command.specs.OnTrees.{ended}
 use Rattle.command.specs.Reads.{Reads, Sees}
 use Rattle.command.specs.Recorded.{recorded}
 use Rattle.fq_core.specs.Refusals.{IfRefused}
 use Rattle.command.specs.Refusal.{said_by}
 use Rattle.command.specs.Runs.{EntryFunction, entry_of}
 use Rattle.command.specs.Said.{Said}
-use Rattle.command.specs.Sources.{HaveAutomaton, IsReadUpTo}
+use Rattle.command.specs.Sources.{HaveAutomaton, HaveTrees, IsReadUpTo}
 use Rattle.command.specs.Sources as sources
-use Rattle.command.specs.Stages.{OfCertificate, OfEntry, OfGoal, OfInputs, OfQuery, OfSources, OfTraces, no_such_entry, no_such_goal, nowhere}
+use Rattle.command.specs.Stages.{OfCertificate, OfEntry, OfGoal, OfInputs, OfQuery, OfSources, OfTraces, OfTrees, no_such_entry, no_such_goal, nowhere}
 use Rattle.command.specs.Traces as traces
 use Rattle.command.specs.Traces.{inputs_in, longest}
 use Rattle.command.specs.Tracing.{traced}
@@ -59,6 +61,14 @@ module _ (r : Reads) (names : List Text) (Then : GraphParts → Said → Type 0)
   pub at_graph : (graph : GraphParts) (said : Said) → HaveAutomaton r.holds names graph → Then graph said → OfSources r names Then said
   at_graph graph said have due = inr (inr (graph, have, due))
 
+module _ (r : Reads) (names : List Text) (Then : GraphParts → Typed → Said → Type 0) where
+  pub trees_refused : (x : Refusal) → IsReadUpTo r names x ⊎ sources.AreRefused r.holds names x → OfTrees r names Then (said_by names x)
+  trees_refused x (inl up) = inl (x, up, refl)
+  trees_refused x (inr cause) = inr (inl (x, cause, refl))
+
+  pub at_trees : (graph : GraphParts) (typed : Typed) (said : Said) → HaveTrees r.holds names graph typed → Then graph typed said → OfTrees r names Then said
+  at_trees graph typed said have due = inr (inr (graph, (typed, have, due)))
+
 module _ (r : Reads) (m : Measuring) (graph : GraphParts) where
   pub measure_no_entry : entry_of graph m.entry ≡ None → IsDueOfMeasure r m graph no_such_entry
   measure_no_entry none = rw none refl
@@ -83,6 +93,14 @@ module _ (r : Reads) (m : Tracing) (graph : GraphParts) where
   pub traces_at : (entry : EntryFunction) (said : Said) → entry_of graph m.entry ≡ Some entry
       → OfInputs r m.sources m.inputs (length entry.function.parameters) (λ given x. x ≡ traced graph entry m.ends m.steps given) said → IsDueOfTraces r m graph said
   traces_at entry said some due = rw some due
+
+module _ (r : Reads) (m : Running) (graph : GraphParts) (typed : Typed) where
+  pub trees_no_entry : entry_of graph m.entry ≡ None → IsDueOfTrees r m graph typed no_such_entry
+  trees_no_entry none = rw none refl
+
+  pub trees_at : (entry : EntryFunction) (said : Said) → entry_of graph m.entry ≡ Some entry
+      → OfInputs r m.sources m.inputs (length entry.function.parameters) (λ given x. x ≡ ended graph typed entry m.steps given) said → IsDueOfTrees r m graph typed said
+  trees_at entry said some due = rw some due
 
 module _ (r : Reads) (m : Replaying) (graph : GraphParts) where
   -- the report of the traces of the file
@@ -154,6 +172,13 @@ module _ (holds held : List ℕ → Option (List ℕ)) (last : Option (Option (L
       (λ entry. OfInputs since m.sources m.inputs (length entry.function.parameters) (λ given x. x ≡ traced graph entry m.ends m.steps given))
       (λ entry. OfInputs all m.sources m.inputs (length entry.function.parameters) (λ given x. x ≡ traced graph entry m.ends m.steps given))
       said (λ entry. inputs_since m.sources m.inputs (length entry.function.parameters) (λ given x. x ≡ traced graph entry m.ends m.steps given) said) due
+
+  pub trees_since : (m : Running) (graph : GraphParts) (typed : Typed) (said : Said) → IsDueOfTrees since m graph typed said → IsDueOfTrees all m graph typed said
+  trees_since m graph typed said due =
+      entry_since graph m.entry
+      (λ entry. OfInputs since m.sources m.inputs (length entry.function.parameters) (λ given x. x ≡ ended graph typed entry m.steps given))
+      (λ entry. OfInputs all m.sources m.inputs (length entry.function.parameters) (λ given x. x ≡ ended graph typed entry m.steps given))
+      said (λ entry. inputs_since m.sources m.inputs (length entry.function.parameters) (λ given x. x ≡ ended graph typed entry m.steps given) said) due
 
   module _ (graph : GraphParts) (entry : Function) (ends : Ends) (file : Text) where
     traces_refused_since : (x : Refusal) → traces.AreRefused since graph entry ends file x → traces.AreRefused all graph entry ends file x

@@ -19,3 +19,4 @@ pub mod StageLaws
 pub mod StatusLaws
 pub mod TracesLaws
 pub mod TracingLaws
+pub mod TreesLaws

@@ -12,7 +12,7 @@ use Rattle.command_words.specs.declared.command_option.CommandOption.TheVariants
 use Rattle.command_words.specs.declared.requests.Bounds.{Bounds}
 use Rattle.command_words.specs.Reading.{Text, Use, reading, values}
 use Rattle.command_words.specs.Request as asks
-use Rattle.command_words.specs.Request.{Asked, asked_by, bounds_of, bounds_with, check_of, checked, generate_of, generated, goal_in, goals_of, graph_of, least_of, listed, lowered, measure_of, measured, number_in, number_of, positionals_of, printed, prove_of, proved, replay_of, replayed, request_of, run_with, runs_of, sample_of, sampled, suffice_of, sufficed, traced, traces_of}
+use Rattle.command_words.specs.Request.{Asked, asked_by, bounds_of, bounds_with, check_of, checked, generate_of, generated, goal_in, goals_of, graph_of, least_of, listed, lowered, measure_of, measured, number_in, number_of, positionals_of, printed, prove_of, proved, replay_of, replayed, request_of, run_on_trees, run_with, runs_of, sample_of, sampled, suffice_of, sufficed, traced, traces_of, trees_of}
 use Rattle.command.specs.Ranges.{AreBounds, IsInRange}
 
 -- ---- numbers
@@ -116,6 +116,10 @@ module _ (a : Asked) where
   run_within (entry ∷ inputs ∷ source ∷ sources) (Some n) is = asked_is _ tt is
   run_within words steps is = none_asked is
 
+  trees_within : (words : List Text) (steps : Option ℕ) → run_on_trees words steps ≡ Some a → IsInRange a
+  trees_within (entry ∷ inputs ∷ source ∷ sources) (Some n) is = asked_is _ tt is
+  trees_within words steps is = none_asked is
+
   -- ---- by the name of the command
 
   bounds_ok : (uses : List Use) → IfSome (bounds_of uses) AreBounds
@@ -147,5 +151,6 @@ module _ (a : Asked) where
       (choose (bytes_eq name (codes "least")) _ _ (asked_within least_of (Turns ∷ Frames ∷ Answers ∷ ends_option ∷ Budget ∷ []) words (λ uses. lowered_within _ _ _ _ (bounds_ok uses)))
       (choose (bytes_eq name (codes "traces")) _ _ (asked_within traces_of (Steps ∷ ends_option ∷ []) words (λ uses. traced_within _ _ _))
       (choose (bytes_eq name (codes "replay")) _ _ (asked_within replay_of (ends_option ∷ Json ∷ []) words (λ uses. replayed_within _ _ _))
+      (choose (bytes_eq name (codes "trees")) _ _ (asked_within trees_of (Steps ∷ []) words (λ uses. trees_within _ _))
       (choose (bytes_eq name (codes "graph")) _ _ (asked_within graph_of [] words (λ uses. printed_within (positionals_of uses)))
-      (choose (bytes_eq name (codes "sample")) _ _ (asked_within sample_of [] words (λ uses. sampled_within (positionals_of uses))) none_asked))))))))))) is
+      (choose (bytes_eq name (codes "sample")) _ _ (asked_within sample_of [] words (λ uses. sampled_within (positionals_of uses))) none_asked)))))))))))) is

@@ -37,6 +37,7 @@ use Rattle.bounds_check.specs.declared.suffice.Suffice.TheVariants as suffice
 use Rattle.least_input.specs.declared.least.Least.{Least}
 use Rattle.least_input.specs.declared.least.Least.TheVariants as least
 use Rattle.trace_file.specs.declared.trace.Trace.{Trace}
+use Rattle.typed_trees.specs.declared.unit.Typed.{Typed}
 use Rattle.typing_faults.specs.Laws.{IsOneOf}
 use Rattle.unwinder.specs.Unwinding.{IsUnwindFault}
 use Rattle.command_words.specs.Reading.{Text}
@@ -46,11 +47,12 @@ use Rattle.command.specs.Asked.{sample_file}
 use Rattle.command.specs.Certificates as certificates
 use Rattle.command.specs.Checking.{IsChecked, IsCompared, IsDueOfCheck, said_of_verdict}
 use Rattle.command.specs.Codes.{RefusalsHaveTheirCodes, certificate_codes, input_codes, query_codes, trace_codes, unread_codes}
-use Rattle.command.specs.Due.{IsDueOf, IsDueOfGoals, IsDueOfGraph, IsDueOfMeasure, IsDueOfReplay, IsDueOfRuns, IsDueOfTraces}
+use Rattle.command.specs.Due.{IsDueOf, IsDueOfGoals, IsDueOfGraph, IsDueOfMeasure, IsDueOfReplay, IsDueOfRuns, IsDueOfTraces, IsDueOfTrees}
 use Rattle.command.specs.Generating.{IsDueOfGenerate, IsGeneration, generated_report}
 use Rattle.command.specs.Inputs as inputs
 use Rattle.command.specs.Lowering.{IsDueOfLeast, IsLowered, said_of_least}
 use Rattle.command.specs.Measured.{IsMeasured}
+use Rattle.command.specs.OnTrees.{ended}
 use Rattle.command.specs.OneGoal.{IsGoalRefused}
 use Rattle.command.specs.Proving.{IsDueOfProve, IsProved, IsSaidOf}
 use Rattle.command.specs.Queries as queries
@@ -62,7 +64,7 @@ use Rattle.command.specs.Runs.{EntryFunction, entry_of, no_predicates, runs_of}
 use Rattle.command.specs.Said.{Said, answered}
 use Rattle.command.specs.Sampling.{IsSampled, default_bounds, default_budget, sample_source}
 use Rattle.command.specs.Sources.{AreRefused, IsReadUpTo}
-use Rattle.command.specs.Stages.{OfCertificate, OfEntry, OfGoal, OfInputs, OfQuery, OfSources, OfTexts, OfTraces, Says, no_such_entry, no_such_goal}
+use Rattle.command.specs.Stages.{OfCertificate, OfEntry, OfGoal, OfInputs, OfQuery, OfSources, OfTexts, OfTraces, OfTrees, Says, no_such_entry, no_such_goal}
 use Rattle.command.specs.Sufficing.{IsAskedOfBounds, IsDueOfBounds, said_of_bounds}
 use Rattle.command.specs.Traces as traces
 use Rattle.command.specs.Traces.{inputs_in, longest}
@@ -146,6 +148,12 @@ module _ (law : RefusedByTheseCodes) where
   of_sources r sources Then each said (inl says) = says_coded sources (IsReadUpTo r sources) said (λ x h. unread_coded x.code (told.unread r sources x h)) says
   of_sources r sources Then each said (inr (inl says)) = says_coded sources (AreRefused r.holds sources) said (λ x h. text_coded x.code (told.sources r sources x h)) says
   of_sources r sources Then each said (inr (inr made)) = each made.0 said made.2
+
+  of_trees : (r : Reads) (sources : List Text) (Then : GraphParts → Typed → Said → Type 0) → ((graph : GraphParts) (typed : Typed) (said : Said) → Then graph typed said → HasStatus said)
+      → (said : Said) → OfTrees r sources Then said → HasStatus said
+  of_trees r sources Then each said (inl says) = says_coded sources (IsReadUpTo r sources) said (λ x h. unread_coded x.code (told.unread r sources x h)) says
+  of_trees r sources Then each said (inr (inl says)) = says_coded sources (AreRefused r.holds sources) said (λ x h. text_coded x.code (told.sources r sources x h)) says
+  of_trees r sources Then each said (inr (inr made)) = each made.0 made.1.0 said made.1.2
 
   of_texts : (sources : List Text) (texts : List SourceText) (Then : GraphParts → Said → Type 0) → ((graph : GraphParts) (said : Said) → Then graph said → HasStatus said)
       → (said : Said) → OfTexts sources texts Then said → HasStatus said
@@ -318,6 +326,11 @@ module _ (law : RefusedByTheseCodes) (r : Reads) where
       of_traces law r m.sources graph entry.function m.ends m.traces p (λ given. IsMeasured graph entry p plan m.ends (longest given) m.json (inputs_in given))
       (λ given said due. answered_done _ said due.2)))
 
+  trees_told : (m : Running) (graph : GraphParts) (typed : Typed) (said : Said) → IsDueOfTrees r m graph typed said → HasStatus said
+  trees_told m graph typed =
+      of_entry law graph m.entry _ (λ entry. of_inputs law r m.sources m.inputs (length entry.function.parameters) (λ given said. said ≡ ended graph typed entry m.steps given)
+      (λ given said is. answered_done _ said is))
+
   sampled_told : (number : ℕ) (graph : GraphParts) (said : Said) → IsSampled number graph said → HasStatus said
   sampled_told number graph =
       of_entry law graph (codes "f") _ (λ entry. of_query law (sample_file ∷ []) graph query_text _ (λ p plan.
@@ -334,6 +347,7 @@ module _ (law : RefusedByTheseCodes) (r : Reads) where
   due_told (asks.least m) said due = of_sources law r m.sources (IsDueOfLeast m) (lowest_told m) said due
   due_told (asks.traces m) said due = of_sources law r m.sources (IsDueOfTraces r m) (traces_told m) said due
   due_told (asks.replay m) said due = of_sources law r m.sources (IsDueOfReplay r m) (replay_told m) said due
+  due_told (asks.trees m) said due = of_trees law r m.sources (IsDueOfTrees r m) (trees_told m) said due
   due_told (asks.graph sources) said due = of_sources law r sources IsDueOfGraph graph_told said due
   due_told (asks.sample number) said due = of_texts law (sample_file ∷ []) (sample_source number ∷ []) (IsSampled number) (sampled_told number) said due
 

@@ -20,5 +20,6 @@ sources_of (suffice m) = m.sources
 sources_of (asks.least m) = m.sources
 sources_of (asks.traces m) = m.sources
 sources_of (asks.replay m) = m.sources
+sources_of (asks.trees m) = m.sources
 sources_of (asks.graph sources) = sources
 sources_of (sample number) = sample_file ∷ []

@@ -3,6 +3,7 @@ use Rattle.std.specs.Prelude.{◌≡◌, List, MatchOption, length}
 use Rattle.cfa.specs.declared.parts.GraphParts.{GraphParts}
 use Rattle.report.specs.GraphText.{graph_text}
 use Rattle.report.specs.Texts.{goals_text}
+use Rattle.typed_trees.specs.declared.unit.Typed.{Typed}
 use Rattle.command_words.specs.Reading.{Text}
 use Rattle.command_words.specs.Request as asks
 use Rattle.command_words.specs.Request.{Asked, measure, generate, goals, runs, prove, check, suffice, sample, Measuring, Listing, Replaying, Running, Tracing, request_of}
@@ -10,12 +11,13 @@ use Rattle.command.specs.Checking.{IsDueOfCheck}
 use Rattle.command.specs.Generating.{IsDueOfGenerate}
 use Rattle.command.specs.Lowering.{IsDueOfLeast}
 use Rattle.command.specs.Measured.{IsMeasured}
+use Rattle.command.specs.OnTrees.{ended}
 use Rattle.command.specs.Proving.{IsDueOfProve}
 use Rattle.command.specs.Reads.{Reads}
 use Rattle.command.specs.Recorded.{recorded}
 use Rattle.command.specs.Said.{Said, answered}
 use Rattle.command.specs.Sampling.{IsDueOfSample}
-use Rattle.command.specs.Stages.{OfEntry, OfInputs, OfQuery, OfSources, OfTraces, usage}
+use Rattle.command.specs.Stages.{OfEntry, OfInputs, OfQuery, OfSources, OfTraces, OfTrees, usage}
 use Rattle.command.specs.Sufficing.{IsDueOfBounds}
 use Rattle.command.specs.Traces.{inputs_in, longest}
 use Rattle.command.specs.Tracing.{traced}
@@ -48,6 +50,11 @@ module _ (r : Reads) where
       OfEntry graph m.entry (λ entry. OfQuery m.sources graph m.query (λ p plan.
       OfTraces r m.sources graph entry.function m.ends m.traces p (λ given. IsMeasured graph entry p plan m.ends (longest given) m.json (inputs_in given)))) said
 
+  -- the ends of runs by the meaning of the sources' typed tree, with as many turns as there are steps
+  abbrev pub IsDueOfTrees : Running → GraphParts → Typed → Said → Type 0
+  IsDueOfTrees m graph typed said =
+      OfEntry graph m.entry (λ entry. OfInputs r m.sources m.inputs (length entry.function.parameters) (λ given said. said ≡ ended graph typed entry m.steps given)) said
+
   -- ---- what is due, by what is asked
 
   abbrev pub IsDueOf : Asked → Said → Type 0
@@ -61,6 +68,7 @@ module _ (r : Reads) where
   IsDueOf (asks.least m) said = OfSources r m.sources (IsDueOfLeast m) said
   IsDueOf (asks.traces m) said = OfSources r m.sources (IsDueOfTraces m) said
   IsDueOf (asks.replay m) said = OfSources r m.sources (IsDueOfReplay m) said
+  IsDueOf (asks.trees m) said = OfTrees r m.sources (IsDueOfTrees m) said
   IsDueOf (asks.graph sources) said = OfSources r sources IsDueOfGraph said
   IsDueOf (sample number) said = IsDueOfSample number said
 

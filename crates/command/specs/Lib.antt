@@ -10,6 +10,7 @@ pub mod Inputs
 pub mod Laws
 pub mod Lowering
 pub mod Measured
+pub mod OnTrees
 pub mod OneGoal
 pub mod Proving
 pub mod Queries

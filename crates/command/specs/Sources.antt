@@ -6,6 +6,8 @@ use Rattle.fq_core.specs.declared.refusal.Refusal.{Refusal}
 use Rattle.c_lex.specs.declared.token.SourceText.{SourceText}
 use Rattle.cfa.specs.declared.parts.GraphParts.{GraphParts}
 use Rattle.c_front.specs.Automata.{IsAutomatonOf, IsRefused}
+use Rattle.typed_sources.specs.Trees.{IsTypedOf}
+use Rattle.typed_trees.specs.declared.unit.Typed.{Typed}
 use Rattle.command.specs.Reads.{HasFailedAt, IsPast, Reads, Sees}
 
 -- ---- one file
@@ -46,6 +48,13 @@ pub record HaveAutomaton (holds : List ℕ → Option (List ℕ)) (files : List 
   pub texts : List SourceText
   pub read : AreRead holds files texts
   pub automaton : IsAutomatonOf texts graph
+
+-- the files are read, and have this automaton and this typed tree
+pub record HaveTrees (holds : List ℕ → Option (List ℕ)) (files : List (List ℕ)) (graph : GraphParts) (typed : Typed) : Type 0 where
+  pub texts : List SourceText
+  pub read : AreRead holds files texts
+  pub automaton : IsAutomatonOf texts graph
+  pub tree : IsTypedOf texts typed
 
 -- the files are read, and are refused
 pub record AreRefused (holds : List ℕ → Option (List ℕ)) (files : List (List ℕ)) (refusal : Refusal) : Type 0 where

@@ -15,6 +15,7 @@ use Rattle.cnf.specs.declared.formula.Formula.{Formula}
 use Rattle.goals.specs.GoalForm.{GoalForm}
 use Rattle.goals.specs.declared.plan.Plan.{Plan}
 use Rattle.trace_file.specs.declared.trace.Trace.{Trace}
+use Rattle.typed_trees.specs.declared.unit.Typed.{Typed}
 use Rattle.command_words.specs.Reading.{Text}
 use Rattle.command.specs.Certificates.{AreCertificateOf}
 use Rattle.command.specs.Certificates as certificates
@@ -26,7 +27,7 @@ use Rattle.command.specs.Reads.{Reads}
 use Rattle.command.specs.Refusal.{said_by}
 use Rattle.command.specs.Runs.{EntryFunction, entry_of}
 use Rattle.command.specs.Said.{Said}
-use Rattle.command.specs.Sources.{AreRefused, HaveAutomaton, IsReadUpTo}
+use Rattle.command.specs.Sources.{AreRefused, HaveAutomaton, HaveTrees, IsReadUpTo}
 use Rattle.command.specs.Traces as traces
 use Rattle.command.specs.Traces.{AreTracesOf}
 
@@ -59,6 +60,14 @@ OfSources r sources Then said =
     Says sources (IsReadUpTo r sources) said
     ⊎ (Says sources (AreRefused r.holds sources) said
     ⊎ ((graph : GraphParts) × HaveAutomaton r.holds sources graph × Then graph said))
+
+-- the sources, where their typed tree is asked for too: one isn't read, they are refused, or they have this automaton and this
+-- typed tree
+abbrev pub OfTrees : Reads → List Text → (GraphParts → Typed → Said → Type 0) → Said → Type 0
+OfTrees r sources Then said =
+    Says sources (IsReadUpTo r sources) said
+    ⊎ (Says sources (AreRefused r.holds sources) said
+    ⊎ ((graph : GraphParts) × ((typed : Typed) × HaveTrees r.holds sources graph typed × Then graph typed said)))
 
 -- sources whose texts are known: they are refused, or they have this automaton
 abbrev pub OfTexts : List Text → List SourceText → (GraphParts → Said → Type 0) → Said → Type 0

@@ -103,6 +103,7 @@ fn sources_of<'a>(request: &'a Request<'a>) -> &'a [&'a str]
         Request::Least(request) => &request.sources,
         Request::Traces(request) => &request.sources,
         Request::Replay(request) => &request.sources,
+        Request::Trees(request) => &request.sources,
         Request::Graph(sources) => sources,
         Request::Sample(_) => &SAMPLE_SOURCES,
     }

@@ -6,11 +6,12 @@
 //! which edges they take, for `graph` the automaton of the sources, for `generate` the report of inputs that were made for
 //! the goals, for `prove` a certificate that no input covers a goal, or what stands in its place, for `check` whether a
 //! certificate refutes a goal, for `bounds` whether an input leaves the bounds, for `least` the least input that covers a goal, for
-//! `traces` a file of inputs with the edges of their runs, for `replay` the report of measuring such a file, for `sample` what is
-//! found of a large program, and else the line of the refusal that is due.
+//! `traces` a file of inputs with the edges of their runs, for `replay` the report of measuring such a file, for `trees` how the
+//! inputs' runs end by the meaning of the sources' trees, for `sample` what is found of a large program, and else the line of the
+//! refusal that is due.
 //!
-//! Each stage has a crate: the words `command_words`, the sources' automaton `c_front`, the query `fql_read`, `predicates`
-//! and `goals`, the inputs `input_text`, the runs `path_runner`, their hits `measurer`, made inputs and reduced suites
+//! Each stage has a crate: the words `command_words`, the sources' automaton `c_front` and their typed tree `typed_sources`, the
+//! query `fql_read`, `predicates` and `goals`, the inputs `input_text`, the runs `path_runner` and `tree_meaning`, their hits `measurer`, made inputs and reduced suites
 //! `suite`, over `unwinder`, `goal_formula` and `search`, certificates `certificate` and `derivation_check`, the program of
 //! `sample` `sample`, the printed texts `report`. Start at [`run`] in command.rt.
 #![tactic(auto)]
@@ -24,6 +25,7 @@ mod inputs;
 pub mod laws;
 mod lowering;
 mod measurement;
+mod on_trees;
 mod planned;
 mod proving;
 mod recorded;

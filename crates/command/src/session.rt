@@ -3,7 +3,7 @@ ghost use Rattle.std.specs.Prelude.{◌≡◌, ◌≤◌, ◌<◌, Some, false, 
 ghost use Rattle.command_words.specs.Request.{asked, checking, generating, listing, measuring, proving, replaying, running, sufficing, texts_at, tracing};
 ghost use Rattle.command.specs.Asked.{sources_of};
 ghost use Rattle.command.specs.Checking.{IsDueOfCheck};
-ghost use Rattle.command.specs.Due.{IsDueOf, IsDueOfGoals, IsDueOfGraph, IsDueOfMeasure, IsDueOfReplay, IsDueOfRuns, IsDueOfTraces};
+ghost use Rattle.command.specs.Due.{IsDueOf, IsDueOfGoals, IsDueOfGraph, IsDueOfMeasure, IsDueOfReplay, IsDueOfRuns, IsDueOfTraces, IsDueOfTrees};
 ghost use Rattle.command.specs.Generating.{IsDueOfGenerate};
 ghost use Rattle.command.specs.Lowering.{IsDueOfLeast};
 ghost use Rattle.command.specs.Proving.{IsDueOfProve};
@@ -13,9 +13,10 @@ ghost use Rattle.fq_core.specs.Refusals.{IfRefused};
 ghost use Rattle.command.specs.Refusal.{said_by};
 ghost use Rattle.command.specs.Replies.{Gives, Tells};
 ghost use Rattle.command.specs.Said.{answered};
-ghost use Rattle.command.specs.Stages.{OfSources};
+ghost use Rattle.command.specs.Stages.{OfSources, OfTrees};
 ghost use Rattle.command.specs.Sufficing.{IsDueOfBounds};
 ghost use Rattle.command.specs.Watched.{watched};
+ghost use Rattle.tree_meaning.specs.Running.{FitUnit};
 
 use crate::checking::check_graph;
 use crate::entry::{Entry, entry_named};
@@ -23,6 +24,7 @@ use crate::generating::generate_graph;
 use crate::inputs::read_inputs;
 use crate::lowering::least_graph;
 use crate::measurement::report;
+use crate::on_trees::end_inputs;
 use crate::planned::plan_query;
 use crate::proving::prove_graph;
 use crate::recorded::list;
@@ -30,7 +32,7 @@ use crate::refusal::nowhere;
 use crate::replaying::replay_graph;
 use crate::reply::Reply;
 use crate::sampling::sample;
-use crate::sources::automaton;
+use crate::sources::{Trees, automaton, read_trees};
 use crate::sufficing::bounds_graph;
 use crate::tracing::trace_inputs;
 use cfa::Graph;
@@ -256,6 +258,38 @@ fn replay<F: Files>(alloc: Global, request: &Replay, files: &mut F) -> Result<Ve
     replay_graph(alloc, request, &graph, files)
 }
 
+// How the inputs' runs end by the meaning of the trees.
+fn ends_on_trees<F: Files>(
+    alloc: Global,
+    request: &Runs,
+    trees: &Trees,
+    files: &mut F,
+) -> Result<Vec<u8>, Fault>
+    requires { FitUnit trees.now.typed }
+    ensures ok { IfOk result (λ text. IsDueOfTrees (reads F.holds F.last_failed F.faults F.received files.old files.new)
+        (running request.now) trees.now.graph trees.now.typed (answered text.items)) }
+    ensures err { IfErr result (λ fault. IfRefused fault (λ refusal.
+        IsDueOfTrees (reads F.holds F.last_failed F.faults F.received files.old files.new)
+        (running request.now) trees.now.graph trees.now.typed (said_by (running request.now).sources refusal))) }
+{
+    let Some(entry) = entry_named(&trees.graph, request.entry.as_bytes()) else {
+        return Err(Fault::Refused(nowhere(36)));
+    };
+    let inputs = read_inputs(alloc, files, request.inputs, parameters(&entry)?)?;
+    let text = end_inputs(alloc, trees, entry.number, request.steps, &inputs)?;
+    Ok(text)
+}
+
+fn run_on_trees<F: Files>(alloc: Global, request: &Runs, files: &mut F) -> Result<Vec<u8>, Fault>
+    ensures ok { IfOk result (λ text. let r = reads F.holds F.last_failed F.faults F.received files.old files.new in
+        OfTrees r (running request.now).sources (IsDueOfTrees r (running request.now)) (answered text.items)) }
+    ensures err { IfErr result (λ fault. IfRefused fault (λ refusal. let r = reads F.holds F.last_failed F.faults F.received files.old files.new in
+        OfTrees r (running request.now).sources (IsDueOfTrees r (running request.now)) (said_by (running request.now).sources refusal))) }
+{
+    let trees = read_trees(alloc, files, &request.sources)?;
+    ends_on_trees(alloc, request, &trees, files)
+}
+
 // The text of the sources' automaton.
 fn graph<F: Files>(alloc: Global, sources: &[&str], files: &mut F) -> Result<Vec<u8>, Fault>
     ensures ok { IfOk result (λ text. OfSources (reads F.holds F.last_failed F.faults F.received files.old files.new)
@@ -303,6 +337,7 @@ pub fn answer<F: Files, W: Watch>(
         Request::Least(request) => least(alloc, request, files, watch),
         Request::Traces(request) => plain(traces(alloc, request, files)),
         Request::Replay(request) => plain(replay(alloc, request, files)),
+        Request::Trees(request) => plain(run_on_trees(alloc, request, files)),
         Request::Graph(sources) => plain(graph(alloc, sources, files)),
         Request::Sample(number) => sample(alloc, *number, watch),
     }

@@ -1,11 +1,15 @@
 // The files that the words name.
-ghost use Rattle.std.specs.Prelude.{◌≡◌, ◌⊎◌, ◌≤◌, ◌<◌, IfOk, IfErr, OnOk, vec_len};
+ghost use Rattle.std.specs.Prelude.{◌≡◌, ◌⊎◌, ◌≤◌, ◌<◌, ◌^◌, IfOk, IfErr, OnOk, length, vec_len};
 ghost use Rattle.fq_core.specs.declared.refusal.Place.TheVariants as place;
+ghost use Rattle.c_front.specs.Automata.{IsAutomatonOf, IsRefused};
+ghost use Rattle.c_lex.specs.Lexed.{AreSmall};
 ghost use Rattle.cfa.specs.Contexts.{IsOnce};
+ghost use Rattle.tree_meaning.specs.Running.{FitUnit};
+ghost use Rattle.typed_sources.specs.Trees.{IsTypedOf};
 ghost use Rattle.command_words.specs.Request.{texts_at};
 ghost use Rattle.command.specs.Reads.{Sees, reads};
 ghost use Rattle.fq_core.specs.Refusals.{IfRefused};
-ghost use Rattle.command.specs.Sources.{AreRead, AreRefused, HaveAutomaton, IsRead, IsReadUpTo, IsUnread, most_source};
+ghost use Rattle.command.specs.Sources.{AreRead, AreRefused, HaveAutomaton, HaveTrees, IsRead, IsReadUpTo, IsUnread, most_source};
 
 use c_front::automaton_of_texts;
 use c_lex::SourceText;
@@ -14,6 +18,8 @@ use containers::Vector;
 use fq_core::{Fault, Name, Place, Refusal};
 use fq_io::{FileFault, Files};
 use std::alloc::Global;
+use typed_sources::typed_of_texts;
+use typed_trees::Typed;
 
 const MOST_SOURCE_BYTES: u64 = 4_194_304;
 
@@ -105,4 +111,44 @@ pub fn automaton<F: Files>(alloc: Global, files: &mut F, names: &[&str]) -> Resu
     }
     let texts = read_sources(alloc, files, names)?;
     automaton_of_texts(alloc, &texts)
+}
+
+/// The automaton of sources, and their typed tree.
+#[derive(Drop)]
+pub struct Trees {
+    pub graph: Graph,
+    pub typed: Typed,
+}
+
+// The automaton of texts, and their typed tree.
+fn trees_of_texts(alloc: Global, texts: &[SourceText]) -> Result<Trees, Fault>
+    requires files { length texts.now < 2 ^ 32 }
+    requires sizes { AreSmall texts.now }
+    ensures graph { IfOk result (λ trees. IsAutomatonOf texts.now trees.graph) }
+    ensures tree { IfOk result (λ trees. IsTypedOf texts.now trees.typed) }
+    ensures fits { IfOk result (λ trees. FitUnit trees.typed) }
+    ensures refused { IfErr result (λ fault. IfRefused fault (λ refusal. IsRefused texts.now refusal.code refusal.place)) }
+{
+    let graph = automaton_of_texts(alloc, texts)?;
+    let typed = typed_of_texts(alloc, texts)?;
+    Ok(Trees { graph, typed })
+}
+
+/// Reads the sources in these files: their automaton, and their typed tree.
+pub fn read_trees<F: Files>(alloc: Global, files: &mut F, names: &[&str]) -> Result<Trees, Fault>
+    ensures accepted { IfOk result (λ trees. HaveTrees (F.holds files.old) (texts_at names.now) trees.graph trees.typed) }
+    ensures fits { IfOk result (λ trees. FitUnit trees.typed) }
+    ensures refused { IfErr result (λ fault. IfRefused fault (λ refusal.
+        IsReadUpTo (reads F.holds F.last_failed F.faults F.received files.old files.new) (texts_at names.now) refusal
+        ⊎ AreRefused (F.holds files.old) (texts_at names.now) refusal)) }
+    ensures same_files { F.holds files.new ≡ F.holds files.old }
+    ensures no_fault { OnOk result (F.faults files.new ≡ F.faults files.old) }
+    ensures received { F.received files.old ≤ F.received files.new }
+{
+    // A source's number has 32 bits.
+    if names.len() > u32::MAX as usize {
+        return Err(Fault::Memory);
+    }
+    let texts = read_sources(alloc, files, names)?;
+    trees_of_texts(alloc, &texts)
 }

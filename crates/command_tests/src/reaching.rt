@@ -1,4 +1,4 @@
-// The commands `bounds`, `least`, `traces` and `replay`.
+// The commands `bounds`, `least`, `traces`, `replay` and `trees`.
 use crate::searching::SOURCES;
 use crate::tests::{A_C, QUERY, TWO_INPUTS, compare, files, words};
 use command::*;
@@ -194,6 +194,74 @@ fn traces_are_replayed(rt: HostRuntime) -> Result<(), Fail> {
 goal 2 missed e1@h.c:3\ngoal 3 missed e2@h.c:4\nsuite 1\ncovered 1 of 3\n",
                 "",
             ),
+        ),
+    ] {
+        compare(&rt, rt.alloc(), words, &held, want)?;
+    }
+    Ok(())
+}
+
+// A call of `f` stands in each activation of `f`, behind that of `g`.
+const R_C: &str =
+    "int f(int n) {\n  if (n <= 0) {\n    return 0;\n  }\n  return 1 + f(n - 1);\n}\nint g(int n) {\n  if (f(n) == 2) {\n    return 1;\n  }\n  return 0;\n}\n";
+
+// The loop takes as many turns as its input.
+const E_C: &str =
+    "int f(int n) {\n  int i = 0;\n  while (i < n) {\n    i = i + 1;\n  }\n  if (i == 3) {\n    return 1;\n  }\n  return 0;\n}\n";
+
+// Each way in which a run ends by the meaning of the trees, and refusals.
+#[test]
+fn ends_on_trees(rt: HostRuntime) -> Result<(), Fail> {
+    let held = [
+        ("e.c", E_C),
+        ("h.c", H_C),
+        ("r.c", R_C),
+        ("wrong.c", "int f(int x) { return y; }\n"),
+        ("three.txt", "3\n"),
+        ("four.txt", "4\n"),
+        ("deep.txt", "2\n62\n63\n"),
+        ("two.txt", "1 2\n"),
+    ];
+    for (words, want) in [
+        (
+            ["trees", "g", "deep.txt", "r.c"].as_slice(),
+            (
+                Status::Done,
+                "input 1 returned 1\ninput 2 returned 0\ninput 3 too-deep\n",
+                "",
+            ),
+        ),
+        (
+            &["trees", "--steps", "3", "f", "three.txt", "e.c"],
+            (Status::Done, "input 1 returned 1\n", ""),
+        ),
+        (
+            &["trees", "--steps", "2", "f", "three.txt", "e.c"],
+            (Status::Done, "input 1 cut\n", ""),
+        ),
+        (
+            &["trees", "f", "four.txt", "h.c"],
+            (Status::Done, "input 1 trapped index\n", ""),
+        ),
+        (
+            &["trees", "g", "four.txt", "h.c"],
+            (Status::SourceRefused, "", "error 36 NoSuchEntry\n"),
+        ),
+        (
+            &["trees", "g", "two.txt", "wrong.c"],
+            (
+                Status::SourceRefused,
+                "",
+                "error 30 Unknown wrong.c:1\n",
+            ),
+        ),
+        (
+            &["trees", "f", "two.txt", "e.c"],
+            (Status::InputRefused, "", "error 51 Shape input 1\n"),
+        ),
+        (
+            &["trees", "f", "none.txt", "e.c"],
+            (Status::ReadFault, "", "error 7 ReadFault none.txt\n"),
         ),
     ] {
         compare(&rt, rt.alloc(), words, &held, want)?;

@@ -33,6 +33,9 @@ use Rattle.report.specs.Texts.{goals_text}
 use Rattle.trace_file.specs.Reading as reading
 use Rattle.trace_file.specs.Form.{form_of}
 use Rattle.trace_file.specs.declared.trace.Trace.{Trace}
+use Rattle.typed_sources.specs.Laws as trees
+use Rattle.typed_sources.specs.Trees.{IsTypedOf}
+use Rattle.typed_trees.specs.declared.unit.Typed.{Typed}
 use Rattle.command_words.specs.Reading.{Text}
 use Rattle.command_words.specs.Request as asks
 use Rattle.command_words.specs.Request.{Asked, measure, generate, goals, runs, prove, check, suffice, sample, Listing, Measuring, Replaying, Running, Tracing, request_of}
@@ -41,6 +44,7 @@ use Rattle.command.specs.Due.{IsDueOf}
 use Rattle.command.specs.Inputs.{AreInputsOf}
 use Rattle.command.specs.Inputs as inputs
 use Rattle.command.specs.Measured.{AreAllHits, IsMeasured, report_of}
+use Rattle.command.specs.OnTrees.{ended}
 use Rattle.command.specs.Queries.{IsPlanned}
 use Rattle.command.specs.Queries as queries
 use Rattle.command.specs.Reads.{Reads, Sees}
@@ -48,8 +52,8 @@ use Rattle.command.specs.Recorded.{recorded}
 use Rattle.command.specs.Refusal.{said_by}
 use Rattle.command.specs.Runs.{EntryFunction, entry_of, runs_of}
 use Rattle.command.specs.Said.{Said, answered}
-use Rattle.command.specs.Sources.{AreRead, AreRefused, HaveAutomaton, IsRead, IsReadUpTo, IsUnread, fails, is_past, most_source}
-use Rattle.command.specs.Stages.{OfEntry, OfInputs, OfQuery, OfSources, OfTraces, Says, no_such_entry, usage}
+use Rattle.command.specs.Sources.{AreRead, AreRefused, HaveAutomaton, HaveTrees, IsRead, IsReadUpTo, IsUnread, fails, is_past, most_source}
+use Rattle.command.specs.Stages.{OfEntry, OfInputs, OfQuery, OfSources, OfTraces, OfTrees, Says, no_such_entry, usage}
 use Rattle.command.specs.Traces as traces
 use Rattle.command.specs.Traces.{AreTracesOf, inputs_in, longest}
 use Rattle.command.specs.Tracing.{traced}
@@ -298,6 +302,30 @@ module _ (r : Reads) (still : Rose r.faults_before r.faults_after → ⊥) where
     one_of_sources Alike tells Then alike x y (inr (inr a)) (inr (inr b)) =
         alike b.0 x y (subst (λ (graph : GraphParts). Then graph x) (one_automaton a.0 b.0 a.1 b.1) a.2) b.2
 
+    -- their typed tree
+    module _ (trees_law : (texts : List SourceText) → trees.HasOneOutcome texts) where
+      with_automaton : (g : GraphParts) (t : Typed) → HaveTrees r.holds files g t → HaveAutomaton r.holds files g
+      with_automaton g t a = record { texts = a.texts; read = a.read; automaton = a.automaton }
+
+      one_tree : (g k : GraphParts) (t u : Typed) → HaveTrees r.holds files g t → HaveTrees r.holds files k u → t ≡ u
+      one_tree g k t u a b =
+          let texts = one_reading files h a.texts b.texts a.read b.read in
+          (trees_law b.texts).one_answer t u (subst (λ (ts : List SourceText). IsTypedOf ts t) texts a.tree) b.tree
+
+      one_of_trees : (Then : GraphParts → Typed → Said → Type 0) → ((graph : GraphParts) (typed : Typed) → AnyTwo IsSame (Then graph typed)) → AnyTwo IsSame (OfTrees r files Then)
+      one_of_trees Then once x y (inl a) (inl b) = one_saying files (IsReadUpTo r files) (one_unread files h) x y a b
+      one_of_trees Then once x y (inl a) (inr (inl b)) = absurd (not_all_read files a.0 b.1.texts h a.1 b.1.read)
+      one_of_trees Then once x y (inl a) (inr (inr b)) = absurd (not_all_read files a.0 b.1.1.texts h a.1 b.1.1.read)
+      one_of_trees Then once x y (inr (inl a)) (inl b) = absurd (not_all_read files b.0 a.1.texts h b.1 a.1.read)
+      one_of_trees Then once x y (inr (inl a)) (inr (inl b)) = one_saying files (AreRefused r.holds files) one_refusal_of_texts x y a b
+      one_of_trees Then once x y (inr (inl a)) (inr (inr b)) = absurd (no_automaton a.0 b.0 a.1 (with_automaton b.0 b.1.0 b.1.1))
+      one_of_trees Then once x y (inr (inr a)) (inl b) = absurd (not_all_read files b.0 a.1.1.texts h b.1 a.1.1.read)
+      one_of_trees Then once x y (inr (inr a)) (inr (inl b)) = absurd (no_automaton b.0 a.0 b.1 (with_automaton a.0 a.1.0 a.1.1))
+      one_of_trees Then once x y (inr (inr a)) (inr (inr b)) =
+          let graphs = one_automaton a.0 b.0 (with_automaton a.0 a.1.0 a.1.1) (with_automaton b.0 b.1.0 b.1.1) in
+          let typed = one_tree a.0 b.0 a.1.0 b.1.0 a.1.1 b.1.1 in
+          once b.0 b.1.0 x y (subst (λ (t : Typed). Then b.0 t x) typed (subst (λ (graph : GraphParts). Then graph a.1.0 x) graphs a.1.2)) b.1.2
+
   -- ---- inputs
 
   module _ (file : Text) (h : Told file) (parameters : ℕ) where
@@ -445,11 +473,20 @@ module _ (front_law : (texts : List SourceText) → front.HasOneOutcome texts) (
       let Printed : GraphParts → Said → Type 0 = λ graph x. x ≡ answered (graph_text graph) in
       one_of_sources r still front_law sources h IsSame is_same Printed (λ graph x y e f. e ∙ sym f) said other c d
 
+  pub ended_once : ((texts : List SourceText) → trees.HasOneOutcome texts) → (m : Running) → IsTrue (are_told r (m.sources ++ m.inputs ∷ [])) → AnyTwo IsSame (IsDueOf r (asks.trees m))
+  ended_once trees_law m h said other c d =
+      let t = both_told m.sources m.inputs h in
+      let Ended : GraphParts → Typed → EntryFunction → List Input → Said → Type 0 = λ graph typed entry given x. x ≡ ended graph typed entry m.steps given in
+      let Given : GraphParts → Typed → EntryFunction → Said → Type 0 = λ graph typed entry. OfInputs r m.sources m.inputs (length entry.function.parameters) (Ended graph typed entry) in
+      one_of_trees r still front_law m.sources t.0 trees_law (λ graph typed. OfEntry graph m.entry (Given graph typed)) (λ graph typed.
+      one_by IsSame is_same (entry_of graph m.entry) no_such_entry (Given graph typed) (λ entry.
+      one_of_inputs r still m.inputs t.1 (length entry.function.parameters) m.sources (Ended graph typed entry) (λ given x y e f. e ∙ sym f))) said other c d
+
 none_told : (b : Bool) → IsTrue (false && b) → ⊥
 none_told b h = absurd cc
 
-pub at_most_one : ((texts : List SourceText) → front.HasOneOutcome texts) → predicates.OneOutcome → OneListOfHits → AtMostOneIsDue
-at_most_one front_law predicates_law hits_law r words still told said other a b = by (request_of words) told a b
+pub at_most_one : ((texts : List SourceText) → front.HasOneOutcome texts) → ((texts : List SourceText) → trees.HasOneOutcome texts) → predicates.OneOutcome → OneListOfHits → AtMostOneIsDue
+at_most_one front_law trees_law predicates_law hits_law r words still told said other a b = by (request_of words) told a b
   where
     asked_once : (asked : Asked) → IsTold r asked → IsDueOf r asked said → IsDueOf r asked other → said ≡ other
     asked_once (measure m) h c d = measured_once front_law predicates_law hits_law r still m h said other c d
@@ -462,6 +499,7 @@ at_most_one front_law predicates_law hits_law r words still told said other a b 
     asked_once (asks.least m) h c d = absurd (none_told (are_told r (files_of (asks.least m))) h)
     asked_once (asks.traces m) h c d = traced_once front_law predicates_law hits_law r still m h said other c d
     asked_once (asks.replay m) h c d = replayed_once front_law predicates_law hits_law r still m h said other c d
+    asked_once (asks.trees m) h c d = ended_once front_law predicates_law hits_law r still trees_law m h said other c d
     asked_once (asks.graph sources) h c d = printed_once front_law predicates_law hits_law r still sources h said other c d
     asked_once (sample number) h c d = absurd (none_told (are_told r (files_of (sample number))) h)
 

@@ -46,6 +46,7 @@ use Rattle.suite.specs.declared.decided.Decided.TheVariants.{Covered, Refuted, U
 use Rattle.suite.specs.declared.generated.Generated.{Generated}
 use Rattle.unwinder.specs.Unwinding.{AreTooLarge, IsUnwindFault}
 use Rattle.unwinding_size.specs.Sizes.{size_sum}
+use Rattle.typed_sources.specs.Laws as trees
 use Rattle.command_words.specs.Reading.{Text}
 use Rattle.command_words.specs.Request as asks
 use Rattle.command_words.specs.Request.{Asked, measure, generate, goals, runs, prove, check, suffice, sample, Checking, Generating, Proving, Sufficing, request_of}
@@ -67,7 +68,7 @@ use Rattle.command.specs.Said.{Said, status_with}
 use Rattle.command.specs.Sampling.{IsDueOfSample, IsSampled, default_bounds, default_budget, sample_source}
 use Rattle.command.specs.Stages.{OfCertificate, OfEntry, OfGoal, OfQuery, OfTexts, Says, no_such_entry, no_such_goal, usage}
 use Rattle.command.specs.Sufficing.{IsAskedOfBounds, said_of_bounds}
-use Rattle.due_laws.proofs.OneDue.{AnyTwo, Once, TellsSame, both_told, listed_once, measured_once, not_seen, one_by, one_of_query, one_of_sources, one_saying, one_seen, printed_once, recorded_once, replayed_once, same_refusal, traced_once, unread_is}
+use Rattle.due_laws.proofs.OneDue.{AnyTwo, Once, TellsSame, both_told, ended_once, listed_once, measured_once, not_seen, one_by, one_of_query, one_of_sources, one_saying, one_seen, printed_once, recorded_once, replayed_once, same_refusal, traced_once, unread_is}
 
 one_kind : TellsSame AreOfOneKind
 one_kind x y e = inl e
@@ -320,7 +321,7 @@ module _ (r : Reads) (still : Rose r.faults_before r.faults_after → ⊥) (m : 
 
 -- ---- the whole
 
-module _ (front_law : (texts : List SourceText) → front.HasOneOutcome texts) (predicates_law : predicates.OneOutcome) (hits_law : OneListOfHits)
+module _ (front_law : (texts : List SourceText) → front.HasOneOutcome texts) (trees_law : (texts : List SourceText) → trees.HasOneOutcome texts) (predicates_law : predicates.OneOutcome) (hits_law : OneListOfHits)
     (count : OneCount) (size : OneSize) (few : NotTooMany) where
   one_of_texts : (sources : List Text) (texts : List SourceText) (Then : GraphParts → Said → Type 0) → ((graph : GraphParts) → AnyTwo AreOfOneKind (Then graph)) → AnyTwo AreOfOneKind (OfTexts sources texts Then)
   one_of_texts sources texts Then alike x y (inl a) (inl b) =
@@ -408,13 +409,14 @@ module _ (front_law : (texts : List SourceText) → front.HasOneOutcome texts) (
     one_asked (asks.least m) h said other c d = one_least m h said other c d
     one_asked (asks.traces m) h said other c d = traced_once front_law predicates_law hits_law r still m h said other c d
     one_asked (asks.replay m) h said other c d = replayed_once front_law predicates_law hits_law r still m h said other c d
+    one_asked (asks.trees m) h said other c d = ended_once front_law predicates_law hits_law r still trees_law m h said other c d
     one_asked (asks.graph sources) h said other c d = printed_once front_law predicates_law hits_law r still sources h said other c d
     one_asked (sample number) h said other c d = one_sample number said other c d
 
-pub at_most_one_kind : ((texts : List SourceText) → front.HasOneOutcome texts) → predicates.OneOutcome → OneListOfHits → OneCount → OneSize → NotTooMany → AtMostOneKindIsDue
-at_most_one_kind front_law predicates_law hits_law count size few r words still told said other a b = by (request_of words) told a b
+pub at_most_one_kind : ((texts : List SourceText) → front.HasOneOutcome texts) → ((texts : List SourceText) → trees.HasOneOutcome texts) → predicates.OneOutcome → OneListOfHits → OneCount → OneSize → NotTooMany → AtMostOneKindIsDue
+at_most_one_kind front_law trees_law predicates_law hits_law count size few r words still told said other a b = by (request_of words) told a b
   where
     by : (o : Option Asked) → IfSome o (λ asked. IsTrue (are_told r (files_of asked))) → MatchOption o (said ≡ usage) (λ asked. IsDueOf r asked said) → MatchOption o (other ≡ usage) (λ asked. IsDueOf r asked other)
         → MatchOption o (said ≡ other) (λ asked. AreAlike asked said other)
     by None h c d = c ∙ sym d
-    by (Some asked) h c d = one_asked front_law predicates_law hits_law count size few r still asked h said other c d
+    by (Some asked) h c d = one_asked front_law trees_law predicates_law hits_law count size few r still asked h said other c d

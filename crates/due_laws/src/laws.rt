@@ -12,6 +12,7 @@ pub fn at_most_one_is_due()
     ensures { AtMostOneIsDue }
 {
     c_front::laws::one_outcome();
+    typed_sources::laws::one_outcome();
     predicates::laws::one_outcome();
     one_list_of_hits();
 }
@@ -21,6 +22,7 @@ pub fn at_most_one_kind_is_due()
     ensures { AtMostOneKindIsDue }
 {
     c_front::laws::one_outcome();
+    typed_sources::laws::one_outcome();
     predicates::laws::one_outcome();
     one_list_of_hits();
     one_count();

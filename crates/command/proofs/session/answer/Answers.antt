@@ -37,6 +37,12 @@ returns-in-Replay g c =
     (watched g.W.Watch.seen c.args.watch.now c.args.watch.now) c.replay.result c.plain-in-Replay.result c.plain-in-Replay.ensures
     (rw c.in-Replay.is c.replay.ensures.ok) (rw c.in-Replay.is c.replay.ensures.err) refl
 
+pub returns-in-Trees : goal.returns-in-Trees
+returns-in-Trees g c =
+    gives_plain (IsDueOf (reads g.F.Files.holds g.F.Files.last_failed g.F.Files.faults g.F.Files.received c.args.files.now c.run_on_trees.new.files) (asked c.args.request.now)) (sources_of (asked c.args.request.now))
+    (watched g.W.Watch.seen c.args.watch.now c.args.watch.now) c.run_on_trees.result c.plain-in-Trees.result c.plain-in-Trees.ensures
+    (rw c.in-Trees.is c.run_on_trees.ensures.ok) (rw c.in-Trees.is c.run_on_trees.ensures.err) refl
+
 pub returns-in-Bounds : goal.returns-in-Bounds
 returns-in-Bounds g c = rw c.in-Bounds.is c.bounds.ensures
 
