@@ -1,12 +1,11 @@
 // One goal decided, and what is said of it.
 ghost use Rattle.std.specs.Prelude.{◌≡◌, ◌-◌, ◌≤◌, ℕ, [], List, IfOk, Some, length, slice_get};
-ghost use Rattle.std.specs.Option.{IsSomeAnd};
 ghost use Rattle.cfa.specs.Contexts.{IsOnce};
 ghost use Rattle.cfa.specs.Predicates.{IsPredicates};
 ghost use Rattle.goals.specs.GoalForm.{GoalForm};
 ghost use Rattle.suite.specs.Generated.{Shown};
 ghost use Rattle.suite.specs.Made.{IsDecided, IsMadeFor};
-ghost use Rattle.unwinder.specs.Unwinding.{IsUnwound};
+ghost use Rattle.suite.specs.Unwindings.{IsUnwindingOf};
 ghost use Rattle.command_words.specs.Request.{proving};
 ghost use Rattle.command.specs.Entries.{seen};
 ghost use Rattle.command.specs.Proving.{IsDueOfProve, IsProved, IsSaidOf};
@@ -45,7 +44,7 @@ fn covered(
     requires entry { unwound.now.entry ≡ entry.now.number }
     requires startable { entry.now.function.now.arrays ≡ [] }
     requires predicates { IsPredicates graph.now planned.now.predicates }
-    requires unwound { IsSomeAnd (slice_get graph.now.functions unwound.now.entry) (λ f. IsUnwound graph.now planned.now.predicates f unwound.now.entry unwound.now.bounds unwound.now.ends unwound.now) }
+    requires unwound { IsUnwindingOf graph.now planned.now.predicates unwound.now }
     requires made { (goal : GoalForm) × IsMadeFor graph.now entry.now.function.now planned.now.predicates planned.now.plan unwound.now.bounds unwound.now.ends goal input.now }
     ensures { IfOk result (λ text. (goal : GoalForm) → IsMadeFor graph.now entry.now.function.now planned.now.predicates planned.now.plan unwound.now.bounds unwound.now.ends goal input.now
         → IsSaidOf graph.now (seen entry.now) planned.now.predicates planned.now.plan unwound.now.bounds unwound.now.ends number goal (Decided.Covered input.now) (answered text.items)) }
@@ -69,7 +68,7 @@ fn said_of<W: Watch>(
     requires entry { unwound.now.entry ≡ entry.now.number }
     requires startable { entry.now.function.now.arrays ≡ [] }
     requires predicates { IsPredicates graph.now planned.now.predicates }
-    requires unwound { IsSomeAnd (slice_get graph.now.functions unwound.now.entry) (λ f. IsUnwound graph.now planned.now.predicates f unwound.now.entry unwound.now.bounds unwound.now.ends unwound.now) }
+    requires unwound { IsUnwindingOf graph.now planned.now.predicates unwound.now }
     requires decided { (goal : GoalForm) × ((budget : ℕ) × IsDecided graph.now entry.now.function.now planned.now.predicates planned.now.plan unwound.now.bounds unwound.now.ends goal budget decided) }
     ensures { IfOk result (λ reply. (goal : GoalForm) (budget : ℕ) → IsDecided graph.now entry.now.function.now planned.now.predicates planned.now.plan unwound.now.bounds unwound.now.ends goal budget decided
         → (shown : List Shown) × IsSaidOf graph.now (seen entry.now) planned.now.predicates planned.now.plan unwound.now.bounds unwound.now.ends number goal decided (said_in reply shown)

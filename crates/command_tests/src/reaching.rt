@@ -249,11 +249,7 @@ fn ends_on_trees(rt: HostRuntime) -> Result<(), Fail> {
         ),
         (
             &["trees", "g", "two.txt", "wrong.c"],
-            (
-                Status::SourceRefused,
-                "",
-                "error 30 Unknown wrong.c:1\n",
-            ),
+            (Status::SourceRefused, "", "error 30 Unknown wrong.c:1\n"),
         ),
         (
             &["trees", "f", "two.txt", "e.c"],

@@ -11,7 +11,14 @@ use std::test::Fail;
 use tree_meaning::{TreeEnd, tree_run};
 use typed_trees::Typed;
 
-type Case = (&'static str, u32, &'static [u64], &'static [u64], u64, &'static str);
+type Case = (
+    &'static str,
+    u32,
+    &'static [u64],
+    &'static [u64],
+    u64,
+    &'static str,
+);
 
 fn typed_of(alloc: Global, source: &str) -> Result<Typed, Fault> {
     let name = Name::new(alloc, b"t.c")?;
@@ -72,8 +79,22 @@ static CASES: [Case; 34] = [
     (DEEP, 1, &[63], &[], 200, "too deep"),
     (LOOP, 0, &[3], &[], 3, "1"),
     (LOOP, 0, &[3], &[], 2, "cut"),
-    ("int f(int i) { int a[4]; a[i] = 1; return a[0]; }", 0, &[4], &[], 9, "trap"),
-    ("int f(int i) { int a[4]; a[i] = 1; return a[0]; }", 0, &[0], &[], 9, "1"),
+    (
+        "int f(int i) { int a[4]; a[i] = 1; return a[0]; }",
+        0,
+        &[4],
+        &[],
+        9,
+        "trap",
+    ),
+    (
+        "int f(int i) { int a[4]; a[i] = 1; return a[0]; }",
+        0,
+        &[0],
+        &[],
+        9,
+        "1",
+    ),
     (LOGIC, 1, &[0], &[], 9, "0"),
     (LOGIC, 1, &[5], &[], 9, "11"),
     (LOGIC, 2, &[5], &[], 9, "1"),
@@ -84,29 +105,134 @@ static CASES: [Case; 34] = [
     (SWITCH, 0, &[2], &[], 9, "2"),
     (SWITCH, 0, &[5], &[], 9, "9"),
     // `continue` does the step.
-    ("int f(int n) { int s = 0; for (int i = 0; i < n; i++) { if (i == 1) continue; s = s + i; } return s; }", 0, &[4], &[], 9, "5"),
+    (
+        "int f(int n) { int s = 0; for (int i = 0; i < n; i++) { if (i == 1) continue; s = s + i; } return s; }",
+        0,
+        &[4],
+        &[],
+        9,
+        "5",
+    ),
     // `break` leaves one loop.
-    ("int f(int n) { int s = 0; for (int i = 0; i < n; i++) { while (1) { break; } s++; } return s; }", 0, &[3], &[], 9, "3"),
+    (
+        "int f(int n) { int s = 0; for (int i = 0; i < n; i++) { while (1) { break; } s++; } return s; }",
+        0,
+        &[3],
+        &[],
+        9,
+        "3",
+    ),
     // A variable begins anew each time.
-    ("int f(int n) { int s = 0; while (n > 0) { int x; x = x + 1; s = s + x; n--; } return s; }", 0, &[3], &[], 9, "3"),
+    (
+        "int f(int n) { int s = 0; while (n > 0) { int x; x = x + 1; s = s + x; n--; } return s; }",
+        0,
+        &[3],
+        &[],
+        9,
+        "3",
+    ),
     // A lent array is the caller's.
-    ("void set(int a[2]) { a[1] = 7; } int f(int n) { int t[2] = {n}; set(t); return t[0] + t[1]; }", 1, &[5], &[], 9, "12"),
+    (
+        "void set(int a[2]) { a[1] = 7; } int f(int n) { int t[2] = {n}; set(t); return t[0] + t[1]; }",
+        1,
+        &[5],
+        &[],
+        9,
+        "12",
+    ),
     // The index of `+=` is evaluated once.
-    ("int g; int k(void) { g = g + 1; return 0; } int f(int n) { int t[1] = {n}; t[k()] += 2; return t[0] * 10 + g; }", 1, &[3], &[], 9, "51"),
+    (
+        "int g; int k(void) { g = g + 1; return 0; } int f(int n) { int t[1] = {n}; t[k()] += 2; return t[0] * 10 + g; }",
+        1,
+        &[3],
+        &[],
+        9,
+        "51",
+    ),
     // A call takes a turn.
-    ("int h(void) { return 1; } int f(int n) { return h(); }", 1, &[0], &[], 1, "1"),
-    ("int h(void) { return 1; } int f(int n) { return h(); }", 1, &[0], &[], 0, "cut"),
+    (
+        "int h(void) { return 1; } int f(int n) { return h(); }",
+        1,
+        &[0],
+        &[],
+        1,
+        "1",
+    ),
+    (
+        "int h(void) { return 1; } int f(int n) { return h(); }",
+        1,
+        &[0],
+        &[],
+        0,
+        "cut",
+    ),
     // Input functions give the answers in turn, and 0 behind the last.
-    ("int in(void); int f(int n) { return in() * 10 + in(); }", 0, &[0], &[4, 5], 0, "45"),
-    ("int in(void); int f(int n) { return in() * 10 + in(); }", 0, &[0], &[4], 0, "40"),
-    ("int f(int n) { assert(n); return 1; }", 0, &[0], &[], 0, "trap"),
-    ("int f(int n) { assume(n); return 1; }", 0, &[0], &[], 0, "blocked"),
+    (
+        "int in(void); int f(int n) { return in() * 10 + in(); }",
+        0,
+        &[0],
+        &[4, 5],
+        0,
+        "45",
+    ),
+    (
+        "int in(void); int f(int n) { return in() * 10 + in(); }",
+        0,
+        &[0],
+        &[4],
+        0,
+        "40",
+    ),
+    (
+        "int f(int n) { assert(n); return 1; }",
+        0,
+        &[0],
+        &[],
+        0,
+        "trap",
+    ),
+    (
+        "int f(int n) { assume(n); return 1; }",
+        0,
+        &[0],
+        &[],
+        0,
+        "blocked",
+    ),
     ("int f(int n) { return 6 / n; }", 0, &[0], &[], 0, "trap"),
     ("int f(int n) { return 6 / n; }", 0, &[4], &[], 0, "1"),
-    ("int f(int n) { int i = 0; do { i = i + 2; if (i == 4) continue; } while (i < n); return i; }", 0, &[5], &[], 9, "6"),
-    ("int f(int n) { int i = 0; do i = i + 2; while (i < n); return i; }", 0, &[5], &[], 2, "cut"),
-    ("int f(int n) { if (n == 1) return 4; else if (n == 2) return 5; else return 6; }", 0, &[2], &[], 0, "5"),
-    ("void f(int n) { if (n) return; n = 3; }", 0, &[2], &[], 0, "none"),
+    (
+        "int f(int n) { int i = 0; do { i = i + 2; if (i == 4) continue; } while (i < n); return i; }",
+        0,
+        &[5],
+        &[],
+        9,
+        "6",
+    ),
+    (
+        "int f(int n) { int i = 0; do i = i + 2; while (i < n); return i; }",
+        0,
+        &[5],
+        &[],
+        2,
+        "cut",
+    ),
+    (
+        "int f(int n) { if (n == 1) return 4; else if (n == 2) return 5; else return 6; }",
+        0,
+        &[2],
+        &[],
+        0,
+        "5",
+    ),
+    (
+        "void f(int n) { if (n) return; n = 3; }",
+        0,
+        &[2],
+        &[],
+        0,
+        "none",
+    ),
     ("int f(int n) { n = n + 1; }", 0, &[2], &[], 0, "0"),
 ];
 
