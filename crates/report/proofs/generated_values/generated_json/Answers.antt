@@ -6,9 +6,11 @@ use Rattle.report.proofs.generated_values.generated_json.Goals as goal
 
 pub returns : goal.returns
 returns c =
+    let listed = rw (c.deref.ensures, c.deref-2.ensures) at c.in_ok-inputs.ensures in
+    let value = rw c.deref-3.ensures at c.in_ok-value.ensures in
     let value_is =
     found_is c.args.graph.now c.args.plan.now c.args.entry c.args.made.now c.args.kept.now c.args.bounds c.args.budget c.args.ends _ _ _ _
-    c.in_ok-bounds.ensures c.parameter_kinds.ensures c.in_ok-inputs.ensures c.in_ok-value.ensures in
+    c.in_ok-bounds.ensures c.parameter_kinds.ensures listed value in
     let none =
     ap has_float value_is
     ∙ generated_no_float c.args.graph.now c.args.plan.now c.args.entry c.args.made.now c.args.kept.now c.args.bounds c.args.budget c.args.ends in
