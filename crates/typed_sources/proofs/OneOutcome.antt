@@ -4,7 +4,7 @@ use Rattle.std.specs.Prelude.{◌⊎◌, Option}
 use Rattle.fq_core.specs.declared.refusal.Place.{Place}
 use Rattle.c_lex.specs.declared.token.SourceText.{SourceText}
 use Rattle.c_lex.specs.declared.token.Token.{Token}
-use Rattle.c_lex.specs.Lexed.{Lexed, accepted, refused}
+use Rattle.c_lex.specs.Lexed.{Lexed, Outcome, accepted, refused}
 use Rattle.c_lex.specs.Lexed as tokens
 use Rattle.c_lex.specs.OneReading.{OneReading, SomeReading}
 use Rattle.c_parse.specs.declared.sign.Terminal.{Terminal}

@@ -1,5 +1,5 @@
 // From texts to their typed tree.
-ghost use Rattle.std.specs.Prelude.{◌<◌, ◌^◌, ℕ, Err, Ok, IfOk, IsErrOf, length};
+ghost use Rattle.std.specs.Prelude.{◌≡◌, ◌<◌, ◌^◌, ℕ, Err, Ok, IfOk, IsErrOf, length};
 ghost use Rattle.fq_core.specs.declared.refusal.Place.{Place};
 ghost use Rattle.c_lex.specs.Lexed.{AreSmall};
 ghost use Rattle.fq_core.specs.Refusals.{IsUnlessMemory, refusal};
