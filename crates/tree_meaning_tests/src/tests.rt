@@ -1,14 +1,16 @@
 // Programs, each with a function, an input, how many turns there are, and how the run ends.
-use c_lex::{SourceText, are_small, tokens};
+ghost use Rattle.std.specs.Prelude.{IfOk};
+ghost use Rattle.tree_meaning.specs.Running.{FitUnit};
+
+use c_lex::{SourceText, are_small};
 use c_meaning::Input;
-use c_parse::parse;
-use c_types::check;
 use containers::Vector;
 use fq_core::{Fault, Name};
 use std::alloc::Global;
 use std::fmt::Write;
 use std::test::Fail;
 use tree_meaning::{TreeEnd, tree_run};
+use typed_sources::typed_of_texts;
 use typed_trees::Typed;
 
 type Case = (
@@ -20,7 +22,9 @@ type Case = (
     &'static str,
 );
 
-fn typed_of(alloc: Global, source: &str) -> Result<Typed, Fault> {
+fn typed_of(alloc: Global, source: &str) -> Result<Typed, Fault>
+    ensures { IfOk result (λ typed. FitUnit typed) }
+{
     let name = Name::new(alloc, b"t.c")?;
     let bytes = Vector::from_vec(Vec::from_slice(alloc, source.as_bytes()).map_err(
         |_| Fault::Memory,
@@ -29,8 +33,7 @@ fn typed_of(alloc: Global, source: &str) -> Result<Typed, Fault> {
     if !are_small(&texts) {
         return Err(Fault::Memory);
     }
-    let tokens = tokens(alloc, &texts)?;
-    check(alloc, parse(alloc, &tokens)?)
+    typed_of_texts(alloc, &texts)
 }
 
 const DEEP: &str = "int f(int n) {
