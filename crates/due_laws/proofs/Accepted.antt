@@ -1,11 +1,9 @@
 -- What `prove` writes is a certificate that `check` accepts.
-use Rattle.std.proofs.Common.{◌≡◌, ◌⊎◌, ℕ, ◌<◌, ◌≤◌, List, [], ◌∷◌, ◌++◌, length, map, get_or, Option, Some, None, refl, sym, ap, subst, ◌∙◌, inl, inr, arith}
-use Rattle.std.specs.Prelude.{◌-◌, IfSome, IsTrue, MatchOption, codes, slice_get}
-use Rattle.std.specs.Fmt.{decimal}
+use Rattle.std.proofs.Common.{◌≡◌, ◌⊎◌, ℕ, ◌≤◌, List, [], ◌∷◌, ◌++◌, length, map, get_or, Option, Some, None, refl, sym, ap, subst, ◌∙◌, inl, inr, arith}
+use Rattle.std.specs.Prelude.{◌-◌, IfSome, IsTrue, MatchOption, slice_get}
 use Rattle.c_front.specs.Laws as front
 use Rattle.c_lex.specs.declared.token.SourceText.{SourceText}
-use Rattle.c_meaning.specs.declared.ends.Ends.{Ends}
-use Rattle.certificate.specs.Certificates.{IsPair, certificate_text, title}
+use Rattle.certificate.specs.Certificates.{IsPair, certificate_text}
 use Rattle.cfa.specs.declared.parts.GraphParts.{GraphParts}
 use Rattle.cfa.specs.declared.state.Predicates.{Predicates}
 use Rattle.cnf.specs.Checks.{Checks}
@@ -20,7 +18,6 @@ use Rattle.goals.specs.GoalForm.{GoalForm}
 use Rattle.goals.specs.declared.plan.Plan.{Plan}
 use Rattle.hits.specs.Laws.{OneListOfHits}
 use Rattle.predicates.specs.Laws as predicates
-use Rattle.reached.specs.declared.bounds.Bounds.{Bounds}
 use Rattle.reached_laws.specs.Laws.{NotTooMany, OneCount, OneSize}
 use Rattle.suite.specs.declared.decided.Decided.{Decided}
 use Rattle.suite.specs.declared.decided.Decided.TheVariants.{Covered, Refuted, Undecided}
@@ -37,7 +34,7 @@ use Rattle.command.specs.Ranges.{within}
 use Rattle.command.specs.Reads.{Reads, Sees}
 use Rattle.command.specs.Refusal.{said_by}
 use Rattle.command.specs.Runs.{EntryFunction, entry_of}
-use Rattle.command.specs.Said.{Said, answered}
+use Rattle.command.specs.Said.{Said}
 use Rattle.command.specs.Sources.{AreRead, HaveAutomaton}
 use Rattle.command.specs.Stages.{OfCertificate, OfEntry, OfGoal, OfQuery, Says, no_such_entry, no_such_goal}
 use Rattle.due_laws.specs.Accepted.{CertificatesAreAccepted, SaysCertificate, SaysRefuted, checking_of}

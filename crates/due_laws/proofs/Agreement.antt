@@ -33,7 +33,7 @@ use Rattle.due_laws.specs.Agreement as said
 
 -- ---- the entry has no array parameters
 
-no_arrays : (graph : GraphParts) (name : List ℕ) (entry : EntryFunction) → entry_of graph name ≡ Some entry → entry.function.arrays ≡ []
+pub no_arrays : (graph : GraphParts) (name : List ℕ) (entry : EntryFunction) → entry_of graph name ≡ Some entry → entry.function.arrays ≡ []
 no_arrays graph name entry is = by_name (first_named graph.functions name) is
   where
     none : {X : Type 0} (xs : List X) → length xs ≡ 0 → xs ≡ []
@@ -63,7 +63,7 @@ module _ (graph : GraphParts) (entry : EntryFunction) (p : Predicates) (plan : P
   values_are_words (a ∷ taken) fit zero d h = (value_parts a.0 a.1 (fit 0 a (omega arith))).pattern
   values_are_words (a ∷ taken) fit (suc k) d h = values_are_words taken (λ n b l. fit (suc n) b (omega (arith, l))) k d (omega (arith, h))
 
-  given : (input : Input) (run : Run) → IsMade graph entry.function p bounds ends input run → IsInputFor entry.function input
+  pub given : (input : Input) (run : Run) → IsMade graph entry.function p bounds ends input run → IsInputFor entry.function input
   given input run made = record {
     start = (AllZip-long IsValue entry.function.parameters input.words made.words_fit, arrays);
     answers = subst (λ (ns : List ℕ). All (λ n. n < 2 ^ 64) ns) made.answers (values_are_words (record_of graph input p run).taken made.answers_fit);
@@ -82,10 +82,12 @@ module _ (graph : GraphParts) (entry : EntryFunction) (p : Predicates) (plan : P
       record { input = is.input; is_input = given is.input measured.run measured.is_made; hits = is.hits }
   coverable (said.by_prove budget input made) =
       record { input = input; is_input = given input made.run made.made; hits = record { run = made.run; is_run = made.made.is_run; within = made.made.within; hits = made.hits } }
+  coverable (said.by_least budget input formula fixed is) = record { input = input; is_input = is.least.given; hits = is.least.hits }
 
   none_hits : IsSaidRefuted graph entry p plan bounds ends goal → NoneHits graph entry.function p plan bounds ends goal
   none_hits (said.by_generate budget made shown place generated there refuted) = generated.answered.answers place goal answer.Refuted there refuted
   none_hits (said.by_prove budget formula derivation is) = is.2
+  none_hits (said.by_least budget formula derivation is) = is.2
   none_hits (said.by_check none) = none
 
 pub covered_is_never_refuted : CoveredIsNeverRefuted

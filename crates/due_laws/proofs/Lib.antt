@@ -3,4 +3,8 @@ mod Agreement
 mod OneDue
 mod OneFile
 mod OneKind
+mod OneLeast
+mod OneLine
 mod Printed
+mod PrintedLines
+mod Remeasured

@@ -1,5 +1,5 @@
 -- The bytes of a trace file determine what is read of it.
-use Rattle.std.proofs.Common.{◌≡◌, ℕ, ◌+◌, ◌<◌, ◌≤◌, All, List, [], ◌∷◌, ◌++◌, length, map, suc, refl, sym, ap, subst, ◌∙◌, inl, inr, arith}
+use Rattle.std.proofs.Common.{◌≡◌, ℕ, ◌+◌, All, List, [], ◌∷◌, ◌++◌, length, suc, refl, sym, ap, subst, ◌∙◌, inl, inr, arith}
 use Rattle.std.specs.Prelude.{max, Ok, Err}
 use Rattle.std.specs.List.{AllZip}
 use Rattle.std.proofs.lemmas.List.Elements.{All-cons, All-head, All-nil, All-tail}
@@ -13,7 +13,7 @@ use Rattle.path_runner.specs.declared.path.PathRecord.{PathRecord}
 use Rattle.trace_file.specs.declared.line.Line.{Line}
 use Rattle.trace_file.specs.declared.trace.Trace.{Trace}
 use Rattle.trace_file.specs.Form.{Form}
-use Rattle.trace_file.specs.Reading.{IsReadAs, IsRefusedAs, IsRight, IsTraceOf, line_place, most_traces, refused_at}
+use Rattle.trace_file.specs.Reading.{IsReadAs, IsRefusedAs, IsRight, IsTraceOf, line_place, refused_at}
 use Rattle.command.specs.Traces.{inputs_in, longest}
 
 heads : (a b : Line) (rest more : List Line) → a ∷ rest ≡ b ∷ more → a ≡ b

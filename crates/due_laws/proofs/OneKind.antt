@@ -2,7 +2,8 @@
 use Rattle.std.proofs.Common.{◌≡◌, ℕ, ◌<◌, ◌≤◌, Bool, true, false, List, [], ◌∷◌, ◌++◌, length, Option, Some, None, refl, sym, ap, subst, ◌∙◌, inl, inr, ⊎_elim, arith}
 use Rattle.std.specs.Option.{is_some}
 use Rattle.std.proofs.lemmas.Bool.{cases_lt}
-use Rattle.std.specs.Prelude.{◌-◌, IfSome, IsTrue, MatchOption, codes, slice_get}
+use Rattle.std.proofs.lemmas.Slice.Zip.{AllZip-long}
+use Rattle.std.specs.Prelude.{◌-◌, ◌⊎◌, IfSome, IsTrue, MatchOption, codes, slice_get}
 use Rattle.fq_core.specs.declared.refusal.Fault.{Fault}
 use Rattle.fq_core.specs.declared.refusal.Fault.TheVariants as fault
 use Rattle.fq_core.specs.declared.refusal.Place.TheVariants as place
@@ -13,8 +14,10 @@ use Rattle.c_lex.specs.declared.token.SourceText.{SourceText}
 use Rattle.c_front.specs.Laws as front
 use Rattle.c_meaning.specs.declared.ends.Ends.{Ends}
 use Rattle.c_meaning.specs.declared.ends.Ends.TheVariants as counted
+use Rattle.c_meaning.specs.declared.input.Input.{Input}
+use Rattle.c_values.specs.Kind.{IsValue}
 use Rattle.certificate.specs.Certificates.{IsCertificate}
-use Rattle.certificate.specs.Refusals.{bad_line}
+use Rattle.certificate.specs.Refusals.{IsRefusedAtLine, bad_line}
 use Rattle.certificate.proofs.PairLaws.{no_certificate, one_pair}
 use Rattle.cfa.specs.Contexts.{Pair}
 use Rattle.cfa.specs.declared.parts.Function.{Function}
@@ -34,16 +37,21 @@ use Rattle.reached.specs.declared.bounds.Bounds.{Bounds}
 use Rattle.reached.specs.declared.step.Step.{Step}
 use Rattle.reached_laws.specs.Laws.{NotTooMany, OneCount, OneSize}
 use Rattle.report.specs.Generated.{sample_text}
+use Rattle.report.specs.Least.{least_text}
 use Rattle.sample.specs.Sample.{query_text}
+use Rattle.search.specs.declared.moves.History.{History}
 use Rattle.bounds_check.specs.Sufficing as sufficing
+use Rattle.bounds_check.specs.Sufficing.{IsSuffice}
 use Rattle.bounds_check.specs.declared.suffice.Suffice.{Suffice}
 use Rattle.bounds_check.specs.declared.suffice.Suffice.TheVariants as found
+use Rattle.least_input.specs.Answers.{IsAnswered}
 use Rattle.least_input.specs.declared.least.Least.{Least}
 use Rattle.least_input.specs.declared.least.Least.TheVariants as least
 use Rattle.suite.specs.Generated.{Shown, HasTooLargeGoal, IsGenerateFault, IsWithinLimits}
 use Rattle.suite.specs.declared.decided.Decided.{Decided}
 use Rattle.suite.specs.declared.decided.Decided.TheVariants.{Covered, Refuted, Undecided}
 use Rattle.suite.specs.declared.generated.Generated.{Generated}
+use Rattle.unwinder.specs.Lists.{IsInputFor}
 use Rattle.unwinder.specs.Unwinding.{AreTooLarge, IsUnwindFault}
 use Rattle.unwinding_size.specs.Sizes.{size_sum}
 use Rattle.typed_sources.specs.Laws as trees
@@ -54,7 +62,7 @@ use Rattle.command.specs.Asked.{sample_file}
 use Rattle.command.specs.Certificates.{AreCertificateOf}
 use Rattle.command.specs.Certificates as certificates
 use Rattle.command.specs.Checking.{IsChecked, IsCompared, said_of_verdict}
-use Rattle.due_laws.specs.Determined.{AreAlike, AreOfOneKind, AtMostOneKindIsDue, SaysNoCertificate, answers, are_told, files_of}
+use Rattle.due_laws.specs.Determined.{AreAlike, AreOfOneKind, AreOfOneLeast, AreOfOneSuffice, AtMostOneKindIsDue, SaysCompared, SaysLeft, SaysOpen, answers, are_told, files_of}
 use Rattle.command.specs.Due.{IsDueOf}
 use Rattle.command.specs.Generating.{IsGeneration, concluded, generated_report, is_open}
 use Rattle.command.specs.Lowering.{IsLowered, said_of_least}
@@ -64,14 +72,36 @@ use Rattle.command.specs.Ranges.{within}
 use Rattle.command.specs.Reads.{Reads}
 use Rattle.command.specs.Runs.{EntryFunction, entry_of, no_predicates}
 use Rattle.command.specs.Refusal.{said_by}
-use Rattle.command.specs.Said.{Said, status_with}
+use Rattle.command.specs.Said.{Said, answered, status_with}
 use Rattle.command.specs.Sampling.{IsDueOfSample, IsSampled, default_bounds, default_budget, sample_source}
-use Rattle.command.specs.Stages.{OfCertificate, OfEntry, OfGoal, OfQuery, OfTexts, Says, no_such_entry, no_such_goal, usage}
+use Rattle.command.specs.Stages.{OfCertificate, OfEntry, OfGoal, OfQuery, OfTexts, no_such_entry, no_such_goal, usage}
 use Rattle.command.specs.Sufficing.{IsAskedOfBounds, said_of_bounds}
+use Rattle.due_laws.proofs.Agreement.{no_arrays}
+use Rattle.due_laws.proofs.OneLeast.{one_least_input}
+use Rattle.due_laws.proofs.OneLine.{one_line}
 use Rattle.due_laws.proofs.OneDue.{AnyTwo, Once, TellsSame, both_told, ended_once, listed_once, measured_once, not_seen, one_by, one_of_query, one_of_sources, one_saying, one_seen, printed_once, recorded_once, replayed_once, same_refusal, traced_once, unread_is}
 
 one_kind : TellsSame AreOfOneKind
 one_kind x y e = inl e
+
+one_lowest : TellsSame AreOfOneLeast
+one_lowest x y e = inl e
+
+one_suffice : TellsSame AreOfOneSuffice
+one_suffice x y e = inl e
+
+-- where a run can begin at the entry of a name, it has no array parameters
+one_by_entry : (graph : GraphParts) (name : Text) (Alike : Said → Said → Type 0) → TellsSame Alike → (Then : EntryFunction → Said → Type 0)
+    → ((entry : EntryFunction) → entry.function.arrays ≡ [] → AnyTwo Alike (Then entry)) → AnyTwo Alike (OfEntry graph name Then)
+one_by_entry graph name Alike same Then alike = by (entry_of graph name) refl
+  where
+    by : (o : Option EntryFunction) → entry_of graph name ≡ o → AnyTwo Alike (λ said. MatchOption o (said ≡ no_such_entry) (λ e. Then e said))
+    by None is x y a b = same x y (a ∙ sym b)
+    by (Some entry) is x y a b = alike entry (no_arrays graph name entry is) x y a b
+
+-- an input that leaves the bounds is one of the function
+left_given : (f : Function) (bounds : Bounds) → f.arrays ≡ [] → (graph : GraphParts) (input : Input) → sufficing.IsLeft graph f bounds input → IsInputFor f input
+left_given f bounds arrays graph input is = record { start = (AllZip-long IsValue f.parameters input.words is.words_fit, arrays); answers = is.answers_fit }
 
 -- ---- refusals by counts
 
@@ -205,14 +235,36 @@ module _ (count : OneCount) (size : OneSize) (few : NotTooMany) where
   least_said number bounds ends (least.Refuted formula derivation) said is = subst (λ (s : Said). IsTrue (answers s.status)) (sym is) refl
   least_said number bounds ends (least.Open formula history) said is = subst (λ (s : Said). IsTrue (answers s.status)) (sym is) refl
 
-  one_lowering : (graph : GraphParts) (entry : EntryFunction) (p : Predicates) (plan : Plan) (bounds : Bounds) (ends : Ends) (number : ℕ) (goal : GoalForm) (names : List Text) (budget : ℕ)
-      → AnyTwo AreOfOneKind (IsLowered graph entry p plan bounds ends number goal names budget)
-  one_lowering graph entry p plan bounds ends number goal names budget x y (inl a) (inl b) =
-      inl (one_saying names (IsGoalRefused graph entry.function p plan bounds goal) (one_goal_refused count size few graph entry.function p plan bounds ends goal) x y a b)
-  one_lowering graph entry p plan bounds ends number goal names budget x y (inl a) (inr b) = absurd (not_goal_refused count size few graph entry.function p plan bounds ends goal b.0 a.0 a.1)
-  one_lowering graph entry p plan bounds ends number goal names budget x y (inr a) (inl b) = absurd (not_goal_refused count size few graph entry.function p plan bounds ends goal a.0 b.0 b.1)
-  one_lowering graph entry p plan bounds ends number goal names budget x y (inr a) (inr b) =
-      inr (least_said number bounds ends a.1.0 x a.1.3, least_said number bounds ends b.1.0 y b.1.3)
+  module _ (graph : GraphParts) (entry : EntryFunction) (p : Predicates) (plan : Plan) (bounds : Bounds) (ends : Ends) (number : ℕ) (goal : GoalForm) (budget : ℕ) where
+    abbrev Lowest : Least → Type 0
+    Lowest l = IsAnswered graph entry.function p plan bounds ends goal budget l
+
+    abbrev Told : Least → Said → Type 0
+    Told l said = said ≡ said_of_least number bounds ends l
+
+    both : (l k : Least) (x y : Said) → Told l x → Told k y → SaysOpen x ⊎ SaysOpen y → AreOfOneLeast x y
+    both l k x y c d why = inr (least_said number bounds ends l x c, least_said number bounds ends k y d, why)
+
+    open_said : (formula : Formula) (history : History) (x : Said) → Told (least.Open formula history) x → SaysOpen x
+    open_said formula history x c = ap (λ (s : Said). s.status) c
+
+    one_told : (l k : Least) (x y : Said) → Lowest l → Lowest k → Told l x → Told k y → AreOfOneLeast x y
+    one_told (least.Found input formula fixed) (least.Found other form set) x y a b c d =
+        let same = one_least_input graph entry.function p plan bounds ends goal input other a.least b.least a.answers b.answers in
+        inl (c ∙ ap (λ (i : Input). answered (least_text number i)) same ∙ sym d)
+    one_told (least.Found input formula fixed) (least.Refuted form derivation) x y a b c d = absurd (b.2 input a.least.given a.least.hits)
+    one_told (least.Refuted formula derivation) (least.Found input form fixed) x y a b c d = absurd (a.2 input b.least.given b.least.hits)
+    one_told (least.Refuted formula derivation) (least.Refuted form other) x y a b c d = inl (c ∙ sym d)
+    one_told (least.Open formula history) k x y a b c d = both (least.Open formula history) k x y c d (inl (open_said formula history x c))
+    one_told (least.Found input formula fixed) (least.Open form history) x y a b c d = both (least.Found input formula fixed) (least.Open form history) x y c d (inr (open_said form history y d))
+    one_told (least.Refuted formula derivation) (least.Open form history) x y a b c d = both (least.Refuted formula derivation) (least.Open form history) x y c d (inr (open_said form history y d))
+
+    one_lowering : (names : List Text) → AnyTwo AreOfOneLeast (IsLowered graph entry p plan bounds ends number goal names budget)
+    one_lowering names x y (inl a) (inl b) =
+        inl (one_saying names (IsGoalRefused graph entry.function p plan bounds goal) (one_goal_refused count size few graph entry.function p plan bounds ends goal) x y a b)
+    one_lowering names x y (inl a) (inr b) = absurd (not_goal_refused count size few graph entry.function p plan bounds ends goal b.0 a.0 a.1)
+    one_lowering names x y (inr a) (inl b) = absurd (not_goal_refused count size few graph entry.function p plan bounds ends goal a.0 b.0 b.1)
+    one_lowering names x y (inr a) (inr b) = one_told a.1.0 b.1.0 x y a.1.1 b.1.1 a.1.3 b.1.3
 
   -- ---- what is said of bounds
 
@@ -224,17 +276,42 @@ module _ (count : OneCount) (size : OneSize) (few : NotTooMany) where
   abbrev limited : (graph : GraphParts) (entry : EntryFunction) (bounds : Bounds) → sufficing.IsWithinLimits graph entry.function bounds → Counted size few graph entry.function no_predicates bounds
   limited graph entry bounds h = record { pairs = h.pairs; steps = h.steps; reached = h.reached; few_pairs = h.few_pairs }
 
-  one_sufficing : (graph : GraphParts) (entry : EntryFunction) (bounds : Bounds) (names : List Text) (budget : ℕ) → AnyTwo AreOfOneKind (IsAskedOfBounds graph entry bounds names budget)
-  one_sufficing graph entry bounds names budget x y (inl a) (inl b) =
-      inl (one_saying names (λ (z : Refusal). IsUnwindFault graph no_predicates bounds entry.function (fault.Refused z)) (one_unwound size few graph entry.function no_predicates bounds) x y a b)
-  one_sufficing graph entry bounds names budget x y (inl a) (inr b) = absurd (not_unwound size few graph entry.function no_predicates bounds (limited graph entry bounds b.0) b.0.small a.0 a.1)
-  one_sufficing graph entry bounds names budget x y (inr a) (inl b) = absurd (not_unwound size few graph entry.function no_predicates bounds (limited graph entry bounds a.0) a.0.small b.0 b.1)
-  one_sufficing graph entry bounds names budget x y (inr a) (inr b) = inr (suffice_said graph entry bounds a.1.0 x a.1.3, suffice_said graph entry bounds b.1.0 y b.1.3)
+  module _ (graph : GraphParts) (entry : EntryFunction) (bounds : Bounds) (budget : ℕ) where
+    abbrev Sufficient : Suffice → Type 0
+    Sufficient s = IsSuffice graph entry.function bounds budget s
+
+    abbrev Heard : Suffice → Said → Type 0
+    Heard s said = said ≡ said_of_bounds graph entry bounds s
+
+    alike : (s t : Suffice) (x y : Said) → Heard s x → Heard t y → (SaysOpen x ⊎ SaysOpen y) ⊎ (SaysLeft x × SaysLeft y) → AreOfOneSuffice x y
+    alike s t x y c d why = inr (suffice_said graph entry bounds s x c, suffice_said graph entry bounds t y d, why)
+
+    spent : (formula : Formula) (history : History) (x : Said) → Heard (found.Open formula history) x → SaysOpen x
+    spent formula history x c = ap (λ (s : Said). s.status) c
+
+    left : (input : Input) (x : Said) → Heard (found.Left input) x → SaysLeft x
+    left input x c = record { graph = graph; entry = entry.number; input = input; is = c }
+
+    one_heard : (arrays : entry.function.arrays ≡ []) (s t : Suffice) (x y : Said) → Sufficient s → Sufficient t → Heard s x → Heard t y → AreOfOneSuffice x y
+    one_heard arrays (found.Yes formula derivation) (found.Yes form other) x y a b c d = inl (c ∙ sym d)
+    one_heard arrays (found.Yes formula derivation) (found.Left input) x y a b c d = absurd (a.0 input (left_given entry.function bounds arrays graph input b) b.leaves)
+    one_heard arrays (found.Left input) (found.Yes form derivation) x y a b c d = absurd (b.0 input (left_given entry.function bounds arrays graph input a) a.leaves)
+    one_heard arrays (found.Left input) (found.Left other) x y a b c d = alike (found.Left input) (found.Left other) x y c d (inr (left input x c, left other y d))
+    one_heard arrays (found.Open formula history) t x y a b c d = alike (found.Open formula history) t x y c d (inl (inl (spent formula history x c)))
+    one_heard arrays (found.Yes formula derivation) (found.Open form history) x y a b c d = alike (found.Yes formula derivation) (found.Open form history) x y c d (inl (inr (spent form history y d)))
+    one_heard arrays (found.Left input) (found.Open form history) x y a b c d = alike (found.Left input) (found.Open form history) x y c d (inl (inr (spent form history y d)))
+
+    one_sufficing : (arrays : entry.function.arrays ≡ []) (names : List Text) → AnyTwo AreOfOneSuffice (IsAskedOfBounds graph entry bounds names budget)
+    one_sufficing arrays names x y (inl a) (inl b) =
+        inl (one_saying names (λ (z : Refusal). IsUnwindFault graph no_predicates bounds entry.function (fault.Refused z)) (one_unwound size few graph entry.function no_predicates bounds) x y a b)
+    one_sufficing arrays names x y (inl a) (inr b) = absurd (not_unwound size few graph entry.function no_predicates bounds (limited graph entry bounds b.0) b.0.small a.0 a.1)
+    one_sufficing arrays names x y (inr a) (inl b) = absurd (not_unwound size few graph entry.function no_predicates bounds (limited graph entry bounds a.0) a.0.small b.0 b.1)
+    one_sufficing arrays names x y (inr a) (inr b) = one_heard arrays a.1.0 b.1.0 x y a.1.1 b.1.1 a.1.3 b.1.3
 
 -- ---- the certificate's file
 
 module _ (r : Reads) (still : Rose r.faults_before r.faults_after → ⊥) (m : Checking) (h : IsTrue (is_some (r.holds m.certificate))) where
-  -- the same is said, or both say that there is no certificate, or one of them that the formula is another one
+  -- the same is said, or what two comparisons come to, one of them that the formula is another one
   abbrev AreChecked : Said → Said → Type 0
   AreChecked said other = AreAlike (check m) said other
 
@@ -257,26 +334,19 @@ module _ (r : Reads) (still : Rose r.faults_before r.faults_after → ⊥) (m : 
       let same = one_seen r still m.certificate bytes b.bytes h seen b.seen in
       no_certificate bytes a.line a.first f d (subst (λ (held : List ℕ). IsCertificate held f d) (sym same) b.is)
 
-  at_line : (sources : List Text) (x : Refusal) (line : ℕ) (said : Said) → (let a : Fault = fault.Refused x in a ≡ bad_line line) → said ≡ said_by sources x → SaysNoCertificate said
-  at_line sources x line said e is = record {
-    sources = sources;
-    line = line;
-    is = is ∙ ap (said_by sources) (same_refused x (record { code = 90; place = place.Line line }) e);
-  }
+  -- bytes that are no certificate are refused at one line
+  same_line : (bytes : List ℕ) (s t : Refusal) → IsRefusedAtLine bytes s → IsRefusedAtLine bytes t → s ≡ t
+  same_line bytes s t c d = same_refused s t (c.is ∙ ap bad_line (one_line bytes c.line d.line c.first d.first) ∙ sym d.is)
 
-  both_refused : (sources : List Text) (x y : Said) → Says sources (certificates.IsRefused r m.certificate) x → Says sources (certificates.IsRefused r m.certificate) y → AreChecked x y
-  both_refused sources x y a b = by a.0 b.0 a.1 b.1 a.2 b.2
-    where
-      by : (s t : Refusal) → certificates.IsRefused r m.certificate s → certificates.IsRefused r m.certificate t → x ≡ said_by sources s → y ≡ said_by sources t → AreChecked x y
-      by s t (certificates.at_read c) (certificates.at_read d) e f =
-          inl (e ∙ ap (said_by sources) (unread_is r still certificates.most_certificate m.certificate s c ∙ sym (unread_is r still certificates.most_certificate m.certificate t d)) ∙ sym f)
-      by s t (certificates.at_read c) (certificates.at_form bytes seen short d) e f = absurd (not_seen r still certificates.most_certificate m.certificate s bytes h c seen short)
-      by s t (certificates.at_form bytes seen short c) (certificates.at_read d) e f = absurd (not_seen r still certificates.most_certificate m.certificate t bytes h d seen short)
-      by s t (certificates.at_form bytes seen short c) (certificates.at_form others sight few d) e f =
-          inr (inl (at_line sources s c.line x c.is e, at_line sources t d.line y d.is f))
+  refused_once : Once (certificates.IsRefused r m.certificate)
+  refused_once s t (certificates.at_read c) (certificates.at_read d) = unread_is r still certificates.most_certificate m.certificate s c ∙ sym (unread_is r still certificates.most_certificate m.certificate t d)
+  refused_once s t (certificates.at_read c) (certificates.at_form bytes seen short d) = absurd (not_seen r still certificates.most_certificate m.certificate s bytes h c seen short)
+  refused_once s t (certificates.at_form bytes seen short c) (certificates.at_read d) = absurd (not_seen r still certificates.most_certificate m.certificate t bytes h d seen short)
+  refused_once s t (certificates.at_form bytes seen short c) (certificates.at_form others sight few d) =
+      same_line others s t (subst (λ (held : List ℕ). IsRefusedAtLine held s) (one_seen r still m.certificate bytes others h seen sight) c) d
 
   one_of_certificate : (sources : List Text) (Then : Formula → Derivation → Said → Type 0) → ((f : Formula) (d : Derivation) → AnyTwo AreChecked (Then f d)) → AnyTwo AreChecked (OfCertificate r sources m.certificate Then)
-  one_of_certificate sources Then alike x y (inl a) (inl b) = both_refused sources x y a b
+  one_of_certificate sources Then alike x y (inl a) (inl b) = inl (one_saying sources (certificates.IsRefused r m.certificate) refused_once x y a b)
   one_of_certificate sources Then alike x y (inl a) (inr b) = absurd (not_certificate a.0 b.0 b.1.0 a.1 b.1.1)
   one_of_certificate sources Then alike x y (inr a) (inl b) = absurd (not_certificate b.0 a.0 a.1.0 b.1 a.1.1)
   one_of_certificate sources Then alike x y (inr a) (inr b) =
@@ -303,9 +373,15 @@ module _ (r : Reads) (still : Rose r.faults_before r.faults_after → ⊥) (m : 
   one_verdict f d verdict.NoEmptyClause (verdict.BadStep line) a b = absurd (b.3 (a.0 (line - 1) (omega (arith, b.0, b.1))))
   one_verdict f d verdict.NoEmptyClause verdict.NoEmptyClause a b = refl
 
+  says_compared : (theirs ours : Formula) (d : Derivation) (x : Said) → IsCompared m theirs ours d x → SaysCompared m x
+  says_compared theirs ours d x (inl a) = inl (record { theirs = theirs; ours = ours; difference = a.0; is = a.2 })
+  says_compared theirs ours d x (inr a) = inr (a.1.0, a.1.2)
+
   compared : (theirs ours other : Formula) (d : Derivation) (x y : Said) → IsCompared m theirs ours d x → IsCompared m theirs other d y → AreChecked x y
-  compared theirs ours other d x y (inl a) b = inr (inr (inl (record { theirs = theirs; ours = ours; difference = a.0; is = a.2 })))
-  compared theirs ours other d x y (inr a) (inl b) = inr (inr (inr (record { theirs = theirs; ours = other; difference = b.0; is = b.2 })))
+  compared theirs ours other d x y (inl a) b =
+      inr (says_compared theirs ours d x (inl a), says_compared theirs other d y b, inl (record { theirs = theirs; ours = ours; difference = a.0; is = a.2 }))
+  compared theirs ours other d x y (inr a) (inl b) =
+      inr (says_compared theirs ours d x (inr a), says_compared theirs other d y (inl b), inr (record { theirs = theirs; ours = other; difference = b.0; is = b.2 }))
   compared theirs ours other d x y (inr a) (inr b) =
       let mine = subst (λ (f : Formula). IsVerdict f d a.1.0) (sym a.0) a.1.1 in
       let yours = subst (λ (f : Formula). IsVerdict f d b.1.0) (sym b.0) b.1.1 in
@@ -366,23 +442,23 @@ module _ (front_law : (texts : List SourceText) → front.HasOneOutcome texts) (
         one_by AreOfOneKind one_kind (slice_get plan.goals (m.goal - 1)) no_such_goal (Proved graph entry p plan) (λ goal.
         one_proof count size few graph entry p plan (within m.bounds) m.ends m.goal goal m.sources m.budget))))
 
-    one_bounds : (m : Sufficing) → IsTrue (are_told r m.sources) → AnyTwo AreOfOneKind (IsDueOf r (suffice m))
+    one_bounds : (m : Sufficing) → IsTrue (are_told r m.sources) → AnyTwo AreOfOneSuffice (IsDueOf r (suffice m))
     one_bounds m h =
         let Asking : GraphParts → EntryFunction → Said → Type 0 = λ graph entry. IsAskedOfBounds graph entry (within m.bounds) m.sources m.budget in
-        one_of_sources r still front_law m.sources h AreOfOneKind one_kind (λ graph. OfEntry graph m.entry (Asking graph)) (λ graph.
-        one_by AreOfOneKind one_kind (entry_of graph m.entry) no_such_entry (Asking graph) (λ entry. one_sufficing count size few graph entry (within m.bounds) m.sources m.budget))
+        one_of_sources r still front_law m.sources h AreOfOneSuffice one_suffice (λ graph. OfEntry graph m.entry (Asking graph)) (λ graph.
+        one_by_entry graph m.entry AreOfOneSuffice one_suffice (Asking graph) (λ entry arrays. one_sufficing count size few graph entry (within m.bounds) m.budget arrays m.sources))
 
-    one_least : (m : Proving) → IsTrue (are_told r m.sources) → AnyTwo AreOfOneKind (IsDueOf r (asks.least m))
+    one_least : (m : Proving) → IsTrue (are_told r m.sources) → AnyTwo AreOfOneLeast (IsDueOf r (asks.least m))
     one_least m h =
         let Lowered : GraphParts → EntryFunction → Predicates → Plan → GoalForm → Said → Type 0 = λ graph entry p plan goal.
         IsLowered graph entry p plan (within m.bounds) m.ends m.goal goal m.sources m.budget in
         let Goal : GraphParts → EntryFunction → Predicates → Plan → Said → Type 0 = λ graph entry p plan. OfGoal plan m.goal (Lowered graph entry p plan) in
         let Asking : GraphParts → EntryFunction → Said → Type 0 = λ graph entry. OfQuery m.sources graph m.query (Goal graph entry) in
-        one_of_sources r still front_law m.sources h AreOfOneKind one_kind (λ graph. OfEntry graph m.entry (Asking graph)) (λ graph.
-        one_by AreOfOneKind one_kind (entry_of graph m.entry) no_such_entry (Asking graph) (λ entry.
-        one_of_query predicates_law graph m.query AreOfOneKind one_kind m.sources (Goal graph entry) (λ p plan.
-        one_by AreOfOneKind one_kind (slice_get plan.goals (m.goal - 1)) no_such_goal (Lowered graph entry p plan) (λ goal.
-        one_lowering count size few graph entry p plan (within m.bounds) m.ends m.goal goal m.sources m.budget))))
+        one_of_sources r still front_law m.sources h AreOfOneLeast one_lowest (λ graph. OfEntry graph m.entry (Asking graph)) (λ graph.
+        one_by AreOfOneLeast one_lowest (entry_of graph m.entry) no_such_entry (Asking graph) (λ entry.
+        one_of_query predicates_law graph m.query AreOfOneLeast one_lowest m.sources (Goal graph entry) (λ p plan.
+        one_by AreOfOneLeast one_lowest (slice_get plan.goals (m.goal - 1)) no_such_goal (Lowered graph entry p plan) (λ goal.
+        one_lowering count size few graph entry p plan (within m.bounds) m.ends m.goal goal m.budget m.sources))))
 
     one_checked : (m : Checking) → IsTrue (are_told r (m.sources ++ m.certificate ∷ [])) → AnyTwo (AreAlike (check m)) (IsDueOf r (check m))
     one_checked m h =

@@ -1,35 +1,25 @@
 -- The inputs that are printed as JSON are read again.
-use Rattle.std.proofs.Common.{◌≡◌, ℕ, zero, suc, ◌+◌, ◌-◌, ◌<◌, ◌≤◌, ◌^◌, Bool, true, false, List, [], ◌∷◌, All, length, map, Option, Some, None, refl, sym, ap, subst, ◌∙◌, ⊎_elim, arith, rules, pos, negsuc}
+use Rattle.std.proofs.Common.{◌≡◌, ℕ, suc, ◌+◌, ◌-◌, ◌<◌, ◌≤◌, ◌^◌, Bool, true, false, List, [], ◌∷◌, All, length, map, Option, Some, refl, sym, ap, subst, ⊎_elim, arith, negsuc}
 use Rattle.std.specs.Prelude.{◌==◌, nat_le, slice_get, Ok}
 use Rattle.std.specs.Option.{option_map_or}
 use Rattle.std.specs.List.{AllZip}
 use Rattle.std.proofs.lemmas.Bool.{eq-eqb, le-leb}
 use Rattle.std.proofs.lemmas.Int.{ints}
 use Rattle.std.proofs.lemmas.Slice.Zip.{AllZip-long}
-use Rattle.c_meaning.specs.Runs.{Run}
-use Rattle.c_meaning.specs.declared.ends.Ends.{Ends}
 use Rattle.c_meaning.specs.declared.input.Input.{Input}
 use Rattle.c_values.proofs.Fitting.{twos_cases, value_parts}
 use Rattle.c_values.specs.Kind.{IsValue, number_of, reading, twos_complement}
 use Rattle.c_values.specs.declared.kinds.Kind.{Kind}
 use Rattle.cfa.specs.declared.parts.Function.{Function}
 use Rattle.cfa.specs.declared.parts.GraphParts.{GraphParts}
-use Rattle.cfa.specs.declared.state.Predicates.{Predicates}
-use Rattle.goals.specs.declared.plan.Plan.{Plan}
-use Rattle.input_text.specs.Inputs.{inputs_of_array}
-use Rattle.input_text.specs.Json.{answers_of, arguments_of, object_input, object_parts, word_of, word_of_number, words_of_items}
-use Rattle.input_text.specs.Outcome.{Outcome, after, most_inputs, numbered}
+use Rattle.input_text.specs.Json.{object_input, object_parts, word_of, word_of_number, words_of_items}
+use Rattle.input_text.specs.Outcome.{most_inputs, numbered}
 use Rattle.input_text.specs.Printed.{answers_data, arguments_data, input_data, word_data}
-use Rattle.input_text.specs.declared.misfit.Misfit.{Misfit}
 use Rattle.path_runner.specs.Paths.{record_of}
-use Rattle.reached.specs.declared.bounds.Bounds.{Bounds}
 use Rattle.report.specs.GeneratedJson.{inputs_data}
 use Rattle.report.specs.Made.{parameter_kinds}
-use Rattle.serde_json.specs.Data.{Data}
 use Rattle.serde_json.specs.Find.{of_integer}
 use Rattle.serde_json.specs.View.{items_of}
-use Rattle.suite.specs.Generated.{IsGenerated, IsMeasuredInput, Shown}
-use Rattle.suite.specs.declared.generated.Generated.{Generated}
 use Rattle.command.specs.Runs.{EntryFunction}
 use Rattle.due_laws.specs.Printed.{PrintedInputsAreRead}
 
@@ -98,7 +88,7 @@ parts_read kinds (input ∷ inputs) [] h = absurd h
 parts_read kinds (input ∷ inputs) (taken ∷ takens) h =
     rw (input_read kinds input taken h.0.words h.0.values h.0.answers, parts_read kinds inputs takens h.1) refl
 
-same_taken : (a b : List (Kind × ℕ)) → (let x : Option (List (Kind × ℕ)) = Some a in let y : Option (List (Kind × ℕ)) = Some b in x ≡ y) → a ≡ b
+pub same_taken : (a b : List (Kind × ℕ)) → (let x : Option (List (Kind × ℕ)) = Some a in let y : Option (List (Kind × ℕ)) = Some b in x ≡ y) → a ≡ b
 same_taken a b e = cc
 
 are_printable : (kinds : List Kind) (inputs : List Input) (takens : List (List (Kind × ℕ))) → length takens ≡ length inputs
@@ -111,7 +101,7 @@ are_printable kinds (input ∷ inputs) (taken ∷ takens) long each =
       are_printable kinds inputs takens (omega (arith, long)) (λ place other e. each (suc place) other e),
     )
 
-own_kinds : (graph : GraphParts) (entry : EntryFunction) → slice_get graph.functions entry.number ≡ Some entry.function → parameter_kinds graph entry.number ≡ entry.function.parameters
+pub own_kinds : (graph : GraphParts) (entry : EntryFunction) → slice_get graph.functions entry.number ≡ Some entry.function → parameter_kinds graph entry.number ≡ entry.function.parameters
 own_kinds graph entry e = ap (λ (o : Option Function). option_map_or (λ (f : Function). f.parameters) o []) e
 
 pub printed_inputs_are_read : PrintedInputsAreRead

@@ -9,6 +9,9 @@ use Rattle.goal_formula.specs.declared.goal.GoalFormula.{GoalFormula}
 use Rattle.goals.specs.GoalForm.{GoalForm}
 use Rattle.goals.specs.declared.answer.Answer.TheVariants as answer
 use Rattle.goals.specs.declared.plan.Plan.{Plan}
+use Rattle.least_input.specs.Answers.{IsAnswered}
+use Rattle.least_input.specs.declared.least.Fixed.{Fixed}
+use Rattle.least_input.specs.declared.least.Least.TheVariants as least
 use Rattle.reached.specs.declared.bounds.Bounds.{Bounds}
 use Rattle.report.specs.Generated.{refuted_count, undecided_count}
 use Rattle.report.specs.Texts.{covered_count}
@@ -20,17 +23,19 @@ use Rattle.command_words.specs.Reading.{Text}
 use Rattle.command.specs.Runs.{EntryFunction, entry_of}
 
 module _ (graph : GraphParts) (entry : EntryFunction) (p : Predicates) (plan : Plan) (bounds : Bounds) (ends : Ends) (goal : GoalForm) where
-  -- `generate` answers that an input covers the goal, or `prove` does, with any budgets
+  -- `generate` answers that an input covers the goal, `prove` does, or `least` finds one, with any budgets
   pub data IsSaidCovered : Type 0 where
     by_generate : (budget : ℕ) (made : Generated) (shown : List Shown) (place covering : ℕ) → IsGenerated graph entry.function p plan bounds ends budget made shown
         → slice_get plan.goals place ≡ Some goal → slice_get made.answers place ≡ Some (answer.Covered covering) → IsSaidCovered
     by_prove : (budget : ℕ) (input : Input) → IsDecided graph entry.function p plan bounds ends goal budget (decided.Covered input) → IsSaidCovered
+    by_least : (budget : ℕ) (input : Input) (formula : GoalFormula) (fixed : List Fixed) → IsAnswered graph entry.function p plan bounds ends goal budget (least.Found input formula fixed) → IsSaidCovered
 
-  -- `generate` answers that the goal is refuted, `prove` does, or `check` accepts a certificate of it
+  -- `generate` answers that the goal is refuted, `prove` or `least` does, or `check` accepts a certificate of it
   pub data IsSaidRefuted : Type 0 where
     by_generate : (budget : ℕ) (made : Generated) (shown : List Shown) (place : ℕ) → IsGenerated graph entry.function p plan bounds ends budget made shown
         → slice_get plan.goals place ≡ Some goal → slice_get made.answers place ≡ Some answer.Refuted → IsSaidRefuted
     by_prove : (budget : ℕ) (formula : GoalFormula) (derivation : Derivation) → IsDecided graph entry.function p plan bounds ends goal budget (decided.Refuted formula derivation) → IsSaidRefuted
+    by_least : (budget : ℕ) (formula : GoalFormula) (derivation : Derivation) → IsAnswered graph entry.function p plan bounds ends goal budget (least.Refuted formula derivation) → IsSaidRefuted
     by_check : NoneHits graph entry.function p plan bounds ends goal → IsSaidRefuted
 
 -- a goal that is covered by one text is refuted by none, over the same automaton, entry, plan, bounds and ends

@@ -1,23 +1,25 @@
--- The words and the files determine what is due of the commands that measure and list. What is due of generate, prove, bounds, least
--- and sample leaves open which inputs and derivations are found, but not whether something is refused, nor by which line; what is due of
--- check leaves open how the goal's formula is made.
+-- The words and the files determine what is due of the commands that measure and list, and of least, but for what stays open. What is
+-- due of generate, prove, bounds and sample leaves open which inputs and derivations are found, but not whether something is refused, nor
+-- by which line; what is due of check leaves open how the goal's formula is made.
 use Rattle.std.specs.Prelude.{◌≡◌, ◌⊎◌, ℕ, Bool, true, false, ◌&&◌, List, [], ◌∷◌, ◌++◌, Option, None, Some, IfSome, IsTrue, MatchOption}
 use Rattle.std.specs.List.{list_all}
 use Rattle.std.specs.Option.{is_some}
+use Rattle.c_meaning.specs.declared.input.Input.{Input}
 use Rattle.certificate.specs.declared.difference.Difference.{Difference}
+use Rattle.cfa.specs.declared.parts.GraphParts.{GraphParts}
 use Rattle.cnf.specs.declared.formula.Formula.{Formula}
-use Rattle.fq_core.specs.declared.refusal.Place.TheVariants as place
+use Rattle.derivation_check.specs.declared.verdict.Verdict.{Verdict}
 use Rattle.fq_io.specs.Counts.{Rose}
+use Rattle.report.specs.Suffice.{left_text}
 use Rattle.command_words.specs.Reading.{Text}
 use Rattle.command_words.specs.Request as asks
-use Rattle.command_words.specs.Request.{Asked, measure, generate, goals, runs, prove, check, suffice, sample, request_of}
+use Rattle.command_words.specs.Request.{Asked, Checking, measure, generate, goals, runs, prove, check, suffice, sample, request_of}
 use Rattle.command.specs.declared.status.Status.{Status}
 use Rattle.command.specs.declared.status.Status.TheVariants as status
-use Rattle.command.specs.Checking.{other_formula}
+use Rattle.command.specs.Checking.{other_formula, said_of_verdict}
 use Rattle.command.specs.Due.{IsDue}
-use Rattle.command.specs.Refusal.{said_by}
 use Rattle.command.specs.Reads.{Reads}
-use Rattle.command.specs.Said.{Said}
+use Rattle.command.specs.Said.{Said, answered}
 
 abbrev pub measures_or_lists : Asked → Bool
 measures_or_lists (measure m) = true
@@ -96,14 +98,32 @@ pub record SaysOtherFormula (said : Said) : Type 0 where
   pub difference : Difference
   pub is : said ≡ other_formula theirs ours difference
 
--- it is said that the bytes of the certificate's file are no certificate
-pub record SaysNoCertificate (said : Said) : Type 0 where
-  pub sources : List Text
-  pub line : ℕ
-  pub is : said ≡ said_by sources (record { code = 90; place = place.Line line })
+-- it is said of a certificate what its comparison comes to: that, or the verdict on its derivation
+abbrev pub SaysCompared : Checking → Said → Type 0
+SaysCompared m said = SaysOtherFormula said ⊎ ((verdict : Verdict) × (said ≡ said_of_verdict m verdict))
 
--- What two texts that are due of one command have to do with each other. Of `check` they are the same, or both say that the file
--- holds no certificate, or one of them says that the formula is another one.
+-- it is said that something stays open, since a search spent its budget
+abbrev pub SaysOpen : Said → Type 0
+SaysOpen said = said.status ≡ Some status.DoneOpen
+
+-- it is said that an input leaves the bounds
+pub record SaysLeft (said : Said) : Type 0 where
+  pub graph : GraphParts
+  pub entry : ℕ
+  pub input : Input
+  pub is : said ≡ answered (left_text graph entry input)
+
+-- the same is said, or both are answers, of which one leaves the goal open
+abbrev pub AreOfOneLeast : Said → Said → Type 0
+AreOfOneLeast said other = (said ≡ other) ⊎ (IsTrue (answers said.status) × IsTrue (answers other.status) × (SaysOpen said ⊎ SaysOpen other))
+
+-- the same is said, or both are answers: one leaves the question open, or both say that an input leaves the bounds
+abbrev pub AreOfOneSuffice : Said → Said → Type 0
+AreOfOneSuffice said other =
+    (said ≡ other) ⊎ (IsTrue (answers said.status) × IsTrue (answers other.status) × ((SaysOpen said ⊎ SaysOpen other) ⊎ (SaysLeft said × SaysLeft other)))
+
+-- What two texts that are due of one command have to do with each other. Of `check` they are the same, or both say what the
+-- comparison comes to, and one of them that the formula is another one.
 abbrev pub AreAlike : Asked → Said → Said → Type 0
 AreAlike (measure m) said other = said ≡ other
 AreAlike (goals m) said other = said ≡ other
@@ -114,11 +134,11 @@ AreAlike (asks.trees m) said other = said ≡ other
 AreAlike (asks.graph sources) said other = said ≡ other
 AreAlike (generate m) said other = AreOfOneKind said other
 AreAlike (prove m) said other = AreOfOneKind said other
-AreAlike (suffice m) said other = AreOfOneKind said other
-AreAlike (asks.least m) said other = AreOfOneKind said other
+AreAlike (suffice m) said other = AreOfOneSuffice said other
+AreAlike (asks.least m) said other = AreOfOneLeast said other
 AreAlike (sample number) said other = AreOfOneKind said other
 AreAlike (check m) said other =
-    (said ≡ other) ⊎ ((SaysNoCertificate said × SaysNoCertificate other) ⊎ (SaysOtherFormula said ⊎ SaysOtherFormula other))
+    (said ≡ other) ⊎ (SaysCompared m said × SaysCompared m other × (SaysOtherFormula said ⊎ SaysOtherFormula other))
 
 -- where no read failed and all files tell what they hold, two texts that are due are alike; where the words are no command,
 -- they are one

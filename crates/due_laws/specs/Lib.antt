@@ -2,3 +2,4 @@ pub mod Accepted
 pub mod Agreement
 pub mod Determined
 pub mod Printed
+pub mod Remeasured

@@ -2,9 +2,11 @@
 ghost use Rattle.due_laws.specs.Accepted.{CertificatesAreAccepted};
 ghost use Rattle.due_laws.specs.Agreement.{CountsAddUp, CoveredIsNeverRefuted};
 ghost use Rattle.due_laws.specs.Determined.{AtMostOneIsDue, AtMostOneKindIsDue};
-ghost use Rattle.due_laws.specs.Printed.{PrintedInputsAreRead};
+ghost use Rattle.due_laws.specs.Printed.{PrintedInputsAreRead, PrintedLinesAreRead};
+ghost use Rattle.due_laws.specs.Remeasured.{MadeInputsAreMeasured};
 
 use hits::laws::one_list_of_hits;
+use path_runner::laws::recorded_runs;
 use reached_laws::laws::{not_too_many, one_count, one_size};
 
 /// What is due of a command that measures or lists is determined by its words and by what its files hold.
@@ -17,7 +19,8 @@ pub fn at_most_one_is_due()
     one_list_of_hits();
 }
 
-/// Two texts that are due of any command are alike: the same refusal, or both answers.
+/// Two texts that are due of any command are alike: the same refusal, or both answers; but for `check`, of which one may say that
+/// the formula is another one.
 pub fn at_most_one_kind_is_due()
     ensures { AtMostOneKindIsDue }
 {
@@ -30,7 +33,7 @@ pub fn at_most_one_kind_is_due()
     not_too_many();
 }
 
-/// A goal that an input covers, by `generate` or `prove`, is refuted by none of `generate`, `prove` and `check`.
+/// A goal that an input covers, by `generate`, `prove` or `least`, is refuted by none of these and `check`.
 pub fn covered_is_never_refuted()
     ensures { CoveredIsNeverRefuted }
 {}
@@ -57,3 +60,18 @@ pub fn certificates_are_accepted()
 pub fn printed_inputs_are_read()
     ensures { PrintedInputsAreRead }
 {}
+
+/// The arguments and answers of each input in the text report of a generation, read as lines of inputs are, are those that were
+/// made.
+pub fn printed_lines_are_read()
+    ensures { PrintedLinesAreRead }
+{}
+
+/// The inputs of a generation, measured with steps that are enough for their runs, hit the goals that were found: each covered
+/// goal is covered by the same input, and each refuted one is missed.
+pub fn made_inputs_are_measured()
+    ensures { MadeInputsAreMeasured }
+{
+    recorded_runs();
+    one_list_of_hits();
+}
