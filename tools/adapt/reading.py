@@ -62,7 +62,7 @@ def is_system(file: str) -> bool:
 
 
 def run_compiler(path: str, flags: list[str], more: list[str]) -> subprocess.CompletedProcess[str]:
-    words = [compiler(), "-std=gnu11", "-nostdinc", *more, *flags, "-isystem", HEADERS, path]
+    words = [compiler(), "-std=gnu11", "-nostdinc", *more, *flags, "-isystem", HEADERS, "-x", "c", path]
     plain = {**os.environ, "LC_ALL": "C"}
     return subprocess.run(words, capture_output=True, text=True, errors="replace", check=False, env=plain)
 
