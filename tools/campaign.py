@@ -30,6 +30,14 @@ def batches(goals: list[int], jobs: int) -> list[list[int]]:
     return [goals[at : at + size] for at in range(0, len(goals), size)]
 
 
+def measured(asked: Asked, given: list[Input]) -> Report:
+    """The report of inputs over all goals; a failure where the program refuses what is asked."""
+    ends = [] if asked.ends == "returned" else ["--ends", asked.ends]
+    with program.as_file(inputs.json_text(given)) as path:
+        words = ["measure", asked.entry, asked.query, path, *asked.sources, "--steps", STEPS, *ends]
+        return program.report(words, asked.place)
+
+
 class Campaign:
     """A campaign that goes on in its folder."""
 
@@ -42,12 +50,7 @@ class Campaign:
     def measured(self) -> Report:
         """The report of all inputs over all goals."""
         self.inputs = inputs.once(self.folder.given() + list(self.folder.found().values()))
-        asked = self.asked
-        ends = [] if asked.ends == "returned" else ["--ends", asked.ends]
-        with program.as_file(inputs.json_text(self.inputs)) as path:
-            return program.report(
-                ["measure", asked.entry, asked.query, path, *asked.sources, "--steps", STEPS, *ends], asked.place
-            )
+        return measured(self.asked, self.inputs)
 
     def left(self, report: Report) -> list[int]:
         """The goals of which nothing is known yet; an input that doesn't hit its goal is forgotten."""
@@ -195,6 +198,20 @@ def numbers(text: str) -> list[int]:
     return [int(word) for word in text.split(",")]
 
 
+def jobs(word: str) -> int:
+    """How many jobs there are: one at least."""
+    if not word.isdecimal() or int(word) < 1:
+        raise argparse.ArgumentTypeError(f"{word} is no number from 1 on")
+    return int(word)
+
+
+def percent(word: str) -> float:
+    """A number of percent, from 0 to 100."""
+    if not 0 <= float(word) <= 100:
+        raise argparse.ArgumentTypeError(f"{word} isn't from 0 to 100")
+    return float(word)
+
+
 def words() -> argparse.Namespace:
     parser = argparse.ArgumentParser(
         prog="campaign", description=__doc__, formatter_class=argparse.RawTextHelpFormatter
@@ -202,16 +219,27 @@ def words() -> argparse.Namespace:
     parser.add_argument("words", nargs="*", metavar="ENTRY QUERY SOURCE..", help="none where a campaign goes on")
     parser.add_argument("-o", metavar="DIR", dest="folder", required=True, help="the campaign's folder")
     for name, value in DEFAULTS.items():
-        parser.add_argument(f"--{name}", type=int, default=value, help=f"as for generate ({value})")
+        parser.add_argument(
+            f"--{name}", type=program.in_range(name), default=value, metavar="N", help=f"as for generate ({value})"
+        )
     parser.add_argument("--ends", choices=program.ENDS, default="returned", help="the ends of runs that count")
-    parser.add_argument("--budget", type=int, help="as for prove (5000000); a greater one tries undecided goals again")
+    parser.add_argument(
+        "--budget",
+        type=program.in_range("budget"),
+        metavar="N",
+        help="as for prove (5000000); a greater one tries undecided goals again",
+    )
     parser.add_argument("--inputs", metavar="FILE", help="inputs that are measured first")
     parser.add_argument(
-        "--jobs", type=int, default=os.cpu_count() or 1, help="goals that are decided side by side, on each machine"
+        "--jobs",
+        type=jobs,
+        default=os.cpu_count() or 1,
+        metavar="N",
+        help="goals that are decided side by side, on each machine",
     )
     parser.add_argument("--sshloginfile", metavar="FILE", help="the machines, as GNU parallel reads them")
     parser.add_argument(
-        "--at-least", type=float, metavar="P", help="the status is 1 where less than P percent are covered"
+        "--at-least", type=percent, metavar="P", help="the status is 1 where less than P percent are covered"
     )
     parser.add_argument("--left", action="store_true", help="only prints the goals that are left, a line each")
     parser.add_argument("--one", type=numbers, metavar="N[,N..]", help="only decides goal N, or several")
@@ -236,8 +264,11 @@ def begun(given: argparse.Namespace, folder: Folder) -> None:
             given.ends,
             given.budget or 5_000_000,
         )
-        program.answer(["goals", asked.query, *sources])
-        folder.begin(asked, inputs.of_file(given.inputs) if given.inputs else [])
+        read = inputs.of_file(given.inputs) if given.inputs else []
+        # (so that no folder is made for what is refused)
+        program.check_names(sources)
+        measured(asked, read)
+        folder.begin(asked, read)
         return
     asked = folder.asked()
     if read_sums(asked.sources, asked.place) != asked.sums:
@@ -271,6 +302,8 @@ def main() -> int:
     if given.one:
         folder.decide_all(given.one)
         return program.DONE
+    if given.sshloginfile:
+        program.read(given.sshloginfile)
     if not given.left and not has_parallel():
         raise Failure("GNU parallel isn't there (Debian: apt-get install parallel)")
     begun(given, folder)

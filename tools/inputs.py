@@ -12,19 +12,11 @@ import sys
 from collections.abc import Iterator, Sequence
 
 from tools import program
-from tools.program import Failure, Input, Run
+from tools.program import Failure, Input, Run, number
 
 _WORD = re.compile(r"-?[0-9]+")
 _ONE = re.compile(r"goal \d+ (?:covered|least) (args(?: -?\d+)*(?: answers(?: -?\d+)+)?)")
 _TRACE = re.compile(r"(args(?: -?\d+)*(?: answers(?: -?\d+)+)?) edges(?: \d+)*")
-LEAST, GREATEST = -(2**63), 2**64 - 1
-
-
-def number(value: object) -> int:
-    """A whole number in range; ValueError where it is none."""
-    if isinstance(value, bool) or not isinstance(value, int) or not LEAST <= value <= GREATEST:
-        raise ValueError(f"{value} is no whole number from -2^63 to 2^64 - 1")
-    return value
 
 
 def of_object(value: object) -> Input:

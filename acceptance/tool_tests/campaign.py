@@ -19,11 +19,24 @@ SLOW = "int f(int a, int b) {\n  if (a > 1 && b > 1 && a * b == 7919 * 7907) {\n
 PARALLEL = ("parallel",)
 CASES = [
     Case("campaign: a query that is refused", ["campaign", "fee", "cover", "fee.c", "-o", "new"], FEE, 2, "",
-         "campaign: fshell goals: error 61 QuerySyntax query\n", needs=PARALLEL),
+         "campaign: fshell measure: error 61 QuerySyntax query\n", needs=PARALLEL),
     Case("campaign: a source that isn't there", ["campaign", "fee", "cover ID", "no.c", "-o", "new"], FEE, 2, "",
          "campaign: no.c: No such file or directory\n", needs=PARALLEL),
     Case("campaign: inputs that aren't read", ["campaign", "fee", "cover ID", "fee.c", "-o", "new", "--inputs", "fee.c"], FEE, 2, "",
          "campaign: fee.c: no inputs are read: '/*' is no number\n", needs=PARALLEL),
+    Case("campaign: an entry that isn't there leaves no folder", ["campaign", "fees", "cover ID", "fee.c", "-o", "new"], FEE, 2, "",
+         "campaign: fshell measure: error 36 NoSuchEntry\n", needs=PARALLEL),
+    Case("campaign: inputs of another function leave no folder", ["campaign", "fee", "cover ID", "fee.c", "-o", "new", "--inputs", "in"],
+         {**FEE, "in": "1\n"}, 2, "", "campaign: fshell measure: error 51 Shape input 1\n", needs=PARALLEL),
+    Case("campaign: a file in the folder's place", ["campaign", "fee", "cover ID", "fee.c", "-o", "in.txt"], FEE, 2, "",
+         "campaign: in.txt/found: Not a directory\n", needs=PARALLEL),
+    Case("campaign: logins that aren't there", ["campaign", "fee", "cover ID", "fee.c", "-o", "new", "--sshloginfile", "no"], FEE, 2, "",
+         "campaign: no: No such file or directory\n", needs=PARALLEL),
+    Case("campaign: a source whose name has a line feed", ["campaign", "f", "cover ID", "a\nb.c", "-o", "new"],
+         {"a\nb.c": "int f(int x) { return x; }\n"}, 2, "", "campaign: the name of a source has a line feed\n", needs=PARALLEL),
+    *(Case(f"campaign: {' '.join(words)} is out of range", ["campaign", "fee", "cover ID", "fee.c", "-o", "new", *words], FEE, 2, "", None)
+      for words in (["--jobs", "0"], ["--jobs", "-1"], ["--turns", "1001"], ["--frames", "0"], ["--answers", "257"], ["--budget", "0"],
+                    ["--budget", "20000001"], ["--at-least", "nan"], ["--at-least", "101"])),
     Case("campaign: a folder that is no campaign's", ["campaign", "-o", "new"], FEE, 2, "",
          "campaign: new/campaign.json: No such file or directory\n", needs=PARALLEL),
 ]

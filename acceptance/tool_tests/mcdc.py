@@ -76,6 +76,7 @@ CASES = [
         "condition 2: b: inputs 2 and 3, by paths 2 and 3",
     ], "2 of 1 decisions: 2 shown, 0 without a pair, 0 undecided", column=9),
     Case("mcdc: no decision", ["mcdc", "f", "a.c"], {"a.c": "int f(int x) { return x; }\n"}, 2, "", "mcdc: there is no decision\n", needs=GRAPH),
+    Case("mcdc: a bound out of range", ["mcdc", "f", "a.c", "--turns", "1001"], {"a.c": source("a")}, 2, "", None),
     Case("mcdc: inputs that are refused", ["mcdc", "f", "a.c", "--inputs", "in", "--suite", "new"], {"a.c": source("a"), "in": "1 x\n"}, 2, "",
          "mcdc: in: no inputs are read: 'x' is no number\n", needs=GRAPH),
     Case("mcdc: an entry that isn't there", ["mcdc", "g", "a.c", "--suite", "new"], {"a.c": source("a")}, 2, "",
