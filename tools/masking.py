@@ -50,8 +50,9 @@ def query_of(graph: Graph, decision: Decision) -> str:
     for line in lines[1:]:
         kept = f"UNION({kept},@LINE({line}))"
     calls = sum(edge.operation == "call" for edge in edges)
-    # (what @FUNC keeps has no node of a function that is called, so no path could end at a call)
-    kept = kept if calls else f"INTERSECT(@FUNC({decision.function}),{kept})"
+    # (what @FUNC keeps has no node of a function that is called, so no path could end at a call, or begin behind one)
+    if not calls and not begins_behind_call(graph, edges[0]):
+        kept = f"INTERSECT(@FUNC({decision.function}),{kept})"
     part = f"PATHS(INTERSECT(@CONDITIONGRAPH,{kept}),1)"
     return "cover " + " + ".join(" -> ".join([part] * (count + 1)) for count in range(min(calls, MOST_ARROWS) + 1))
 
@@ -60,6 +61,16 @@ def region(graph: Graph, decision: Decision) -> list[Edge]:
     """The edges that a decision's condition makes, from its first guard to its last."""
     numbers = decision.guards()
     return graph.edges[min(numbers) : max(numbers) + 1]
+
+
+def begins_behind_call(graph: Graph, first: Edge) -> bool:
+    """Whether a function is called on the way from the begin of a condition to its first guard."""
+    before = first.number - 1
+    while before >= 0 and graph.edges[before].decision and not graph.edges[before].is_guard:
+        if graph.edges[before].operation == "return":
+            return True
+        before -= 1
+    return False
 
 
 def goals_of(graph: Graph, asked: Asked) -> dict[int, list[int]]:

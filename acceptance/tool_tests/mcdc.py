@@ -123,6 +123,28 @@ def calls_within_conditions(folder):
     yield status == 0 and of(value["decisions"][1])[1] == ["shown", "shown", "none"]
 
 
+def calls_before_the_first_guard(folder):
+    """Conditions that begin with calls of functions that are defined, in each statement; an input function may stand beside them."""
+    text = ("int in(void);\nstatic int g(int x) {{\n  return x > 3;\n}}\nstatic int two(int x, int y) {{\n  return x - y;\n}}\n"
+            "int f(int a, int b) {{\n  {}\n}}\n")
+    one, both = {"F": False, "T": True}, {"F-": False, "TF": False, "TT": True}
+    for statement, due in (
+            ("if (g(a)) {{\n    return 1;\n  }}\n  return 0;", one), ("while (g(a)) {{ a = 0; }}\n  return 0;", one),
+            ("do {{ a--; }} while (g(a));\n  return a;", one), ("for (int i = 0; two(2, i); i++) {{ a++; }}\n  return a;", one),
+            ("return g(a) ? 7 : 8;", one), ("if (g(a) && g(b)) {{ return 1; }}\n  return 0;", both),
+            ("if (g(a) && b > 2) {{ return 1; }}\n  return 0;", both), ("if (g(g(a) + 3)) {{ return 1; }}\n  return 0;", one),
+            ("if (two(g(a), g(b)) != 0) {{ return 1; }}\n  return 0;", one), ("if (two(in(), a) < 0) {{ return 1; }}\n  return 0;", one),
+            ("if (g(a) + in() > 5) {{ return 1; }}\n  return 0;", one), ("return g(a) && g(b);", both)):
+        value, status = told(folder, text.format(statement.format()))
+        paths, states = of(value["decisions"][0])
+        yield status == 0 and paths == due and states == ["shown"] * len(states)
+    # both paths of a condition that always holds are told, and the one that is refuted has a certificate
+    put(folder, {"a.c": text.format("if (g(5)) {\n    return 1;\n  }\n  return a + b;")})
+    ended = run(folder, ["mcdc", "f", "a.c", "--certificates", "certs"])
+    yield ended.returncode == 0 and "  path 1: F is false, refuted, goal " in ended.stdout
+    yield ended.stdout.endswith("conditions 1 of 1 decisions: 0 shown, 1 without a pair, 0 undecided; 1 certificates are checked\n")
+
+
 def certificates_and_the_suite_are_written(folder):
     put(folder, {"a.c": source("a || (a && b)")})
     ended = run(folder, ["mcdc", "f", "a.c", "--certificates", "certs", "--suite", "suite"])
@@ -211,5 +233,5 @@ def random_decisions_agree_with_all_inputs(folder):
 
 
 TRIED = [(GRAPH, function) for function in (
-    decisions_of_each_statement, calls_within_conditions, certificates_and_the_suite_are_written, small_budgets_leave_it_open,
+    decisions_of_each_statement, calls_within_conditions, calls_before_the_first_guard, certificates_and_the_suite_are_written, small_budgets_leave_it_open,
     random_decisions_agree_with_all_inputs)]
