@@ -8,6 +8,7 @@ report.json. A campaign that was stopped goes on with `-o DIR` alone. The status
 """
 
 import argparse
+import dataclasses
 import fcntl
 import json
 import os
@@ -219,10 +220,8 @@ def words() -> argparse.Namespace:
     parser.add_argument("words", nargs="*", metavar="ENTRY QUERY SOURCE..", help="none where a campaign goes on")
     parser.add_argument("-o", metavar="DIR", dest="folder", required=True, help="the campaign's folder")
     for name, value in DEFAULTS.items():
-        parser.add_argument(
-            f"--{name}", type=program.in_range(name), default=value, metavar="N", help=f"as for generate ({value})"
-        )
-    parser.add_argument("--ends", choices=program.ENDS, default="returned", help="the ends of runs that count")
+        parser.add_argument(f"--{name}", type=program.in_range(name), metavar="N", help=f"as for generate ({value})")
+    parser.add_argument("--ends", choices=program.ENDS, help="the ends of runs that count (returned)")
     parser.add_argument(
         "--budget",
         type=program.in_range("budget"),
@@ -246,14 +245,20 @@ def words() -> argparse.Namespace:
     given = parser.parse_intermixed_args()
     if 0 < len(given.words) < 3:
         parser.error("ENTRY QUERY SOURCE.. or none of them")
+    fixed = [name for name in (*DEFAULTS, "ends") if not given.words and getattr(given, name) is not None]
+    if fixed:
+        parser.error(f"--{fixed[0]} is said where a campaign begins; this one goes on with what it was asked")
     return given
 
 
 def begun(given: argparse.Namespace, folder: Folder) -> None:
     """Makes the folder, or takes the one that is there."""
+    read = inputs.of_file(given.inputs) if given.inputs else []
     if given.words:
         sources, place = tuple(given.words[2:]), os.getcwd()
-        bounds = {name: getattr(given, name) for name in DEFAULTS}
+        bounds = {
+            name: value if getattr(given, name) is None else getattr(given, name) for name, value in DEFAULTS.items()
+        }
         asked = Asked(
             given.words[0],
             given.words[1],
@@ -261,10 +266,9 @@ def begun(given: argparse.Namespace, folder: Folder) -> None:
             place,
             read_sums(sources, place),
             bounds,
-            given.ends,
+            given.ends or "returned",
             given.budget or 5_000_000,
         )
-        read = inputs.of_file(given.inputs) if given.inputs else []
         # (so that no folder is made for what is refused)
         program.check_names(sources)
         measured(asked, read)
@@ -273,8 +277,9 @@ def begun(given: argparse.Namespace, folder: Folder) -> None:
     asked = folder.asked()
     if read_sums(asked.sources, asked.place) != asked.sums:
         raise Failure(f"{folder.path}: a source has changed since the campaign began; begin another one")
-    if given.budget:
-        folder.begin(Asked(**{**vars(asked), "budget": given.budget}), [])
+    if given.budget or read:
+        measured(asked, read)
+        folder.begin(dataclasses.replace(asked, budget=given.budget or asked.budget), read)
 
 
 def locked(folder: Folder) -> IO[str]:

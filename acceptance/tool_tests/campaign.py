@@ -97,6 +97,19 @@ def given_inputs_are_completed(folder):
     yield [goal.get("input") for goal in report(folder)["goals"]] == [2, 1, 3, 1, 5, 1, 2, 1, 2, 1]
 
 
+def it_goes_on_with_inputs_but_not_with_other_bounds(folder):
+    put(folder, FEE)
+    campaign(folder, "fee", "cover @CONDITIONEDGE", "fee.c")
+    for words in (["--turns", "5"], ["--frames", "3"], ["--answers", "2"], ["--ends", "any"]):
+        ended = campaign(folder, *words)
+        yield ended.returncode == 2 and f"error: {words[0]} is said where a campaign begins" in ended.stderr
+    ended = campaign(folder, "--inputs", "in.txt")
+    yield ended.returncode == 0 and "of which 4 were given" in ended.stdout
+    put(folder, {"other": "1\n"})
+    yield campaign(folder, "--inputs", "other").stderr == "campaign: fshell measure: error 51 Shape input 1\n"
+    yield "of which 4 were given" in campaign(folder).stdout
+
+
 def undecided_goals_and_the_gate(folder):
     put(folder, {"slow.c": SLOW})
     query = "cover @CONDITIONEDGE"
@@ -197,6 +210,6 @@ def goals_are_decided_one_by_one(folder):
 
 
 TRIED = [(PARALLEL, function) for function in (
-    a_campaign_decides_all_goals, given_inputs_are_completed, undecided_goals_and_the_gate, another_campaigns_folder_is_left_alone,
+    a_campaign_decides_all_goals, given_inputs_are_completed, it_goes_on_with_inputs_but_not_with_other_bounds, undecided_goals_and_the_gate, another_campaigns_folder_is_left_alone,
     files_that_were_removed_or_cut_are_made_anew, killed_at_any_moment_it_goes_on, two_machines_share_the_work,
     bounds_that_suffice_are_told, goals_are_decided_one_by_one)]

@@ -147,4 +147,7 @@ def read(path: str, flags: list[str], refusals: Refusals) -> Unit:
         refusals.add(at, f"pycparser can't read it ({found.group(3) if found else fault})", "write it in plain C11")
     except RecursionError:
         refusals.add(Coord(path, 0), "it is nested too deep", "split its expressions")
+    except AssertionError:  # (by a brace too many, which the compiler tells)
+        if not judged.returncode:
+            refusals.add(Coord(path, 0), "pycparser can't read it", "write it in plain C11")
     return unit
