@@ -157,8 +157,8 @@ def main(given: Optional[list[str]] = None) -> int:
         print(FIRST, flush=True)
         texts, writer = adapt(asked, refusals)
         if refusals.found:
-            print("\n".join(refusals.lines()), file=sys.stderr)
-            print(f"{len(refusals.found)} refused, nothing is written", file=sys.stderr)
+            lines = refusals.lines()
+            print("\n".join([*lines, f"{len(lines)} refused, nothing is written"]), file=sys.stderr)
             return 3
         paths = put(asked.out, texts)
         print("wrote " + " ".join(paths))
