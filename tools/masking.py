@@ -22,6 +22,7 @@ class Asked:
     report: Report
     inputs: dict[int, int] = field(default_factory=dict)
     goals: dict[int, list[int]] = field(default_factory=dict)
+    told: dict[int, "Shown"] = field(default_factory=dict)
 
     def state(self, path: int) -> str:
         """Whether inputs take a path."""
@@ -32,10 +33,10 @@ class Asked:
 
     def pairs(self, node: int) -> Iterator[tuple[int, int]]:
         """The pairs of paths that would show that a condition decides on its own."""
-        paths = self.decision.paths
-        for first, one in enumerate(paths):
-            for second in range(first):
-                if self.decision.shows(paths[second], one, node):
+        paths = self.decision.deciding(node)
+        for at, (first, value, outcome) in enumerate(paths):
+            for second, other, otherwise in paths[:at]:
+                if value != other and outcome != otherwise:
                     yield second, first
 
 
@@ -144,11 +145,21 @@ class Shown:
 
 
 def shown(asked: Asked, node: int) -> Shown:
-    """What is known of a condition."""
-    pairs = list(asked.pairs(node))
-    for pair in pairs:
-        if all(asked.state(path) == TAKEN for path in pair):
+    """What is known of a condition, once it is known which paths inputs take."""
+    if node not in asked.told:
+        asked.told[node] = found(asked, node)
+    return asked.told[node]
+
+
+def found(asked: Asked, node: int) -> Shown:
+    """What is known of a condition, by the states of all paths."""
+    states = [asked.state(path) for path in range(len(asked.decision.paths))]
+    needed: set[int] = set()
+    is_none = not asked.decision.is_cut
+    for pair in asked.pairs(node):
+        if all(states[path] == TAKEN for path in pair):
             return Shown(SHOWN, pair)
-    needed = {path for pair in pairs for path in pair if asked.state(path) == REFUTED}
-    is_none = all(any(path in needed for path in pair) for pair in pairs)
-    return Shown(NONE if is_none and not asked.decision.is_cut else UNDECIDED, None, tuple(sorted(needed)))
+        refuted = [path for path in pair if states[path] == REFUTED]
+        needed.update(refuted)
+        is_none = is_none and bool(refuted)
+    return Shown(NONE if is_none else UNDECIDED, None, tuple(sorted(needed)))

@@ -156,6 +156,16 @@ def certificates_and_the_suite_are_written(folder):
     yield run(folder, ["fshell", "runs", "f", "suite", "a.c"]).returncode == 0
 
 
+def sixteen_conditions(folder):
+    """Eight disjunctions of two, joined by `&&`: of k of them 2^(k+1) - 1 paths, whose time must not grow with a power of theirs."""
+    names = [f"{name}{number}" for number in range(8) for name in "ab"]
+    condition = " && ".join(f"({first} || {second})" for first, second in zip(names[::2], names[1::2]))
+    text = f"int f({', '.join('int ' + name for name in names)}) {{\n  if ({condition}) {{\n    return 1;\n  }}\n  return 0;\n}}\n"
+    value, status = told(folder, text)
+    paths, states = of(value["decisions"][0])
+    yield status == 0 and len(paths) == 511 and states == ["shown"] * 16
+
+
 def small_budgets_leave_it_open(folder):
     value, status = told(folder, source("a * b == 7919 * 7907 && c"), "--budget", "1")
     yield status == 1 and "undecided" in of(value["decisions"][0])[1]
@@ -233,5 +243,5 @@ def random_decisions_agree_with_all_inputs(folder):
 
 
 TRIED = [(GRAPH, function) for function in (
-    decisions_of_each_statement, calls_within_conditions, calls_before_the_first_guard, certificates_and_the_suite_are_written, small_budgets_leave_it_open,
+    decisions_of_each_statement, calls_within_conditions, calls_before_the_first_guard, certificates_and_the_suite_are_written, sixteen_conditions, small_budgets_leave_it_open,
     random_decisions_agree_with_all_inputs)]
