@@ -43,8 +43,9 @@ class Asked:
 # ---- goals
 
 
-def query_of(graph: Graph, decision: Decision) -> str:
-    """A query whose goals have the decision's paths: all paths over the conditions on its lines, joined by arrows at calls."""
+def query_of(graph: Graph, decision: Decision, arrows: int = MOST_ARROWS) -> str:
+    """A query whose goals have the decision's paths: all paths over the conditions on its lines, joined by arrows at calls, of
+    which a goal has so many at most."""
     edges = region(graph, decision)
     lines = sorted({edge.line for edge in edges if edge.decision and graph.owner(edge) == decision.function})
     kept = f"@LINE({lines[0]})"
@@ -55,7 +56,7 @@ def query_of(graph: Graph, decision: Decision) -> str:
     if not calls and not begins_behind_call(graph, edges[0]):
         kept = f"INTERSECT(@FUNC({decision.function}),{kept})"
     part = f"PATHS(INTERSECT(@CONDITIONGRAPH,{kept}),1)"
-    return "cover " + " + ".join(" -> ".join([part] * (count + 1)) for count in range(min(calls, MOST_ARROWS) + 1))
+    return "cover " + " + ".join(" -> ".join([part] * (count + 1)) for count in range(min(calls, arrows) + 1))
 
 
 def region(graph: Graph, decision: Decision) -> list[Edge]:

@@ -18,7 +18,7 @@ from tools import inputs, program
 from tools.decisions import Decision, Decisions, Path
 from tools.folder import STEPS
 from tools.graph import Graph
-from tools.masking import NONE, REFUTED, SHOWN, TAKEN, UNDECIDED, Asked, goals_of, query_of, shown, take
+from tools.masking import MOST_ARROWS, NONE, REFUTED, SHOWN, TAKEN, UNDECIDED, Asked, goals_of, query_of, shown, take
 from tools.program import Failure, Input
 from tools.sources import Faces
 
@@ -119,9 +119,14 @@ def ask(given: argparse.Namespace, graph: Graph, decision: Decision, count: int)
     """Has inputs made for the paths of a decision; on a terminal it says which."""
     if sys.stderr.isatty():
         print(f"decision {decision.number} of {count}", file=sys.stderr)
-    query = query_of(graph, decision)
-    words = ["generate", given.entry, query, *given.sources, *options(given), "--budget", str(given.budget)]
-    asked = Asked(decision, query, program.report(words))
+    for arrows in range(MOST_ARROWS, -1, -1):
+        query = query_of(graph, decision, arrows)
+        words = ["generate", given.entry, query, *given.sources, *options(given), "--budget", str(given.budget)]
+        ended = program.run(words)
+        # (many calls make too many goals; with fewer arrows the paths behind them may stay undecided)
+        if not ended.stderr.startswith("error 71 "):
+            break
+    asked = Asked(decision, query, program.report_of(words, ended))
     asked.goals = goals_of(graph, asked)
     return asked
 

@@ -119,7 +119,11 @@ def run(words: Sequence[str], folder: str | None = None) -> Ended:
 
 def answer(words: Sequence[str], folder: str | None = None) -> str:
     """The text that the program writes; a refusal is a failure."""
-    ended = run(words, folder)
+    return text_of(words, run(words, folder))
+
+
+def text_of(words: Sequence[str], ended: Ended) -> str:
+    """The text that the program wrote; a refusal is a failure."""
     if ended.status not in (DONE, OPEN):
         lines = ended.stderr.strip().splitlines() or [f"it ended with status {ended.status}"]
         raise Failure(f"fshell {words[0]}: {lines[-1]}")
@@ -256,7 +260,12 @@ def report_of_json(value: dict) -> Report:
 
 def report(words: Sequence[str], folder: str | None = None) -> Report:
     """The report that the program answers to the words of `measure`, `generate`, `goals` or `runs`."""
-    text = answer(words, folder)
+    return report_of(words, run(words, folder))
+
+
+def report_of(words: Sequence[str], ended: Ended) -> Report:
+    """The report that the program answered to these words."""
+    text = text_of(words, ended)
     try:
         return report_of_text(text)
     except ValueError as line:

@@ -145,6 +145,15 @@ def calls_before_the_first_guard(folder):
     yield ended.stdout.endswith("conditions 1 of 1 decisions: 0 shown, 1 without a pair, 0 undecided; 1 certificates are checked\n")
 
 
+def many_calls(folder):
+    """A condition whose calls, joined by three arrows, make more goals than a query may have."""
+    text = ("static int g(int x) {\n  return x != 0;\n}\nstatic int two(int x, int y) {\n  return x != y;\n}\nint f(int a, int b, int c) {\n"
+            "  if (((two(a, 0) && b) && (g(a) || g(g(b)))) || c) {\n    return 1;\n  }\n  return 0;\n}\n")
+    tree = ("||", ("&&", ("&&", "a", "b"), ("||", "a", "b")), "c")
+    value, status = told(folder, text)
+    yield status == 0 and of(value["decisions"][0])[1] == ["shown" if shown else "none" for shown in all_inputs_show(tree)]
+
+
 def certificates_and_the_suite_are_written(folder):
     put(folder, {"a.c": source("a || (a && b)")})
     ended = run(folder, ["mcdc", "f", "a.c", "--certificates", "certs", "--suite", "suite"])
@@ -243,5 +252,5 @@ def random_decisions_agree_with_all_inputs(folder):
 
 
 TRIED = [(GRAPH, function) for function in (
-    decisions_of_each_statement, calls_within_conditions, calls_before_the_first_guard, certificates_and_the_suite_are_written, sixteen_conditions, small_budgets_leave_it_open,
+    decisions_of_each_statement, calls_within_conditions, calls_before_the_first_guard, many_calls, certificates_and_the_suite_are_written, sixteen_conditions, small_budgets_leave_it_open,
     random_decisions_agree_with_all_inputs)]
