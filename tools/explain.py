@@ -1,9 +1,9 @@
 """bin/explain: says what the goals of a query or of a report are, and where runs ended that didn't return.
 
-WHAT is a query, or a file with a report of `measure`, `generate`, `goals` or `runs` as text or JSON; `-` stands for standard
+WHAT is a query, or a file with a report of `measure`, `generate`, `goals`, `runs` or `trees` as text or JSON; `-` stands for standard
 input. SOURCE.. are the sources that the report is about. Each goal is told with what its letters are: the place as
 FILE:LINE:COLUMN, the function, the condition with its outcome or what else is done, and the statement; of a covered goal also
-its input. A report of `measure` has no inputs and no paths of runs in it: with --entry and --inputs they are told too.
+its input. A report of `measure` or `trees` has no inputs and no paths of runs in it: with --entry and --inputs they are told too.
 """
 
 import argparse

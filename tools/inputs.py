@@ -74,7 +74,7 @@ def of_text(text: str, kept: bool) -> list[Input]:
     lines = text.removesuffix("\n").split("\n")
     if lines[0] == "fshell traces 1":
         return list(matched(_TRACE, lines[1:]))
-    if re.match(r"goals \d", lines[0]):
+    if re.match(r"(goals|input) \d", lines[0]):
         return of_report(program.report_of_text(text), kept)
     if re.match(r"goal \d+ (?:covered|least|refuted|undecided|open)", lines[0]):
         return list(matched(_ONE, lines))

@@ -83,7 +83,7 @@ class Run:
 
 @dataclass
 class Report:
-    """What `measure`, `generate`, `goals` or `runs` answered; parts that the command doesn't have are empty."""
+    """What `measure`, `generate`, `goals`, `runs` or `trees` answered; parts that the command doesn't have are empty."""
 
     command: str
     goals: list[Goal] = field(default_factory=list)
@@ -209,7 +209,8 @@ def report_of_text(text: str) -> Report:
     lines = text.split("\n")
     if lines.pop() != "":
         raise ValueError("its last line isn't whole")
-    report, count = Report("runs"), 0
+    # (trees tells no edges)
+    report, count = Report("runs" if all(" edges" in line for line in lines) else "trees"), 0
     if lines and not lines[0].startswith("input "):
         count = _head(report, lines.pop(0))
     for line in lines:

@@ -64,6 +64,8 @@ CASES = [
     wrong("an object without arguments", '[{"answers": [1]}]', "an input has no list args"),
     wrong("a report of measure", "goals 1 inputs 1\ninput 1 returned 1\ngoal 1 covered 1 e0@a.c:2\nsuite 1\ncovered 1 of 1\n",
           "it is an answer of measure, which has no inputs"),
+    wrong("an answer of runs", "input 1 returned 1 edges 0\n", "it is an answer of runs, which has no inputs"),
+    wrong("an answer of trees", "input 1 returned 1\n", "it is an answer of trees, which has no inputs"),
     wrong("a certificate", example("certificates/worked.cert"), "it is a certificate, which has no inputs"),
     wrong("a number out of range in a report", MADE.replace("args 7", "args 18446744073709551616"),
           "18446744073709551616 is no whole number from -2^63 to 2^64 - 1"),
