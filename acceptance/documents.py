@@ -4,6 +4,11 @@ An example is an indented block that begins with a line `FOLDER$ fshell WORD..`,
 `$ bin/fshell WORD..`, which is run at the top of the repository. What follows, up to the next such line, is what standard
 output gets, or it goes to a file where the line ends with `> NAME`; the status is 0, and standard error gets nothing.
 
+An example of a tool is a block that begins with a line `FOLDER$ ../../bin/NAME WORD..`. Each of its lines of that form is run
+by a shell in a copy of the examples, one behind the other, up to the document's end; the status is 0, and what follows is what
+standard output gets, where something follows. A line `..` stands for any lines. What needs a program that isn't there is left
+out.
+
 A path is a text between backquotes that begins as one from the top of the repository does, or the target of a link. In
 docs/PROVED.md those that begin with specs/ or src/ are of the crate whose section it is. The sections there and the table
 of layers in docs/ARCHITECTURE.md must have the crates of crates.txt, in its order.
@@ -13,6 +18,7 @@ import glob
 import os
 import re
 import shlex
+import shutil
 import subprocess
 import tempfile
 
@@ -64,6 +70,47 @@ def outcome(folder, words, kept):
         with open(target, "w", encoding="ascii") as file:
             file.write(ended.stdout)
     return ended.returncode, "" if target else ended.stdout, ended.stderr
+
+
+def tool_examples(text):
+    """The lines of a document that run tools, each with its folder, what the shell runs, and the lines that are due."""
+    for block in re.findall(r"(?:^ {4}.*\n)+", text, re.MULTILINE):
+        runs = []
+        for line in (line[4:] for line in block.splitlines()):
+            found = re.fullmatch(r"(examples/\S+)\$ (\.\./\.\./bin/.*)", line)
+            if found:
+                runs.append((found[1], found[2], []))
+            elif runs:
+                runs[-1][2].append(line)
+            else:
+                break
+        yield from runs
+
+
+def matches(due, got):
+    """Whether a text has the lines that are due, `..` being any lines."""
+    pattern = "".join("(?:.*\n)*" if line == ".." else re.escape(line) + "\n" for line in due)
+    return not due or re.fullmatch(pattern, got) is not None
+
+
+def wrong_tool_examples(text):
+    """How many examples of tools a document has, and a line for each that isn't as it says."""
+    runs = [run for run in tool_examples(text) if "/campaign " not in run[1] or shutil.which("parallel")]
+    wrong = []
+    with tempfile.TemporaryDirectory() as kept:
+        if runs:
+            shutil.copytree(os.path.join(programs.ROOT, "examples"), os.path.join(kept, "examples"))
+            os.symlink(os.path.join(programs.ROOT, "bin"), os.path.join(kept, "bin"))
+        for folder, line, due in runs:
+            try:
+                ended = subprocess.run(["sh", "-c", line], cwd=os.path.join(kept, folder), stdin=subprocess.DEVNULL,
+                                       capture_output=True, text=True, timeout=SECONDS)
+            except subprocess.TimeoutExpired:
+                wrong.append(f"{line}: no end within {SECONDS} seconds")
+                continue
+            if ended.returncode or not matches(due, ended.stdout):
+                wrong.append(f"{line}: {ended.returncode}, {ended.stdout!r}, {ended.stderr[-200:]!r}"[:1500])
+    return len(runs), wrong
 
 
 def paths(document, text):
@@ -129,6 +176,9 @@ def failures():
                     got = outcome(folder, words, kept)
                     if got != (0, expected, ""):
                         wrong.append(f"{document}: {folder}: {' '.join(words)}: {got!r}"[:600])
+        tried, of_tools = wrong_tool_examples(text)
+        count += tried
+        wrong += [f"{document}: {line}" for line in of_tools]
         named = set(paths(document, text)) | (set(paths_of_crates(text)) if document == "docs/PROVED.md" else set())
         for path in sorted(named):
             count += 1

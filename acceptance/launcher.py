@@ -151,6 +151,13 @@ def refusals_are_explained(tree):
     yield tree.calls() == []
 
 
+def answers_of_the_launcher_on_a_full_device(tree):
+    with_documents(tree)
+    for words in (["--help"], ["--explain", "66"]):
+        with open("/dev/full", "wb") as full:
+            yield subprocess.run([tree.path("bin/fshell"), *words], stdout=full, stderr=subprocess.DEVNULL).returncode == 8
+
+
 def newer_source_is_built(tree):
     tree.run()
     tree.calls()
@@ -404,7 +411,8 @@ CASES = [first_run_builds, second_run_builds_nothing, newer_source_is_built, oth
          changed_sources_are_never_answered_by_the_release, what_is_no_source_leaves_the_release,
          damaged_release_is_never_run, release_that_cannot_start_is_not_run, release_without_its_sum_is_not_run,
          prove_compares_with_the_release, release_is_checked, release_by_another_kit_is_noted, old_program_is_not_released,
-         gate_runs_all, all_edits_are_tried, help_needs_no_program, refusals_are_explained]
+         gate_runs_all, all_edits_are_tried, help_needs_no_program, refusals_are_explained,
+         answers_of_the_launcher_on_a_full_device]
 
 
 def failures():

@@ -8,6 +8,7 @@ report.json. A campaign that was stopped goes on with `-o DIR` alone. The status
 """
 
 import argparse
+import dataclasses
 import fcntl
 import json
 import os
@@ -30,6 +31,14 @@ def batches(goals: list[int], jobs: int) -> list[list[int]]:
     return [goals[at : at + size] for at in range(0, len(goals), size)]
 
 
+def measured(asked: Asked, given: list[Input]) -> Report:
+    """The report of inputs over all goals; a failure where the program refuses what is asked."""
+    ends = [] if asked.ends == "returned" else ["--ends", asked.ends]
+    with program.as_file(inputs.json_text(given)) as path:
+        words = ["measure", asked.entry, asked.query, path, *asked.sources, "--steps", STEPS, *ends]
+        return program.report(words, asked.place)
+
+
 class Campaign:
     """A campaign that goes on in its folder."""
 
@@ -42,12 +51,7 @@ class Campaign:
     def measured(self) -> Report:
         """The report of all inputs over all goals."""
         self.inputs = inputs.once(self.folder.given() + list(self.folder.found().values()))
-        asked = self.asked
-        ends = [] if asked.ends == "returned" else ["--ends", asked.ends]
-        with program.as_file(inputs.json_text(self.inputs)) as path:
-            return program.report(
-                ["measure", asked.entry, asked.query, path, *asked.sources, "--steps", STEPS, *ends], asked.place
-            )
+        return measured(self.asked, self.inputs)
 
     def left(self, report: Report) -> list[int]:
         """The goals of which nothing is known yet; an input that doesn't hit its goal is forgotten."""
@@ -195,6 +199,20 @@ def numbers(text: str) -> list[int]:
     return [int(word) for word in text.split(",")]
 
 
+def jobs(word: str) -> int:
+    """How many jobs there are: one at least."""
+    if not word.isdecimal() or int(word) < 1:
+        raise argparse.ArgumentTypeError(f"{word} is no number from 1 on")
+    return int(word)
+
+
+def percent(word: str) -> float:
+    """A number of percent, from 0 to 100."""
+    if not 0 <= float(word) <= 100:
+        raise argparse.ArgumentTypeError(f"{word} isn't from 0 to 100")
+    return float(word)
+
+
 def words() -> argparse.Namespace:
     parser = argparse.ArgumentParser(
         prog="campaign", description=__doc__, formatter_class=argparse.RawTextHelpFormatter
@@ -202,30 +220,45 @@ def words() -> argparse.Namespace:
     parser.add_argument("words", nargs="*", metavar="ENTRY QUERY SOURCE..", help="none where a campaign goes on")
     parser.add_argument("-o", metavar="DIR", dest="folder", required=True, help="the campaign's folder")
     for name, value in DEFAULTS.items():
-        parser.add_argument(f"--{name}", type=int, default=value, help=f"as for generate ({value})")
-    parser.add_argument("--ends", choices=program.ENDS, default="returned", help="the ends of runs that count")
-    parser.add_argument("--budget", type=int, help="as for prove (5000000); a greater one tries undecided goals again")
+        parser.add_argument(f"--{name}", type=program.in_range(name), metavar="N", help=f"as for generate ({value})")
+    parser.add_argument("--ends", choices=program.ENDS, help="the ends of runs that count (returned)")
+    parser.add_argument(
+        "--budget",
+        type=program.in_range("budget"),
+        metavar="N",
+        help="as for prove (5000000); a greater one tries undecided goals again",
+    )
     parser.add_argument("--inputs", metavar="FILE", help="inputs that are measured first")
     parser.add_argument(
-        "--jobs", type=int, default=os.cpu_count() or 1, help="goals that are decided side by side, on each machine"
+        "--jobs",
+        type=jobs,
+        default=os.cpu_count() or 1,
+        metavar="N",
+        help="goals that are decided side by side, on each machine",
     )
     parser.add_argument("--sshloginfile", metavar="FILE", help="the machines, as GNU parallel reads them")
     parser.add_argument(
-        "--at-least", type=float, metavar="P", help="the status is 1 where less than P percent are covered"
+        "--at-least", type=percent, metavar="P", help="the status is 1 where less than P percent are covered"
     )
     parser.add_argument("--left", action="store_true", help="only prints the goals that are left, a line each")
     parser.add_argument("--one", type=numbers, metavar="N[,N..]", help="only decides goal N, or several")
     given = parser.parse_intermixed_args()
     if 0 < len(given.words) < 3:
         parser.error("ENTRY QUERY SOURCE.. or none of them")
+    fixed = [name for name in (*DEFAULTS, "ends") if not given.words and getattr(given, name) is not None]
+    if fixed:
+        parser.error(f"--{fixed[0]} is said where a campaign begins; this one goes on with what it was asked")
     return given
 
 
 def begun(given: argparse.Namespace, folder: Folder) -> None:
     """Makes the folder, or takes the one that is there."""
+    read = inputs.of_file(given.inputs) if given.inputs else []
     if given.words:
         sources, place = tuple(given.words[2:]), os.getcwd()
-        bounds = {name: getattr(given, name) for name in DEFAULTS}
+        bounds = {
+            name: value if getattr(given, name) is None else getattr(given, name) for name, value in DEFAULTS.items()
+        }
         asked = Asked(
             given.words[0],
             given.words[1],
@@ -233,17 +266,20 @@ def begun(given: argparse.Namespace, folder: Folder) -> None:
             place,
             read_sums(sources, place),
             bounds,
-            given.ends,
+            given.ends or "returned",
             given.budget or 5_000_000,
         )
-        program.answer(["goals", asked.query, *sources])
-        folder.begin(asked, inputs.of_file(given.inputs) if given.inputs else [])
+        # (so that no folder is made for what is refused)
+        program.check_names(sources)
+        measured(asked, read)
+        folder.begin(asked, read)
         return
     asked = folder.asked()
     if read_sums(asked.sources, asked.place) != asked.sums:
         raise Failure(f"{folder.path}: a source has changed since the campaign began; begin another one")
-    if given.budget:
-        folder.begin(Asked(**{**vars(asked), "budget": given.budget}), [])
+    if given.budget or read:
+        measured(asked, read)
+        folder.begin(dataclasses.replace(asked, budget=given.budget or asked.budget), read)
 
 
 def locked(folder: Folder) -> IO[str]:
@@ -271,6 +307,8 @@ def main() -> int:
     if given.one:
         folder.decide_all(given.one)
         return program.DONE
+    if given.sshloginfile:
+        program.read(given.sshloginfile)
     if not given.left and not has_parallel():
         raise Failure("GNU parallel isn't there (Debian: apt-get install parallel)")
     begun(given, folder)

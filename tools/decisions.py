@@ -40,7 +40,8 @@ class Path:
 
 @dataclass
 class Decision:
-    """A decision; `holds` is the node to which it leads where it holds, and `fails` the other one."""
+    """A decision; `holds` is the node to which it leads where it holds, and `fails` the other one. `after` has for each guard
+    that leaves it open, by its number, the condition that comes next."""
 
     number: int
     tests: list[Test]
@@ -49,6 +50,7 @@ class Decision:
     statement: str
     function: str
     paths: list[Path] = field(default_factory=list)
+    after: dict[int, Test] = field(default_factory=dict)
 
     @property
     def is_cut(self) -> bool:
@@ -63,29 +65,35 @@ class Decision:
         """The numbers of its guards."""
         return {guard.number for test in self.tests for guard in test.guards}
 
+    def may_be(self, values: dict[int, bool], outcome: bool) -> bool:
+        """Whether the decision may have an outcome where some conditions have these values, and the others any."""
+        waiting, seen = [self.tests[0]], {self.tests[0].node}
+        while waiting:
+            test = waiting.pop()
+            for guard in test.guards:
+                if values.get(test.node, guard.truth) != guard.truth:
+                    continue
+                if guard.outcome:
+                    if (guard.target == self.holds) == outcome:
+                        return True
+                elif self.after[guard.number].node not in seen:
+                    seen.add(self.after[guard.number].node)
+                    waiting.append(self.after[guard.number])
+        return False
+
     def independent(self, path: Path, node: int) -> bool:
         """Whether a condition decides in a path: with its other value, and all others as they are, the outcome may differ."""
         values = path.values()
-        if node not in values:
-            return False
-        flipped = {**values, node: not values[node]}
-        return any(
-            other.outcome != path.outcome
-            and all(flipped.get(test, value) == value for test, value in other.values().items())
-            for other in self.paths
-        )
+        return node in values and self.may_be({**values, node: not values[node]}, not path.outcome)
 
-    def shows(self, one: Path, other: Path, node: int) -> bool:
-        """Whether two paths show that a condition decides on its own (masking form)."""
-        first, second = one.values().get(node), other.values().get(node)
-        return (
-            first is not None
-            and second is not None
-            and first != second
-            and one.outcome != other.outcome
-            and self.independent(one, node)
-            and self.independent(other, node)
-        )
+    def deciding(self, node: int) -> list[tuple[int, bool, bool]]:
+        """The paths in which a condition decides (masking form): the number of each, the condition's value and the outcome.
+        Two of them with another value and another outcome show that it decides on its own."""
+        return [
+            (number, path.values()[node], path.outcome)
+            for number, path in enumerate(self.paths)
+            if self.independent(path, node)
+        ]
 
 
 class Decisions:
@@ -143,6 +151,7 @@ class Decisions:
         holds = self.node_of_truth(targets, tests)
         fails = next((node for node in targets if node != holds), holds)
         decision = Decision(0, tests, holds, fails, self.faces.statement(first), self.graph.owner(first))
+        self.order(decision)
         decision.paths = list(self.paths(decision))
         self.found.append(decision)
 
@@ -200,7 +209,18 @@ class Decisions:
                     count += 1
                     yield Path(taken, guard.target == decision.holds)
                 else:
-                    waiting.append((self.next_test(decision, guard), taken))
+                    waiting.append((decision.after[guard.number], taken))
+
+    def order(self, decision: Decision) -> None:
+        """Notes which condition comes behind which guard."""
+        waiting, seen = [decision.tests[0]], {decision.tests[0].node}
+        while waiting:
+            for guard in waiting.pop().guards:
+                if not guard.outcome:
+                    behind = decision.after[guard.number] = self.next_test(decision, guard)
+                    if behind.node not in seen:
+                        seen.add(behind.node)
+                        waiting.append(behind)
 
     def next_test(self, decision: Decision, guard: Edge) -> Test:
         """The condition of a decision that comes behind a guard which leaves it open."""

@@ -1,9 +1,9 @@
 """bin/explain: says what the goals of a query or of a report are, and where runs ended that didn't return.
 
-WHAT is a query, or a file with a report of `measure`, `generate`, `goals` or `runs` as text or JSON; `-` stands for standard
+WHAT is a query, or a file with a report of `measure`, `generate`, `goals`, `runs` or `trees` as text or JSON; `-` stands for standard
 input. SOURCE.. are the sources that the report is about. Each goal is told with what its letters are: the place as
 FILE:LINE:COLUMN, the function, the condition with its outcome or what else is done, and the statement; of a covered goal also
-its input. A report of `measure` has no inputs and no paths of runs in it: with --entry and --inputs they are told too.
+its input. A report of `measure` or `trees` has no inputs and no paths of runs in it: with --entry and --inputs they are told too.
 """
 
 import argparse
@@ -31,7 +31,7 @@ def report_of(word: str) -> Report:
     try:
         text = (sys.stdin.buffer.read() if word == "-" else program.read(word)).decode()
         return program.report_of_json(json.loads(text)) if text.startswith("{") else program.report_of_text(text)
-    except (ValueError, KeyError, TypeError) as fault:
+    except (ValueError, KeyError, TypeError, RecursionError) as fault:
         raise Failure(f"{word}: it is no report: {str(fault)[:80]}") from None
 
 
@@ -124,7 +124,7 @@ def words() -> argparse.Namespace:
     parser.add_argument(
         "--only", choices=("covered", "missed", "refuted", "undecided"), help="goals of this verdict alone"
     )
-    parser.add_argument("--steps", help="as for runs")
+    parser.add_argument("--steps", type=program.in_range("steps"), metavar="N", help="as for runs")
     given = parser.parse_intermixed_args()
     if given.inputs and not given.entry:
         parser.error("--inputs needs --entry")
@@ -138,7 +138,7 @@ def main() -> int:
     read: list[Input] = []
     runs = report.runs if report.command == "runs" else []
     if given.inputs:
-        steps = ["--steps", given.steps] if given.steps else []
+        steps = ["--steps", str(given.steps)] if given.steps else []
         read, runs = inputs.runs_of(given.entry, given.inputs, given.sources, steps)
     if given.only:
         report.goals = [goal for goal in report.goals if goal.verdict == given.only]

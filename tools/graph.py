@@ -158,9 +158,7 @@ def of_text(text: str) -> Graph:
 
 def of_sources(sources: Sequence[str], folder: str | None = None) -> Graph:
     """The automaton of sources, as the program tells it."""
-    for source in sources:
-        if "\n" in source:
-            raise program.Failure("the name of a source has a line feed")
+    program.check_names(sources)
     if not program.has_command("graph"):
         raise program.Failure("the program has no command graph; a newer one is needed (FSHELL names another)")
     try:

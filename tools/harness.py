@@ -182,13 +182,14 @@ def words() -> argparse.Namespace:
     parser.add_argument("inputs", metavar="INPUTS")
     parser.add_argument("sources", nargs="+", metavar="SOURCE")
     parser.add_argument("-o", metavar="OUT", dest="out", help="the C file that is written; else standard output")
-    parser.add_argument("--steps", metavar="N", help="as for runs")
+    parser.add_argument("--steps", type=program.in_range("steps"), metavar="N", help="as for runs")
     return parser.parse_intermixed_args()
 
 
 def main() -> int:
     given = words()
-    steps = ["--steps", given.steps] if given.steps else []
+    program.check_names(given.sources)
+    steps = ["--steps", str(given.steps)] if given.steps else []
     read, runs = inputs.runs_of(given.entry, given.inputs, given.sources, steps)
     sources = [Source(name, program.read(name)) for name in given.sources]
     program.give(text_of(given.entry, read, runs, sources), given.out)

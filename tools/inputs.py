@@ -12,19 +12,11 @@ import sys
 from collections.abc import Iterator, Sequence
 
 from tools import program
-from tools.program import Failure, Input, Run
+from tools.program import Failure, Input, Run, number
 
 _WORD = re.compile(r"-?[0-9]+")
 _ONE = re.compile(r"goal \d+ (?:covered|least) (args(?: -?\d+)*(?: answers(?: -?\d+)+)?)")
 _TRACE = re.compile(r"(args(?: -?\d+)*(?: answers(?: -?\d+)+)?) edges(?: \d+)*")
-LEAST, GREATEST = -(2**63), 2**64 - 1
-
-
-def number(value: object) -> int:
-    """A whole number in range; ValueError where it is none."""
-    if isinstance(value, bool) or not isinstance(value, int) or not LEAST <= value <= GREATEST:
-        raise ValueError(f"{value} is no whole number from -2^63 to 2^64 - 1")
-    return value
 
 
 def of_object(value: object) -> Input:
@@ -82,7 +74,7 @@ def of_text(text: str, kept: bool) -> list[Input]:
     lines = text.removesuffix("\n").split("\n")
     if lines[0] == "fshell traces 1":
         return list(matched(_TRACE, lines[1:]))
-    if re.match(r"goals \d", lines[0]):
+    if re.match(r"(goals|input) \d", lines[0]):
         return of_report(program.report_of_text(text), kept)
     if re.match(r"goal \d+ (?:covered|least|refuted|undecided|open)", lines[0]):
         return list(matched(_ONE, lines))

@@ -16,6 +16,8 @@ from tools.campaign import has_parallel
 from tools.program import ROOT, Failure
 
 NAMES = ("inputs", "explain", "lcov", "harness", "campaign", "page", "mcdc", "adapt")
+# what fshell --help and fshell --explain answer from, beside the documents
+ANSWERED_FROM = ("bin/help.awk", "bin/refusal.awk", "crates/fq_core/specs/Code.antt", "README.md")
 PROGRAM = """#!/bin/sh
 # Prints the path of FShell's program.
 printf '%s\\n' "$(dirname -- "$(dirname -- "$(readlink -f -- "$0")")")/program"
@@ -67,6 +69,8 @@ def copy(source: str, path: str) -> None:
         shutil.copy(source, path + ".new")
         os.replace(path + ".new", path)
     except OSError as fault:
+        if os.path.isfile(path + ".new"):
+            os.remove(path + ".new")
         raise Failure(f"{path}: {fault.strerror}") from None
 
 
@@ -120,6 +124,11 @@ def install(prefix: str) -> int:
     at = folders(prefix)
     copy(found, os.path.join(at["lib"], "program"))
     put(PROGRAM, os.path.join(at["scripts"], "program"), True)
+    for name in ANSWERED_FROM:
+        made = os.path.join(at["lib"], name)
+        os.makedirs(os.path.dirname(made), exist_ok=True)
+        copy(os.path.join(ROOT, name), made)
+    link("../../share/doc/fshell", os.path.join(at["lib"], "docs"))
     for name in ("fshell", *NAMES):
         copy(os.path.join(ROOT, "bin", name), os.path.join(at["scripts"], name))
         link(f"../lib/fshell/bin/{name}", os.path.join(at["bin"], name if name == "fshell" else f"fshell-{name}"))

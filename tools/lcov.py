@@ -132,7 +132,7 @@ def words() -> argparse.Namespace:
     parser.add_argument("sources", nargs="+", metavar="SOURCE")
     parser.add_argument("-o", metavar="OUT", dest="out", help="the tracefile that is written; else standard output")
     parser.add_argument("--ends", choices=program.ENDS, default="returned", help="the ends of runs that count")
-    parser.add_argument("--steps", metavar="N", help="as for runs")
+    parser.add_argument("--steps", type=program.in_range("steps"), metavar="N", help="as for runs")
     parser.add_argument("--refuted", metavar="FILE", help="leaves out what this report refutes")
     return parser.parse_intermixed_args()
 
@@ -140,7 +140,7 @@ def words() -> argparse.Namespace:
 def main() -> int:
     given = words()
     graph = graphs.of_sources(given.sources)
-    steps = ["--steps", given.steps] if given.steps else []
+    steps = ["--steps", str(given.steps)] if given.steps else []
     _, runs = inputs.runs_of(given.entry, given.inputs, given.sources, steps)
     counted = [run for run in runs if run.is_counted(given.ends)]
     report = report_of(given.refuted) if given.refuted else None

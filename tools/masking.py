@@ -22,6 +22,7 @@ class Asked:
     report: Report
     inputs: dict[int, int] = field(default_factory=dict)
     goals: dict[int, list[int]] = field(default_factory=dict)
+    told: dict[int, "Shown"] = field(default_factory=dict)
 
     def state(self, path: int) -> str:
         """Whether inputs take a path."""
@@ -32,34 +33,46 @@ class Asked:
 
     def pairs(self, node: int) -> Iterator[tuple[int, int]]:
         """The pairs of paths that would show that a condition decides on its own."""
-        paths = self.decision.paths
-        for first, one in enumerate(paths):
-            for second in range(first):
-                if self.decision.shows(paths[second], one, node):
+        paths = self.decision.deciding(node)
+        for at, (first, value, outcome) in enumerate(paths):
+            for second, other, otherwise in paths[:at]:
+                if value != other and outcome != otherwise:
                     yield second, first
 
 
 # ---- goals
 
 
-def query_of(graph: Graph, decision: Decision) -> str:
-    """A query whose goals have the decision's paths: all paths over the conditions on its lines, joined by arrows at calls."""
+def query_of(graph: Graph, decision: Decision, arrows: int = MOST_ARROWS) -> str:
+    """A query whose goals have the decision's paths: all paths over the conditions on its lines, joined by arrows at calls, of
+    which a goal has so many at most."""
     edges = region(graph, decision)
     lines = sorted({edge.line for edge in edges if edge.decision and graph.owner(edge) == decision.function})
     kept = f"@LINE({lines[0]})"
     for line in lines[1:]:
         kept = f"UNION({kept},@LINE({line}))"
     calls = sum(edge.operation == "call" for edge in edges)
-    # (what @FUNC keeps has no node of a function that is called, so no path could end at a call)
-    kept = kept if calls else f"INTERSECT(@FUNC({decision.function}),{kept})"
+    # (what @FUNC keeps has no node of a function that is called, so no path could end at a call, or begin behind one)
+    if not calls and not begins_behind_call(graph, edges[0]):
+        kept = f"INTERSECT(@FUNC({decision.function}),{kept})"
     part = f"PATHS(INTERSECT(@CONDITIONGRAPH,{kept}),1)"
-    return "cover " + " + ".join(" -> ".join([part] * (count + 1)) for count in range(min(calls, MOST_ARROWS) + 1))
+    return "cover " + " + ".join(" -> ".join([part] * (count + 1)) for count in range(min(calls, arrows) + 1))
 
 
 def region(graph: Graph, decision: Decision) -> list[Edge]:
     """The edges that a decision's condition makes, from its first guard to its last."""
     numbers = decision.guards()
     return graph.edges[min(numbers) : max(numbers) + 1]
+
+
+def begins_behind_call(graph: Graph, first: Edge) -> bool:
+    """Whether a function is called on the way from the begin of a condition to its first guard."""
+    before = first.number - 1
+    while before >= 0 and graph.edges[before].decision and not graph.edges[before].is_guard:
+        if graph.edges[before].operation == "return":
+            return True
+        before -= 1
+    return False
 
 
 def goals_of(graph: Graph, asked: Asked) -> dict[int, list[int]]:
@@ -133,11 +146,21 @@ class Shown:
 
 
 def shown(asked: Asked, node: int) -> Shown:
-    """What is known of a condition."""
-    pairs = list(asked.pairs(node))
-    for pair in pairs:
-        if all(asked.state(path) == TAKEN for path in pair):
+    """What is known of a condition, once it is known which paths inputs take."""
+    if node not in asked.told:
+        asked.told[node] = found(asked, node)
+    return asked.told[node]
+
+
+def found(asked: Asked, node: int) -> Shown:
+    """What is known of a condition, by the states of all paths."""
+    states = [asked.state(path) for path in range(len(asked.decision.paths))]
+    needed: set[int] = set()
+    is_none = not asked.decision.is_cut
+    for pair in asked.pairs(node):
+        if all(states[path] == TAKEN for path in pair):
             return Shown(SHOWN, pair)
-    needed = {path for pair in pairs for path in pair if asked.state(path) == REFUTED}
-    is_none = all(any(path in needed for path in pair) for pair in pairs)
-    return Shown(NONE if is_none and not asked.decision.is_cut else UNDECIDED, None, tuple(sorted(needed)))
+        refuted = [path for path in pair if states[path] == REFUTED]
+        needed.update(refuted)
+        is_none = is_none and bool(refuted)
+    return Shown(NONE if is_none else UNDECIDED, None, tuple(sorted(needed)))

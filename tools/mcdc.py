@@ -18,7 +18,7 @@ from tools import inputs, program
 from tools.decisions import Decision, Decisions, Path
 from tools.folder import STEPS
 from tools.graph import Graph
-from tools.masking import NONE, REFUTED, SHOWN, TAKEN, UNDECIDED, Asked, goals_of, query_of, shown, take
+from tools.masking import MOST_ARROWS, NONE, REFUTED, SHOWN, TAKEN, UNDECIDED, Asked, goals_of, query_of, shown, take
 from tools.program import Failure, Input
 from tools.sources import Faces
 
@@ -119,9 +119,14 @@ def ask(given: argparse.Namespace, graph: Graph, decision: Decision, count: int)
     """Has inputs made for the paths of a decision; on a terminal it says which."""
     if sys.stderr.isatty():
         print(f"decision {decision.number} of {count}", file=sys.stderr)
-    query = query_of(graph, decision)
-    words = ["generate", given.entry, query, *given.sources, *options(given), "--budget", given.budget]
-    asked = Asked(decision, query, program.report(words))
+    for arrows in range(MOST_ARROWS, -1, -1):
+        query = query_of(graph, decision, arrows)
+        words = ["generate", given.entry, query, *given.sources, *options(given), "--budget", str(given.budget)]
+        ended = program.run(words)
+        # (many calls make too many goals; with fewer arrows the paths behind them may stay undecided)
+        if not ended.stderr.startswith("error 71 "):
+            break
+    asked = Asked(decision, query, program.report_of(words, ended))
     asked.goals = goals_of(graph, asked)
     return asked
 
@@ -136,7 +141,7 @@ def certify(given: argparse.Namespace, all_asked: list[Asked]) -> int:
             name = os.path.join(given.certificates, f"decision{asked.decision.number}-goal{goal}.cert")
             words = [given.entry, asked.query, str(goal)]
             program.write_whole(
-                name, program.answer(["prove", *words, *given.sources, *options(given), "--budget", given.budget])
+                name, program.answer(["prove", *words, *given.sources, *options(given), "--budget", str(given.budget)])
             )
             program.answer(["check", *words, name, *given.sources, *options(given)])
             count += 1
@@ -148,8 +153,12 @@ def words() -> argparse.Namespace:
     parser.add_argument("entry", metavar="ENTRY")
     parser.add_argument("sources", nargs="+", metavar="SOURCE")
     for name, value in BOUNDS.items():
-        parser.add_argument(f"--{name}", type=int, default=value, help=f"as for generate ({value})")
-    parser.add_argument("--budget", default="5000000", help="as for generate (5000000)")
+        parser.add_argument(
+            f"--{name}", type=program.in_range(name), default=value, metavar="N", help=f"as for generate ({value})"
+        )
+    parser.add_argument(
+        "--budget", type=program.in_range("budget"), default=5_000_000, metavar="N", help="as for generate (5000000)"
+    )
     parser.add_argument("--inputs", metavar="FILE", help="inputs that are taken first")
     parser.add_argument("--suite", metavar="FILE", help="writes all inputs to this file")
     parser.add_argument("--certificates", metavar="DIR", help="has certificates written there, and checked")

@@ -62,7 +62,7 @@ def of_campaign(path: str) -> Shown:
     return Shown(path, report, list(asked.sources), asked.entry, asked.query, given, asked.place, path)
 
 
-def shown(name: str, given: argparse.Namespace) -> Shown:
+def shown(name: str, query: str, given: argparse.Namespace) -> Shown:
     """A report that is named, with what the words say of it."""
     if os.path.isdir(name):
         return of_campaign(name)
@@ -72,7 +72,7 @@ def shown(name: str, given: argparse.Namespace) -> Shown:
     if not given.source:
         raise Failure("the sources of a report are named by --source")
     read = report.inputs or (inputs.of_file(given.inputs) if given.inputs else [])
-    return Shown(name, report, given.source, given.entry, given.query, read, ".")
+    return Shown(name, report, given.source, given.entry, query, read, ".")
 
 
 # ---- what the page has
@@ -253,14 +253,25 @@ def words() -> argparse.Namespace:
     parser.add_argument("-o", metavar="FILE", dest="out", required=True, help="the page that is written")
     parser.add_argument("--source", action="append", default=[], help="a source, in their order")
     parser.add_argument("--entry", default="", help="the function in which runs begin")
-    parser.add_argument("--query", default="", help="the query of the reports")
+    parser.add_argument(
+        "--query",
+        action="append",
+        default=[],
+        help="the query of the report; of several reports one each, in their order",
+    )
     parser.add_argument("--inputs", metavar="FILE", help="the inputs of a report of measure")
-    return parser.parse_intermixed_args()
+    given = parser.parse_intermixed_args()
+    if len(given.query) not in (0, len(given.reports)):
+        parser.error(
+            f"{len(given.reports)} reports and {len(given.query)} queries: --query stands once for each report"
+        )
+    return given
 
 
 def main() -> int:
     given = words()
-    reports = [shown(name, given) for name in given.reports]
+    queries = given.query or [""] * len(given.reports)
+    reports = [shown(name, query, given) for name, query in zip(given.reports, queries)]
     sources, place = reports[0].sources, reports[0].place
     if any(one.sources != sources or one.place != place for one in reports):
         raise Failure("the reports are of different sources")

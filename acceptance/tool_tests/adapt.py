@@ -12,6 +12,7 @@ import glob
 import io
 import os
 import re
+import resource
 import subprocess
 import sys
 
@@ -34,6 +35,16 @@ CASES = [
          "a.c:4: the pointer p; name the object itself, or hand its address over as a parameter that is only dereferenced\n"
          "3 refused, nothing is written\n", needs=NEEDS),
     Case("adapt: runs that are compared", ["adapt", "a.c", "-o", "new", "--compare", "3"], SOURCE, 0,
+         FIRST + "wrote new/a.c\ncompared 3 runs, 0 differ\n", "", None, NEEDS),
+    Case("adapt: sources without code", ["adapt", "a.c", "b.c", "-o", "new"], {"a.c": "/* nothing */\n", "b.c": ""}, 0,
+         FIRST + "wrote new/a.c new/b.c\n", "", None, NEEDS),
+    Case("adapt: a source by another name", ["adapt", "a", "-o", "new"], {"a": "int f(int x) { return y; }\n"}, 3, FIRST,
+         "a:1: the compiler says: 'y' undeclared (first use in this function); correct it\n1 refused, nothing is written\n", needs=("pycparser", "gcc")),
+    Case("adapt: a source whose name has a line feed", ["adapt", "a\nb.c"], {"a\nb.c": "int f(int x) { return x; }\n"}, 2, "",
+         "adapt: the name of a source has a line feed\n", needs=NEEDS),
+    Case("adapt: a number of runs below 0", ["adapt", "a.c", "-o", "new", "--compare", "-5"], SOURCE, 2, "", None, needs=NEEDS),
+    Case("adapt: a main among the sources", ["adapt", "a.c", "-o", "new", "--compare", "3"],
+         {"a.c": "int main(void) { return 3; }\nint f(int x) { return main() + x; }\n"}, 0,
          FIRST + "wrote new/a.c\ncompared 3 runs, 0 differ\n", "", None, NEEDS),
     Case("adapt: nothing to compare", ["adapt", "a.c", "-o", "new", "--compare", "3"], {"a.c": "static int f(int x) { return x; }\n"}, 2, None,
          "adapt: there is no function that isn't static, takes integers alone and gives one or nothing, so nothing can be compared\n", None, NEEDS),
@@ -67,6 +78,14 @@ def without_pycparser(folder):
     put(folder, {**SOURCE, "pycparser.py": "raise ModuleNotFoundError(name='pycparser')\n"})
     ended = run(folder, ["adapt", "a.c"], env={**os.environ, "PYTHONPATH": folder})
     yield (ended.returncode, ended.stderr) == (2, "adapt: pycparser isn't there (Debian's package python3-pycparser)\n")
+
+
+def nothing_is_left_half_written(folder):
+    """Where a file may have 10 bytes at most, as on a full disk."""
+    put(folder, SOURCE)
+    ended = run(folder, ["adapt", "a.c", "-o", "new"], preexec_fn=lambda: resource.setrlimit(resource.RLIMIT_FSIZE, (10, 10)))  # fmt: skip
+    yield (ended.returncode, ended.stderr) == (2, "adapt: new/a.c: File too large\n")
+    yield os.listdir(os.path.join(folder, "new")) == []
 
 
 # ---- the tables
@@ -188,5 +207,5 @@ def a_changed_original_fails(folder):
     yield compiled.returncode == 0 and tests.returncode == 1 and "\nnot ok" in tests.stdout
 
 
-TRIED = [(NEEDS, without_gcc), ((), without_pycparser), *((NEEDS, of_table(path)) for path in TABLES),
+TRIED = [(NEEDS, without_gcc), (NEEDS, nothing_is_left_half_written), ((), without_pycparser), *((NEEDS, of_table(path)) for path in TABLES),
          *((NEEDS, of_module(given)) for given in WAYS), (NEEDS, a_changed_original_fails)]  # fmt: skip

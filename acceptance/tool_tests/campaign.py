@@ -19,11 +19,24 @@ SLOW = "int f(int a, int b) {\n  if (a > 1 && b > 1 && a * b == 7919 * 7907) {\n
 PARALLEL = ("parallel",)
 CASES = [
     Case("campaign: a query that is refused", ["campaign", "fee", "cover", "fee.c", "-o", "new"], FEE, 2, "",
-         "campaign: fshell goals: error 61 QuerySyntax query\n", needs=PARALLEL),
+         "campaign: fshell measure: error 61 QuerySyntax query\n", needs=PARALLEL),
     Case("campaign: a source that isn't there", ["campaign", "fee", "cover ID", "no.c", "-o", "new"], FEE, 2, "",
          "campaign: no.c: No such file or directory\n", needs=PARALLEL),
     Case("campaign: inputs that aren't read", ["campaign", "fee", "cover ID", "fee.c", "-o", "new", "--inputs", "fee.c"], FEE, 2, "",
          "campaign: fee.c: no inputs are read: '/*' is no number\n", needs=PARALLEL),
+    Case("campaign: an entry that isn't there leaves no folder", ["campaign", "fees", "cover ID", "fee.c", "-o", "new"], FEE, 2, "",
+         "campaign: fshell measure: error 36 NoSuchEntry\n", needs=PARALLEL),
+    Case("campaign: inputs of another function leave no folder", ["campaign", "fee", "cover ID", "fee.c", "-o", "new", "--inputs", "in"],
+         {**FEE, "in": "1\n"}, 2, "", "campaign: fshell measure: error 51 Shape input 1\n", needs=PARALLEL),
+    Case("campaign: a file in the folder's place", ["campaign", "fee", "cover ID", "fee.c", "-o", "in.txt"], FEE, 2, "",
+         "campaign: in.txt/found: Not a directory\n", needs=PARALLEL),
+    Case("campaign: logins that aren't there", ["campaign", "fee", "cover ID", "fee.c", "-o", "new", "--sshloginfile", "no"], FEE, 2, "",
+         "campaign: no: No such file or directory\n", needs=PARALLEL),
+    Case("campaign: a source whose name has a line feed", ["campaign", "f", "cover ID", "a\nb.c", "-o", "new"],
+         {"a\nb.c": "int f(int x) { return x; }\n"}, 2, "", "campaign: the name of a source has a line feed\n", needs=PARALLEL),
+    *(Case(f"campaign: {' '.join(words)} is out of range", ["campaign", "fee", "cover ID", "fee.c", "-o", "new", *words], FEE, 2, "", None)
+      for words in (["--jobs", "0"], ["--jobs", "-1"], ["--turns", "1001"], ["--frames", "0"], ["--answers", "257"], ["--budget", "0"],
+                    ["--budget", "20000001"], ["--at-least", "nan"], ["--at-least", "101"])),
     Case("campaign: a folder that is no campaign's", ["campaign", "-o", "new"], FEE, 2, "",
          "campaign: new/campaign.json: No such file or directory\n", needs=PARALLEL),
 ]
@@ -82,6 +95,19 @@ def given_inputs_are_completed(folder):
     yield ended.returncode == 0 and "inputs 5, of which 4 were given" in ended.stdout
     yield run(folder, ["inputs", "new/inputs.json"]).stdout.startswith(FEE["in.txt"])
     yield [goal.get("input") for goal in report(folder)["goals"]] == [2, 1, 3, 1, 5, 1, 2, 1, 2, 1]
+
+
+def it_goes_on_with_inputs_but_not_with_other_bounds(folder):
+    put(folder, FEE)
+    campaign(folder, "fee", "cover @CONDITIONEDGE", "fee.c")
+    for words in (["--turns", "5"], ["--frames", "3"], ["--answers", "2"], ["--ends", "any"]):
+        ended = campaign(folder, *words)
+        yield ended.returncode == 2 and f"error: {words[0]} is said where a campaign begins" in ended.stderr
+    ended = campaign(folder, "--inputs", "in.txt")
+    yield ended.returncode == 0 and "of which 4 were given" in ended.stdout
+    put(folder, {"other": "1\n"})
+    yield campaign(folder, "--inputs", "other").stderr == "campaign: fshell measure: error 51 Shape input 1\n"
+    yield "of which 4 were given" in campaign(folder).stdout
 
 
 def undecided_goals_and_the_gate(folder):
@@ -184,6 +210,6 @@ def goals_are_decided_one_by_one(folder):
 
 
 TRIED = [(PARALLEL, function) for function in (
-    a_campaign_decides_all_goals, given_inputs_are_completed, undecided_goals_and_the_gate, another_campaigns_folder_is_left_alone,
+    a_campaign_decides_all_goals, given_inputs_are_completed, it_goes_on_with_inputs_but_not_with_other_bounds, undecided_goals_and_the_gate, another_campaigns_folder_is_left_alone,
     files_that_were_removed_or_cut_are_made_anew, killed_at_any_moment_it_goes_on, two_machines_share_the_work,
     bounds_that_suffice_are_told, goals_are_decided_one_by_one)]

@@ -122,6 +122,7 @@ LOST = "goals 1 inputs 2\ninput 1 trapped assert\ninput 2 returned\ngoal 1 cover
 TRAPS = "int f(int x) {\n  if (x > 10 && x < 5) {\n    return 1;\n  }\n  return 0;\n}\n"
 
 
+TREES = "input 1 returned 5\ninput 2 returned 9\ninput 3 trapped assert\n"
 CASES = [
     Case("explain: the parts of a condition", ["explain", "cover @CONDITIONEDGE", "never.c"], {"never.c": NEVER},
          stdout=goals(CONDITIONS), needs=GRAPH),
@@ -160,6 +161,12 @@ goal 3:
     Case("explain: a report of measure has no paths", ["explain", "out", "one.c", "two.c"], {"one.c": ONE, "two.c": TWO, "out": LOST},
          needs=GRAPH, stdout="goal 1: covered by input 2\n  e15 two.c:9:1 f: done:, label done\n"
          "1 runs were trapped, blocked or too deep; --entry and --inputs tell where\n1 goals: 1 covered\n"),
+    Case("explain: a report of trees has no paths", ["explain", "out", "clamp.c", "--entry", "clamp"],
+         {"clamp.c": example("clamp/clamp.c"), "out": TREES}, needs=GRAPH,
+         stdout="1 runs were trapped, blocked or too deep; --entry and --inputs tell where\n"),
+    Case("explain: runs of trees by its inputs", ["explain", "out", "clamp.c", "--entry", "clamp", "--inputs", "in"],
+         {"clamp.c": example("clamp/clamp.c"), "out": TREES, "in": example("clamp/in.txt")}, needs=GRAPH,
+         stdout="input 3 trapped assert at clamp.c:5:3 clamp: assert(low <= y)\n"),
     Case("explain: runs of measure by its inputs", ["explain", "out", "one.c", "two.c", "--entry", "f", "--inputs", "in"],
          {"one.c": ONE, "two.c": TWO, "out": LOST, "in": "-1\n1\n"}, needs=GRAPH,
          stdout="goal 1: covered by input 2\n  e15 two.c:9:1 f: done:, label done\n  input 2: args 1\n"
@@ -169,6 +176,11 @@ goal 3:
          "explain: no: No such file or directory\n", needs=GRAPH),
     Case("explain: a file that is no report", ["explain", "never.c", "never.c"], {"never.c": NEVER}, 2, "",
          "explain: never.c: it is no report: int f(int x) {\n", needs=GRAPH),
+    Case("explain: JSON that is nested too deep", ["explain", "deep", "never.c"], {"never.c": NEVER, "deep": '{"a":' * 100_000}, 2, "", None, needs=GRAPH),
+    Case("explain: a report as JSON with a number as a goal's text", ["explain", "odd", "never.c"],
+         {"never.c": NEVER, "odd": '{"goals":[{"answer":"missed","text":7}],"inputs":[],"suite":[]}'}, 2, "",
+         "explain: odd: it is no report: 7 is no text\n", needs=GRAPH),
+    Case("explain: --steps out of range", ["explain", "cover ID", "never.c", "--steps", "1000001"], {"never.c": NEVER}, 2, "", None, needs=GRAPH),
     Case("explain: a report that is cut short", ["explain", "made", "never.c"], {"never.c": NEVER, "made": MADE[:MADE.index('goal 3')]}, 2, "",
          "explain: made: it is no report: it has 2 of 4 goals\n", needs=GRAPH),
     Case("explain: a report of other sources", ["explain", "made", "k.c"], {"k.c": KINDS, "made": MADE}, 2, "",

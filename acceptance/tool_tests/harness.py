@@ -32,6 +32,8 @@ CASES = [
          2, "", "harness: in: no inputs are read: 'x' is no number\n"),
     Case("harness: an entry that isn't there", ["harness", "g", "in", "a.c", "-o", "new"], {"in": "1\n", "a.c": "int f(int x) { return x; }\n"},
          2, "", "harness: fshell runs: error 36 NoSuchEntry\n"),
+    Case("harness: a source whose name has a line feed", ["harness", "f", "in", "a\nb.c", "-o", "new"],
+         {"in": "1\n", "a\nb.c": "int f(int x) { return x; }\n"}, 2, "", "harness: the name of a source has a line feed\n"),
     Case("harness: a source that is refused", ["harness", "f", "in", "a.c", "-o", "new"], {"in": "1\n", "a.c": "float f;\n"},
          2, "", "harness: fshell runs: error 21 OutOfProfile a.c:1\n"),
     Case("harness: inputs that aren't there", ["harness", "f", "in", "a.c", "-o", "new"], {"a.c": "int f(int x) { return x; }\n"},

@@ -1,6 +1,10 @@
 """The cases of bin/inputs, by hand from docs/FORMATS.md."""
 
-from tool_tests import Case, example, run, put
+import os
+import subprocess
+
+import programs
+from tool_tests import SECONDS, Case, example, run, put
 
 MADE = """goals 3 turns 4 frames 8 answers 16 budget 5000000
 input 1 args 1 answers 5 9
@@ -60,7 +64,15 @@ CASES = [
     wrong("an object without arguments", '[{"answers": [1]}]', "an input has no list args"),
     wrong("a report of measure", "goals 1 inputs 1\ninput 1 returned 1\ngoal 1 covered 1 e0@a.c:2\nsuite 1\ncovered 1 of 1\n",
           "it is an answer of measure, which has no inputs"),
+    wrong("an answer of runs", "input 1 returned 1 edges 0\n", "it is an answer of runs, which has no inputs"),
+    wrong("an answer of trees", "input 1 returned 1\n", "it is an answer of trees, which has no inputs"),
     wrong("a certificate", example("certificates/worked.cert"), "it is a certificate, which has no inputs"),
+    wrong("a number out of range in a report", MADE.replace("args 7", "args 18446744073709551616"),
+          "18446744073709551616 is no whole number from -2^63 to 2^64 - 1"),
+    wrong("a report whose goal names an input that isn't there", MADE.replace("covered 2", "covered 4"), "it names input 4 and has 3 inputs"),
+    wrong("a report whose suite names an input that isn't there", MADE.replace("suite 1 2", "suite 0"), "it names input 0 and has 3 inputs"),
+    wrong("a text in place of arguments, in a report", AS_JSON.replace('"args":[3]', '"args":["3"]'), "3 is no whole number from -2^63 to 2^64 - 1"),
+    wrong("a report without a bound", AS_JSON.replace('"turns":4', '"turn":4'), "it has no bound turns"),
     wrong("a trace file that is cut short", "fshell traces 1\nargs 5 ed", "'args 5 ed' isn't known"),
 ]
 
@@ -89,4 +101,26 @@ def made_inputs_are_measured(folder):
         line for line in made.splitlines() if line.startswith("goal ")]
 
 
-TRIED = [((), made_inputs_are_measured), ((), least_inputs_are_measured)]
+def a_link_stays_a_link(folder):
+    """What is written goes where a link leads to."""
+    put(folder, {"a": "1\n", "to": "old\n"})
+    os.symlink("to", os.path.join(folder, "link"))
+    yield run(folder, ["inputs", "a", "-o", "link"]).returncode == 0
+    yield os.path.islink(os.path.join(folder, "link"))
+    with open(os.path.join(folder, "to"), encoding="ascii") as file:
+        yield file.read() == "1\n"
+
+
+def what_is_no_file_is_written_into(folder):
+    """A pipe stays one, and /dev/null with it."""
+    put(folder, {"a": "1\n"})
+    pipe = os.path.join(folder, "pipe")
+    os.mkfifo(pipe)
+    with subprocess.Popen([os.path.join(programs.ROOT, "bin", "inputs"), "a", "-o", "pipe"], cwd=folder, stderr=subprocess.DEVNULL) as tool:
+        with open(pipe, encoding="ascii") as file:
+            yield file.read() == "1\n"
+        yield tool.wait(SECONDS) == 0
+    yield sorted(os.listdir(folder)) == ["a", "pipe"] and not os.path.isfile(pipe)
+
+
+TRIED = [((), a_link_stays_a_link), ((), what_is_no_file_is_written_into), ((), made_inputs_are_measured), ((), least_inputs_are_measured)]

@@ -1,6 +1,7 @@
 """The cases of bin/install: what it puts under a folder works there, and its manual pages are shown without a warning."""
 
 import os
+import resource
 import subprocess
 
 import programs
@@ -29,8 +30,20 @@ def installed_tools_work(folder):
     put(folder, {"made": made.stdout})
     yield installed("fshell-inputs", "made").stdout == '[{"args": [1], "answers": [5, 9]}]\n'
     yield all(installed(name, "--help").stdout.startswith("usage: ") for name in TOOLS)
+    yield installed("fshell", "--help").stdout.startswith("Commands:\n  fshell measure ")
+    yield installed("fshell", "--explain", "66").stdout == "66 PredicateNowhere: a predicate is typable in no node's scope\n"
+    # (the documents that the help names)
+    lib = os.path.join(folder, "to", "lib", "fshell")
+    yield all(os.path.exists(os.path.join(lib, name)) for name in ("README.md", "docs/COMMANDS.md", "docs/REFUSALS.md"))
     # once more, over what is there
     yield run(folder, ["install", "to"]).returncode == 0 and installed("fshell-inputs", "made").returncode == 0
+
+
+def nothing_is_left_half_copied(folder):
+    """Where a file may have 1,000 bytes at most, as on a full disk."""
+    ended = run(folder, ["install", "to"], preexec_fn=lambda: resource.setrlimit(resource.RLIMIT_FSIZE, (1000, 1000)))
+    yield ended.returncode == 2 and ended.stderr == "install: to/lib/fshell/program: File too large\n"
+    yield [name for _, _, names in os.walk(os.path.join(folder, "to")) for name in names] == []
 
 
 def completion_knows_words(folder):
@@ -67,4 +80,4 @@ def manual_pages_are_shown(folder):
         yield (shown.returncode, shown.stderr) == (0, "") and "DESCRIPTION" in shown.stdout or name == "fshell.1" and "EXIT STATUS" in shown.stdout
 
 
-TRIED = [((), installed_tools_work), (("bash",), completion_knows_words), ((), needs_are_told), (("man",), manual_pages_are_shown)]
+TRIED = [((), installed_tools_work), ((), nothing_is_left_half_copied), (("bash",), completion_knows_words), ((), needs_are_told), (("man",), manual_pages_are_shown)]

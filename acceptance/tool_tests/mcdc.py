@@ -76,6 +76,7 @@ CASES = [
         "condition 2: b: inputs 2 and 3, by paths 2 and 3",
     ], "2 of 1 decisions: 2 shown, 0 without a pair, 0 undecided", column=9),
     Case("mcdc: no decision", ["mcdc", "f", "a.c"], {"a.c": "int f(int x) { return x; }\n"}, 2, "", "mcdc: there is no decision\n", needs=GRAPH),
+    Case("mcdc: a bound out of range", ["mcdc", "f", "a.c", "--turns", "1001"], {"a.c": source("a")}, 2, "", None),
     Case("mcdc: inputs that are refused", ["mcdc", "f", "a.c", "--inputs", "in", "--suite", "new"], {"a.c": source("a"), "in": "1 x\n"}, 2, "",
          "mcdc: in: no inputs are read: 'x' is no number\n", needs=GRAPH),
     Case("mcdc: an entry that isn't there", ["mcdc", "g", "a.c", "--suite", "new"], {"a.c": source("a")}, 2, "",
@@ -122,6 +123,37 @@ def calls_within_conditions(folder):
     yield status == 0 and of(value["decisions"][1])[1] == ["shown", "shown", "none"]
 
 
+def calls_before_the_first_guard(folder):
+    """Conditions that begin with calls of functions that are defined, in each statement; an input function may stand beside them."""
+    text = ("int in(void);\nstatic int g(int x) {{\n  return x > 3;\n}}\nstatic int two(int x, int y) {{\n  return x - y;\n}}\n"
+            "int f(int a, int b) {{\n  {}\n}}\n")
+    one, both = {"F": False, "T": True}, {"F-": False, "TF": False, "TT": True}
+    for statement, due in (
+            ("if (g(a)) {{\n    return 1;\n  }}\n  return 0;", one), ("while (g(a)) {{ a = 0; }}\n  return 0;", one),
+            ("do {{ a--; }} while (g(a));\n  return a;", one), ("for (int i = 0; two(2, i); i++) {{ a++; }}\n  return a;", one),
+            ("return g(a) ? 7 : 8;", one), ("if (g(a) && g(b)) {{ return 1; }}\n  return 0;", both),
+            ("if (g(a) && b > 2) {{ return 1; }}\n  return 0;", both), ("if (g(g(a) + 3)) {{ return 1; }}\n  return 0;", one),
+            ("if (two(g(a), g(b)) != 0) {{ return 1; }}\n  return 0;", one), ("if (two(in(), a) < 0) {{ return 1; }}\n  return 0;", one),
+            ("if (g(a) + in() > 5) {{ return 1; }}\n  return 0;", one), ("return g(a) && g(b);", both)):
+        value, status = told(folder, text.format(statement.format()))
+        paths, states = of(value["decisions"][0])
+        yield status == 0 and paths == due and states == ["shown"] * len(states)
+    # both paths of a condition that always holds are told, and the one that is refuted has a certificate
+    put(folder, {"a.c": text.format("if (g(5)) {\n    return 1;\n  }\n  return a + b;")})
+    ended = run(folder, ["mcdc", "f", "a.c", "--certificates", "certs"])
+    yield ended.returncode == 0 and "  path 1: F is false, refuted, goal " in ended.stdout
+    yield ended.stdout.endswith("conditions 1 of 1 decisions: 0 shown, 1 without a pair, 0 undecided; 1 certificates are checked\n")
+
+
+def many_calls(folder):
+    """A condition whose calls, joined by three arrows, make more goals than a query may have."""
+    text = ("static int g(int x) {\n  return x != 0;\n}\nstatic int two(int x, int y) {\n  return x != y;\n}\nint f(int a, int b, int c) {\n"
+            "  if (((two(a, 0) && b) && (g(a) || g(g(b)))) || c) {\n    return 1;\n  }\n  return 0;\n}\n")
+    tree = ("||", ("&&", ("&&", "a", "b"), ("||", "a", "b")), "c")
+    value, status = told(folder, text)
+    yield status == 0 and of(value["decisions"][0])[1] == ["shown" if shown else "none" for shown in all_inputs_show(tree)]
+
+
 def certificates_and_the_suite_are_written(folder):
     put(folder, {"a.c": source("a || (a && b)")})
     ended = run(folder, ["mcdc", "f", "a.c", "--certificates", "certs", "--suite", "suite"])
@@ -131,6 +163,16 @@ def certificates_and_the_suite_are_written(folder):
         checked = run(folder, ["fshell", "check", "f", query, goal, f"certs/decision1-goal{goal}.cert", "a.c"])
         yield checked.stdout == f"goal {goal} refuted turns 4 frames 8 answers 16\n"
     yield run(folder, ["fshell", "runs", "f", "suite", "a.c"]).returncode == 0
+
+
+def sixteen_conditions(folder):
+    """Eight disjunctions of two, joined by `&&`: of k of them 2^(k+1) - 1 paths, whose time must not grow with a power of theirs."""
+    names = [f"{name}{number}" for number in range(8) for name in "ab"]
+    condition = " && ".join(f"({first} || {second})" for first, second in zip(names[::2], names[1::2]))
+    text = f"int f({', '.join('int ' + name for name in names)}) {{\n  if ({condition}) {{\n    return 1;\n  }}\n  return 0;\n}}\n"
+    value, status = told(folder, text)
+    paths, states = of(value["decisions"][0])
+    yield status == 0 and len(paths) == 511 and states == ["shown"] * 16
 
 
 def small_budgets_leave_it_open(folder):
@@ -210,5 +252,5 @@ def random_decisions_agree_with_all_inputs(folder):
 
 
 TRIED = [(GRAPH, function) for function in (
-    decisions_of_each_statement, calls_within_conditions, certificates_and_the_suite_are_written, small_budgets_leave_it_open,
+    decisions_of_each_statement, calls_within_conditions, calls_before_the_first_guard, many_calls, certificates_and_the_suite_are_written, sixteen_conditions, small_budgets_leave_it_open,
     random_decisions_agree_with_all_inputs)]

@@ -36,6 +36,8 @@ CASES = [
             "made: it is an answer of goals; the page shows those of measure and generate"),
     refused("a report of other sources", WORDS, {"never.c": NEVER, "made": MADE.replace("never.c", "other.c")},
             "made: goal 1 isn't one of these sources: e0@other.c:2"),
+    Case("page: one query for two reports", ["page", "made", "made", "-o", "new", "--source", "never.c", "--query", QUERY],
+         {"never.c": NEVER, "made": MADE}, 2, "", None, needs=PAGE),
     refused("a file that can't be written", ["page", "made", "-o", "no/page", "--source", "never.c"], {"never.c": NEVER, "made": MADE},
             "no/page: No such file or directory"),
     refused("a folder that is no campaign's", ["page", ".", "-o", "page"], {"never.c": NEVER}, "./campaign.json: No such file or directory"),
@@ -48,6 +50,14 @@ def made(folder, files, *words):
     ended = run(folder, [*WORDS, *words])
     with open(os.path.join(folder, "page.html"), encoding="utf-8") as file:
         return file.read(), ended.stdout
+
+
+def each_report_has_its_query(folder):
+    """The commands for a refuted goal have the query of its report."""
+    other = "cover EDGES(@LINE(2))"
+    text, _ = made(folder, {"never.c": NEVER, "made": MADE, "more": MADE}, "more", "--entry", "f", "--query", QUERY, "--query", other)
+    data = json.loads(re.search(r'id="data">(.*?)</script>', text, re.DOTALL)[1])
+    yield [goal["c"][1] for goal in data["goals"] if "c" in goal] == [CHECK, CHECK.replace(QUERY, other)]
 
 
 def page_has_each_goal(folder):
@@ -93,4 +103,4 @@ def several_reports_are_one_page(folder):
     yield data["reports"] == ["made", "by_hand"] and data["inputs"][1] == ["args 0"]
 
 
-TRIED = [(PAGE, page_has_each_goal), (PAGE, several_reports_are_one_page), (BROWSER, a_browser_shows_clicked_goals)]
+TRIED = [(PAGE, page_has_each_goal), (PAGE, each_report_has_its_query), (PAGE, several_reports_are_one_page), (BROWSER, a_browser_shows_clicked_goals)]

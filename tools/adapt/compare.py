@@ -90,7 +90,8 @@ class Comparison:
     def __init__(self, writer: Units, sources: list[str], made: list[str], flags: list[str], folder: str) -> None:
         self.writer, self.folder = writer, folder
         functions = [one for one in writer.names.functions if one.definition is not None and not one.static]
-        self.entries = [one for one in functions if plain(one)]
+        # (main is the comparison's own)
+        self.entries = [one for one in functions if plain(one) and one.name != "main"]
         if not self.entries:
             raise Stop(
                 "there is no function that isn't static, takes integers alone and gives one or nothing, so nothing can be compared"
@@ -105,7 +106,7 @@ class Comparison:
         self.adapted(made, outer)
 
     def text(self, path: str) -> str:
-        return f'#include "{os.path.abspath(path)}"\n'
+        return f'#define main adapt_own_main\n#include "{os.path.abspath(path)}"\n#undef main\n'
 
     def dump(self, variables: list[Variable], ours: bool) -> str:
         """Prints each integer of the variables."""

@@ -55,7 +55,10 @@ def number(node: Any) -> tuple[int, Int]:
         return found[0], kinds.INT
     if "int" not in node.type:
         raise Refused(node.coord, f"the constant {text}", "use integers in fixed point")
-    digits, suffix = re.fullmatch(r"(0[xX][0-9a-fA-F]+|0[bB][01]+|\d+)([uUlL]*)", text).groups()  # type: ignore[union-attr]
+    whole = re.fullmatch(r"(0[xX][0-9a-fA-F]+|0[bB][01]+|\d+)([uUlL]*)", text)
+    if not whole:
+        raise Refused(node.coord, f"the constant {text}", "write its number")
+    digits, suffix = whole.groups()
     base = {"0x": 16, "0b": 2}.get(digits[:2].lower(), 8 if digits[0] == "0" and len(digits) > 1 else 10)
     value = int(digits, base)
     long, unsigned = "l" in suffix.lower(), "u" in suffix.lower()

@@ -3,12 +3,20 @@
 import argparse
 import os
 import sys
-import tempfile
 from typing import Any, Optional
+
+from tools import program
 
 from .refusals import Refusals, Stop
 
 FIRST = "adapt is no part of what is proved: read and compare what it writes"
+
+
+def count(word: str) -> int:
+    """How many runs are compared."""
+    if not word.isdecimal():
+        raise argparse.ArgumentTypeError(f"{word} is no number from 0 on")
+    return int(word)
 
 
 def words(given: Optional[list[str]]) -> argparse.Namespace:
@@ -42,7 +50,7 @@ def words(given: Optional[list[str]]) -> argparse.Namespace:
         help="write DIR/tests.c, which runs the original's ENTRY on the inputs (bin/harness)",
     )
     parser.add_argument(
-        "--compare", type=int, default=0, metavar="N", help="compile both with gcc and run both on N random inputs"
+        "--compare", type=count, default=0, metavar="N", help="compile both with gcc and run both on N random inputs"
     )
     return parser.parse_args(given)
 
@@ -56,6 +64,7 @@ def adapt(given: argparse.Namespace, refusals: Refusals) -> tuple[dict[str, str]
     from .effects import Effected
     from .jumps import Jumps, walk
     from .names import Names
+    from .output import File
     from .places import Places
     from .reading import read
     from .spelling import Spelling
@@ -85,6 +94,8 @@ def adapt(given: argparse.Namespace, refusals: Refusals) -> tuple[dict[str, str]
     writer = Units(names, places, effected, Spelling(names, taken), given.check)
     writer.inputs = inputs
     files = writer.write()
+    for path in given.sources:
+        files.setdefault(path, File(path))  # (which has no code)
     order = dict.fromkeys(path for unit in units for path in unit.files)
     kept = [path for path in order if path in files and (files[path].pieces or path in given.sources)]
     return {path: files[path].text(lines_of(path)) for path in kept}, writer
@@ -105,20 +116,16 @@ def put(folder: str, texts: dict[str, str]) -> list[str]:
             raise Stop(f"two files are named {os.path.basename(original)}")
         if os.path.exists(target) and os.path.samefile(target, original):
             raise Stop(f"{target} is the original itself; name another folder (-o)")
-        with tempfile.NamedTemporaryFile(
-            "w", dir=folder, delete=False, encoding="utf-8", errors="surrogateescape"
-        ) as file:
-            file.write(text)
-        os.chmod(file.name, 0o644)
-        os.replace(file.name, target)
+        try:
+            program.write_whole(target, text)
+        except program.Failure as failure:
+            raise Stop(str(failure)) from None
         paths.append(target)
     return paths
 
 
 def write_harness(asked: argparse.Namespace, writer: Any, paths: list[str]) -> None:
     """Writes the tests of the original beside what was written."""
-    from tools import program
-
     from .harness import text_of
 
     if len(asked.sources) != 1:
@@ -146,11 +153,12 @@ def main(given: Optional[list[str]] = None) -> int:
     sys.setrecursionlimit(20000)
     refusals = Refusals()
     try:
+        program.check_names(asked.sources)
         print(FIRST, flush=True)
         texts, writer = adapt(asked, refusals)
         if refusals.found:
-            print("\n".join(refusals.lines()), file=sys.stderr)
-            print(f"{len(refusals.found)} refused, nothing is written", file=sys.stderr)
+            lines = refusals.lines()
+            print("\n".join([*lines, f"{len(lines)} refused, nothing is written"]), file=sys.stderr)
             return 3
         paths = put(asked.out, texts)
         print("wrote " + " ".join(paths))
@@ -161,6 +169,6 @@ def main(given: Optional[list[str]] = None) -> int:
         print(f"adapt: {missing.name} isn't there (Debian's package python3-pycparser)", file=sys.stderr)
     except RecursionError:
         print("adapt: a source is nested too deep", file=sys.stderr)
-    except (Stop, OSError) as stop:
+    except Stop as stop:
         print(f"adapt: {stop}", file=sys.stderr)
     return 2

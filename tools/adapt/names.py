@@ -55,6 +55,13 @@ class Names(Declarators):
             self.initialiser(node.init)
             of = Array(of.of, self.constants.length_of(node.init, of.of))
         local = self.function is not None and "extern" not in node.storage
+        before = self.scope.get(node.name)
+        if self.function is not None and not local and isinstance(before, Variable) and before.home != "file":
+            raise Refused(
+                node.coord,
+                f"{node.name} is declared with extern where another object of its name stands",
+                "give one of them another name",
+            )
         static = "static" in node.storage
         home = "static" if local and static else "local" if local else "file"
         old = self.scope.maps[-1].get(node.name) if home == "file" else None
@@ -139,17 +146,17 @@ class Names(Declarators):
         return made
 
     def definition(self, node: Any) -> None:
+        if node.param_decls:
+            raise Refused(
+                node.decl.coord,
+                f"{node.decl.name} declares its parameters behind the parentheses",
+                "declare them between these",
+            )
         made = self.declared_function(node.decl)
         self.meaning[id(node)] = made
         if made.definition is not None:
             self.same_again(made, node)
             return
-        if node.param_decls:
-            raise Refused(
-                node.decl.coord,
-                f"{made.name} declares its parameters behind the parentheses",
-                "declare them between these",
-            )
         made.definition, made.coord, self.function = node, node.decl.coord, made
         made.number = len(self.items)
         made.parameters = self.parameters(node.decl)

@@ -62,7 +62,7 @@ def is_system(file: str) -> bool:
 
 
 def run_compiler(path: str, flags: list[str], more: list[str]) -> subprocess.CompletedProcess[str]:
-    words = [compiler(), "-std=gnu11", "-nostdinc", *more, *flags, "-isystem", HEADERS, path]
+    words = [compiler(), "-std=gnu11", "-nostdinc", *more, *flags, "-isystem", HEADERS, "-x", "c", path]
     plain = {**os.environ, "LC_ALL": "C"}
     return subprocess.run(words, capture_output=True, text=True, errors="replace", check=False, env=plain)
 
@@ -147,4 +147,7 @@ def read(path: str, flags: list[str], refusals: Refusals) -> Unit:
         refusals.add(at, f"pycparser can't read it ({found.group(3) if found else fault})", "write it in plain C11")
     except RecursionError:
         refusals.add(Coord(path, 0), "it is nested too deep", "split its expressions")
+    except AssertionError:  # (by a brace too many, which the compiler tells)
+        if not judged.returncode:
+            refusals.add(Coord(path, 0), "pycparser can't read it", "write it in plain C11")
     return unit
