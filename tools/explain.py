@@ -108,6 +108,10 @@ class Explained:
             yield f"{len(lost)} runs were trapped, blocked or too deep; --entry and --inputs tell where"
 
 
+# what is said where a goal is refuted
+WITHIN = "refuted goals have no run within the bounds; bounds says whether a run leaves them"
+
+
 def counts(report: Report) -> str:
     """How many goals have which verdict, in one line."""
     verdicts = [name for name in ("covered", "missed", "refuted", "undecided") if report.count(name)]
@@ -147,4 +151,6 @@ def main() -> int:
     print(text, end="")
     if report.goals:
         print(counts(report))
+    if report.count("refuted"):
+        print(WITHIN)
     return program.DONE

@@ -79,6 +79,7 @@ covered 3 refuted 1 undecided 0 of 4
 AS_JSON = ('{"bounds":{"answers":16,"budget":5000000,"frames":8,"turns":4},"covered":1,"goals":[{"answer":"covered","input":1,'
            '"text":"e8@count.c:7"}],"inputs":[{"answers":[],"args":[3]}],"refuted":0,"suite":[1],"undecided":0}\n')
 GRAPH = ("graph",)
+WITHIN = "refuted goals have no run within the bounds; bounds says whether a run leaves them\n"
 RETURN = "  e5 never.c:5:3 f: return 0\n"
 LETTERS = f"""goal 1:
   n1 never.c:6 f: the exit
@@ -117,7 +118,7 @@ def said(number, verdict, faces, line):
 
 OF_MADE = (said(1, "covered by input 1", CONDITIONS, "  input 1: args 1073741824\n")
            + said(2, "covered by input 2", CONDITIONS, "  input 2: args 0\n") + said(3, "refuted", CONDITIONS, "")
-           + said(4, "covered by input 1", CONDITIONS, "  input 1: args 1073741824\n") + "4 goals: 3 covered, 1 refuted\n")
+           + said(4, "covered by input 1", CONDITIONS, "  input 1: args 1073741824\n") + "4 goals: 3 covered, 1 refuted\n" + WITHIN)
 LOST = "goals 1 inputs 2\ninput 1 trapped assert\ninput 2 returned\ngoal 1 covered 2 e15@two.c:9\nsuite 2\ncovered 1 of 1\n"
 TRAPS = "int f(int x) {\n  if (x > 10 && x < 5) {\n    return 1;\n  }\n  return 0;\n}\n"
 
@@ -134,7 +135,7 @@ CASES = [
          {"count.c": example("counting/count.c"), "made": AS_JSON}, needs=GRAPH,
          stdout="goal 1: covered by input 1\n  e8 count.c:7:5 count: return 1\n  input 1: args 3\n1 goals: 1 covered\n"),
     Case("explain: refuted goals alone", ["explain", "made", "never.c", "--only", "refuted"], {"never.c": NEVER, "made": MADE},
-         stdout=said(3, "refuted", CONDITIONS, "") + "1 goals: 1 refuted\n", needs=GRAPH),
+         stdout=said(3, "refuted", CONDITIONS, "") + "1 goals: 1 refuted\n" + WITHIN, needs=GRAPH),
     Case("explain: a path has a line a step", ["explain", "cover PATHS(ID,1)", "never.c"], {"never.c": NEVER}, needs=GRAPH,
          stdout="""goal 1:
   e0 never.c:2:7 f: x > 10 is true, in if (x > 10 && x < 5)
