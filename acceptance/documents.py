@@ -10,8 +10,7 @@ standard output gets, where something follows. A line `..` stands for any lines.
 out.
 
 A path is a text between backquotes that begins as one from the top of the repository does, or the target of a link. In
-docs/PROVED.md those that begin with specs/ or src/ are of the crate whose section it is. The sections there and the table
-of layers in docs/ARCHITECTURE.md must have the crates of crates.txt, in its order. The counts in acceptance/README.md must be
+docs/PROVED.md those that begin with specs/ or src/ are of the crate whose section it is. The counts in acceptance/README.md must be
 those that counts.py makes.
 """
 
@@ -24,6 +23,7 @@ import shutil
 import subprocess
 import tempfile
 
+import crates
 import programs
 
 PLACES = ("README.md", "CHANGELOG.md", "docs/*.md", "acceptance/*.md", "bench/*.md")
@@ -122,43 +122,11 @@ def paths(document, text):
         yield os.path.normpath(os.path.join(os.path.dirname(document), path))
 
 
-def sections(text):
-    """The crates that have a section of docs/PROVED.md, with its text."""
-    parts = re.split(r"^### (\w+)$", text, flags=re.MULTILINE)
-    return list(zip(parts[1::2], parts[2::2]))
-
-
 def paths_of_crates(text):
     """The paths that the sections of docs/PROVED.md name of their crates, from the top."""
-    for crate, section in sections(text):
+    for crate, section in crates.sections(text):
         for path in re.findall(r"`((?:specs|src)/[\w./-]+)`", section):
             yield f"crates/{crate}/{path}"
-
-
-def layers():
-    """The layers of crates.txt with their crates, but for tests; those with laws alone stand in the same layer."""
-    found = {}
-    with open(os.path.join(programs.ROOT, "crates.txt"), encoding="utf-8") as file:
-        for line in file.read().split("\n\n", 1)[1].splitlines():
-            name = line.split(":")[0]
-            if name.startswith("# "):
-                layer = found.setdefault(name[2:], [])
-            elif name and not name.endswith("_tests") and not name.startswith("test_"):
-                layer.append(name)
-    found.popitem()  # the programs of bench/ and of the tests
-    return found
-
-
-def disorders(all_texts):
-    """What doesn't have the crates as crates.txt has them."""
-    ordered = layers()
-    crates = [crate for layer in ordered.values() for crate in layer]
-    if [crate for crate, _ in sections(all_texts["docs/PROVED.md"])] != crates:
-        yield "docs/PROVED.md: the sections aren't the crates of crates.txt in their order"
-    for layer, names in ordered.items():
-        row = re.search(rf"^\| {layer} \|(.*)\|(.*)\|$", all_texts["docs/ARCHITECTURE.md"], re.MULTILINE)
-        if not row or re.findall(r"\w+", row.group(1) + row.group(2)) != names:
-            yield f"docs/ARCHITECTURE.md: the layer {layer} doesn't have its crates of crates.txt"
 
 
 def is_built(path):
@@ -186,10 +154,6 @@ def wrong_paths(document, text):
     return len(named), [f"{document}: there is no {path}" for path in sorted(named - there)]
 
 
-def of_order():
-    return 1, list(disorders(dict(texts())))
-
-
 def of_counts():
     import counts  # which reads this module
 
@@ -203,5 +167,5 @@ def of_tools(document, text):
 
 def parts():
     """The examples of the program, those of tools and the paths of each document, and the order of crates."""
-    return [of_order, of_counts] + [functools.partial(of_part, document, text)
+    return [of_counts] + [functools.partial(of_part, document, text)
                          for document, text in texts() for of_part in (wrong_examples, of_tools, wrong_paths)]
