@@ -87,6 +87,11 @@ find_rt() {
   [ -x "$rt" ]
 }
 
+# whether the kit keeps what it proved for later runs: then rt ci takes --anew. Another one proves all in each run
+keeps_proofs() {
+  "$rt" help 2>&1 </dev/null | awk '/^  rt [a-z]/ { of_ci = /^  rt ci/ } of_ci && /--anew/ { found = 1 } END { exit !found }'
+}
+
 # says how many crates are proved: on a terminal in one line that is written over, else in a line a crate
 progress() {
   if [ -t 2 ]; then
