@@ -41,6 +41,6 @@ mod watching;
 pub use first_variables::FirstVariables;
 pub use found::Found;
 pub use moves::{History, Move};
-pub use orders::{search_both, search_early};
+pub use orders::{search_both, search_highest_part, search_lowest_part, search_whole};
 pub use searching::{search, search_in_order};
 pub use watch::{KeepWatch, NoWatch, Watch};

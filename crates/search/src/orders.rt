@@ -10,7 +10,7 @@ use cnf::Formula;
 use fq_core::Memory;
 use std::alloc::Global;
 
-/// The least budget of which a part goes to an early search.
+/// With a budget below this one there is one search alone, with the lowest variables first.
 const LEAST: u64 = 1000;
 
 /// What ends a search within so many moves of a budget, or nothing where they are spent.
@@ -33,30 +33,52 @@ fn ended(
     }
 }
 
-/// What a small part of a budget finds: a fiftieth of its moves with the lowest variables first, and then a twentieth with
-/// the highest first. Nothing is found where both are spent.
-pub fn search_early(alloc: Global, formula: &Formula, budget: u64) -> Result<Option<Found>, Memory>
+/// What a fiftieth of a budget finds with the lowest variables first. Nothing is found where it is spent, or the budget is
+/// below 1,000.
+pub fn search_lowest_part(
+    alloc: Global,
+    formula: &Formula,
+    budget: u64,
+) -> Result<Option<Found>, Memory>
     requires formula { IsFormula formula.now }
     requires small { formula.now.variables ≤ 2 ^ 30 }
     ensures { IfOk result (λ found. IfSome found (IsEnd formula.now budget)) }
 {
-    let first = ended(alloc, formula, budget, budget / 50, FirstVariables::Lowest)?;
-    if first.is_some() {
-        return Ok(first);
+    if budget < LEAST {
+        return Ok(None);
+    }
+    ended(alloc, formula, budget, budget / 50, FirstVariables::Lowest)
+}
+
+/// What a twentieth of a budget finds with the highest variables first. Nothing is found where it is spent, or the budget is
+/// below 1,000.
+pub fn search_highest_part(
+    alloc: Global,
+    formula: &Formula,
+    budget: u64,
+) -> Result<Option<Found>, Memory>
+    requires formula { IsFormula formula.now }
+    requires small { formula.now.variables ≤ 2 ^ 30 }
+    ensures { IfOk result (λ found. IfSome found (IsEnd formula.now budget)) }
+{
+    if budget < LEAST {
+        return Ok(None);
     }
     ended(alloc, formula, budget, budget / 20, FirstVariables::Highest)
 }
 
-/// What the whole budget finds with the lowest variables first, and where it is spent, with the highest first. Where both
-/// are spent, the moves are those of the first search.
-fn search_whole(alloc: Global, formula: &Formula, budget: u64) -> Result<Found, Memory>
+/// Searches a model of a formula with the lowest variables first, and where the budget is spent, with the highest first: a
+/// model, a derivation that shows that there is none, or, where both searches are spent, all the moves of the first one. A
+/// budget of 3 to the number of the formula's variables is never spent. With a budget below 1,000 there is the first search
+/// alone.
+pub fn search_whole(alloc: Global, formula: &Formula, budget: u64) -> Result<Found, Memory>
     requires formula { IsFormula formula.now }
     requires small { formula.now.variables ≤ 2 ^ 30 }
     ensures found { IfOk result (IsFound formula.now budget) }
     ensures enough { 3 ^ formula.now.variables ≤ budget → IfOk result HasEnded }
 {
     let lowest = search(alloc, formula, budget)?;
-    if !matches!(&lowest, Found::Spent(_)) {
+    if budget < LEAST || !matches!(&lowest, Found::Spent(_)) {
         return Ok(lowest);
     }
     match ended(alloc, formula, budget, budget, FirstVariables::Highest)? {
@@ -65,21 +87,18 @@ fn search_whole(alloc: Global, formula: &Formula, budget: u64) -> Result<Found, 
     }
 }
 
-/// Searches a model of a formula in both orders, each with at most so many moves: a model, a derivation that shows that
-/// there is none, or, where both budgets are spent, all the moves of the search with the lowest variables first. A budget
-/// of 3 to the number of the formula's variables is never spent.
-///
-/// An early search comes first, but with a budget below 1,000, where there is no other search than `search`.
+/// What parts of the budget find (`search_lowest_part`, and then `search_highest_part`), and else the whole one
+/// (`search_whole`).
 pub fn search_both(alloc: Global, formula: &Formula, budget: u64) -> Result<Found, Memory>
     requires formula { IsFormula formula.now }
     requires small { formula.now.variables ≤ 2 ^ 30 }
     ensures found { IfOk result (IsFound formula.now budget) }
     ensures enough { 3 ^ formula.now.variables ≤ budget → IfOk result HasEnded }
 {
-    if budget < LEAST {
-        return search(alloc, formula, budget);
+    if let Some(found) = search_lowest_part(alloc, formula, budget)? {
+        return Ok(found);
     }
-    match search_early(alloc, formula, budget)? {
+    match search_highest_part(alloc, formula, budget)? {
         Some(found) => Ok(found),
         None => search_whole(alloc, formula, budget),
     }
