@@ -18,7 +18,6 @@ from dataclasses import dataclass
 
 import programs
 
-SECONDS = 60
 CHUNK = 10000
 EDGE = re.compile(r"edge \d+ from (\d+) to (\d+) .*?:\d+:\d+ [A-Z]+ (skip|assign|clear|guard|call|return|answer|assert|assume)"
                   r"(?: (?:true|false|\w+))??( decision)?( outcome)?( enter)?( back)?(?: (?:label|writes|reads) .*)?")
@@ -77,11 +76,8 @@ TABLE = [
 ]
 
 
-built = functools.cache(programs.program)
-
-
 def run(words, folder):
-    ended = subprocess.run([built(), *words], cwd=folder, stdin=subprocess.DEVNULL, capture_output=True, text=True, timeout=SECONDS)
+    ended = subprocess.run([programs.program(), *words], cwd=folder, stdin=subprocess.DEVNULL, capture_output=True, text=True, timeout=programs.SECONDS)
     return ended.returncode, ended.stdout, ended.stderr
 
 
@@ -195,17 +191,20 @@ def of_bounds(tried, bounds):
     return [] if is_right else [f"{' '.join(words)}: {status} {said!r} {err!r}, and {len(leaving)} inputs leave them"]
 
 
-def failures():
-    """How many answers were compared, and a line for each that differs."""
+def of_program(program):
+    """How many answers were compared of a program, and a line for each that differs."""
     count, wrong = 0, []
-    for program in TABLE:
-        with tempfile.TemporaryDirectory() as folder:
-            tried = Tried(program, folder)
-            for bounds in program.bounds:
-                count += 1
-                lines = of_bounds(tried, bounds)
-                for query, ends in program.queries:
-                    goals, of_query = of_least(tried, bounds, query, ends)
-                    count, lines = count + goals, lines + of_query
-                wrong += [f"{program.name}: {line}" for line in lines]
+    with tempfile.TemporaryDirectory() as folder:
+        tried = Tried(program, folder)
+        for bounds in program.bounds:
+            count += 1
+            lines = of_bounds(tried, bounds)
+            for query, ends in program.queries:
+                goals, of_query = of_least(tried, bounds, query, ends)
+                count, lines = count + goals, lines + of_query
+            wrong += [f"{program.name}: {line}" for line in lines]
     return count, wrong
+
+
+def parts():
+    return [functools.partial(of_program, program) for program in TABLE]

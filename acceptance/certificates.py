@@ -6,6 +6,7 @@ the certificate of the goal before it `check` must answer 91, and of each change
 one, it must accept none that the checker here rejects.
 """
 
+import functools
 import os
 import re
 import subprocess
@@ -13,7 +14,6 @@ import tempfile
 
 import programs
 
-SECONDS = 60
 
 NEVER = "int f(int x) {\n  if (x > 10 && x < 5) {\n    return 1;\n  }\n  return 0;\n}\n"
 COUNT = "int f(int n) {\n  int i = 0;\n  while (i < n) {\n    i = i + 1;\n  }\n  if (i == 3) {\n    return 1;\n  }\n  return 0;\n}\n"
@@ -115,7 +115,7 @@ def is_drat(folder, text):
 
 
 def run(program, folder, words):
-    done = subprocess.run([program, *words], cwd=folder, stdin=subprocess.DEVNULL, capture_output=True, text=True, timeout=SECONDS)
+    done = subprocess.run([program, *words], cwd=folder, stdin=subprocess.DEVNULL, capture_output=True, text=True, timeout=programs.SECONDS)
     return done.returncode, done.stdout, done.stderr
 
 
@@ -126,37 +126,56 @@ def changes(text):
         yield text[:place] + ("7" if text[place] != "7" else "2") + text[place + 1:]
 
 
-def failures():
-    """How many certificates were checked, and a line for each answer that is wrong."""
-    program, count, wrong, texts = programs.program(), 0, [], []
+class Written:
+    """A goal's source and certificates in a folder, and what the program says of them."""
+
+    def __init__(self, folder, goal):
+        self.program, self.folder = programs.program(), folder
+        self.source, self.query, self.number, self.bounds = goal
+        self.write("s.c", self.source)
+
+    def write(self, name, text):
+        with open(os.path.join(self.folder, name), "w", encoding="ascii") as file:
+            file.write(text)
+
+    def proved(self):
+        """The status and the text of `prove`."""
+        return run(self.program, self.folder, ["prove", *self.bounds, "f", self.query, self.number, "s.c"])[:2]
+
+    def checked(self, text):
+        """What `check` says of a certificate."""
+        self.write("goal.cert", text)
+        return run(self.program, self.folder, ["check", *self.bounds, "f", self.query, self.number, "goal.cert", "s.c"])
+
+
+def of_goal(goal):
+    """How many certificates of a goal were checked, and a line for each answer that is wrong."""
     with tempfile.TemporaryDirectory() as folder:
-        def write(name, text):
-            with open(os.path.join(folder, name), "w", encoding="ascii") as file:
-                file.write(text)
-
-        def checked(source, query, goal, bounds, text):
-            write("s.c", source)
-            write("goal.cert", text)
-            return run(program, folder, ["check", *bounds, "f", query, goal, "goal.cert", "s.c"])
-
-        for source, query, goal, bounds in GOALS:
-            write("s.c", source)
-            status, text, _ = run(program, folder, ["prove", *bounds, "f", query, goal, "s.c"])
-            texts.append(text)
-            count += 2
-            if status != 0 or not is_right(text):
-                wrong.append(f"{query}: what prove wrote isn't right")
-            if status == 0 and not is_drat(folder, text):
-                wrong.append(f"{query}: a line of the DRAT form doesn't follow")
-            if checked(source, query, goal, bounds, text)[0] != 0:
-                wrong.append(f"{query}: check rejects what prove wrote")
-            for changed in changes(text):
-                count += 1
-                if checked(source, query, goal, bounds, changed)[0] == 0 and not is_right(changed):
-                    wrong.append(f"{query}: check accepts a certificate that isn't right")
-        for place, (source, query, goal, bounds) in enumerate(GOALS):
+        written = Written(folder, goal)
+        status, text = written.proved()
+        count, wrong = 2, []
+        if status != 0 or not is_right(text):
+            wrong.append(f"{written.query}: what prove wrote isn't right")
+        if status == 0 and not is_drat(folder, text):
+            wrong.append(f"{written.query}: a line of the DRAT form doesn't follow")
+        if written.checked(text)[0] != 0:
+            wrong.append(f"{written.query}: check rejects what prove wrote")
+        for changed in changes(text):
             count += 1
-            status, out, err = checked(source, query, goal, bounds, texts[place - 1])
-            if status != 10 or out or not err.startswith("error 91 OtherFormula "):
-                wrong.append(f"{query}: {status} {out!r} {err!r} for the certificate of the goal before")
+            if written.checked(changed)[0] == 0 and not is_right(changed):
+                wrong.append(f"{written.query}: check accepts a certificate that isn't right")
     return count, wrong
+
+
+def of_another(goal, before):
+    """What is wrong with what `check` says of the certificate of the goal before."""
+    with tempfile.TemporaryDirectory() as folder:
+        text = Written(folder, before).proved()[1]
+        status, out, err = Written(folder, goal).checked(text)
+    is_due = status == 10 and not out and err.startswith("error 91 OtherFormula ")
+    return 1, [] if is_due else [f"{goal[1]}: {status} {out!r} {err!r} for the certificate of the goal before"]
+
+
+def parts():
+    return [functools.partial(of_goal, goal) for goal in GOALS] + [
+        functools.partial(of_another, goal, GOALS[place - 1]) for place, goal in enumerate(GOALS)]

@@ -6,6 +6,7 @@ mean is mostly refused later, since their names are declared nowhere), and with 
 refuses that bracket. Where count_items is built, as rt ci leaves it, it must count the items of every one.
 """
 
+import functools
 import os
 import random
 import re
@@ -15,6 +16,7 @@ import tempfile
 import programs
 
 COUNT = 400
+CHUNK = 50
 LATER = re.compile(r"error (29|3\d|41|72) ")  # refused by its types, by its automaton's size, or since it has no edge
 TYPES = ["int", "char", "signed char", "short", "unsigned short int", "long", "long long", "long unsigned int long",
          "unsigned", "int8_t", "uint64_t", "size_t"]
@@ -159,13 +161,13 @@ class Grammar:
         return f"{before} {more} {self.one(TYPES + ['void'])} {self.name()}({parameters}) {end}"
 
 
-def sources():
-    for seed in range(COUNT):
-        grammar = Grammar(seed)
-        items = grammar.some(grammar.item)
-        yield "\n".join(items) + "\n", len(items)
-    # as many tokens as are allowed, but for a few
-    yield "int f(void) { return 1; }\n" * 18_000 + "int x;\n" * 6_000, 24_000
+def source(number):
+    """A source with the number of its items; the last one has as many tokens as are allowed, but for a few."""
+    if number == COUNT:
+        return "int f(void) { return 1; }\n" * 18_000 + "int x;\n" * 6_000, 24_000
+    grammar = Grammar(number)
+    items = grammar.some(grammar.item)
+    return "\n".join(items) + "\n", len(items)
 
 
 def answer(program, folder, name):
@@ -197,13 +199,17 @@ def counts(folder, sources):
     return lines + [""] * len(names)
 
 
-def failures():
+def tried(numbers):
     """The number of sources, and a line for each that isn't read, or whose items aren't counted."""
-    made, program = list(sources()), programs.program()
+    made, program = [source(number) for number in numbers], programs.program()
     with tempfile.TemporaryDirectory() as folder:
         found = [fault(program, folder, source) for source, _ in made]
         if os.path.exists(programs.COUNT_ITEMS):
             lines = counts(folder, [source for source, _ in made])
             found = [fault or (None if line == str(count) else f"{line} items, not {count}")
                      for fault, line, (_, count) in zip(found, lines, made)]
-    return len(made), [f"corpus: source {number}: {wrong}" for number, wrong in enumerate(found) if wrong]
+    return len(made), [f"corpus: source {number}: {wrong}" for number, wrong in zip(numbers, found) if wrong]
+
+
+def parts():
+    return [functools.partial(tried, range(first, min(first + CHUNK, COUNT + 1))) for first in range(0, COUNT + 1, CHUNK)]

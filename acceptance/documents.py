@@ -11,9 +11,11 @@ out.
 
 A path is a text between backquotes that begins as one from the top of the repository does, or the target of a link. In
 docs/PROVED.md those that begin with specs/ or src/ are of the crate whose section it is. The sections there and the table
-of layers in docs/ARCHITECTURE.md must have the crates of crates.txt, in its order.
+of layers in docs/ARCHITECTURE.md must have the crates of crates.txt, in its order. The counts in acceptance/README.md must be
+those that counts.py makes.
 """
 
+import functools
 import glob
 import os
 import re
@@ -26,7 +28,6 @@ import programs
 
 PLACES = ("README.md", "CHANGELOG.md", "docs/*.md", "acceptance/*.md", "bench/*.md")
 FOLDERS = "acceptance|bench|bin|crates|docs|examples|tools"
-SECONDS = 60
 
 
 def texts():
@@ -63,9 +64,9 @@ def outcome(folder, words, kept):
     words = [os.path.join(kept, word) if word in os.listdir(kept) else word for word in (words[:-2] if target else words)]
     try:
         ended = subprocess.run([programs.LAUNCHER] + words, cwd=os.path.join(programs.ROOT, folder), stdin=subprocess.DEVNULL,
-                               capture_output=True, text=True, timeout=SECONDS)
+                               capture_output=True, text=True, timeout=programs.SECONDS)
     except subprocess.TimeoutExpired:
-        return f"no end within {SECONDS} seconds"
+        return f"no end within {programs.SECONDS} seconds"
     if target:
         with open(target, "w", encoding="ascii") as file:
             file.write(ended.stdout)
@@ -104,9 +105,9 @@ def wrong_tool_examples(text):
         for folder, line, due in runs:
             try:
                 ended = subprocess.run(["sh", "-c", line], cwd=os.path.join(kept, folder), stdin=subprocess.DEVNULL,
-                                       capture_output=True, text=True, timeout=SECONDS)
+                                       capture_output=True, text=True, timeout=programs.SECONDS)
             except subprocess.TimeoutExpired:
-                wrong.append(f"{line}: no end within {SECONDS} seconds")
+                wrong.append(f"{line}: no end within {programs.SECONDS} seconds")
                 continue
             if ended.returncode or not matches(due, ended.stdout):
                 wrong.append(f"{line}: {ended.returncode}, {ended.stdout!r}, {ended.stderr[-200:]!r}"[:1500])
@@ -165,23 +166,42 @@ def is_built(path):
     return "/out/" in path
 
 
-def failures():
-    """How many examples and paths there are, and a line for each that is wrong."""
+def wrong_examples(document, text):
+    """How many examples of the program a document has, and a line for each that isn't as it says."""
     count, wrong = 0, []
-    for document, text in texts():
-        for runs in examples(text):
-            with tempfile.TemporaryDirectory() as kept:
-                for folder, words, expected in runs:
-                    count += 1
-                    got = outcome(folder, words, kept)
-                    if got != (0, expected, ""):
-                        wrong.append(f"{document}: {folder}: {' '.join(words)}: {got!r}"[:600])
-        tried, of_tools = wrong_tool_examples(text)
-        count += tried
-        wrong += [f"{document}: {line}" for line in of_tools]
-        named = set(paths(document, text)) | (set(paths_of_crates(text)) if document == "docs/PROVED.md" else set())
-        for path in sorted(named):
-            count += 1
-            if not is_built(path) and not os.path.exists(os.path.join(programs.ROOT, path)):
-                wrong.append(f"{document}: there is no {path}")
-    return count + 1, wrong + list(disorders(dict(texts())))
+    for runs in examples(text):
+        with tempfile.TemporaryDirectory() as kept:
+            for folder, words, expected in runs:
+                count += 1
+                got = outcome(folder, words, kept)
+                if got != (0, expected, ""):
+                    wrong.append(f"{document}: {folder}: {' '.join(words)}: {got!r}"[:600])
+    return count, wrong
+
+
+def wrong_paths(document, text):
+    """How many paths a document names, and a line for each that isn't there."""
+    named = set(paths(document, text)) | (set(paths_of_crates(text)) if document == "docs/PROVED.md" else set())
+    there = {path for path in named if is_built(path) or os.path.exists(os.path.join(programs.ROOT, path))}
+    return len(named), [f"{document}: there is no {path}" for path in sorted(named - there)]
+
+
+def of_order():
+    return 1, list(disorders(dict(texts())))
+
+
+def of_counts():
+    import counts  # which reads this module
+
+    return 1, counts.wrong()
+
+
+def of_tools(document, text):
+    count, wrong = wrong_tool_examples(text)
+    return count, [f"{document}: {line}" for line in wrong]
+
+
+def parts():
+    """The examples of the program, those of tools and the paths of each document, and the order of crates."""
+    return [of_order, of_counts] + [functools.partial(of_part, document, text)
+                         for document, text in texts() for of_part in (wrong_examples, of_tools, wrong_paths)]

@@ -1,5 +1,6 @@
 """What the scripts of bin/ do around the program, on a small tree of its own where a script stands for rt."""
 
+import functools
 import hashlib
 import os
 import re
@@ -587,12 +588,12 @@ if shutil.which("git"):
     CASES += [whole_gate_is_noted, part_of_the_gate, nothing_is_left_out_untold]
 
 
-def failures():
-    """The number of cases, and a line for each that fails."""
-    failed = []
-    for case in CASES:
-        with tempfile.TemporaryDirectory() as folder:
-            wrong = [number for number, right in enumerate(case(Tree(folder)), 1) if not right]
-        if wrong:
-            failed.append(f"launcher: {case.__name__}: wrong at {wrong}")
-    return len(CASES), failed
+def tried(case):
+    """One case, and a line where it fails."""
+    with tempfile.TemporaryDirectory() as folder:
+        wrong = [number for number, right in enumerate(case(Tree(folder)), 1) if not right]
+    return 1, [f"launcher: {case.__name__}: wrong at {wrong}"] if wrong else []
+
+
+def parts():
+    return [functools.partial(tried, case) for case in CASES]

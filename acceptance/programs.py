@@ -1,5 +1,6 @@
 """The program that the cases run, and where it comes from."""
 
+import functools
 import os
 import subprocess
 import sys
@@ -7,9 +8,11 @@ import sys
 HERE = os.path.dirname(os.path.abspath(__file__))
 ROOT = os.path.normpath(os.path.join(HERE, ".."))
 LAUNCHER = os.path.join(ROOT, "bin", "fshell")
+SECONDS = 300  # a run that takes longer has no end; it takes seconds at most, but a machine may be busy
 COUNT_ITEMS = os.path.join(ROOT, "crates", "count_items", "out", "count_items")
 
 
+@functools.cache
 def program():
     """The path of the program that the launcher runs, which is made ready first; ends where there is none."""
     found = subprocess.run([os.path.join(ROOT, "bin", "program")], stdin=subprocess.DEVNULL, stdout=subprocess.PIPE, text=True)

@@ -1,15 +1,17 @@
-"""Traces beside measurements: for each case of `measure` in cases.json that ends with a report, `traces` of its inputs and then
+"""Traces beside measurements: for each case of `measure` in command_cases/ that ends with a report, `traces` of its inputs and then
 `replay` must give that report without the inputs whose runs aren't counted, the others numbered anew."""
 
+import functools
 import json
 import os
 import re
 import subprocess
 import tempfile
 
+import cases
 import programs
+from command_cases import every
 
-SECONDS = 60
 LIMIT = 16 * 2**20
 COUNTED = {"returned": ("returned",), "trapped": ("returned", "trapped"), "any": ("returned", "trapped", "blocked", "too-deep")}
 
@@ -74,7 +76,7 @@ def of_json(report, counted):
 
 
 def run(words, folder):
-    ended = subprocess.run([programs.LAUNCHER, *words], cwd=folder, stdin=subprocess.DEVNULL, capture_output=True, timeout=SECONDS)
+    ended = subprocess.run([programs.LAUNCHER, *words], cwd=folder, stdin=subprocess.DEVNULL, capture_output=True, timeout=programs.SECONDS)
     return ended.returncode, ended.stdout.decode(), ended.stderr.decode()
 
 
@@ -94,24 +96,24 @@ def wrong(words, report, folder):
     return "" if got == due else f"replay: {got!r}, not {due!r}"[:600]
 
 
-def measurements(cases, text):
+def measurements():
     """The cases that end with a report of `measure`, each with its words and its report."""
-    for case in cases:
-        words = [text(word).decode("utf-8", "replace") for word in case["words"]]
+    for case in every.CASES:
+        words = [cases.text(word).decode("utf-8", "replace") for word in case["words"]]
         if words[:1] == ["measure"] and case["status"] == 0 and "each" not in case and "stdout" in case and "stdout_room" not in case:
-            yield case, words, text(case["stdout"]).decode()
+            yield case, words, cases.text(case["stdout"]).decode()
 
 
-def failures(cases, text, make_files):
-    """How many measurements were replayed, and a line for each that differs."""
-    count, found = 0, []
-    for case, words, report in measurements(cases, text):
-        count += 1
-        with tempfile.TemporaryDirectory() as folder:
-            make_files(folder, case["files"])
-            try:
-                line = wrong(words, report, folder)
-            except subprocess.TimeoutExpired:
-                line = f"no end within {SECONDS} seconds"
-        found += [f"{case['name']}: {line}"] if line else []
-    return count, found
+def replayed(case, words, report):
+    """One measurement, and a line where it differs."""
+    with tempfile.TemporaryDirectory() as folder:
+        cases.make_files(folder, case["files"])
+        try:
+            line = wrong(words, report, folder)
+        except subprocess.TimeoutExpired:
+            line = f"no end within {programs.SECONDS} seconds"
+    return 1, [f"{case['name']}: {line}"] if line else []
+
+
+def parts():
+    return [functools.partial(replayed, *measurement) for measurement in measurements()]

@@ -2,11 +2,12 @@
 
 To begin a loop's body and to call a function takes a turn, and each turn has an edge of its own. So where an input isn't cut at
 a number of edges, `trees` must tell the same end with as many turns; where it is cut, `trees` may cut it too, or tell the end
-that the run has with more edges. Tried are the inputs of each measurement of cases.json, all inputs of the programs of
+that the run has with more edges. Tried are the inputs of each measurement of command_cases/, all inputs of the programs of
 all_inputs.py, and random programs, those that with_gcc/program_runs makes (for which no gcc is needed), also with few turns:
 with one more an end stays the same.
 """
 
+import functools
 import importlib.machinery
 import importlib.util
 import json
@@ -17,10 +18,10 @@ import sys
 import tempfile
 
 import all_inputs
+import cases
 import programs
 import replays
 
-SECONDS = 60
 RANDOM = range(1001, 1025)
 FEW, MANY = (1, 2, 4, 9, 30), 20000
 MOST = "1000000"
@@ -28,7 +29,7 @@ MOST = "1000000"
 
 def said(words, folder):
     """The lines of an answer, which must have the status 0."""
-    ended = subprocess.run([all_inputs.built(), *words], cwd=folder, stdin=subprocess.DEVNULL, capture_output=True, text=True, timeout=SECONDS)
+    ended = subprocess.run([programs.program(), *words], cwd=folder, stdin=subprocess.DEVNULL, capture_output=True, text=True, timeout=programs.SECONDS)
     if ended.returncode or ended.stderr:
         raise ValueError(f"{words[:4]} ends with {ended.returncode}, {ended.stderr!r}")
     return ended.stdout.splitlines()
@@ -69,14 +70,6 @@ def of_measurement(words, report, folder):
     return differences(ends, trees)
 
 
-def measurements(cases, text, make_files):
-    """A name and what differs, of each measurement."""
-    for case, words, report in replays.measurements(cases, text):
-        with tempfile.TemporaryDirectory() as folder:
-            make_files(folder, case["files"])
-            yield case["name"], lambda: of_measurement(words, report, folder)
-
-
 def all_of(name, folder):
     """The same of all inputs of a program."""
     program = next(program for program in all_inputs.TABLE if program.name == name)
@@ -88,12 +81,6 @@ def all_of(name, folder):
             json.dump([{"args": words, "answers": answers} for words, answers in inputs[at:at + all_inputs.CHUNK]], file)
         found += differences(*(one(400, "f", "all.json", ["p.c"], folder) for one in (by_edges, by_trees)))
     return found[:3]
-
-
-def small_programs():
-    for name in all_inputs.SOURCES:
-        with tempfile.TemporaryDirectory() as folder:
-            yield f"all inputs of {name}", lambda: all_of(name, folder)
 
 
 def generator():
@@ -122,22 +109,36 @@ def of_random(program, folder):
     return found
 
 
-def random_programs():
-    make = generator()
+def told(name, differing):
+    """One source, and a line where the trees tell another end; `differing` looks at it in a folder."""
+    with tempfile.TemporaryDirectory() as folder:
+        try:
+            lines = differing(folder)
+        except (subprocess.TimeoutExpired, ValueError) as fault:
+            lines = [str(fault)]
+    return 1, [f"{name}: {'; '.join(lines)}"[:600]] if lines else []
+
+
+def of_case(case, words, report, folder):
+    """The same of a measurement of the cases."""
+    cases.make_files(folder, case["files"])
+    return of_measurement(words, report, folder)
+
+
+def of_seed(seed, folder):
+    """The same of the random program with this number."""
+    return of_random(generator()(seed), folder)
+
+
+def sources():
+    """A name for each source that is tried, with what looks at it in a folder."""
+    for case, words, report in replays.measurements():
+        yield case["name"], functools.partial(of_case, case, words, report)
+    for name in all_inputs.SOURCES:
+        yield f"all inputs of {name}", functools.partial(all_of, name)
     for seed in RANDOM:
-        with tempfile.TemporaryDirectory() as folder:
-            yield f"random program {seed}", lambda: of_random(make(seed), folder)
+        yield f"random program {seed}", functools.partial(of_seed, seed)
 
 
-def failures(cases, text, make_files):
-    """How many sources were tried, and a line for each that differs."""
-    count, found = 0, []
-    for group in (measurements(cases, text, make_files), small_programs(), random_programs()):
-        for name, tried in group:
-            count += 1
-            try:
-                lines = tried()
-            except (subprocess.TimeoutExpired, ValueError) as fault:
-                lines = [str(fault)]
-            found += [f"{name}: {'; '.join(lines)}"[:600]] if lines else []
-    return count, found
+def parts():
+    return [functools.partial(told, name, differing) for name, differing in sources()]

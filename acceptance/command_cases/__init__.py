@@ -1,7 +1,9 @@
-"""The cases of the commands bounds, least, traces, replay and trees, in the form that cases.json has: a module for each command.
+"""The cases of the program's commands, in the form that cases.py has: a module for each command, and several for `measure`.
 
 What they share stands here: small sources, and the cases that each command has, of its words, its sources and its streams.
 """
+
+import functools
 
 A = "int f(int x) {\n  if (x > 10) {\n    return 1;\n  }\n  return 0;\n}\n"
 NEVER = A.replace("x > 10", "x > 10 && x < 5")
@@ -16,23 +18,45 @@ RECURSION = ("int f(int n) {\n  if (n <= 0) {\n    return 0;\n  }\n  return 1 + 
              "    return 1;\n  }\n  return 0;\n}\n")
 CALLEE = "int g(int v) { return v; }\n"
 CALLER = "int f(int x) {\n  int y = 0;\n  if (x > 3) {\n    y = g(x);\n  }\n  return y;\n}\n"
+CALLS = CALLEE + CALLER
 FOREVER = "int f(int n) { for (;;) { ; } return n; }\n"
+WAIT = "int f(int x) { assume(x > 0); return x; }\n"
+# 1 traps, 2 is blocked, 3 goes too deep, 4 is cut, and all others return
+ENDS = ("int f(int x) { if (x == 1) { assert(0); } if (x == 2) { assume(0); } if (x == 3) { return f(x); } "
+        "while (x == 4) { ; } return x; }\n")
 # 65 quotients of 64 bits are 4,259,840 units of the size sum
 QUOTIENTS = "long f(long x, long y) {\n" + "  x = x / y;\n" * 65 + "  return x;\n}\n"
 # what `measure` and `replay` say of the inputs 5 and 11 of A, in a file a.c
 REPORT = ("goals 4 inputs 2\ninput 1 returned 0\ninput 2 returned 1\ngoal 1 covered 2 e0@a.c:2\ngoal 2 covered 1 e1@a.c:2\n"
           "goal 3 covered 2 e2@a.c:3\ngoal 4 covered 1 e3@a.c:5\nsuite 1 2\ncovered 4 of 4\n")
 TITLE = "fshell traces 1\n"
+ALL = "cover EDGES(ID)"
 
 
 def case(name, words, files, stdout="", status=0, stderr="", **more):
     """A case; `more` are further fields of it. A stream that goes elsewhere has no text."""
-    fields = {"name": f"{words[0]}: {name}", "files": files, "words": words, "status": status, "stdout": stdout, "stderr": stderr}
+    fields = {"name": f"{words[0]}: {name}" if words else name, "files": files, "words": words, "status": status, "stdout": stdout, "stderr": stderr}
     return {field: value for field, value in (fields | more).items() if field + "_to" not in more}
 
 
 def refused(name, words, files, line, status):
     return case(name, words, files, "", status, line + "\n")
+
+
+def measured(name, query, inputs, report, sources=None, options=(), entry="f", file="in.txt"):
+    """A measurement: the report of these inputs, of the source A in a file a.c where no sources are given."""
+    return of_measure(case, name, query, inputs, sources, options, entry, file)(report)
+
+
+def unmeasured(name, query, inputs, line, status, sources=None, options=(), entry="f", file="in.txt"):
+    """A measurement that is refused."""
+    return of_measure(refused, name, query, inputs, sources, options, entry, file)(line, status)
+
+
+def of_measure(made, name, query, inputs, sources, options, entry, file):
+    """What makes a case of `measure` of the rest of its fields."""
+    sources = sources or {"a.c": A}
+    return functools.partial(made, name, ["measure", *options, entry, query, file, *sources], {file: inputs, **sources})
 
 
 def usages(command, named):

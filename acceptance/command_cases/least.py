@@ -1,6 +1,6 @@
 """The cases of `least`: the input that compares least, by its words and then by its answers, as unsigned numbers of 64 bits."""
 
-from command_cases import (A, BOTH, CALLEE, CALLER, COUNT, ELEMENT, NESTED, NEVER, QUOTIENTS, RECURSION, SEVEN, case, of_queries,
+from command_cases import (A, BOTH, CALLS, COUNT, ELEMENT, NESTED, NEVER, QUOTIENTS, RECURSION, SEVEN, WAIT, case, of_queries,
                            of_sources, of_streams, refused, usages)
 
 HIT = "cover @LINE(3)"
@@ -32,8 +32,6 @@ def two(first, second, kind="int"):
 SIX = "cover @LINE(6)"
 LOOP = "int f(unsigned char x) {\n  for (int i = x; i < 5; i++) { ; }\n  return x;\n}\n"
 SUM = "int in(void);\nint f(unsigned char x) {\n  if (in() + x == 9) {\n    return 1;\n  }\n  return 0;\n}\n"
-CALLS = CALLEE + CALLER
-WAIT = "int f(int x) { assume(x > 0); return x; }\n"
 FIRST = {"a.c": A}
 
 CASES = [

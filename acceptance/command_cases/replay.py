@@ -1,13 +1,11 @@
 """The cases of `replay`: the report of traces, and which lines of a trace file are refused."""
 
-from command_cases import (A, BOTH, CALLEE, CALLER, ELEMENT, FOREVER, REPORT, TITLE, case, of_queries, of_sources, of_streams, refused,
-                           usages)
+from command_cases import (A, ALL, BOTH, CALLEE, CALLER, ELEMENT, FOREVER, REPORT, TITLE, WAIT, case, of_queries, of_sources,
+                           of_streams, refused, usages)
 
-ALL = "cover EDGES(ID)"
 TWO = TITLE + "args 5 edges 1 3\nargs 11 edges 0 2\n"
 FILES = {"t.txt": TWO, "a.c": A}
 LOOP = "int f(int n) {\n  int i = 0;\n  while (i < n) {\n    i = i + 1;\n  }\n  return i;\n}\n"
-WAIT = "int f(int x) { assume(x > 0); return x; }\n"
 CALLS = TITLE + "args 9 edges 1 2 4 0 5 6 7\nargs 2 edges 1 3 7\n"
 LIMIT = 16 * 2**20
 AS_JSON = ('{"covered":4,"goals":[{"answer":"covered","input":2,"text":"e0@a.c:2"},{"answer":"covered","input":1,"text":"e1@a.c:2"},'

@@ -1,6 +1,6 @@
 """The cases of `traces`. The edges are those that the table of docs/GRAPH.md makes, counted by hand."""
 
-from command_cases import (A, BOTH, CALLEE, CALLER, ELEMENT, FOREVER, TITLE, case, of_sources, of_streams, refused, usages)
+from command_cases import A, BOTH, CALLEE, CALLER, ELEMENT, FOREVER, TITLE, WAIT, case, of_sources, of_streams, refused, usages
 
 
 def said(name, source, inputs, lines, options=()):
@@ -12,7 +12,6 @@ def wrong(name, inputs, line, status, source=A):
 
 
 NARROW = "int f(signed char a, unsigned char b) { return a; }\n"
-WAIT = "int f(int x) { assume(x > 0); return x; }\n"
 DEEP = "int f(int x) { return f(x); }\n"
 OF_BOTH = '[{"args":[1],"answers":[5]},{"args":[0],"answers":[7,8]},{"args":[0],"answers":[4294967295]}]'
 FILES = {"in.txt": "5\n11\n", "a.c": A}

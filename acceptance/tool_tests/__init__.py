@@ -13,8 +13,9 @@ import subprocess
 import tempfile
 
 import programs
+import side_by_side
 
-SECONDS = 120
+SECONDS = programs.SECONDS
 EXAMPLES = os.path.join(programs.ROOT, "examples")
 
 
@@ -94,23 +95,30 @@ def tried(function):
     return [f"wrong at {wrong}"] if wrong else []
 
 
-def failures(modules, alone=False):
-    """The number of cases of these modules, and a line for each that fails; those that are skipped are told. Alone are those
-    that need nothing but Python and the program."""
-    count, wrong, skipped = 0, [], {}
-    for module in modules:
-        cases = [(case.name, case.needs, functools.partial(differences, case)) for case in getattr(module, "CASES", [])]
-        cases += [(function.__name__, needs, functools.partial(tried, function))
-                  for needs, function in getattr(module, "TRIED", [])]
-        for name, needs, of_case in cases:
-            if alone and set(needs) - {"graph"}:
-                continue
-            lacking = [need for need in needs if not is_there(need)]
-            for need in lacking:
-                skipped[need] = skipped.get(need, 0) + 1
-            if not lacking:
-                count += 1
-                wrong += [f"{module.__name__.split('.')[-1]}: {name}: {line}" for line in of_case()]
-    for need, number in skipped.items():
-        print(f"skipped: {number} cases of the tools need {need}, which isn't there")
-    return count, wrong
+def cases(module):
+    """The cases of a module: the name of each, what it needs, and what tells what is wrong of it."""
+    for case in getattr(module, "CASES", []):
+        yield case.name, case.needs, functools.partial(differences, case)
+    for needs, function in getattr(module, "TRIED", []):
+        yield function.__name__, needs, functools.partial(tried, function)
+
+
+def told(tool, name, of_case):
+    """One case of a tool, and a line for each thing that is wrong of it."""
+    return 1, [f"{tool}: {name}: {line}" for line in of_case()]
+
+
+def group(tool, module, alone=False):
+    """The cases of a tool, and of those that are skipped a line for each need. Alone are those that need nothing but Python and
+    the program."""
+    parts, skipped = [], {}
+    for name, needs, of_case in cases(module):
+        if alone and set(needs) - {"graph"}:
+            continue
+        lacking = [need for need in needs if not is_there(need)]
+        for need in lacking:
+            skipped[need] = skipped.get(need, 0) + 1
+        if not lacking:
+            parts.append(functools.partial(told, tool, name, of_case))
+    notes = [f"skipped: {number} cases of {tool} need {need}, which isn't there" for need, number in skipped.items()]
+    return side_by_side.Group(tool, parts, notes)

@@ -1,4 +1,4 @@
-"""The cases of bin/explain: the places are those of acceptance/cases.json and docs/COMMANDS.md, the texts by hand."""
+"""The cases of bin/explain: the places are those of acceptance/command_cases/ and docs/COMMANDS.md, the texts by hand."""
 
 from tool_tests import Case, example, put, run
 
