@@ -16,7 +16,8 @@ from tools import graph as graphs
 from tools import inputs, program
 from tools.explain import report_of
 from tools.graph import Edge, Graph
-from tools.program import Failure, Report, Run
+from tools.program import Failure
+from tools.reports import BOUNDS, ENDS, Report, Run
 
 
 class Coverage:
@@ -131,7 +132,7 @@ def words() -> argparse.Namespace:
     parser.add_argument("inputs", metavar="INPUTS")
     parser.add_argument("sources", nargs="+", metavar="SOURCE")
     parser.add_argument("-o", metavar="OUT", dest="out", help="the tracefile that is written; else standard output")
-    parser.add_argument("--ends", choices=program.ENDS, default="returned", help="the ends of runs that count")
+    parser.add_argument("--ends", choices=ENDS, default="returned", help="the ends of runs that count")
     parser.add_argument("--steps", type=program.in_range("steps"), metavar="N", help="as for runs")
     parser.add_argument("--refuted", metavar="FILE", help="leaves out what this report refutes")
     return parser.parse_intermixed_args()
@@ -151,7 +152,7 @@ def main() -> int:
     program.give(text, given.out)
     told = [f"{len(counted)} of {len(runs)} runs count: {totals.text()}"]
     if report:
-        bounds = " ".join(f"{name} {report.bounds[name]}" for name in program.BOUNDS)
+        bounds = " ".join(f"{name} {report.bounds[name]}" for name in BOUNDS)
         told += [f"left out, since no input reaches it within {bounds}: {one}" for one in coverage.excluded]
     print("\n".join(told), file=sys.stderr if given.out is None else sys.stdout)
     return program.DONE

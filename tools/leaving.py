@@ -9,7 +9,8 @@ from dataclasses import dataclass, field
 
 from tools import inputs, program
 from tools.graph import Edge, Graph
-from tools.program import BOUNDS, RANGES, Input, Run
+from tools.program import RANGES
+from tools.reports import BOUNDS, Input, Run, input_of
 from tools.verdicts import Limits
 
 # (the walk to where a run leaves bounds has at most 50,000 edges, by code 80)
@@ -109,7 +110,7 @@ def asked(
     said = program.answer(words, place).strip()
     if not said.startswith("bounds left "):
         return Left(Limits(suffice=True if said.startswith("bounds suffice") else None))
-    one = program.input_of(said.removeprefix("bounds left "))
+    one = input_of(said.removeprefix("bounds left "))
     run = run_of(entry, sources, one, place)
     tried = next_bounds(graph, run, bounds)
     options = " ".join(f"--{name} {tried[name]}" for name in BOUNDS if tried[name] != bounds[name])

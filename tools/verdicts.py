@@ -12,7 +12,7 @@ from collections import Counter
 from collections.abc import Iterable
 from dataclasses import dataclass, field
 
-from tools.program import Input
+from tools.reports import Input
 
 
 class Verdict(enum.StrEnum):
