@@ -139,7 +139,7 @@ def words() -> argparse.Namespace:
 def main() -> int:
     given = words()
     automaton: Graph = graphs.of_sources(given.sources)
-    report = program.report(["goals", given.what, *given.sources]) if is_query(given.what) else report_of(given.what)
+    report = graphs.goals_of(automaton, given.what, given.sources) if is_query(given.what) else report_of(given.what)
     read: list[Input] = []
     runs = report.runs if report.command == "runs" else []
     if given.inputs:

@@ -59,7 +59,7 @@ def where(graph: Graph, run: Run, bounds: dict[str, int]) -> str:
         if counts.greatest["frames"] > bounds["frames"]:
             return f"frame {counts.greatest['frames']}: a call of {edge.name} at {edge.place}"
         if counts.greatest["answers"] > bounds["answers"]:
-            return f"answer {counts.answers}: of {edge.name} at {edge.place}"
+            return f"answer {counts.answers} of {edge.name} at {edge.place}"
     return ""
 
 
@@ -91,7 +91,7 @@ class Left:
             if self.limits.restriction:
                 yield f"no refuted goal is called unreachable: {self.limits.restriction}"
         elif self.limits.left:
-            yield f"the bounds don't suffice: {self.limits.where}, by input {self.limits.left.line()}"
+            yield f"the bounds don't suffice: {self.limits.where}, by the input {self.limits.left.line()}"
             yield f"bounds to try next: {self.options}" if self.options else "a greater bound can't be asked for"
         else:
             yield "whether a run leaves the bounds is open: the budget of `bounds` was spent"
