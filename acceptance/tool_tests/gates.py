@@ -92,7 +92,7 @@ def bounds_that_are_left_are_named(folder):
         value = json.loads(held(folder, name)["report.json"])["limits"]
         yield value["suffice"] is False and value["next"] == options and where.startswith(value["where"])
         more = campaign(folder, entry, "cover @EXIT(%s)" % entry, source, *options.split(), name=name + "more")
-        yield more.returncode == 0 and " 1 covered, 0 undecided\n" in more.stdout
+        yield more.returncode == 0 and " goals that aren't unreachable, 100%\n" in more.stdout
 
 
 def a_folder_is_the_same_with_any_jobs(folder):
