@@ -194,17 +194,20 @@ class Folder:
     def decide_all(self, goals: list[int]) -> None:
         """Has goals decided one after the other; where some aren't, that is told behind the last."""
         failures = []
+        refuted = self.known_refuted()
         for goal in goals:
             try:
-                self.decide(goal)
+                self.decide(goal, goal in refuted)
             except Failure as failure:
                 failures.append(failure)
         if failures:
             raise failures[0]
 
-    def decide(self, goal: int) -> None:
-        """Has a goal decided by `prove`, and keeps what it says; a certificate is kept where `check` accepts it."""
+    def decide(self, goal: int, is_refuted: bool) -> None:
+        """Has a goal decided by `prove`, and keeps what it says; a certificate is kept where `check` accepts it. One that the
+        `generate` at the begin refuted has its budget, which is enough, and with which fewer inputs are tried first."""
         asked = self.asked()
+        budget = min(asked.budget, FIRST_BUDGET) if is_refuted else asked.budget
         path = self.at("certificates", f".new.{goal}.{os.getpid()}")
         words = [
             "prove",
@@ -214,11 +217,14 @@ class Folder:
             *asked.sources,
             *asked.words(),
             "--budget",
-            str(asked.budget),
+            str(budget),
         ]
         try:
             with open(path, "wb") as file:
                 ended = program.started(words, asked.place, file)
+            if is_refuted and ended.returncode == program.OPEN:
+                self.decide(goal, False)
+                return
             self.keep(asked, goal, path, ended.returncode, ended.stderr.decode().strip())
         finally:
             if os.path.exists(path):
