@@ -153,7 +153,9 @@ def left_out(given: argparse.Namespace, graph: Graph, runs: list[Run]) -> LeftOu
         raise Failure(f"{given.refuted}: it is of runs that {report.ends}, and other ends count here (--ends)")
     bounds = " ".join(f"{name} {report.bounds[name]}" for name in BOUNDS)
     budget = report.bounds.get("budget", 5_000_000)
-    said = leaving.asked(graph, given.entry, given.sources, report.bounds, budget) if edges else None
+    said = None
+    if edges:
+        said = leaving.asked(graph, given.entry, given.sources, report.bounds, budget, query="", ends=report.ends)
     for run in runs:
         for number in sorted(edges & set(run.edges)):
             raise Failure(

@@ -7,7 +7,7 @@ its head, a frame stands from a call to its return, and each answer counts.
 from collections.abc import Iterator, Sequence
 from dataclasses import dataclass, field
 
-from tools import inputs, program
+from tools import inputs, order, program
 from tools.graph import Edge, Graph
 from tools.program import RANGES
 from tools.reports import BOUNDS, Input, Run, input_of
@@ -103,13 +103,25 @@ def options_of(bounds: dict[str, int]) -> list[str]:
 
 
 def asked(
-    graph: Graph, entry: str, sources: Sequence[str], bounds: dict[str, int], budget: int, place: str | None = None
+    graph: Graph,
+    entry: str,
+    sources: Sequence[str],
+    bounds: dict[str, int],
+    budget: int,
+    place: str | None = None,
+    *,
+    query: str,
+    ends: str,
 ) -> Left:
-    """What the program says of bounds; where it names an input that leaves them, its run is counted."""
+    """What the program says of bounds; where it names an input that leaves them, its run is counted. Where they suffice, what
+    the query refutes over runs with these ends is unreachable, unless C leaves an order of evaluation open that matters.
+    """
     words = ["bounds", entry, *sources, *options_of(bounds), "--budget", str(budget)]
     said = program.answer(words, place).strip()
     if not said.startswith("bounds left "):
-        return Left(Limits(suffice=True if said.startswith("bounds suffice") else None))
+        if not said.startswith("bounds suffice"):
+            return Left(Limits())
+        return Left(Limits(suffice=True, restriction=order.restriction(entry, sources, query, ends, place)))
     one = input_of(said.removeprefix("bounds left "))
     run = run_of(entry, sources, one, place)
     tried = next_bounds(graph, run, bounds)

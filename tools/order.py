@@ -24,6 +24,7 @@ from tools import order_items, order_tokens, program
 from tools.order_rule import told
 from tools.order_tree import Unit
 from tools.program import Failure
+from tools.reports import ENDS
 
 ALWAYS = ("value", "answers", "end")
 DEEPEST = 1_000_000
@@ -121,7 +122,7 @@ def parsed() -> argparse.Namespace:
     parser = argparse.ArgumentParser(prog="order", description=__doc__, formatter_class=argparse.RawTextHelpFormatter)
     parser.add_argument("entry", metavar="ENTRY")
     parser.add_argument("sources", nargs="+", metavar="SOURCE")
-    parser.add_argument("--ends", choices=program.ENDS, default="returned", help="as for generate: which runs count")
+    parser.add_argument("--ends", choices=ENDS, default="returned", help="as for generate: which runs count")
     parser.add_argument("--query", default="", help="a query, whose predicates watch the variables that they read")
     parser.add_argument("--watch", action="append", default=[], metavar="NAME", help="a variable that is watched")
     parser.add_argument("--json", action="store_true", help="one line of JSON")

@@ -28,7 +28,16 @@ class Told:
         """What the program says of the bounds."""
         asked = self.asked
         graph = graphs.of_sources(asked.sources, asked.place)
-        return leaving.asked(graph, asked.entry, asked.sources, asked.bounds, asked.budget, asked.place)
+        return leaving.asked(
+            graph,
+            asked.entry,
+            asked.sources,
+            asked.bounds,
+            asked.budget,
+            asked.place,
+            query=asked.query,
+            ends=asked.ends,
+        )
 
     def verdict(self, goal: Goal) -> Verdict:
         if goal.verdict == "covered":

@@ -85,6 +85,49 @@ def rows_by_c(folder):
             yield (kinds, ended.returncode, ended.stderr) == ({due} if due else set(), 1 if due else 0, "")
 
 
+# ---- verdicts: g + h() is 2 by clang, so another order takes the branch that FShell refutes
+
+
+OPEN = "C leaves the order of evaluation open at a.c:4:7 (value)"
+FREE = ISSUE.replace("g + h() == 2", "h() == 3")  # false by each order
+
+
+def a_campaign_that_is_restricted(folder):
+    """A refuted goal is unreachable only where each order of evaluation gives the same."""
+    for text, verdict, line in (
+        (ISSUE, "refuted within the bounds", f"no refuted goal is called unreachable: {OPEN}"),
+        (FREE, "unreachable", "the bounds suffice: no run at all leaves them"),
+    ):
+        put(folder, {"a.c": text})
+        ended = run(folder, ["campaign", "k", "cover @CONDITIONEDGE", "a.c", "-o", str(len(text)), "--at-least", "100"])
+        lines = ended.stdout.splitlines()
+        yield lines[-2] == line and lines[2].startswith(f"goal 1: {verdict}, ")
+        yield ended.returncode == (1 if verdict != "unreachable" else 0)
+
+
+def watched_restricts(folder):
+    """A predicate at a callee's node sees another order; without one, and of runs that returned, nothing does."""
+    put(folder, {"a.c": WATCH, "b.c": STRICT})
+    sys.path.insert(0, programs.ROOT)
+    from tools import order
+
+    def of(source, query, ends):
+        return order.restriction("k", [source], query, ends, folder)
+
+    yield of("a.c", "cover @ENTRY(i) {g == 0}", "returned") == "C leaves the order of evaluation open at a.c:1:96 (watched)"
+    yield of("a.c", "cover @ENTRY(i)", "returned") == ""
+    yield of("b.c", "cover ID", "returned") == ""
+    yield of("b.c", "cover ID", "trapped") == "C leaves the order of evaluation open at b.c:1:40 (strict)"
+
+
+def lcov_leaves_nothing_out(folder):
+    put(folder, {"a.c": ISSUE, "in": "0\n"})
+    report = subprocess.run([programs.LAUNCHER, "generate", "k", "cover ID", "a.c"], cwd=folder, capture_output=True, text=True)
+    put(folder, {"report": report.stdout})
+    ended = run(folder, ["lcov", "k", "in", "a.c", "-o", "new", "--refuted", "report"])
+    yield ended.returncode == 2 and OPEN in ended.stderr and not os.path.exists(os.path.join(folder, "new"))
+
+
 # ---- all orders, by an interpreter of its own
 
 
@@ -197,6 +240,7 @@ def programs_by_compilers(folder):
             yield not any(fails(folder, text, some_inputs(seed, 4), one) for one in ("gcc", "clang"))
 
 
-TRIED = [(GRAPH, wrong_words), (GRAPH, as_json), (GRAPH, rows_by_c), (("pycparser",), rows_by_all_orders),
+TRIED = [(GRAPH, wrong_words), (GRAPH, as_json), (GRAPH, rows_by_c), (GRAPH, watched_restricts), (GRAPH, lcov_leaves_nothing_out),
+         (("graph", "parallel"), a_campaign_that_is_restricted), (("pycparser",), rows_by_all_orders),
          (("pycparser",), programs_by_all_orders), (("pycparser",), watched_by_all_orders),
          (("graph", "gcc", "clang"), rows_by_compilers), (("graph", "gcc", "clang"), programs_by_compilers)]  # fmt: skip
