@@ -7,6 +7,7 @@ import re
 import shutil
 import subprocess
 import tempfile
+import time
 
 HERE = os.path.dirname(os.path.abspath(__file__))
 SCRIPTS = os.path.join(HERE, "..", "bin")
@@ -15,13 +16,30 @@ NOBODY = 65534
 # It writes down what it was called for, and "builds" a program that names its version and words.
 RT = """#!/bin/sh
 [ "$1" != version ] || exec cat "$TREE/kit"
+[ "$1" != help ] || { cat "$TREE/help" >&2; exit 2; }
 [ "$1" != must-fail ] || { echo "$*: $(echo crates/*/*/*.edit)" >>"$TREE/calls"; exit; }
-echo "$*: $(echo crates/*)" >>"$TREE/calls"
+echo "$*:" crates/* $(ls crates/*/must-fail/*.edit 2>/dev/null) >>"$TREE/calls"
+[ "$#" -eq 1 ] || grep -q "rt ci NAME" "$TREE/help" || { echo "rt ci takes no words"; exit 2; }
 [ ! -e "$TREE/broken" ] || { echo "error: a proof is missing"; exit 1; }
 sed 's/:.*//; s/.*/rt: & proved/' crates.txt
 mkdir -p crates/fshell/out
 printf '#!/bin/sh\\necho %s "$@"\\n' "$(cat crates/fshell/src/main.rt)" >crates/fshell/out/fshell
 chmod +x crates/fshell/out/fshell
+echo "rt: ok; all was done"
+echo "3 passed, 0 failed"
+"""
+
+# What rt help has of a kit that keeps what it proved, and of one that doesn't.
+KEEPS = """usage
+  rt ci           the merge gate
+                  --anew proves all
+  rt ci NAME..    the same
+  rt must-fail    tries edits
+"""
+KEEPS_NOTHING = """usage
+  rt ci           the merge gate
+  rt must-fail    tries edits
+  rt all --anew   another thing
 """
 
 
@@ -39,6 +57,7 @@ class Tree:
             "crates/other/src/lib.rt": "other\n",
             "tools/rt": RT,
             "kit": "a kit\n",
+            "help": KEEPS,
         }.items():
             self.write(name, text)
         os.chmod(self.path("tools/rt"), 0o755)
@@ -157,6 +176,34 @@ def answers_of_the_launcher_on_a_full_device(tree):
     for words in (["--help"], ["--explain", "66"]):
         with open("/dev/full", "wb") as full:
             yield subprocess.run([tree.path("bin/fshell"), *words], stdout=full, stderr=subprocess.DEVNULL).returncode == 8
+
+
+def nothing_is_looked_at_twice(tree):
+    """Once bin/program has looked, bin/fshell sees by itself that nothing has changed; a change in place is seen, whatever time the
+    file says, and so are a new folder of proofs and a source that is gone."""
+    tree.run()
+    time.sleep(1.1)
+    tree.run()
+    asks = tree.text("bin/program")
+    tree.write("bin/program", "#!/bin/sh\necho asked >&2\nexit 70\n")
+    for _ in range(2):
+        yield tree.run().stdout == "one a b c\n"
+    for name, text in (("crates/low/src/lib.rt", "other\n"), ("crates/low/specs/Low.antt", "other\n"), ("HANDLES", "other\n"),
+                       ("crates.txt", "fshell:\n"), ("crates/fshell/out/fshell", "other\n"), ("crates/low/proofs/New.antt", "new\n"),
+                       ("crates/fshell/src/main.rt", None)):
+        before = tree.text(name) if os.path.exists(tree.path(name)) else ""
+        tree.write(name, text) if text else os.remove(tree.path(name))
+        if text:
+            tree.set_time(name, -1000)
+        ran = tree.run()
+        yield (ran.returncode, ran.stdout, ran.stderr) == (70, "", "asked\n")
+        tree.write(name, before)
+        tree.write("bin/program", asks)
+        tree.run()
+        time.sleep(1.1)
+        tree.run()
+        tree.write("bin/program", "#!/bin/sh\necho asked >&2\nexit 70\n")
+    yield os.path.exists(tree.path("crates/fshell/out/looked-at"))
 
 
 def newer_source_is_built(tree):
@@ -391,6 +438,158 @@ def gate_runs_all(tree):
     yield status == 1 and "one accepted" not in lines and calls == all_crates
 
 
+def prove_by_a_kit_that_keeps_nothing(tree):
+    tree.release()
+    tree.write("help", KEEPS_NOTHING)
+    proved = tree.call(tree.path("bin/prove"))
+    yield proved.returncode == 0 and "byte for byte" in proved.stdout and tree.calls() == PROVED
+
+
+class Gate:
+    """The whole gate and its parts on a tree with tests and edits, which a git repository has."""
+
+    ALL = ("crates/fshell crates/low crates/low_tests crates/other crates/other_tests "
+           "crates/low/must-fail/low.edit crates/other/must-fail/other.edit")
+
+    def __init__(self, tree):
+        self.tree = tree
+        tree.write("crates.txt", "low:\nlow_tests: low # its tests\nfshell: low\nother: low\nother_tests: other\n")
+        for name in ("low", "other"):
+            tree.write(f"crates/{name}_tests/src/lib.rt", "tests\n")
+            tree.write(f"crates/{name}/must-fail/{name}.edit", "edit\n")
+        tree.write("acceptance/run", "#!/bin/sh\nbin/fshell accepted\n")
+        os.chmod(tree.path("acceptance/run"), 0o755)
+        tree.write(".gitignore", "out/\n/tools\n/calls\n/help\n/kit\n/broken\n")
+
+    def git(self, *words):
+        who = ["-c", "user.name=a", "-c", "user.email=a@b", "-c", "init.defaultBranch=main", "-c", "commit.gpgsign=false"]
+        return subprocess.run(["git", *who, *words], cwd=self.tree.root, check=True, capture_output=True, text=True).stdout.strip()
+
+    def commit(self):
+        self.git("add", "-A")
+        self.git("commit", "-q", "-m", "a change")
+        return self.git("rev-parse", "HEAD")
+
+    def run(self, processors):
+        """The status, the lines, and what rt was called for."""
+        os.environ["FSHELL_PROCESSORS"] = str(processors)
+        ended = self.tree.call(self.tree.path("bin/test"), "--proofs")
+        del os.environ["FSHELL_PROCESSORS"]
+        return ended.returncode, ended.stdout.split("\n")[:-1], self.tree.calls()
+
+    def is_whole(self, processors, why):
+        """Whether all is done, as the head says."""
+        status, lines, calls = self.run(processors)
+        return status == 0 and why in lines[0] and lines[0].startswith("gate: the whole gate, a plain rt ci: ") \
+            and calls == ["ci: " + self.ALL] and "part of the gate" not in "".join(lines)
+
+    def part(self):
+        """What is told and done of a part: what changed, what is left by its head and its end, and the calls."""
+        status, lines, calls = self.run(2)
+        is_part = status == 0 and "this kit (a kit) keeps nothing" in lines[0] and "2 processors are too few" in lines[0]
+        if not is_part or lines[-2] != "gate: this was a part of the gate" or lines[3] != lines[-1] or "one accepted" not in lines:
+            return lines
+        return lines[2].split(": ")[-1], lines[3].split("next whole run: ")[1], [call.replace("crates/", "") for call in calls]
+
+
+def gate_is_whole_where_it_can_be(tree):
+    gate = Gate(tree)
+    tree.run()
+    tree.call(tree.path("bin/release"))
+    tree.calls()
+    yield gate.is_whole(1, "this kit (a kit) keeps what it proved from run to run")
+    yield not os.path.exists(tree.path("release/GATE"))
+    tree.write("help", KEEPS_NOTHING)
+    yield gate.is_whole(4, "keeps nothing from run to run, and 4 processors are enough")
+    yield gate.is_whole(3, "3 processors are too few for all from nothing within three hours, but nothing can be left out: "
+                           "release/GATE names no commit")
+
+
+def whole_gate_is_noted(tree):
+    gate = Gate(tree)
+    tree.run()
+    tree.call(tree.path("bin/release"))
+    gate.git("init", "-q")
+    commit = gate.commit()
+    tree.write("crates/other/src/lib.rt", "newer\n")
+    yield gate.run(1)[0] == 0 and not os.path.exists(tree.path("release/GATE"))
+    commit = gate.commit()
+    yield gate.run(1)[0] == 0
+    noted = tree.text("release/GATE")
+    yield noted.split("\n")[1:] == ["commit " + commit, "kit a kit", "rt: ok; all was done", "3 passed, 0 failed", ""]
+    gate.commit()
+    yield gate.run(1)[0] == 0 and tree.text("release/GATE") == noted
+    tree.write("crates/other/src/lib.rt", "newest\n")
+    commit = gate.commit()
+    tree.write("broken", "")
+    yield gate.run(1)[0] == 1 and tree.text("release/GATE") == noted
+    os.remove(tree.path("broken"))
+    yield gate.run(1)[0] == 0 and tree.text("release/GATE").split("\n")[1] == "commit " + commit
+
+
+def part_of_the_gate(tree):
+    gate = Gate(tree)
+    tree.run()
+    tree.call(tree.path("bin/release"))
+    gate.git("init", "-q")
+    gate.commit()
+    gate.run(4)
+    noted = tree.text("release/GATE")
+    gate.commit()
+    tree.write("help", KEEPS_NOTHING)
+    libraries = "ci: fshell low"
+    yield gate.part() == ("none", "the tests low_tests other_tests; the must-fail edits of low other", [libraries + " other"])
+    yield tree.run().stdout == "one a b c\n" and tree.calls() == []
+    left, edit = "the tests low_tests; the must-fail edits of low", "other/must-fail/other.edit"
+    for name, text in (("crates/other/src/lib.rt", "newer\n"), ("crates/other/specs/New.antt", "new\n")):
+        before = tree.text(name) if os.path.exists(tree.path(name)) else None
+        tree.write(name, text)
+        yield gate.part() == ("other", left, [f"{libraries} other other_tests {edit}"])
+        tree.write(name, before) if before else os.remove(tree.path(name))
+    tree.write("crates/other_tests/src/lib.rt", "newer\n")
+    yield gate.part() == ("other_tests", left + " other", [libraries + " other other_tests"])
+    tree.write("crates/other/more-edits/seldom.edit", "")
+    gate.commit()
+    yield gate.part() == ("other_tests", left + " other", [libraries + " other other_tests"])
+    tree.write("crates/other_tests/src/lib.rt", "tests\n")
+    tree.write("crates.txt", tree.text("crates.txt").replace("other: low", "other:"))
+    yield gate.part() == ("other", left, [f"{libraries} other other_tests {edit}"])
+    yield tree.text("release/GATE") == noted
+    tree.write("broken", "")
+    status, lines, _ = gate.run(2)
+    yield status == 1 and "one accepted" not in lines and lines[3].startswith("gate: left to the next whole run: ")
+
+
+def nothing_is_left_out_untold(tree):
+    gate = Gate(tree)
+    tree.run()
+    tree.call(tree.path("bin/release"))
+    gate.git("init", "-q")
+    gate.commit()
+    gate.run(4)
+    noted = tree.text("release/GATE")
+    tree.write("help", KEEPS_NOTHING)
+    why = "2 processors are too few for all from nothing within three hours, but nothing can be left out: "
+    for name, text, reason in (("release/GATE", "", "release/GATE names no commit"),
+                               ("release/GATE", re.sub("commit .*", "commit " + "1" * 40, noted), "this repository doesn't have the commit"),
+                               ("HANDLES", "Handles allowed: Threads.\n", "HANDLES changed"),
+                               ("kit", "a logic\n", "another logic proved")):
+        before = tree.text(name)
+        tree.write(name, text)
+        tree.run()
+        tree.call(tree.path("bin/release"))
+        tree.calls()
+        yield gate.is_whole(2, "but nothing can be left out: " + reason)
+        tree.write(name, before)
+        tree.write("release/GATE", noted)
+    for name in ("low/src/lib.rt", "other/src/lib.rt", "fshell/args"):
+        tree.write("crates/" + name, "a\n")
+    tree.run()
+    tree.call(tree.path("bin/release"))
+    tree.calls()
+    yield gate.is_whole(2, why + "all crates changed since ")
+
+
 def all_edits_are_tried(tree):
     tree.write("crates/low/must-fail/often.edit", "")
     tree.write("crates/low/more-edits/seldom.edit", "")
@@ -406,14 +605,16 @@ def all_edits_are_tried(tree):
     yield ended.returncode == 1 and "two edits have one name" in ended.stderr and tree.calls() == []
 
 
-CASES = [first_run_builds, second_run_builds_nothing, newer_source_is_built, other_crates_are_left_alone,
+CASES = [first_run_builds, second_run_builds_nothing, nothing_is_looked_at_twice, newer_source_is_built, other_crates_are_left_alone,
          old_program_is_not_run, links_are_followed, unwritable_tree_is_told, released_program_needs_no_kit,
          released_program_runs_in_unwritable_tree, released_program_is_taken_for_newer_sources,
          changed_sources_are_never_answered_by_the_release, what_is_no_source_leaves_the_release,
          damaged_release_is_never_run, release_that_cannot_start_is_not_run, release_without_its_sum_is_not_run,
          prove_compares_with_the_release, release_is_checked, release_by_another_kit_is_noted, old_program_is_not_released,
-         gate_runs_all, all_edits_are_tried, help_needs_no_program, refusals_are_explained,
+         gate_runs_all, prove_by_a_kit_that_keeps_nothing, gate_is_whole_where_it_can_be, all_edits_are_tried, help_needs_no_program, refusals_are_explained,
          answers_of_the_launcher_on_a_full_device]
+if shutil.which("git"):
+    CASES += [whole_gate_is_noted, part_of_the_gate, nothing_is_left_out_untold]
 
 
 def tried(case):

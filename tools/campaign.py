@@ -1,34 +1,39 @@
 """bin/campaign: has all goals of a query decided, in a folder, on as many processors and machines as there are.
 
-The given inputs are measured first. Each goal that is left is decided by `prove`, under GNU parallel, and its certificate
-checked by `check` in a process of its own; after each round the new inputs are measured over all goals, so that goals which are
-hit by the way aren't searched. The folder then has inputs.json, suite.json (the reduced suite), certificates/, report.txt and
-report.json. A campaign that was stopped goes on with `-o DIR` alone. The status is 0, or 1 where a goal is undecided; with
---at-least P it is 1 where less than P percent of the goals that aren't refuted are covered.
+The given inputs are measured first, and where they miss goals one `generate` over all goals makes inputs for the easy ones. Each
+goal that is left is decided by `prove`, under GNU parallel, and its certificate checked by `check` in a process of its own; after
+each round the new inputs are measured over all goals, so that goals which are hit by the way aren't searched. The folder then has
+inputs.json, suite.json (the reduced suite), certificates/, report.txt and report.json. A campaign that was stopped goes on with
+`-o DIR` alone. The status is 0, or 1 where a goal is undecided; with --at-least P it is 1 where less than P percent of the goals
+that aren't unreachable are covered, where no such goal is left, and where there is no input.
 """
 
 import argparse
 import dataclasses
 import fcntl
-import json
 import os
 import shutil
 import subprocess
 import sys
+from collections.abc import Iterator
 from typing import IO
 
-from tools import inputs, program
-from tools.folder import STEPS, Asked, Folder, read_sums
-from tools.program import Failure, Goal, Input, Report
+from tools import changes, inputs, program, verdicts
+from tools.asked import Asked, read_sums
+from tools.folder import STEPS, Folder
+from tools.program import Failure
+from tools.reports import ENDS, Input, Report
+from tools.told import Told
 
 DEFAULTS = {"turns": 4, "frames": 8, "answers": 16}
-LARGEST_ROUND, MOST_IN_A_JOB = 1024, 32
+# the goals of a round, which don't hang on the number of jobs, so that each finds the same inputs
+FIRST_ROUND, LARGEST_ROUND, MOST_IN_A_JOB = 32, 1024, 256
 
 
-def batches(goals: list[int], jobs: int) -> list[list[int]]:
-    """The goals in parts, each for one process: four parts at least for each job, so that all jobs end about then."""
-    size = max(1, min(MOST_IN_A_JOB, len(goals) // (4 * jobs)))
-    return [goals[at : at + size] for at in range(0, len(goals), size)]
+def batches(easy: list[int], hard: list[int], jobs: int) -> list[list[int]]:
+    """The goals in parts, each for one process: each hard one alone, and then the easy ones in a part for each job."""
+    size = max(1, min(MOST_IN_A_JOB, -(-len(easy) // jobs)))
+    return [[goal] for goal in hard] + [easy[at : at + size] for at in range(0, len(easy), size)]
 
 
 def measured(asked: Asked, given: list[Input]) -> Report:
@@ -47,11 +52,20 @@ class Campaign:
         self.asked = folder.asked()
         self.tried: set[int] = set()
         self.inputs: list[Input] = []
+        self.made: list[Input] = []
 
     def measured(self) -> Report:
         """The report of all inputs over all goals."""
-        self.inputs = inputs.once(self.folder.given() + list(self.folder.found().values()))
+        self.inputs = inputs.once(self.folder.given() + self.made + list(self.folder.found().values()))
         return measured(self.asked, self.inputs)
+
+    def generate(self) -> None:
+        """Has one `generate` make inputs, and takes those of goals that the given inputs miss."""
+        missed = [goal.number for goal in measured(self.asked, self.folder.given()).goals if goal.verdict == "missed"]
+        made = self.folder.generated(self.asked) if missed else None
+        if made:
+            used = {made.goals[number - 1].input for number in missed}
+            self.made = [one for number, one in enumerate(made.inputs, 1) if number in used]
 
     def left(self, report: Report) -> list[int]:
         """The goals of which nothing is known yet; an input that doesn't hit its goal is forgotten."""
@@ -61,134 +75,51 @@ class Campaign:
         known = set(self.folder.refuted(self.asked)) | set(self.folder.open(self.asked.budget)) | self.tried
         return [goal for goal in missed if goal not in known]
 
-    def search(self, goals: list[int]) -> None:
-        """Has goals decided under GNU parallel."""
-        me = [
-            sys.executable,
-            os.path.join(program.ROOT, "bin", "campaign"),
-            "-o",
-            os.path.abspath(self.folder.path),
-            "--one",
-            "{}",
+    def search(self, left: list[int], size: int) -> None:
+        """Has goals decided under GNU parallel: all that `generate` refuted, which want their certificates, and some others."""
+        refuted = self.folder.known_refuted()
+        easy = [goal for goal in left if goal in refuted]
+        hard = [goal for goal in left if goal not in refuted]
+        script = os.path.join(program.ROOT, "bin", "campaign")
+        me = [sys.executable, script, "-o", os.path.abspath(self.folder.path), "--one", "{}"]
+        words = [
+            "parallel",
+            "--will-cite",
+            "--jobs",
+            str(self.jobs),
+            "--joblog",
+            "+" + self.folder.at("machine", "joblog"),
         ]
-        known = os.environ.get("FSHELL")
-        given = ["env", f"FSHELL={os.path.abspath(known)}", *me] if known else me
-        words = ["parallel", "--will-cite", "--jobs", str(self.jobs), "--joblog", "+" + self.folder.at("joblog")]
         words += ["--sshloginfile", self.logins] if self.logins else []
         words += ["--bar"] if sys.stderr.isatty() else []
-        text = "".join(",".join(map(str, batch)) + "\n" for batch in batches(goals, self.jobs))
-        ended = subprocess.run([*words, "-q", *given], input=text, text=True, stdout=subprocess.DEVNULL, stderr=subprocess.PIPE
-                               if not sys.stderr.isatty() else None, check=False)  # fmt: skip
-        self.tried.update(goals)
+        words += ["-q", "env", f"FSHELL={program.program()}", *me]
+        text = "".join(",".join(map(str, batch)) + "\n" for batch in batches(easy, hard[:size], self.jobs))
+        caught = None if sys.stderr.isatty() else subprocess.PIPE
+        ended = subprocess.run(words, input=text, text=True, stdout=subprocess.DEVNULL, stderr=caught, check=False)
+        self.tried.update(easy + hard[:size])
         if ended.returncode:
             lines = (ended.stderr or "").strip().splitlines()
             print(lines[-1] if lines else "some goals weren't decided", file=sys.stderr)
 
     def run(self) -> Report:
         """Goes on until something is known of each goal."""
-        size = self.jobs
-        while True:
+        self.generate()
+        for size in sizes():
             report = self.measured()
             left = self.left(report)
             print(f"{report.count('covered')} of {len(report.goals)} goals covered, {len(left)} left", file=sys.stderr)
             if not left:
-                return report
-            self.search(left[:size])
-            size = min(2 * size, LARGEST_ROUND)
+                break
+            self.search(left, size)
+        return report
 
 
-# ---- the report
-
-
-class Told:
-    """What is told of a campaign at its end."""
-
-    def __init__(self, campaign: Campaign, report: Report) -> None:
-        self.campaign, self.report, self.asked = campaign, report, campaign.asked
-        self.refuted = set(campaign.folder.refuted(self.asked))
-        self.open = campaign.folder.open(self.asked.budget)
-        self.suffice = bool(self.refuted) and self.bounds_suffice()
-
-    def bounds_suffice(self) -> bool:
-        """Whether the program says that no run leaves the bounds."""
-        words = ["bounds", self.asked.entry, *self.asked.sources, "--budget", str(self.asked.budget)]
-        bounds = [word for name, value in self.asked.bounds.items() for word in (f"--{name}", str(value))]
-        return program.answer([*words, *bounds], self.asked.place).startswith("bounds suffice")
-
-    def verdict(self, goal: Goal) -> str:
-        if goal.verdict == "covered":
-            return "covered"
-        if goal.number in self.refuted:
-            return "unreachable" if self.suffice else "refuted within the bounds"
-        return "undecided"
-
-    def line(self, goal: Goal) -> str:
-        """The line of a goal."""
-        verdict = self.verdict(goal)
-        behind = f" by input {goal.input}" if goal.input else ""
-        if goal.number in self.refuted and not goal.input:
-            behind = f", certificates/{goal.number}.cert"
-        elif verdict == "undecided":
-            behind = f", {self.open.get(goal.number, 'prove failed')}"
-        return f"goal {goal.number}: {verdict}{behind}: {goal.text}"
-
-    def counts(self) -> dict[str, int]:
-        found = [self.verdict(goal) for goal in self.report.goals]
-        return {name: found.count(name) for name in dict.fromkeys(("covered", *found, "undecided"))}
-
-    def reachable(self) -> int:
-        """How many goals aren't refuted."""
-        return sum(self.verdict(goal) in ("covered", "undecided") for goal in self.report.goals)
-
-    def text(self) -> str:
-        asked, counts = self.asked, self.counts()
-        bounds = " ".join(f"{name} {value}" for name, value in asked.bounds.items())
-        given, made = len(self.campaign.folder.given()), len(self.campaign.inputs)
-        lines = [
-            f"campaign of {asked.entry}: {asked.query}",
-            f"bounds {bounds}, ends {asked.ends}, budget {asked.budget}",
-        ]
-        lines += [self.line(goal) for goal in self.report.goals]
-        lines += [f"inputs {made}, of which {given} were given; the reduced suite has {len(self.report.suite)}"]
-        lines += [f"goals {len(self.report.goals)}: " + ", ".join(f"{count} {name}" for name, count in counts.items())]
-        lines += [f"covered {counts['covered']} of {self.reachable()} goals that aren't refuted"]
-        return "\n".join(lines) + "\n"
-
-    def json(self) -> str:
-        goals = [
-            {"answer": self.verdict(goal), "text": goal.text}
-            | ({"input": goal.input} if goal.input else {})
-            | (
-                {"certificate": f"certificates/{goal.number}.cert"}
-                if goal.number in self.refuted and not goal.input
-                else {}
-            )
-            for goal in self.report.goals
-        ]
-        asked = self.asked
-        value: dict[str, object] = {
-            "entry": asked.entry,
-            "query": asked.query,
-            "sources": asked.sources,
-            "bounds": asked.bounds,
-            "ends": asked.ends,
-        }
-        value |= {"budget": asked.budget, "goals": goals, "counts": self.counts(), "suite": self.report.suite}
-        return json.dumps(value) + "\n"
-
-    def write(self) -> None:
-        """Writes the files of a campaign's end."""
-        folder, made = self.campaign.folder, self.campaign.inputs
-        program.write_whole(folder.at("inputs.json"), inputs.json_text(made))
-        program.write_whole(folder.at("suite.json"), inputs.json_text([made[one - 1] for one in self.report.suite]))
-        program.write_whole(folder.at("report.json"), self.json())
-        program.write_whole(folder.at("report.txt"), self.text())
-
-    def status(self, at_least: float | None) -> int:
-        counts = self.counts()
-        if at_least is None:
-            return program.OPEN if counts["undecided"] else program.DONE
-        return program.OPEN if 100 * counts["covered"] < at_least * self.reachable() else program.DONE
+def sizes() -> Iterator[int]:
+    """The sizes of rounds."""
+    size = FIRST_ROUND
+    while True:
+        yield size
+        size = min(2 * size, LARGEST_ROUND)
 
 
 # ---- words
@@ -206,14 +137,7 @@ def jobs(word: str) -> int:
     return int(word)
 
 
-def percent(word: str) -> float:
-    """A number of percent, from 0 to 100."""
-    if not 0 <= float(word) <= 100:
-        raise argparse.ArgumentTypeError(f"{word} isn't from 0 to 100")
-    return float(word)
-
-
-def words() -> argparse.Namespace:
+def parser_of_words() -> argparse.ArgumentParser:
     parser = argparse.ArgumentParser(
         prog="campaign", description=__doc__, formatter_class=argparse.RawTextHelpFormatter
     )
@@ -221,27 +145,22 @@ def words() -> argparse.Namespace:
     parser.add_argument("-o", metavar="DIR", dest="folder", required=True, help="the campaign's folder")
     for name, value in DEFAULTS.items():
         parser.add_argument(f"--{name}", type=program.in_range(name), metavar="N", help=f"as for generate ({value})")
-    parser.add_argument("--ends", choices=program.ENDS, help="the ends of runs that count (returned)")
-    parser.add_argument(
-        "--budget",
-        type=program.in_range("budget"),
-        metavar="N",
-        help="as for prove (5000000); a greater one tries undecided goals again",
-    )
+    parser.add_argument("--ends", choices=ENDS, help="the ends of runs that count (returned)")
+    budget = "as for prove (5000000); a greater one tries undecided goals again"
+    parser.add_argument("--budget", type=program.in_range("budget"), metavar="N", help=budget)
     parser.add_argument("--inputs", metavar="FILE", help="inputs that are measured first")
-    parser.add_argument(
-        "--jobs",
-        type=jobs,
-        default=os.cpu_count() or 1,
-        metavar="N",
-        help="goals that are decided side by side, on each machine",
-    )
+    side_by_side = "goals that are decided side by side, on each machine (those of before, or the processors)"
+    parser.add_argument("--jobs", type=jobs, metavar="N", help=side_by_side)
     parser.add_argument("--sshloginfile", metavar="FILE", help="the machines, as GNU parallel reads them")
-    parser.add_argument(
-        "--at-least", type=percent, metavar="P", help="the status is 1 where less than P percent are covered"
-    )
+    gate = "the status is 1 where less than P percent are covered"
+    parser.add_argument("--at-least", type=verdicts.percent, metavar="P", help=gate)
     parser.add_argument("--left", action="store_true", help="only prints the goals that are left, a line each")
     parser.add_argument("--one", type=numbers, metavar="N[,N..]", help="only decides goal N, or several")
+    return parser
+
+
+def words() -> argparse.Namespace:
+    parser = parser_of_words()
     given = parser.parse_intermixed_args()
     if 0 < len(given.words) < 3:
         parser.error("ENTRY QUERY SOURCE.. or none of them")
@@ -251,40 +170,44 @@ def words() -> argparse.Namespace:
     return given
 
 
+def asked_by(given: argparse.Namespace) -> Asked:
+    """What the words ask for."""
+    entry, query, *sources = given.words
+    place = os.getcwd()
+    program.check_names(sources)
+    sums = read_sums(tuple(sources), place)
+    bounds = {name: value if getattr(given, name) is None else getattr(given, name) for name, value in DEFAULTS.items()}
+    ends, budget = given.ends or "returned", given.budget or 5_000_000
+    return Asked(entry, query, tuple(sources), place, sums, bounds, ends, budget)
+
+
+def with_meaning(asked: Asked) -> Asked:
+    """The same with what the sources mean, in two sums."""
+    meaning, places = changes.meaning(asked.query, asked.sources, asked.place)
+    return dataclasses.replace(asked, meaning=meaning, places=places)
+
+
 def begun(given: argparse.Namespace, folder: Folder) -> None:
-    """Makes the folder, or takes the one that is there."""
+    """Makes the folder, or takes the one that is there. None is made for what is refused."""
     read = inputs.of_file(given.inputs) if given.inputs else []
     if given.words:
-        sources, place = tuple(given.words[2:]), os.getcwd()
-        bounds = {
-            name: value if getattr(given, name) is None else getattr(given, name) for name, value in DEFAULTS.items()
-        }
-        asked = Asked(
-            given.words[0],
-            given.words[1],
-            sources,
-            place,
-            read_sums(sources, place),
-            bounds,
-            given.ends or "returned",
-            given.budget or 5_000_000,
-        )
-        # (so that no folder is made for what is refused)
-        program.check_names(sources)
+        asked = asked_by(given)
         measured(asked, read)
-        folder.begin(asked, read)
+        folder.begin(with_meaning(asked), read)
         return
     asked = folder.asked()
-    if read_sums(asked.sources, asked.place) != asked.sums:
-        raise Failure(f"{folder.path}: a source has changed since the campaign began; begin another one")
-    if given.budget or read:
-        measured(asked, read)
-        folder.begin(dataclasses.replace(asked, budget=given.budget or asked.budget), read)
+    sums = read_sums(asked.sources, asked.place)
+    if sums != asked.sums or given.budget or read:
+        now = dataclasses.replace(asked, sums=sums, budget=given.budget or asked.budget)
+        now = with_meaning(now) if sums != asked.sums else now
+        folder.check_same(now)
+        measured(now, read)
+        folder.begin(now, read)
 
 
 def locked(folder: Folder) -> IO[str]:
     """The folder's lock, which is held as long as this file is open; a failure where another process has it."""
-    file = open(folder.at("lock"), "w", encoding="ascii")
+    file = open(folder.at("machine", "lock"), "w", encoding="ascii")
     try:
         fcntl.flock(file, fcntl.LOCK_EX | fcntl.LOCK_NB)
     except OSError:
@@ -296,9 +219,8 @@ def has_parallel() -> bool:
     """Whether the command parallel is GNU's."""
     if not shutil.which("parallel"):
         return False
-    return (
-        "GNU parallel" in subprocess.run(["parallel", "--version"], capture_output=True, text=True, check=False).stdout
-    )
+    version = subprocess.run(["parallel", "--version"], capture_output=True, text=True, check=False)
+    return "GNU parallel" in version.stdout
 
 
 def main() -> int:
@@ -314,11 +236,14 @@ def main() -> int:
     begun(given, folder)
     with locked(folder):
         folder.clean()
-        campaign = Campaign(folder, given.jobs, given.sshloginfile)
+        campaign = Campaign(folder, folder.jobs(given.jobs), given.sshloginfile)
         if given.left:
+            campaign.generate()
             print("".join(f"{goal}\n" for goal in campaign.left(campaign.measured())), end="")
             return program.DONE
-        told = Told(campaign, campaign.run())
+        report = campaign.run()
+        told = Told(folder, campaign.asked, campaign.inputs, report)
         told.write()
-    print(told.text(), end="")
-    return told.status(given.at_least)
+    line, status = told.judged(given.at_least)
+    print(told.text() + line, end="")
+    return status

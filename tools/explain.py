@@ -15,7 +15,8 @@ from collections.abc import Iterator
 from tools import graph as graphs
 from tools import inputs, program
 from tools.graph import Graph, Letter, Node
-from tools.program import Failure, Goal, Input, Report, Run
+from tools.program import Failure
+from tools.reports import Goal, Input, Report, Run, report_of_json, report_of_text
 from tools.sources import Faces
 
 OPENED = {"trapped", "blocked", "too-deep"}
@@ -30,7 +31,7 @@ def report_of(word: str) -> Report:
     """The report in a file or on standard input; one that isn't read is a failure."""
     try:
         text = (sys.stdin.buffer.read() if word == "-" else program.read(word)).decode()
-        return program.report_of_json(json.loads(text)) if text.startswith("{") else program.report_of_text(text)
+        return report_of_json(json.loads(text)) if text.startswith("{") else report_of_text(text)
     except (ValueError, KeyError, TypeError, RecursionError) as fault:
         raise Failure(f"{word}: it is no report: {str(fault)[:80]}") from None
 
@@ -85,7 +86,7 @@ class Explained:
             raise Failure(f"goal {goal.number} isn't one of these sources: {goal.text[:80]}") from None
         yield from (f"  {letter_line(self.faces, letter)}" for letter in letters)
         if goal.input and goal.input <= len(self.inputs):
-            yield f"  input {goal.input}: {self.inputs[goal.input - 1].line()}"
+            yield f"  input {goal.input}: {self.inputs[goal.input - 1].told()}"
 
     def run(self, run: Run) -> Iterator[str]:
         """The line of a run, where it was trapped, blocked or too deep."""
@@ -138,7 +139,7 @@ def words() -> argparse.Namespace:
 def main() -> int:
     given = words()
     automaton: Graph = graphs.of_sources(given.sources)
-    report = program.report(["goals", given.what, *given.sources]) if is_query(given.what) else report_of(given.what)
+    report = graphs.goals_of(automaton, given.what, given.sources) if is_query(given.what) else report_of(given.what)
     read: list[Input] = []
     runs = report.runs if report.command == "runs" else []
     if given.inputs:

@@ -3,69 +3,31 @@
 Each fact is a file of its own that is moved into its place, so a campaign that was stopped at any moment goes on from what
 stands there:
 
-  campaign.json          what was asked, with the sums of the sources
+  campaign.json          what was asked, with the sums of the sources and of what they mean
   given.json             the inputs that were given
+  generated.json         what one `generate` over all goals answered at the begin, or how it was refused
   found/N                prove's line for goal N, with an input
   certificates/N.cert    prove's certificate for goal N, and N.sum, its sum, once `check` accepted it
   open/N                 the budget that goal N was tried with, and what prove said
+  machine/               the lock, the number of jobs and the log of GNU parallel: what differs from machine to machine
 """
 
 import dataclasses
-import hashlib
 import json
 import os
-import subprocess
-from dataclasses import dataclass
+import sys
 
 from tools import inputs, program
-from tools.program import Failure, Input
+from tools.asked import Asked, sum_of
+from tools.program import Failure
+from tools.reports import Input, Report, report_of_json
 
 KINDS = ("found", "certificates", "open")
+FOLDERS = (*KINDS, "machine")
 STEPS = "1000000"
-
-
-def sum_of(path: str) -> str:
-    """The SHA-256 sum of a file."""
-    with open(path, "rb") as file:
-        return hashlib.file_digest(file, "sha256").hexdigest()
-
-
-@dataclass(frozen=True)
-class Asked:
-    """What a campaign was asked. `place` is the folder in which the sources' names stand."""
-
-    entry: str
-    query: str
-    sources: tuple[str, ...]
-    place: str
-    sums: tuple[str, ...]
-    bounds: dict[str, int]
-    ends: str
-    budget: int
-
-    def words(self) -> list[str]:
-        """The options of bounds and ends."""
-        pairs = [(f"--{name}", str(value)) for name, value in self.bounds.items()]
-        return [word for pair in pairs for word in pair] + ([] if self.ends == "returned" else ["--ends", self.ends])
-
-    def differs(self, other: "Asked") -> str:
-        """What differs from another campaign's, if something does; a budget may."""
-        for name in ("entry", "query", "sources", "place", "sums", "bounds", "ends"):
-            if getattr(self, name) != getattr(other, name):
-                return name
-        return ""
-
-
-def read_sums(sources: tuple[str, ...], place: str) -> tuple[str, ...]:
-    """The sums of sources; one that isn't read is a failure."""
-    found = []
-    for source in sources:
-        path = os.path.join(place, source)
-        try:
-            found.append(sum_of(path))
-        except OSError as fault:
-            raise Failure(f"{source}: {fault.strerror}") from None
-    return tuple(found)
+# the moves of each goal's search by the `generate` that comes first, so that hard goals are left to many processes
+FIRST_BUDGET = 50_000
+TOO_LARGE = ("error 80 ", "error 81 ", "error 82 ")
 
 
 class Folder:
@@ -86,11 +48,44 @@ class Folder:
             raise Failure(
                 f"{self.path} is another campaign's: it has another {before.differs(asked).removesuffix('s')}"
             )
-        for kind in KINDS:
+        if before:
+            self.check_same(asked)
+        for kind in FOLDERS:
             os.makedirs(self.at(kind), exist_ok=True)
+        if before and before.sums != asked.sums:
+            self.forget_checks()
+            print(
+                f"changed in comments alone: {' '.join(before.changed(asked))}; the goals are the same", file=sys.stderr
+            )
         if given or not before:
             program.write_whole(self.at("given.json"), inputs.json_text(given))
         program.write_whole(self.at("campaign.json"), json.dumps(dataclasses.asdict(asked), indent=1) + "\n")
+
+    def check_same(self, now: Asked) -> None:
+        """A failure where a source has changed and the goals with it."""
+        before = self.asked()
+        if before.sums == now.sums or before.has_the_goals_of(now):
+            return
+        kept = "its inputs" if os.path.exists(self.at("inputs.json")) else "what was given"
+        file = self.at("inputs.json" if os.path.exists(self.at("inputs.json")) else "given.json")
+        raise Failure(
+            f"{self.path}: changed since the campaign began: {' '.join(before.changed(now))}; another one may begin with "
+            f"{kept} (--inputs {file}), its certificates are of the old sources"
+        )
+
+    def forget_checks(self) -> None:
+        """Has each certificate checked again."""
+        for goal in self.numbers("certificates", ".sum"):
+            os.remove(self.at("certificates", f"{goal}.sum"))
+
+    def jobs(self, given: int | None) -> int:
+        """The number of jobs: the one that is given, which is kept, or the one that was kept, or that of the processors."""
+        path = self.at("machine", "jobs")
+        if given:
+            program.write_whole(path, f"{given}\n")
+            return given
+        kept = program.read(path).decode().strip() if os.path.exists(path) else ""
+        return int(kept) if kept.isdigit() and int(kept) else os.cpu_count() or 1
 
     def asked(self) -> Asked:
         """What was asked; a failure where the folder is no campaign's."""
@@ -106,7 +101,7 @@ class Folder:
 
     def clean(self) -> None:
         """Removes what a stopped process left half written."""
-        for kind in ("", *KINDS):
+        for kind in ("", *FOLDERS):
             for name in os.listdir(self.at(kind)):
                 if name.startswith(".new."):
                     os.remove(self.at(kind, name))
@@ -117,6 +112,34 @@ class Folder:
         """The goals that have a file of a kind, rising."""
         names = [name.removesuffix(ending) for name in os.listdir(self.at(kind)) if name.endswith(ending)]
         return sorted(int(name) for name in names if name.isdigit())
+
+    def generated(self, asked: Asked) -> Report | None:
+        """What one `generate` over all goals answers, once it is asked; None where it is refused. Where its formulas are
+        too large, `prove` says of each goal whether that one is."""
+        known, path = self.known_generated(), self.at("generated.json")
+        if not os.path.exists(path):
+            budget = str(min(asked.budget, FIRST_BUDGET))
+            words = ["generate", asked.entry, asked.query, *asked.sources, *asked.words(), "--budget", budget]
+            ended = program.run(program.with_json(words), asked.place)
+            is_refused = ended.stderr.startswith(TOO_LARGE)
+            program.write_whole(path, ended.stderr if is_refused else program.text_of(words, ended))
+            known = self.known_generated()
+        return known
+
+    def known_generated(self) -> Report | None:
+        """What `generate` answered, where it did; a file that isn't whole is removed."""
+        path = self.at("generated.json")
+        text = program.read(path).decode() if os.path.exists(path) else "error"
+        try:
+            return None if text.startswith("error") else report_of_json(json.loads(text))
+        except (ValueError, KeyError, TypeError):
+            os.remove(path)
+            return None
+
+    def known_refuted(self) -> set[int]:
+        """The goals that `generate` refuted; each certificate says so anew."""
+        made = self.known_generated()
+        return {goal.number for goal in made.goals if goal.verdict == "refuted"} if made else set()
 
     def found(self) -> dict[int, Input]:
         """The input of each goal for which one was found; a file that isn't whole is removed."""
@@ -171,17 +194,20 @@ class Folder:
     def decide_all(self, goals: list[int]) -> None:
         """Has goals decided one after the other; where some aren't, that is told behind the last."""
         failures = []
+        refuted = self.known_refuted()
         for goal in goals:
             try:
-                self.decide(goal)
+                self.decide(goal, goal in refuted)
             except Failure as failure:
                 failures.append(failure)
         if failures:
             raise failures[0]
 
-    def decide(self, goal: int) -> None:
-        """Has a goal decided by `prove`, and keeps what it says; a certificate is kept where `check` accepts it."""
+    def decide(self, goal: int, is_refuted: bool) -> None:
+        """Has a goal decided by `prove`, and keeps what it says; a certificate is kept where `check` accepts it. One that the
+        `generate` at the begin refuted has its budget, which is enough, and with which fewer inputs are tried first."""
         asked = self.asked()
+        budget = min(asked.budget, FIRST_BUDGET) if is_refuted else asked.budget
         path = self.at("certificates", f".new.{goal}.{os.getpid()}")
         words = [
             "prove",
@@ -191,12 +217,14 @@ class Folder:
             *asked.sources,
             *asked.words(),
             "--budget",
-            str(asked.budget),
+            str(budget),
         ]
         try:
             with open(path, "wb") as file:
-                ended = subprocess.run([program.program(), *words], cwd=asked.place, stdin=subprocess.DEVNULL, stdout=file,
-                                       stderr=subprocess.PIPE, check=False)  # fmt: skip
+                ended = program.started(words, asked.place, file)
+            if is_refuted and ended.returncode == program.OPEN:
+                self.decide(goal, False)
+                return
             self.keep(asked, goal, path, ended.returncode, ended.stderr.decode().strip())
         finally:
             if os.path.exists(path):
@@ -215,7 +243,7 @@ class Folder:
             program.write_whole(self.at("found", str(goal)), line)
         elif status == program.OPEN:
             program.write_whole(self.at("open", str(goal)), f"{asked.budget} its budget was spent\n")
-        elif refusal.startswith("error 82 "):
+        elif refusal.startswith(TOO_LARGE):
             program.write_whole(self.at("open", str(goal)), f"{asked.budget} {refusal}\n")
         else:
             raise Failure(f"fshell prove, goal {goal}: {refusal or f'status {status}'}")

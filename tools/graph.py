@@ -5,6 +5,7 @@ from collections.abc import Iterator, Sequence
 from dataclasses import dataclass, field
 
 from tools import program
+from tools.reports import Goal, Report
 
 _NODE = re.compile(r"node (\d+) (\w+) (.*):(\d+) depth (\d+)")
 _EDGE = re.compile(
@@ -165,6 +166,22 @@ def of_sources(sources: Sequence[str], folder: str | None = None) -> Graph:
         return of_text(program.answer(["graph", *sources], folder))
     except ValueError as line:
         raise program.Failure(f"fshell graph wrote a line that isn't known: {line}") from None
+
+
+def goals_of(graph: Graph, query: str, sources: Sequence[str], folder: str | None = None) -> Report:
+    """The goals of a query. Where it has line breaks, their texts may have some, and then they are taken from a measurement of
+    no input, which is written as JSON, for the first function that may be an entry."""
+    if not re.search(r"[\r\n]", query):
+        return program.report(["goals", query, *sources], folder)
+    with program.as_file("[]\n") as none:
+        for function in graph.functions:
+            words = ["measure", function.name, query, none, *sources]
+            ended = program.run(program.with_json(words), folder)
+            if not ended.stderr.startswith("error 36 "):
+                found = program.report_of(words, ended)
+                goals = [Goal(goal.number, "", None, goal.text) for goal in found.goals]
+                return Report("goals", goals)
+    raise program.Failure("the query has line breaks, and no function may be an entry: write it in one line")
 
 
 def letters(graph: Graph, text: str) -> list[Letter]:

@@ -10,7 +10,7 @@ import argparse
 from collections.abc import Iterator
 
 from tools import inputs, items, program
-from tools.program import Input, Run
+from tools.reports import Input, Run
 from tools.sources import Source
 
 HEAD = """/* Written by FShell's bin/harness: {count} tests of {entry}.
@@ -132,6 +132,8 @@ def tests(entry: str, given: list[Input], runs: list[Run]) -> Iterator[str]:
         values = ", ".join(map(str, one.args))
         behind = f" with answers {' '.join(map(str, one.answers))}" if one.answers else ""
         name = f"{entry}({values}){behind}" + (f" returns {run.value}" if run.value is not None else "")
+        # (TAP reads a directive behind a #)
+        name += f" {one.own}".replace("#", "_") if one.own else ""
         skip = "0" if run.end == "returned" else literal(run.end)
         value = "0" if run.value is None else word(run.value)
         has_value = int(run.value is not None)

@@ -12,7 +12,8 @@ import sys
 from collections.abc import Iterator, Sequence
 
 from tools import program
-from tools.program import Failure, Input, Run, number
+from tools.program import Failure
+from tools.reports import ENDS, Input, Report, Run, input_of, number, report_of_json, report_of_text
 
 _WORD = re.compile(r"-?[0-9]+")
 _ONE = re.compile(r"goal \d+ (?:covered|least) (args(?: -?\d+)*(?: answers(?: -?\d+)+)?)")
@@ -26,20 +27,26 @@ def of_object(value: object) -> Input:
     answers = value.get("answers", [])
     if not isinstance(answers, list):
         raise ValueError("answers is no list")
-    return Input(tuple(map(number, value["args"])), tuple(map(number, answers)))
+    own = {name: part for name, part in value.items() if name not in ("args", "answers")}
+    return Input(tuple(map(number, value["args"])), tuple(map(number, answers)), json.dumps(own) if own else "")
+
+
+def no_constant(word: str) -> object:
+    """What JSON doesn't have, as NaN."""
+    raise ValueError(f"{word} is no JSON")
 
 
 def of_json(text: str, kept: bool) -> list[Input]:
     """The inputs of a JSON file, or of a report of `generate` as JSON."""
-    value = json.loads(text)
+    value = json.loads(text, parse_constant=no_constant)
     if isinstance(value, list):
         return [of_object(one) for one in value]
     if not isinstance(value, dict) or "bounds" not in value:
         raise ValueError("it is no report of generate")
-    return of_report(program.report_of_json(value), kept)
+    return of_report(report_of_json(value), kept)
 
 
-def of_report(report: program.Report, kept: bool) -> list[Input]:
+def of_report(report: Report, kept: bool) -> list[Input]:
     """The inputs of a report of `generate`, or those of its suite alone."""
     if report.command != "generate":
         raise ValueError(f"it is an answer of {report.command}, which has no inputs")
@@ -62,7 +69,7 @@ def matched(form: re.Pattern[str], lines: list[str]) -> Iterator[Input]:
     for line in lines:
         found = form.fullmatch(line)
         if found:
-            yield program.input_of(found[1])
+            yield input_of(found[1])
         elif form is _TRACE or not line.startswith("goal "):
             raise ValueError(f"{line[:60]!r} isn't known")
 
@@ -75,7 +82,7 @@ def of_text(text: str, kept: bool) -> list[Input]:
     if lines[0] == "fshell traces 1":
         return list(matched(_TRACE, lines[1:]))
     if re.match(r"(goals|input) \d", lines[0]):
-        return of_report(program.report_of_text(text), kept)
+        return of_report(report_of_text(text), kept)
     if re.match(r"goal \d+ (?:covered|least|refuted|undecided|open)", lines[0]):
         return list(matched(_ONE, lines))
     if lines[0].startswith("fshell certificate"):
@@ -101,29 +108,38 @@ def runs_of(
 
 
 def once(inputs: list[Input]) -> list[Input]:
-    """The inputs in order, each once."""
-    return list(dict.fromkeys(inputs))
+    """The inputs in order, each once. Two with other keys of the user's own are two, and one without any is none beside them."""
+    named = {(one.args, one.answers) for one in inputs if one.own}
+    return list(dict.fromkeys(one for one in inputs if one.own or (one.args, one.answers) not in named))
 
 
 # ---- written files
 
 
+def is_line(one: Input) -> bool:
+    """Whether an input can be written as a line."""
+    return bool(one.args) and not one.answers and not one.own
+
+
 def lines_text(inputs: list[Input]) -> str:
     """A file in lines."""
-    if any(one.answers or not one.args for one in inputs):
-        raise Failure("an input with answers or without arguments isn't written as a line; --to json writes it")
+    if not all(map(is_line, inputs)):
+        raise Failure("an input with answers, without arguments or with other keys is no line; --to json writes it")
     return "".join(" ".join(map(str, one.args)) + "\n" for one in inputs)
 
 
 def json_text(inputs: list[Input]) -> str:
     """A file in JSON, a line for each input."""
-    objects = [{"args": one.args, **({"answers": one.answers} if one.answers else {})} for one in inputs]
+    objects: list[dict[str, object]] = []
+    for one in inputs:
+        answers = {"answers": one.answers} if one.answers else {}
+        objects.append({"args": one.args, **answers, **(json.loads(one.own) if one.own else {})})
     return "[" + ",\n ".join(map(json.dumps, objects)) + "]\n"
 
 
 def best_text(inputs: list[Input]) -> str:
     """A file in lines where that is enough, else in JSON."""
-    return json_text(inputs) if any(one.answers or not one.args for one in inputs) else lines_text(inputs)
+    return lines_text(inputs) if all(map(is_line, inputs)) else json_text(inputs)
 
 
 def traces_text(inputs: list[Input], entry: str, sources: list[str], ends: str) -> str:
@@ -142,9 +158,7 @@ def words() -> argparse.Namespace:
     parser.add_argument("--suite", action="store_true", help="of a report, the inputs of its suite alone")
     parser.add_argument("--entry", help="for traces: the function in which runs begin")
     parser.add_argument("--source", action="append", default=[], help="for traces: a source, in their order")
-    parser.add_argument(
-        "--ends", choices=program.ENDS, default="returned", help="for traces: the ends of runs that count"
-    )
+    parser.add_argument("--ends", choices=ENDS, default="returned", help="for traces: the ends of runs that count")
     given = parser.parse_intermixed_args()
     if given.to == "traces" and not (given.entry and given.source):
         parser.error("--to traces needs --entry and --source")

@@ -1,9 +1,10 @@
 """bin/lcov: writes what the counted runs of inputs took as an lcov tracefile, for genhtml and for services that read one.
 
-A line is one on which a step stands; it counts as often as the place of control on it that runs left most often. A branch is a
-guard, so each part of a condition has two, and each label of a `switch`: the one where it holds, then the other.
-With --refuted FILE, a report of `generate ENTRY "cover ID" SOURCE..`, a branch that is refuted there, and a line on which each
-step is, is left out, with a note: no input reaches it within the report's bounds.
+A line is one on which a step of a statement stands; it counts as often as the place of control on it that runs left most often.
+A branch is a guard, so each part of a condition has two, and each label of a `switch`: the one where it holds, then the other.
+With --refuted FILE, a report of `generate ENTRY "cover ID" SOURCE..`, a branch that is unreachable, and a line on which each step
+is, is left out, with a note: refuted there, where `bounds` says that no run leaves the report's bounds. Another report is refused;
+--bounds-are-enough takes it all the same, and stands as a comment in the tracefile.
 """
 
 import argparse
@@ -11,31 +12,41 @@ import os
 import sys
 from collections import Counter
 from collections.abc import Iterator
+from dataclasses import dataclass, field
 
 from tools import graph as graphs
-from tools import inputs, program
+from tools import inputs, leaving, program
 from tools.explain import report_of
 from tools.graph import Edge, Graph
-from tools.program import Failure, Report, Run
+from tools.program import Failure
+from tools.reports import BOUNDS, ENDS, Report, Run
+from tools.sources import Faces
+
+LOOPS = ("FOR", "WHILE", "DO")
 
 
 class Coverage:
     """What runs took of an automaton."""
 
-    def __init__(self, graph: Graph, entry: str, runs: list[Run], refuted: set[int]) -> None:
-        self.graph = graph
+    def __init__(self, faces: Faces, entry: str, runs: list[Run], refuted: set[int]) -> None:
+        self.faces, self.graph = faces, faces.graph
+        graph = self.graph
         self.taken = Counter(edge for run in runs for edge in run.edges)
         self.entered: Counter[str] = Counter()
         for edge in graph.edges:
             if edge.operation == "call":
                 self.entered[edge.name] += self.taken[edge.number]
         self.entered[entry] += len(runs)
-        self.refuted = {edge for edge in refuted if not self.taken[edge]}
+        self.refuted = refuted
         self.excluded: list[str] = []
 
     def steps(self, file: str) -> Iterator[Edge]:
-        """The edges of a file, but for returns, whose calls stand at the same place."""
-        return (edge for edge in self.graph.edges if edge.file == file and edge.operation != "return")
+        """The edges of a file by which a statement on their line does something: no returns, whose calls stand at the same place,
+        no guards of labels, and nothing by which a loop is only entered or gone round."""
+        for edge in self.graph.edges:
+            is_round = edge.operation == "skip" and edge.kind in LOOPS
+            if edge.file == file and edge.operation != "return" and not is_round and not self.faces.is_label(edge):
+                yield edge
 
     def lines(self, file: str) -> dict[int, int]:
         """How often runs came to each line of a file."""
@@ -125,15 +136,53 @@ def refuted_edges(graph: Graph, report: Report) -> set[int]:
     return found
 
 
+@dataclass(frozen=True)
+class LeftOut:
+    """The edges that are left out, why, in words that follow `left out`, and the comment of the tracefile, if any."""
+
+    edges: set[int] = field(default_factory=set)
+    why: str = ""
+    comment: str = ""
+
+
+def left_out(given: argparse.Namespace, graph: Graph, runs: list[Run]) -> LeftOut:
+    """What a report shows to be unreachable; a failure where it shows nothing of the kind, or a run takes it."""
+    report = report_of(given.refuted)
+    edges = refuted_edges(graph, report)
+    if ENDS.index(report.ends) < ENDS.index(given.ends):
+        raise Failure(f"{given.refuted}: it is of runs that {report.ends}, and other ends count here (--ends)")
+    bounds = " ".join(f"{name} {report.bounds[name]}" for name in BOUNDS)
+    budget = report.bounds.get("budget", 5_000_000)
+    said = None
+    if edges:
+        said = leaving.asked(graph, given.entry, given.sources, report.bounds, budget, query="", ends=report.ends)
+    for run in runs:
+        for number in sorted(edges & set(run.edges)):
+            raise Failure(
+                f"{given.refuted}: it refutes e{number}@{graph.edges[number].place}, which input {run.number} takes"
+            )
+    if not said or said.limits.make_unreachable:
+        return LeftOut(edges, "since no input reaches it")
+    if not given.bounds_are_enough:
+        why = "; ".join(said.lines())
+        raise Failure(
+            f"{given.refuted}: what it refutes may be reached: {why} (--bounds-are-enough takes it all the same)"
+        )
+    why = f"since it is refuted within {bounds}, which are taken to be enough"
+    return LeftOut(edges, why, f"# what is refuted within {bounds} is left out: --bounds-are-enough\n")
+
+
 def words() -> argparse.Namespace:
     parser = argparse.ArgumentParser(prog="lcov", description=__doc__, formatter_class=argparse.RawTextHelpFormatter)
     parser.add_argument("entry", metavar="ENTRY")
     parser.add_argument("inputs", metavar="INPUTS")
     parser.add_argument("sources", nargs="+", metavar="SOURCE")
     parser.add_argument("-o", metavar="OUT", dest="out", help="the tracefile that is written; else standard output")
-    parser.add_argument("--ends", choices=program.ENDS, default="returned", help="the ends of runs that count")
+    parser.add_argument("--ends", choices=ENDS, default="returned", help="the ends of runs that count")
     parser.add_argument("--steps", type=program.in_range("steps"), metavar="N", help="as for runs")
-    parser.add_argument("--refuted", metavar="FILE", help="leaves out what this report refutes")
+    parser.add_argument("--refuted", metavar="FILE", help="leaves out what is unreachable by this report")
+    enough = "leaves out what the report refutes, though a run may leave its bounds"
+    parser.add_argument("--bounds-are-enough", action="store_true", help=enough)
     return parser.parse_intermixed_args()
 
 
@@ -143,15 +192,13 @@ def main() -> int:
     steps = ["--steps", str(given.steps)] if given.steps else []
     _, runs = inputs.runs_of(given.entry, given.inputs, given.sources, steps)
     counted = [run for run in runs if run.is_counted(given.ends)]
-    report = report_of(given.refuted) if given.refuted else None
-    coverage = Coverage(graph, given.entry, counted, refuted_edges(graph, report) if report else set())
+    left = left_out(given, graph, counted) if given.refuted else LeftOut()
+    coverage = Coverage(Faces(graph, given.sources), given.entry, counted, left.edges)
     totals = Totals()
     files = [source for source in dict.fromkeys(given.sources) if any(coverage.steps(source))]
     text = "".join(line + "\n" for file in files for line in record(coverage, file, totals))
-    program.give(text, given.out)
+    program.give(left.comment + text, given.out)
     told = [f"{len(counted)} of {len(runs)} runs count: {totals.text()}"]
-    if report:
-        bounds = " ".join(f"{name} {report.bounds[name]}" for name in program.BOUNDS)
-        told += [f"left out, since no input reaches it within {bounds}: {one}" for one in coverage.excluded]
+    told += [f"left out, {left.why}: {one}" for one in coverage.excluded]
     print("\n".join(told), file=sys.stderr if given.out is None else sys.stdout)
     return program.DONE

@@ -6,7 +6,7 @@ from dataclasses import dataclass, field
 from tools import graph as graphs
 from tools.decisions import Decision
 from tools.graph import Edge, Graph
-from tools.program import Report, Run
+from tools.reports import Report, Run
 
 TAKEN, REFUTED, UNDECIDED = "taken", "refuted", "undecided"
 SHOWN, NONE = "shown", "none"

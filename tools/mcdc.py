@@ -19,7 +19,8 @@ from tools.decisions import Decision, Decisions, Path
 from tools.folder import STEPS
 from tools.graph import Graph
 from tools.masking import MOST_ARROWS, NONE, REFUTED, SHOWN, TAKEN, UNDECIDED, Asked, goals_of, query_of, shown, take
-from tools.program import Failure, Input
+from tools.program import Failure
+from tools.reports import Input
 from tools.sources import Faces
 
 BOUNDS = {"turns": 4, "frames": 8, "answers": 16}
@@ -38,7 +39,7 @@ class Text:
         state = asked.state(number)
         goals = ", ".join(map(str, asked.goals.get(number, [])))
         behind = (
-            f"input {asked.inputs[number]}: {self.given[asked.inputs[number] - 1].line()}" if state == TAKEN else state
+            f"input {asked.inputs[number]}: {self.given[asked.inputs[number] - 1].told()}" if state == TAKEN else state
         )
         behind += f", goal {goals}" if state == REFUTED else ""
         return f"  path {number + 1}: {row} is {'true' if path.outcome else 'false'}, {behind}"
@@ -122,7 +123,7 @@ def ask(given: argparse.Namespace, graph: Graph, decision: Decision, count: int)
     for arrows in range(MOST_ARROWS, -1, -1):
         query = query_of(graph, decision, arrows)
         words = ["generate", given.entry, query, *given.sources, *options(given), "--budget", str(given.budget)]
-        ended = program.run(words)
+        ended = program.run(program.with_json(words))
         # (many calls make too many goals; with fewer arrows the paths behind them may stay undecided)
         if not ended.stderr.startswith("error 71 "):
             break
@@ -183,7 +184,7 @@ def main() -> int:
         program.write_whole(given.suite, inputs.best_text(made))
     if given.json:
         told = [value_of(faces, asked, made) for asked in all_asked]
-        print(json.dumps({"inputs": [{"args": one.args, "answers": one.answers} for one in made], "decisions": told}))
+        print(json.dumps({"inputs": json.loads(inputs.json_text(made)), "decisions": told}))
     else:
         text = Text(graph, faces, made)
         print("\n".join(line for asked in all_asked for line in text.decision(asked)))

@@ -23,7 +23,8 @@ from tools import inputs, program
 from tools.explain import letter_line, report_of
 from tools.folder import STEPS, Folder
 from tools.graph import Edge, Graph, Letter
-from tools.program import Failure, Goal, Input, Report
+from tools.program import Failure
+from tools.reports import BOUNDS, Goal, Input, Report
 from tools.sources import Faces
 
 VERDICTS = ("covered", "missed", "undecided", "refuted")
@@ -82,7 +83,7 @@ def commands(one: Shown, goal: Goal) -> list[str]:
     """The commands that write and check the certificate of a refuted goal."""
     if not one.query:
         return []
-    bounds = [word for name in program.BOUNDS for word in (f"--{name}", str(one.report.bounds[name]))]
+    bounds = [word for name in BOUNDS for word in (f"--{name}", str(one.report.bounds[name]))]
     ends = [] if one.report.ends == "returned" else ["--ends", one.report.ends]
     kept = os.path.join(one.folder, "certificates", f"{goal.number}.cert") if one.folder else f"{goal.number}.cert"
     asked = [one.entry or "ENTRY", one.query, str(goal.number)]
@@ -178,7 +179,7 @@ class Page:
             "letters": self.letters,
             "lines": [f"{names[edge.file]}:{edge.line}" for edge in self.graph.edges],
             "reports": [one.name for one in self.reports],
-            "inputs": [[given.line() for given in one.given] for one in self.reports],
+            "inputs": [[given.told() for given in one.given] for one in self.reports],
             "paths": taken,
         }
         return json.dumps(value).replace("<", "\\u003c").replace("\u2028", "\\u2028")

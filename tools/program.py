@@ -1,24 +1,29 @@
-"""Runs FShell and reads its texts into small records.
+"""Runs FShell, and what all tools share.
 
-The program is that of the environment's FSHELL, or else what bin/fshell runs. Everything that a tool can't go on with is a
-`Failure`: one line, and the status 2.
+The program is that of the environment's FSHELL, or else the one that bin/program names, which is asked once a run. Everything
+that a tool can't go on with is a `Failure`: one line, and the status 2.
 """
 
 import argparse
 import contextlib
+import functools
 import io
+import json
 import os
 import re
+import resource
 import subprocess
 import sys
 import tempfile
 from collections.abc import Callable, Iterator, Sequence
-from dataclasses import dataclass, field
+from dataclasses import dataclass
+from typing import IO
+
+from tools.reports import Report, report_of_json, report_of_text
 
 ROOT = os.path.dirname(os.path.dirname(os.path.realpath(__file__)))
 DONE, OPEN, FAILED = 0, 1, 2
-ENDS = ("returned", "trapped", "any")
-BOUNDS = ("turns", "frames", "answers")
+JSON_COMMANDS = ("measure", "generate", "replay")
 RANGES = {
     "turns": (0, 1000),
     "frames": (1, 64),
@@ -26,8 +31,6 @@ RANGES = {
     "budget": (1, 20_000_000),
     "steps": (1, 1_000_000),
 }
-VERDICTS = ("", "covered", "missed", "refuted", "undecided")
-LEAST, GREATEST = -(2**63), 2**64 - 1
 
 
 class Failure(Exception):
@@ -43,77 +46,36 @@ class Ended:
     stderr: str
 
 
-@dataclass(frozen=True)
-class Input:
-    """The arguments of an entry, and the answers that its input functions give in order."""
-
-    args: tuple[int, ...]
-    answers: tuple[int, ...] = ()
-
-    def line(self) -> str:
-        """As the program writes it behind an input's number."""
-        words = ["args", *map(str, self.args)]
-        return " ".join(words + (["answers", *map(str, self.answers)] if self.answers else []))
-
-
-@dataclass(frozen=True)
-class Goal:
-    """A goal with its verdict: covered, missed, refuted, undecided, or none where the query's goals are listed."""
-
-    number: int
-    verdict: str
-    input: int | None
-    text: str
-
-
-@dataclass(frozen=True)
-class Run:
-    """How the run of an input ends, and the edges that it took, where they are told."""
-
-    number: int
-    end: str
-    value: int | None
-    edges: tuple[int, ...] = ()
-
-    def is_counted(self, ends: str) -> bool:
-        """Whether a run that ends so counts."""
-        kind = self.end.split(" ")[0]
-        return kind == "returned" or (kind == "trapped" and ends != "returned") or (kind != "cut" and ends == "any")
-
-
-@dataclass
-class Report:
-    """What `measure`, `generate`, `goals`, `runs` or `trees` answered; parts that the command doesn't have are empty."""
-
-    command: str
-    goals: list[Goal] = field(default_factory=list)
-    inputs: list[Input] = field(default_factory=list)
-    runs: list[Run] = field(default_factory=list)
-    suite: list[int] = field(default_factory=list)
-    bounds: dict[str, int] = field(default_factory=dict)
-    ends: str = "returned"
-
-    def count(self, verdict: str) -> int:
-        """How many goals have a verdict."""
-        return sum(goal.verdict == verdict for goal in self.goals)
-
-
 # ---- runs of the program
 
 
+@functools.cache
 def program() -> str:
-    """The path of the program."""
-    return os.environ.get("FSHELL") or os.path.join(ROOT, "bin", "fshell")
+    """The path of the program, which may use as much stack from here on as bin/fshell lets it use."""
+    hard = resource.getrlimit(resource.RLIMIT_STACK)[1]
+    resource.setrlimit(resource.RLIMIT_STACK, (1 << 30 if hard == resource.RLIM_INFINITY else hard, hard))
+    given = os.environ.get("FSHELL", "")
+    if given:
+        return os.path.abspath(given) if "/" in given else given
+    found = subprocess.run([os.path.join(ROOT, "bin", "program")], stdin=subprocess.DEVNULL, capture_output=True, text=True,
+                           check=False)  # fmt: skip
+    if found.returncode:
+        raise Failure("there is no program: " + (found.stderr.strip().splitlines() or [""])[-1])
+    return found.stdout.removesuffix("\n")
+
+
+def started(words: Sequence[str], folder: str | None, stdout: int | IO[bytes]) -> subprocess.CompletedProcess[bytes]:
+    """The program's process, at its end. A write past a limit of the file's size is a fault of the write, as by bin/fshell."""
+    try:
+        return subprocess.run([program(), *words], cwd=folder, stdin=subprocess.DEVNULL, stdout=stdout, stderr=subprocess.PIPE,
+                              check=False, restore_signals=False)  # fmt: skip
+    except OSError as fault:
+        raise Failure(f"the program can't be started: {fault.strerror}: {program()}") from None
 
 
 def run(words: Sequence[str], folder: str | None = None) -> Ended:
     """What the program answers to these words."""
-    try:
-        ended = subprocess.run(
-            [program(), *words], cwd=folder, stdin=subprocess.DEVNULL, capture_output=True, check=False
-        )
-    except OSError as fault:
-        raise Failure(f"the program can't be started: {fault.strerror}: {program()}") from None
+    ended = started(words, folder, subprocess.PIPE)
     return Ended(ended.returncode, ended.stdout.decode(), ended.stderr.decode())
 
 
@@ -135,141 +97,22 @@ def has_command(name: str) -> bool:
     return "Usage" not in run([name, "/no/source.c"]).stderr
 
 
-# ---- texts of the program
-
-
-def numbers(words: str) -> tuple[int, ...]:
-    """The whole numbers of a row of words."""
-    return tuple(map(int, words.split()))
-
-
-def number(value: object) -> int:
-    """A whole number that an input may have; ValueError where it is none."""
-    if isinstance(value, bool) or not isinstance(value, int) or not LEAST <= value <= GREATEST:
-        raise ValueError(f"{value} is no whole number from -2^63 to 2^64 - 1")
-    return value
-
-
-def input_of(words: str) -> Input:
-    """The input that `args .. answers ..` stands for."""
-    found = re.fullmatch(r"args((?: -?\d+)*)(?: answers((?: -?\d+)+))?", words)
-    if not found:
-        raise ValueError(words)
-    return Input(tuple(map(number, numbers(found[1]))), tuple(map(number, numbers(found[2] or ""))))
-
-
-def run_of(number: int, words: str) -> Run:
-    """The run that `END [edges ..]` stands for."""
-    found = re.fullmatch(r"(returned|trapped [a-z-]+|blocked|too-deep|cut)(?: (-?\d+))?( edges((?: \d+)*))?", words)
-    if not found:
-        raise ValueError(words)
-    return Run(number, found[1], None if found[2] is None else int(found[2]), numbers(found[4] or ""))
-
-
-def goal_of(words: str) -> Goal:
-    """The goal that `N [covered I|missed|refuted|undecided] TEXT` stands for."""
-    found = re.fullmatch(r"(\d+) (?:covered (\d+)|(missed|refuted|undecided)) (.*)", words, re.DOTALL)
-    if found:
-        return Goal(int(found[1]), found[3] or "covered", int(found[2]) if found[2] else None, found[4])
-    number, text = words.split(" ", 1)
-    return Goal(int(number), "", None, text)
-
-
-def _head(report: Report, line: str) -> int:
-    """Reads the first line of a report; gives the number of its goals."""
-    words = re.fullmatch(r"goals (\d+)((?: (?:inputs|turns|frames|answers|budget) \d+)*)(?: ends (trapped|any))?", line)
-    if not words:
-        raise ValueError(line)
-    pairs = words[2].split()
-    report.bounds = {name: int(value) for name, value in zip(pairs[::2], pairs[1::2]) if name != "inputs"}
-    report.ends = words[3] or "returned"
-    report.command = "generate" if report.bounds else "measure" if "inputs" in pairs else "goals"
-    return int(words[1])
-
-
-def _line(report: Report, line: str) -> None:
-    """Reads another line of a report."""
-    word, rest = (line.split(" ", 1) + [""])[:2]
-    if word == "input":
-        number, words = rest.split(" ", 1)
-        if words.startswith("args"):
-            report.inputs.append(input_of(words))
-        else:
-            report.runs.append(run_of(int(number), words))
-    elif word == "goal":
-        report.goals.append(goal_of(rest))
-    elif word == "suite":
-        report.suite = list(numbers(rest))
-    elif word != "covered":
-        raise ValueError(line)
-
-
-def report_of_text(text: str) -> Report:
-    """The report that a text of the program is; ValueError where it is none, or isn't whole."""
-    lines = text.split("\n")
-    if lines.pop() != "":
-        raise ValueError("its last line isn't whole")
-    # (trees tells no edges)
-    report, count = Report("runs" if all(" edges" in line for line in lines) else "trees"), 0
-    if lines and not lines[0].startswith("input "):
-        count = _head(report, lines.pop(0))
-    for line in lines:
-        _line(report, line)
-    if len(report.goals) != count:
-        raise ValueError(f"it has {len(report.goals)} of {count} goals")
-    return _whole(report)
-
-
-def _whole(report: Report) -> Report:
-    """A report whose goals and suite name inputs that it has, and which has all of its bounds; ValueError where it isn't so."""
-    count = len(report.inputs) + len(report.runs)
-    named = [goal.input for goal in report.goals if goal.verdict == "covered"] + report.suite
-    for one in named:
-        if not isinstance(one, int) or not 1 <= one <= count:
-            raise ValueError(f"it names input {one} and has {count} inputs")
-    for name in BOUNDS if report.command == "generate" else ():
-        if not isinstance(report.bounds.get(name), int):
-            raise ValueError(f"it has no bound {name}")
-    return report
-
-
-def _texts(*values: object) -> None:
-    """TypeError where a value is no text."""
-    for value in values:
-        if not isinstance(value, str):
-            raise TypeError(f"{value} is no text")
-
-
-def report_of_json(value: dict) -> Report:
-    """The report that a JSON line of the program is; KeyError, TypeError or ValueError where it is none."""
-    report = Report("generate" if "bounds" in value else "measure")
-    report.bounds, report.ends = dict(value.get("bounds", {})), value.get("ends", "returned")
-    for count, goal in enumerate(value["goals"], 1):
-        _texts(goal["answer"], goal["text"])
-        report.goals.append(Goal(count, goal["answer"], goal.get("input"), goal["text"]))
-    for count, one in enumerate(value["inputs"], 1):
-        if "args" in one:
-            report.inputs.append(Input(tuple(map(number, one["args"])), tuple(map(number, one["answers"]))))
-        else:
-            _texts(one["end"])
-            report.runs.append(Run(count, one["end"], one.get("value")))
-    report.suite = list(value["suite"])
-    if report.ends not in ENDS or any(goal.verdict not in VERDICTS for goal in report.goals):
-        raise ValueError("it has ends or an answer that isn't known")
-    return _whole(report)
+def with_json(words: Sequence[str]) -> list[str]:
+    """The words that ask for JSON where the program writes it, so that a line break in a query can't make a line of its own."""
+    return [*words, "--json"] if words[0] in JSON_COMMANDS else list(words)
 
 
 def report(words: Sequence[str], folder: str | None = None) -> Report:
-    """The report that the program answers to the words of `measure`, `generate`, `goals` or `runs`."""
-    return report_of(words, run(words, folder))
+    """The report that the program answers to the words of `measure`, `generate`, `replay`, `goals`, `runs` or `trees`."""
+    return report_of(words, run(with_json(words), folder))
 
 
 def report_of(words: Sequence[str], ended: Ended) -> Report:
     """The report that the program answered to these words."""
     text = text_of(words, ended)
     try:
-        return report_of_text(text)
-    except ValueError as line:
+        return report_of_json(json.loads(text)) if text.startswith("{") else report_of_text(text)
+    except (ValueError, KeyError, TypeError) as line:
         raise Failure(f"fshell {words[0]} wrote a line that isn't known: {line}") from None
 
 

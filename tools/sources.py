@@ -111,11 +111,17 @@ class Faces:
         for places in self.starts.values():
             places.sort()
 
+    def is_label(self, edge: Edge) -> bool:
+        """Whether an edge is a guard of a label of a `switch`."""
+        source = self.sources[edge.file]
+        is_switch = edge.is_guard and edge.kind == "SWITCH"
+        return is_switch and source.tokens[source.index(edge.line, edge.column)].text == "case"
+
     def condition(self, guard: Edge) -> str:
         """The text of a guard's part of a condition, or the label of a `switch`."""
         source = self.sources[guard.file]
         first = source.index(guard.line, guard.column)
-        if source.tokens[first].text == "case" and guard.kind == "SWITCH":
+        if self.is_label(guard):
             return source.between(first, source.end_of(first, [":"]) - 1)
         # where two tests begin at a place, the first is of the condition of a ?:, and the other of the whole
         is_first = guard.source == self.guards[guard.place][0]

@@ -15,6 +15,7 @@ import re
 import resource
 import subprocess
 import sys
+import time
 
 import programs
 from tool_tests import Case, is_there, put, run
@@ -48,6 +49,13 @@ CASES = [
          FIRST + "wrote new/a.c\ncompared 3 runs, 0 differ\n", "", None, NEEDS),
     Case("adapt: nothing to compare", ["adapt", "a.c", "-o", "new", "--compare", "3"], {"a.c": "static int f(int x) { return x; }\n"}, 2, None,
          "adapt: there is no function that isn't static, takes integers alone and gives one or nothing, so nothing can be compared\n", None, NEEDS),
+    Case("adapt: runs that C gives no meaning", ["adapt", "a.c", "-o", "new", "--compare", "3"],
+         {"a.c": "static int g(int x) { if (x == 2000000) return 4; }\nint f(int x) { return g(x); }\n"}, 0,
+         FIRST + "wrote new/a.c\ncompared 3 runs, 0 differ, of 3 C gives the end no meaning\n", "", None, NEEDS),
+    Case("adapt: runs that read outside of an array", ["adapt", "a.c", "-o", "new", "--compare", "2"],
+         {"a.c": "static unsigned char a[4];\nstatic int get(const unsigned char *p, int i) { return p[i]; }\n"
+                 "int f(void) { return get(a, -1); }\nint g(void) { return get(a, 4); }\n"}, 0,
+         FIRST + "wrote new/a.c\ncompared 2 runs, 0 differ, of 2 C gives the end no meaning\n", "", None, NEEDS),
     Case("adapt: a harness of an entry that isn't there", ["adapt", "a.c", "-o", "new", "--harness", "g", "in"], {**SOURCE, "in": "1\n"}, 2, None,
          "adapt: g is no function of the source that takes integers alone and gives one or nothing\n", None, NEEDS),
     Case("adapt: inputs that are refused", ["adapt", "a.c", "-o", "new", "--harness", "f", "in"], {**SOURCE, "in": "1 2\n"}, 2, None,
@@ -84,8 +92,23 @@ def nothing_is_left_half_written(folder):
     """Where a file may have 10 bytes at most, as on a full disk."""
     put(folder, SOURCE)
     ended = run(folder, ["adapt", "a.c", "-o", "new"], preexec_fn=lambda: resource.setrlimit(resource.RLIMIT_FSIZE, (10, 10)))  # fmt: skip
-    yield (ended.returncode, ended.stderr) == (2, "adapt: new/a.c: File too large\n")
-    yield os.listdir(os.path.join(folder, "new")) == []
+    yield (ended.returncode, ended.stderr) == (2, "adapt: a copy for the program: File too large\n")
+    yield not os.path.exists(os.path.join(folder, "new"))
+
+
+def many_blocks_on_a_line(folder):
+    """Blocks that close on one line take time as there are many, and no more: 8,192 take at most 14 times what 1,024 take."""
+    sys.path.insert(0, programs.ROOT)
+    from tools.adapt.main import main
+
+    times = []
+    for count in (1024, 8192):
+        put(folder, {"a.c": "int f(int x) { " + "{ x++; } " * count + "return x; }\n"})
+        begun = time.process_time()
+        with contextlib.redirect_stdout(io.StringIO()):
+            yield main([os.path.join(folder, "a.c"), "-o", os.path.join(folder, "new")]) == 0
+        times.append(time.process_time() - begun)
+    yield times[1] < 14 * times[0]
 
 
 # ---- the tables
@@ -207,5 +230,5 @@ def a_changed_original_fails(folder):
     yield compiled.returncode == 0 and tests.returncode == 1 and "\nnot ok" in tests.stdout
 
 
-TRIED = [(NEEDS, without_gcc), (NEEDS, nothing_is_left_half_written), ((), without_pycparser), *((NEEDS, of_table(path)) for path in TABLES),
+TRIED = [(NEEDS, without_gcc), (NEEDS, many_blocks_on_a_line), (NEEDS, nothing_is_left_half_written), ((), without_pycparser), *((NEEDS, of_table(path)) for path in TABLES),
          *((NEEDS, of_module(given)) for given in WAYS), (NEEDS, a_changed_original_fails)]  # fmt: skip

@@ -8,7 +8,7 @@ import subprocess
 import time
 
 import programs
-from tool_tests import SECONDS, Case, example, put, run
+from tool_tests import SECONDS, Case, example, gates, put, run
 
 FEE = {"fee.c": example("criteria/fee.c"), "in.txt": example("criteria/in.txt")}
 PAIRS = 'cover @DEF(sum) . "NOT(@DEF(sum))*" . @USE(sum)'
@@ -16,6 +16,7 @@ PAIRS = 'cover @DEF(sum) . "NOT(@DEF(sum))*" . @USE(sum)'
 REFUTED = [9, 10]
 # which a budget of 1 is too small for
 SLOW = "int f(int a, int b) {\n  if (a > 1 && b > 1 && a * b == 7919 * 7907) {\n    return 1;\n  }\n  return 0;\n}\n"
+NONE = {"covered": 0, "missed": 0, "undecided": 0, "refuted within the bounds": 0, "unreachable": 0}
 PARALLEL = ("parallel",)
 CASES = [
     Case("campaign: a query that is refused", ["campaign", "fee", "cover", "fee.c", "-o", "new"], FEE, 2, "",
@@ -79,8 +80,8 @@ def a_campaign_decides_all_goals(folder):
     put(folder, FEE)
     ended = campaign(folder, "fee", PAIRS, "fee.c")
     yield ended.returncode == 0 and is_right(folder)
-    yield ended.stdout.endswith("covered 10 of 10 goals that aren't refuted\n")
-    yield report(folder)["counts"] == {"covered": 10, "refuted within the bounds": 2, "undecided": 0}
+    yield "\ncovered 10 of 12 goals that aren't unreachable, 83.33%\n" in ended.stdout
+    yield report(folder)["counts"] == {**NONE, "covered": 10, "refuted within the bounds": 2}
     # once more, by its folder alone, and from another folder
     elsewhere = os.path.join(folder, "elsewhere")
     os.mkdir(elsewhere)
@@ -114,13 +115,16 @@ def undecided_goals_and_the_gate(folder):
     put(folder, {"slow.c": SLOW})
     query = "cover @CONDITIONEDGE"
     ended = campaign(folder, "f", query, "slow.c", "--budget", "1")
-    yield ended.returncode == 1 and report(folder)["counts"] == {"covered": 0, "undecided": 6}
+    yield ended.returncode == 1 and report(folder)["counts"] == {**NONE, "undecided": 6}
     yield "goal 5: undecided, its budget was spent: e4@slow.c:2\n" in ended.stdout
-    yield campaign(folder, "--at-least", "0").returncode == 0
-    yield campaign(folder, "--at-least", "0.1").returncode == 1
+    # (no gate passes where nothing was run)
+    yield campaign(folder, "--at-least", "0").returncode == 1
+    put(folder, {"in.txt": "0 0\n"})
+    yield campaign(folder, "--at-least", "16.6", "--inputs", "in.txt").returncode == 0
+    yield campaign(folder, "--at-least", "16.7").returncode == 1
     # a greater budget tries the open goals again
     ended = campaign(folder, "--budget", "100000", "--at-least", "100")
-    yield ended.returncode == 0 and report(folder)["counts"] == {"covered": 6, "undecided": 0}
+    yield ended.returncode == 0 and report(folder)["counts"] == {**NONE, "covered": 6}
 
 
 def another_campaigns_folder_is_left_alone(folder):
@@ -131,9 +135,9 @@ def another_campaigns_folder_is_left_alone(folder):
     yield (ended.returncode, ended.stderr) == (2, "campaign: new is another campaign's: it has another query\n")
     ended = campaign(folder, "fee", "cover @LINE(11)", "fee.c", "--turns", "5")
     yield (ended.returncode, ended.stderr) == (2, "campaign: new is another campaign's: it has another bound\n")
-    put(folder, {"fee.c": FEE["fee.c"] + "\n"})
+    put(folder, {"fee.c": FEE["fee.c"] + "int more;\n"})
     ended = campaign(folder)
-    yield ended.returncode == 2 and "a source has changed" in ended.stderr
+    yield ended.returncode == 2 and "changed since the campaign began: fee.c" in ended.stderr
     yield report(folder) == before
 
 
@@ -145,11 +149,23 @@ def files_that_were_removed_or_cut_are_made_anew(folder):
                  lambda: os.remove(f"{path}/10.sum"), lambda: put(path, {"9.cert": "fshell certificate 1\n"})):
         harm()
         yield campaign(folder).returncode == 0 and is_right(folder)
-    found = os.path.join(folder, "new", "found")
-    one = os.listdir(found)[0]
-    for text in ("", "goal 1 cov", f"goal {one} covered args 0 0", f"goal {one} covered args 0 0 0\n"):
-        put(found, {one: text})
+    new = os.path.join(folder, "new")
+    for harm in (lambda: os.remove(f"{new}/generated.json"), lambda: os.truncate(f"{new}/generated.json", 0),
+                 lambda: os.truncate(f"{new}/generated.json", 200)):
+        harm()
         yield campaign(folder).returncode == 0 and is_right(folder)
+
+
+def inputs_that_were_cut_are_found_anew(folder):
+    """Those that `prove` found: a budget of 1 leaves `generate` none."""
+    put(folder, {"slow.c": SLOW})
+    campaign(folder, "f", "cover @CONDITIONEDGE", "slow.c", "--budget", "1")
+    yield campaign(folder, "--budget", "100000").returncode == 0
+    found = os.path.join(folder, "new", "found")
+    one = sorted(os.listdir(found))[0]
+    for text in ("", "goal 1 cov", f"goal {one} covered args 0", f"goal {one} covered args 0 0 0\n"):
+        put(found, {one: text})
+        yield campaign(folder).returncode == 0 and report(folder)["counts"] == {**NONE, "covered": 6}
 
 
 def killed_at_any_moment_it_goes_on(folder):
@@ -196,14 +212,14 @@ def bounds_that_suffice_are_told(folder):
     put(folder, {"never.c": example("never/never.c")})
     ended = campaign(folder, "f", "cover @CONDITIONEDGE", "never.c")
     yield ended.returncode == 0 and verdicts(folder) == ["covered", "covered", "unreachable", "covered"]
-    yield "goals 4: 3 covered, 1 unreachable, 0 undecided\n" in ended.stdout
+    yield "goals 4: 3 covered, 0 undecided, 1 unreachable\n" in ended.stdout
 
 
 def goals_are_decided_one_by_one(folder):
     """As an array job does it: the goals that are left, one by one, and then the campaign alone."""
     put(folder, FEE)
     left = campaign(folder, "fee", PAIRS, "fee.c", "--left").stdout.split()
-    yield left == [str(number) for number in range(1, 13)]
+    yield left == [str(number) for number in REFUTED]
     yield all(campaign(folder, "--one", goal).returncode == 0 for goal in left)
     yield campaign(folder, "--left").stdout == ""
     yield campaign(folder).returncode == 0 and is_right(folder)
@@ -211,5 +227,5 @@ def goals_are_decided_one_by_one(folder):
 
 TRIED = [(PARALLEL, function) for function in (
     a_campaign_decides_all_goals, given_inputs_are_completed, it_goes_on_with_inputs_but_not_with_other_bounds, undecided_goals_and_the_gate, another_campaigns_folder_is_left_alone,
-    files_that_were_removed_or_cut_are_made_anew, killed_at_any_moment_it_goes_on, two_machines_share_the_work,
-    bounds_that_suffice_are_told, goals_are_decided_one_by_one)]
+    files_that_were_removed_or_cut_are_made_anew, inputs_that_were_cut_are_found_anew, killed_at_any_moment_it_goes_on, two_machines_share_the_work,
+    bounds_that_suffice_are_told, goals_are_decided_one_by_one)] + gates.TRIED

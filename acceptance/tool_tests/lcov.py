@@ -1,10 +1,10 @@
-"""The cases of bin/lcov: counts by hand, genhtml's totals, and gcc's --coverage of programs."""
+"""The cases of bin/lcov: counts by hand, genhtml's totals, and what is left out."""
 
 import os
 import re
 import subprocess
 
-from tool_tests import Case, example, put, run
+from tool_tests import Case, covered, example, put, run
 from tool_tests.explain import NEVER, ONE, TWO
 
 GRAPH = ("graph",)
@@ -102,8 +102,8 @@ end_of_record
 
 
 NOTES = """2 of 2 runs count: lines 2 of 2, functions 1 of 1, branches 3 of 3
-left out, since no input reaches it within turns 4 frames 8 answers 16: never.c:2:17 true
-left out, since no input reaches it within turns 4 frames 8 answers 16: never.c:3
+left out, since no input reaches it: never.c:2:17 true
+left out, since no input reaches it: never.c:3
 """
 BOTH = {"one.c": ONE, "two.c": TWO, "in": "-1\n1\n"}
 CASES = [
@@ -157,60 +157,34 @@ def genhtml_has_these_totals(folder):
         yield told.split(": ")[1].strip() == ", ".join(f"{what} {hit} of {found}" for what, hit, found in totals)
 
 
-def gcov(folder, name):
-    """gcc's counts of a source by its harness: of each line, and the counts of its branches in order of size."""
-    subprocess.run(["gcc", "-O0", "--coverage", "-fwrapv", "-w", "-o", "tests", "tests.c"], cwd=folder, check=True)
-    subprocess.run(["./tests"], cwd=folder, capture_output=True)
-    subprocess.run(["gcov", "-b", "-c", "tests.gcda"], cwd=folder, capture_output=True, check=True)
-    lines, branches, at = {}, {}, 0
-    with open(os.path.join(folder, name + ".gcov"), encoding="utf-8") as file:
-        for line in file:
-            count = re.match(r" *(\d+|#####|-)\*?: *(\d+):", line)
-            if count:
-                at = int(count[2])
-                if count[1] != "-":
-                    lines[at] = int(count[1].replace("#####", "0"))
-            elif line.startswith("branch"):
-                branches.setdefault(at, []).append(int((re.findall(r"taken (\d+)", line) or [0])[0]))
-    return lines, {line: sorted(counts) for line, counts in branches.items()}
+def what_may_be_reached_isnt_left_out(folder):
+    """Within four turns line 7 of the loop is refuted, and an input beyond them reaches it."""
+    put(folder, {"count.c": example("counting/count.c"), "in": "0\n"})
+    report = run(folder, ["fshell", "generate", "count", "cover ID", "count.c", "--turns", "2"]).stdout
+    put(folder, {"report": report})
+    words = ["lcov", "count", "in", "count.c", "--refuted", "report", "-o", "out"]
+    ended = run(folder, words)
+    yield ended.returncode == 2 and not os.path.exists(os.path.join(folder, "out")) and ended.stderr.count("\n") == 1
+    yield ended.stderr.startswith("lcov: report: what it refutes may be reached: the bounds don't suffice: turn 3 of the loop at count.c:3")
+    text, said = written(folder, {}, *words[1:-2], "--bounds-are-enough")
+    within = "turns 2 frames 8 answers 16"
+    yield text.startswith(f"# what is refuted within {within} is left out: --bounds-are-enough\nTN:\n") and "DA:7," not in text
+    yield f"left out, since it is refuted within {within}, which are taken to be enough: count.c:7\n" in said
+    # an input that reaches it shows that they aren't
+    put(folder, {"in": "3\n"})
+    ended = run(folder, [*words, "--bounds-are-enough"])
+    yield (ended.returncode, ended.stderr) == (2, "lcov: report: it refutes e6@count.c:6:7, which input 1 takes\n")
+    ended = run(folder, [*words, "--ends", "trapped"])
+    yield (ended.returncode, ended.stderr) == (2, "lcov: report: it is of runs that returned, and other ends count here (--ends)\n")
 
 
-def ours(text):
-    """The counts of a tracefile: of each line, and the counts of its branches in order of size."""
-    lines = {int(line): int(count) for line, count in re.findall(r"^DA:(\d+),(\d+)", text, re.MULTILINE)}
-    branches = {}
-    for line, count in re.findall(r"^BRDA:(\d+),\d+,\d+,(\d+|-)", text, re.MULTILINE):
-        branches.setdefault(int(line), []).append(0 if count == "-" else int(count))
-    return lines, {line: sorted(counts) for line, counts in branches.items()}
-
-
-PROGRAMS = {"account": "account", "checksum": "accept", "control": "control", "crc": "frame", "date": "day_of_year", "debounce": "presses",
-            "gcd": "relation", "lights": "lights", "machine": "door", "search": "place", "sort": "middle", "window": "steady"}
-
-
-def gcc_agrees(folder):
-    """On programs, with inputs that are made for all conditions: a line is covered where gcc says so, and where both count the
-    same number of branches on a line, their counts are the same."""
-    lines_seen = branches_seen = 0
-    for name, entry in PROGRAMS.items():
-        file = f"{name}.c"
-        put(folder, {file: example(f"programs/{file}")})
-        made = run(folder, ["fshell", "generate", entry, "cover @CONDITIONEDGE", file, "--budget", "300000"])
-        put(folder, {"made": made.stdout})
-        run(folder, ["inputs", "made", "-o", "in", "--to", "json"])
-        run(folder, ["lcov", entry, "in", file, "-o", "out"])
-        run(folder, ["harness", entry, "in", file, "-o", "tests.c"])
-        with open(os.path.join(folder, "out"), encoding="utf-8") as text:
-            lines, branches = ours(text.read())
-        their_lines, their_branches = gcov(folder, file)
-        both = set(lines) & set(their_lines)
-        same = [line for line in branches if len(branches[line]) == len(their_branches.get(line, []))]
-        lines_seen, branches_seen = lines_seen + len(both), branches_seen + len(same)
-        yield all(bool(lines[line]) == bool(their_lines[line]) for line in both)
-        yield all(branches[line] == their_branches[line] for line in same)
-        os.remove(os.path.join(folder, "tests.gcda"))
-    yield lines_seen > 100 and branches_seen > 40
+def a_comment_is_read_by_genhtml(folder):
+    put(folder, {"count.c": example("counting/count.c"), "in": "0\n"})
+    put(folder, {"report": run(folder, ["fshell", "generate", "count", "cover ID", "count.c", "--turns", "2"]).stdout})
+    yield "left out" in written(folder, {}, "count", "in", "count.c", "--refuted", "report", "--bounds-are-enough")[1]
+    made = subprocess.run(["genhtml", "--branch-coverage", "-o", "html", "out"], cwd=folder, capture_output=True, text=True)
+    yield made.returncode == 0 and made.stderr == "" and "warning" not in made.stdout.lower()
 
 
 TRIED = [(GRAPH, counts_are_those_by_hand), (GRAPH, refuted_goals_are_left_out), (("graph", "genhtml"), genhtml_has_these_totals),
-         (("graph", "gcc", "gcov"), gcc_agrees)]
+         (GRAPH, what_may_be_reached_isnt_left_out), (("graph", "genhtml"), a_comment_is_read_by_genhtml), *covered.TRIED]

@@ -11,6 +11,7 @@ FILES = {"never.c": example("never/never.c"), "in": "5\n11\n", "worked.cert": ex
 ANSWERS = [
     ["inputs", "in"], ["explain", "cover ID", "never.c"], ["lcov", "f", "in", "never.c"], ["harness", "f", "in", "never.c"],
     ["mcdc", "f", "never.c"], ["install", "--check"], ["page", "--help"], ["campaign", "--help"], ["drat", "--help"],
+    ["order", "--help"],
 ]  # fmt: skip
 
 

@@ -15,7 +15,7 @@ from .refusals import Refused
 from .values import PRIMARY, Value
 from .writer import Writer
 
-MOST_COPIED = 256
+MOST_COPIED, MOST_ELEMENTS = 256, 1024
 
 
 class Calls(Writer):
@@ -40,6 +40,12 @@ class Calls(Writer):
         if function.definition is None:
             return self.outer_call(node, function), []
         given = arguments(node)
+        if len(given) != len(function.parameters) and not function.variadic:
+            raise Refused(
+                node.coord,
+                f"{function.name} gets {len(given)} arguments and takes {len(function.parameters)}",
+                "hand over as many as it takes",
+            )
         own = [not isinstance(one.binding, Place) and one.binding != "lent" for one in function.parameters]
         self.unsequenced(node, [argument for argument, wanted in zip(given, own) if wanted])
         self.apart(node, function)
@@ -226,6 +232,17 @@ class Calls(Writer):
                 texts.append(value if apart or at not in inits else self.temporary(leaf.kind, value))
             found.append((leaf, texts))
         return found
+
+    @staticmethod
+    def check_lengths(variable: Variable) -> None:
+        """Refuses arrays that are longer than the profile's."""
+        for leaf in kinds.leaves(variable.type):
+            if leaf.count > MOST_ELEMENTS:
+                raise Refused(
+                    variable.coord,
+                    f"{variable.name} has {leaf.count} elements",
+                    f"the profile takes {MOST_ELEMENTS} at most",
+                )
 
     def declared(self, variable: Variable) -> None:
         """Writes a local's declaration without values."""

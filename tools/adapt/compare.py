@@ -14,6 +14,7 @@ from .declarators import Function, Variable
 from .reading import compiler
 from .refusals import Stop
 from .initialisers import flat
+from .output import FELL
 from .units import Units
 
 CALLS, ANSWERS, SECONDS = 6, 40, 5
@@ -22,6 +23,7 @@ DRIVER = """
 #include <stdio.h>
 #include <stdlib.h>
 #include <unistd.h>
+void adapt_fell(void) { _exit(77); }
 static long long adapt_answers[64]; static int adapt_answer_count, adapt_answer_taken;
 long long adapt_answer(void) { return adapt_answer_taken < adapt_answer_count ? adapt_answers[adapt_answer_taken++] : 0; }
 static char **adapt_words;
@@ -41,10 +43,15 @@ int main(int adapt_argc, char **adapt_argv) {
 }
 """
 FLAGS = ["-std=gnu11", "-O0", "-w", "-fwrapv", "-ftrivial-auto-var-init=zero"]
+# what has no meaning ends the original's run: an index outside of its array, as far as the address sanitizer sees it (with
+# an array of our own before the first object of the file), and what the other one sees
 WATCHED = [
-    "-fsanitize=shift-exponent,integer-divide-by-zero,bounds,null,signed-integer-overflow",
+    "-fsanitize=address,shift-exponent,integer-divide-by-zero,bounds,null,signed-integer-overflow",
     "-fsanitize-undefined-trap-on-error",
 ]
+GUARDS = "char adapt_guard_{0}[64] = {{1}}, adapt_other_guard_{0}[64];\n"
+QUIET = "detect_leaks=0:abort_on_error=0:exitcode=70"
+ENDED, FAILED, FELL_OFF = 0, -6, 77  # a run to its end, one whose assert failed, one off the end of a function
 TELLING = [0, 1, -1, 2, 3, 4, 5, 7, 8, 10, 16, 31, 64, 100, 127, 128, 200, 255, 256, -128, 32767, 65535]
 TELLING += [2**31 - 1, -(2**31), 2**32 - 1, 2**63 - 1]
 
@@ -87,7 +94,7 @@ def answering(writer: Units, function: Function, answer: str) -> str:
 class Comparison:
     """The two programs of what was adapted, in a folder."""
 
-    def __init__(self, writer: Units, sources: list[str], made: list[str], flags: list[str], folder: str) -> None:
+    def __init__(self, writer: Units, sources: list[str], made: dict[str, str], flags: list[str], folder: str) -> None:
         self.writer, self.folder = writer, folder
         functions = [one for one in writer.names.functions if one.definition is not None and not one.static]
         # (main is the comparison's own)
@@ -107,6 +114,16 @@ class Comparison:
 
     def text(self, path: str) -> str:
         return f'#define main adapt_own_main\n#include "{os.path.abspath(path)}"\n#undef main\n'
+
+    def copied(self, made: dict[str, str]) -> str:
+        """What was written, with a call where a function that gives something ends without a return."""
+        whole = "void adapt_fell(void);\n"
+        for number, text in enumerate(made.values()):
+            path = os.path.join(self.folder, f"made_{number}.c")
+            with open(path, "w", encoding="utf-8", errors="surrogateescape") as file:
+                file.write(text.replace(FELL, "adapt_fell();"))
+            whole += self.text(path)
+        return whole
 
     def dump(self, variables: list[Variable], ours: bool) -> str:
         """Prints each integer of the variables."""
@@ -140,7 +157,7 @@ class Comparison:
             own = [one for one in self.shared if one.unit.path == path]
             defined = "".join(answering(self.writer, one, "adapt_answer()") for one in outer) if number == 0 else ""
             texts.append(
-                f"{self.text(path)}#include <stdio.h>\nlong long adapt_answer(void);\n{defined}void adapt_dump_{number}(void) {{\n{self.dump(own, False)}\n}}\n"
+                f"{GUARDS.format(number)}{self.text(path)}#include <stdio.h>\nlong long adapt_answer(void);\n{defined}void adapt_dump_{number}(void) {{\n{self.dump(own, False)}\n}}\n"
             )
             dumps += f"    adapt_dump_{number}();\n"
         head = "".join(f"void adapt_dump_{number}(void);\n" for number in range(len(sources)))
@@ -149,10 +166,8 @@ class Comparison:
         )
         self.compile("original", [*texts, head + DRIVER % (self.calls(), dumps)], flags + WATCHED)
 
-    def adapted(self, made: list[str], outer: list[Function]) -> None:
-        text = "#include <stdint.h>\n#include <stddef.h>\n#include <assert.h>\n" + "".join(
-            self.text(path) for path in made
-        )
+    def adapted(self, made: dict[str, str], outer: list[Function]) -> None:
+        text = "#include <stdint.h>\n#include <stddef.h>\n#include <assert.h>\n" + self.copied(made)
         text += "long long adapt_answer(void);\n"
         for one in outer:
             if isinstance(one.result, Int):
@@ -182,7 +197,12 @@ class Comparison:
     def run(self, name: str, words: list[str]) -> tuple[int, list[str]]:
         try:
             ended = subprocess.run(
-                [os.path.join(self.folder, name), *words], capture_output=True, text=True, timeout=SECONDS, check=False
+                [os.path.join(self.folder, name), *words],
+                capture_output=True,
+                text=True,
+                timeout=SECONDS,
+                check=False,
+                env={**os.environ, "ASAN_OPTIONS": QUIET},
             )
         except subprocess.TimeoutExpired:
             return -TIME_IS_UP, [""]
@@ -190,15 +210,22 @@ class Comparison:
 
     def difference(self, words: list[str]) -> str:
         """How both runs differ; nothing where they agree, up to where C gives the original's no meaning."""
+        return self.beside(words)[0]
+
+    def beside(self, words: list[str]) -> tuple[str, bool]:
+        """How both runs differ, and whether C gives the run a meaning up to its end."""
         (status, lines), (other, theirs) = self.run("original", words), self.run("adapted", words)
-        if -TIME_IS_UP in (status, other):
+        if -TIME_IS_UP in (status, other) or other == FELL_OFF:
             both = min(len(lines), len(theirs)) - 1
             lines, theirs = lines[: both + 1], theirs[: both + 1]
-            status = -TIME_IS_UP
-        if status in (0, -6):
-            return "" if (status, lines) == (other, theirs) else f"original {status} {lines}, adapted {other} {theirs}"
+            status = FELL_OFF if other == FELL_OFF else -TIME_IS_UP
+        if status in (ENDED, FAILED):
+            same = (status, lines) == (other, theirs)
+            return "" if same else f"original {status} {lines}, adapted {other} {theirs}", True
         whole = lines[:-1]
-        return "" if theirs[: len(whole)] == whole else f"original {status} {whole}, adapted {other} {theirs}"
+        same = theirs[: len(whole)] == whole
+        told = "" if same else f"original {status} {whole}, adapted {other} {theirs}"
+        return told, status == -TIME_IS_UP
 
     def inputs(self, seed: int) -> list[str]:
         """The words of one run: answers, and calls with their arguments."""
@@ -216,9 +243,11 @@ class Comparison:
         return [str(one) for one in words]
 
 
-def compared(writer: Units, sources: list[str], made: list[str], flags: list[str], count: int) -> list[str]:
-    """The differences of some runs on random inputs."""
+def compared(
+    writer: Units, sources: list[str], made: dict[str, str], flags: list[str], count: int
+) -> tuple[list[str], int]:
+    """The differences of some runs on random inputs, and how many runs have no meaning from some call on."""
     with tempfile.TemporaryDirectory(prefix="adapt-") as folder:
         both = Comparison(writer, sources, made, flags, folder)
-        told = [(seed, both.difference(both.inputs(seed))) for seed in range(1, count + 1)]
-    return [f"input {seed}: {text}" for seed, text in told if text]
+        told = [(seed, *both.beside(both.inputs(seed))) for seed in range(1, count + 1)]
+    return [f"input {seed}: {text}" for seed, text, _ in told if text], sum(not meant for _, _, meant in told)

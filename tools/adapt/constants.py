@@ -120,8 +120,9 @@ class Constants:
             return self.type_of(node.exprs[-1])
         if isinstance(node, (c_ast.Cast, c_ast.CompoundLiteral)):
             return self.names.types.get(id(node.to_type if isinstance(node, c_ast.Cast) else node.type), kinds.VOID)
-        called = self.names.meaning.get(id(node))
-        return called.result if isinstance(node, c_ast.FuncCall) and called is not None else kinds.VOID
+        called = self.names.meaning.get(id(node)) if isinstance(node, c_ast.FuncCall) else None
+        result: Type = called.result if called is not None else kinds.VOID
+        return result
 
     def type_of_unary(self, node: Any) -> Type:
         if node.op == "sizeof":

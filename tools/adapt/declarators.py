@@ -65,7 +65,7 @@ class Declarators:
 
     def __init__(self, refusals: Refusals) -> None:
         self.refusals = refusals
-        self.linked: dict[str, Any] = {}
+        self.linked: dict[Any, Any] = {}
         self.meaning: dict[int, Any] = {}
         self.types: dict[int, Type] = {}
         self.functions: list[Function] = []

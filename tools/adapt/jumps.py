@@ -26,7 +26,7 @@ PARSER = c_parser.CParser()
 
 def snippet(text: str, coord: Any) -> list[Any]:
     """The statements of a text, at a place."""
-    items = PARSER.parse(f"void f(void) {{ {text} }}").ext[0].body.block_items
+    items: list[Any] = PARSER.parse(f"void f(void) {{ {text} }}").ext[0].body.block_items
     for item in items:
         for node in walk(item):
             node.coord = coord
@@ -101,7 +101,8 @@ class Jumps:
 
     @staticmethod
     def end(item: Any) -> Any:
-        return max((one.coord for one in walk(item) if one.coord), key=lambda coord: coord.line)
+        found = [one.coord for one in walk(item) if one.coord]
+        return max(found, key=lambda coord: int(coord.line))
 
     def replaced(self, node: Any, name: str, flag: Optional[str], depth: int) -> bool:
         """Replaces the jumps within a statement at which `depth` loops and switches are open; whether the flag is used."""

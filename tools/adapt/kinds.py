@@ -148,6 +148,8 @@ def leaves(of: Type, path: Path = (), dims: tuple[int, ...] = ()) -> Iterator[Le
 def fault_of(of: Type) -> Optional[tuple[str, str]]:
     """Why an object of the type can't be written, if so: the cause and what to do."""
     if isinstance(of, Array):
+        if of.length == 0:
+            return "an array without elements", "give it one at least"
         return ("an array without a length", "give its length") if of.length is None else fault_of(of.of)
     if isinstance(of, Pointer) and of.to == FUNCTION:
         return "a pointer to a function", "call functions by their names, in a switch over a number"

@@ -7,6 +7,7 @@ from typing import Any, Optional
 
 from tools import program
 
+from .output import FELL
 from .refusals import Refusals, Stop
 
 FIRST = "adapt is no part of what is proved: read and compare what it writes"
@@ -62,6 +63,7 @@ def flags_of(given: argparse.Namespace) -> list[str]:
 def adapt(given: argparse.Namespace, refusals: Refusals) -> tuple[dict[str, str], Any]:
     """The text of each file that is written, by its original, and who wrote it."""
     from .effects import Effected
+    from .gate import check
     from .jumps import Jumps, walk
     from .names import Names
     from .output import File
@@ -98,7 +100,10 @@ def adapt(given: argparse.Namespace, refusals: Refusals) -> tuple[dict[str, str]
         files.setdefault(path, File(path))  # (which has no code)
     order = dict.fromkeys(path for unit in units for path in unit.files)
     kept = [path for path in order if path in files and (files[path].pieces or path in given.sources)]
-    return {path: files[path].text(lines_of(path)) for path in kept}, writer
+    texts = {path: files[path].text(lines_of(path)) for path in kept}
+    if not refusals.found:
+        check(texts, refusals)
+    return texts, writer
 
 
 def lines_of(path: str) -> list[str]:
@@ -117,7 +122,7 @@ def put(folder: str, texts: dict[str, str]) -> list[str]:
         if os.path.exists(target) and os.path.samefile(target, original):
             raise Stop(f"{target} is the original itself; name another folder (-o)")
         try:
-            program.write_whole(target, text)
+            program.write_whole(target, text.replace(FELL, ""))
         except program.Failure as failure:
             raise Stop(str(failure)) from None
         paths.append(target)
@@ -139,12 +144,13 @@ def write_harness(asked: argparse.Namespace, writer: Any, paths: list[str]) -> N
     print(f"wrote {name}: compile it with {' '.join(['-fwrapv', *flags_of(asked)])}")
 
 
-def compare(asked: argparse.Namespace, writer: Any, paths: list[str]) -> int:
+def compare(asked: argparse.Namespace, writer: Any, texts: dict[str, str]) -> int:
     """Says how many runs agree; the status."""
     from .compare import compared
 
-    differences = compared(writer, asked.sources, paths, flags_of(asked), asked.compare)
-    print("\n".join([*differences, f"compared {asked.compare} runs, {len(differences)} differ"]))
+    differences, ended = compared(writer, asked.sources, texts, flags_of(asked), asked.compare)
+    apart = f", of {ended} C gives the end no meaning" if ended else ""
+    print("\n".join([*differences, f"compared {asked.compare} runs, {len(differences)} differ{apart}"]))
     return 1 if differences else 0
 
 
@@ -164,7 +170,7 @@ def main(given: Optional[list[str]] = None) -> int:
         print("wrote " + " ".join(paths))
         if asked.harness:
             write_harness(asked, writer, paths)
-        return compare(asked, writer, paths) if asked.compare else 0
+        return compare(asked, writer, texts) if asked.compare else 0
     except ModuleNotFoundError as missing:
         print(f"adapt: {missing.name} isn't there (Debian's package python3-pycparser)", file=sys.stderr)
     except RecursionError:

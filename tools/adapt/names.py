@@ -19,6 +19,7 @@ class Names(Declarators):
     def unit(self, unit: Unit) -> None:
         self.scope, self.tags, self.current = ChainMap(), ChainMap(), unit
         for item in unit.tree.ext:
+            self.refusals.go(item.coord)
             with self.refusals.gathered():
                 self.item(item)
             self.items.append((unit, item))
@@ -68,6 +69,7 @@ class Names(Declarators):
         key = self.key(node, static or (isinstance(old, Variable) and (node.name, node.coord.file) in self.linked))
         if home == "file" and isinstance(self.linked.get(key), Variable):
             made = self.linked[key]
+            assert isinstance(made, Variable)
             if static and made.unit is not self.current and not made.const:
                 raise Refused(
                     node.coord,
@@ -125,7 +127,7 @@ class Names(Declarators):
         elif made.definition is None and (parameters or not made.parameters):
             made.parameters = parameters
         made.variadic = made.variadic or any(isinstance(one, c_ast.EllipsisParam) for one in self.written(node))
-        self.scope.maps[-1][node.name] = made
+        self.scope.maps[-1][node.name] = self.scope[node.name] = made
         return made
 
     @staticmethod
@@ -146,12 +148,7 @@ class Names(Declarators):
         return made
 
     def definition(self, node: Any) -> None:
-        if node.param_decls:
-            raise Refused(
-                node.decl.coord,
-                f"{node.decl.name} declares its parameters behind the parentheses",
-                "declare them between these",
-            )
+        self.prototyped(node)
         made = self.declared_function(node.decl)
         self.meaning[id(node)] = made
         if made.definition is not None:
@@ -169,6 +166,19 @@ class Names(Declarators):
         self.scope, self.tags = self.scope.parents, self.tags.parents
         self.function = None
 
+    @staticmethod
+    def prototyped(node: Any) -> None:
+        """Puts parameters that are declared behind the parentheses between them; without a type they are `int` (K&R)."""
+        own = {one.name: one for one in node.param_decls or []}
+        if node.decl.type.args is None:
+            return
+        for at, one in enumerate(node.decl.type.args.params):
+            if isinstance(one, c_ast.ID):
+                word = c_ast.TypeDecl(one.name, [], None, c_ast.IdentifierType(["int"], one.coord), one.coord)
+                made = c_ast.Decl(one.name, [], [], [], [], word, None, None, one.coord)
+                node.decl.type.args.params[at] = own.get(one.name, made)
+        node.param_decls = None
+
     def same_again(self, made: Function, node: Any) -> None:
         """A second definition must be that of a header, read anew."""
         if any(one.function is made and one.home == "static" and not one.const for one in self.variables):
@@ -184,6 +194,7 @@ class Names(Declarators):
     # ---- statements and expressions
 
     def statement(self, node: Any) -> None:
+        self.refusals.go(node.coord)
         with self.refusals.gathered():
             if isinstance(node, c_ast.DeclList):
                 for one in node.decls:

@@ -4,6 +4,7 @@ import re
 from dataclasses import dataclass, field
 
 LINE = re.compile("\x01(\\d+)\x02")
+FELL = "\x03"  # where a function that gives something ends without a return
 
 
 def mark(line: int) -> str:
@@ -26,7 +27,8 @@ class File:
         self.pieces.append((line, text))
 
     def text(self, original: list[str]) -> str:
-        """The file's text. Each piece stands on its line, or behind the pieces before it where these are further."""
+        """The file's text. Each piece stands on its line, or behind the pieces before it where these are further. FELL still
+        stands in it."""
         lines: list[list[str]] = []
         for line, piece in self.pieces:
             parts, begun = LINE.split(piece), False

@@ -5,7 +5,7 @@ import re
 import shutil
 import subprocess
 from dataclasses import dataclass, field
-from typing import Any, NamedTuple
+from typing import Any, NamedTuple, Optional
 
 from .refusals import JUDGED, Refusals, Stop
 
@@ -31,6 +31,7 @@ FOREIGN = {
 }
 SAME_WORD = {"__asm__": "asm", "__asm": "asm", "typeof": "__typeof__"}
 WORDS = re.compile(r'"(?:\\.|[^"\\])*"|\'(?:\\.|[^\'\\])*\'|[A-Za-z_]\w*|[{}]|[^\sA-Za-z_"\'{}]+')
+QUOTED = re.compile(r'"(?:\\.|[^"\\])*"|\'(?:\\.|[^\'\\])*\'')
 MARKER = re.compile(r'#\s*(?:line\s+)?(\d+)\s+"((?:\\.|[^"\\])*)"([ \d]*)')
 
 
@@ -93,22 +94,65 @@ def without_foreign(text: str, refusals: Refusals, at: Any) -> str:
     )
 
 
+class Places:
+    """The place of each row of a preprocessed text. `#line` directives are looked through: a place is that of the text itself."""
+
+    def __init__(self, unit: Unit) -> None:
+        self.unit, self.file, self.line = unit, unit.path, 1
+        self.stack: list[tuple[str, tuple[str, int]]] = []
+        self.alias: tuple[str, int] = ("", 0)  # the name that `#line` gives, and what it adds to lines
+        self.directives: dict[str, list[tuple[int, int]]] = {}
+
+    def directive(self, number: int) -> Optional[int]:
+        """The line behind a `#line` of this number that stands in the file from here on."""
+        if self.file not in self.directives:
+            self.directives[self.file] = lines_told(self.file)
+        return next((at + 1 for at, told in self.directives[self.file] if told == number and at >= self.line - 1), None)
+
+    def go(self, marker: "re.Match[str]") -> None:
+        """Goes to where a marker of the preprocessor says."""
+        number, name, flags = int(marker.group(1)), marker.group(2), marker.group(3).split()
+        if "1" in flags:
+            self.stack.append((self.file, self.alias))
+            self.file, self.line, self.alias = name, number, ("", 0)
+        elif "2" in flags and self.stack:
+            if self.file not in self.unit.files and not is_system(self.file):
+                self.unit.files.append(self.file)
+            self.file, self.alias = self.stack.pop()
+            self.line = number - self.alias[1]
+        elif is_system(name):
+            self.file, self.line = name, number
+        else:
+            behind = None if is_system(self.file) else self.directive(number)
+            if behind is not None:
+                self.alias = (name, number - behind)
+            self.file = self.file if self.alias[0] or behind is not None else name
+            self.line = number - self.alias[1]
+
+
+def lines_told(path: str) -> list[tuple[int, int]]:
+    """The `#line` directives of a file: the line of each, and the number that it gives."""
+    try:
+        with open(path, encoding="utf-8", errors="surrogateescape") as file:
+            found = [re.match(r"\s*#\s*(?:line\s+)?(\d+)", row) for row in file]
+    except OSError:
+        return []
+    return [(at, int(one.group(1))) for at, one in enumerate(found, 1) if one]
+
+
 def scanned(unit: Unit, text: str, refusals: Refusals) -> str:
     """The preprocessed text that the parser gets; fills in what the unit knows of files, words and braces."""
-    file, line, stack, opened, made = unit.path, 1, [], [], []
+    opened, made, places = [], [], Places(unit)
     for row in text.split("\n"):
         marker = MARKER.match(row)
         if marker:
-            if "1" in marker.group(3).split():
-                stack.append(file)
-            elif "2" in marker.group(3).split() and stack:
-                stack.pop()
-                if file not in unit.files and not is_system(file):
-                    unit.files.append(file)
-            file, line = marker.group(2), int(marker.group(1))
-            made.append(f'# {line} "{file}"')
+            places.go(marker)
+            made.append(f'# {places.line} "{places.file}"')
             continue
+        file, line = places.file, places.line
         if not is_system(file):
+            if "$" in QUOTED.sub("", row):
+                refusals.add(Coord(file, line), "a name with $", "write it with letters, digits and _")
             row = without_foreign(row, refusals, Coord(file, line))
             unit.words.update(re.findall(r"[A-Za-z_]\w*", row))
         for found in WORDS.finditer(row):
@@ -119,7 +163,7 @@ def scanned(unit: Unit, text: str, refusals: Refusals) -> str:
         if re.match(r"\s*#\s*pragma\s+pack", row) and not is_system(file):
             refusals.add(Coord(file, line), "structs are packed", "leave the pragma out, and write sizes as numbers")
         made.append("" if row.startswith("#") else row)
-        line += 1
+        places.line += 1
     unit.files.append(unit.path)
     return "\n".join(made)
 

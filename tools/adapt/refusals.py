@@ -24,9 +24,15 @@ class Refusals:
 
     def __init__(self) -> None:
         self.found: set[tuple[str, int, str]] = set()
+        self.at_hand: Any = None
+
+    def go(self, coord: Any) -> None:
+        """What is refused from now on and has no place of its own stands at this one."""
+        self.at_hand = coord if coord and coord.file else self.at_hand
 
     def add(self, coord: Any, cause: str, advice: str) -> None:
-        file, line = (coord.file, coord.line) if coord else ("", 0)
+        placed = coord if coord and coord.file else self.at_hand
+        file, line = (placed.file, placed.line) if placed else ("", 0)
         self.found.add((str(file), int(line or 0), f"{cause}; {advice}"))
 
     @contextmanager

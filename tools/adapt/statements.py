@@ -1,5 +1,6 @@
 """Writes the statements of a function, each on the line that it has."""
 
+from bisect import bisect_left
 from typing import Any, Optional
 
 from pycparser import c_ast
@@ -27,6 +28,7 @@ class Statements(Expressions):
     def statement(self, node: Any) -> None:
         """Writes one statement; what is refused in it is gathered."""
         self.go(node)
+        self.names.refusals.go(node.coord)
         write = getattr(self, "write_" + type(node).__name__, None)
         with self.names.refusals.gathered():
             if write:
@@ -42,10 +44,9 @@ class Statements(Expressions):
         if not isinstance(node, c_ast.Compound) or not node.coord or str(node.coord.file) != self.original:
             return
         lines = self.closings.get((self.original, node.coord.line), [])
-        behind = [line for line in lines if line >= self.line]
-        if behind:
-            self.line = min(behind)
-            lines.remove(self.line)
+        at = bisect_left(lines, self.line)
+        if at < len(lines):
+            self.line = lines.pop(at)
 
     def close(self, node: Any) -> None:
         """Writes the brace that closes a block."""
@@ -82,6 +83,7 @@ class Statements(Expressions):
         fault = kinds.fault_of(variable.type)
         if fault:
             raise Refused(node.coord, f"{node.name}: {fault[0]}", fault[1])
+        self.check_lengths(variable)
         if node.init is None:
             self.declared(variable)
         elif isinstance(variable.type, Struct) and not isinstance(node.init, c_ast.InitList):

@@ -10,13 +10,11 @@ from .initialisers import filled
 from .jumps import walk
 from .kinds import Array, Int, Pointer, Struct, Type
 from .declarators import Function, Variable
-from .output import File, unmarked
+from .output import FELL, File, unmarked
 from .places import Place
 from .reading import is_system
 from .refusals import Refused
 from .statements import Statements
-
-MOST_ELEMENTS = 1024
 
 
 def within(of: Type, part: Type) -> bool:
@@ -42,6 +40,7 @@ class Units(Statements):
             self.file = self.files.setdefault(source, File(source))
             self.original, self.closings = source, unit.closings
             self.go(item)
+            self.names.refusals.go(item.coord)
             with self.names.refusals.gathered():
                 self.item(item, number)
         return self.files
@@ -123,14 +122,9 @@ class Units(Statements):
         words = ("static " if static or variable.name and self.is_static(variable) else "") + (
             "const " if variable.const else ""
         )
+        self.check_lengths(variable)
         leaves = list(kinds.leaves(variable.type))
         for leaf in leaves:
-            if leaf.count > MOST_ELEMENTS:
-                raise Refused(
-                    variable.coord,
-                    f"{variable.name} has {leaf.count} elements",
-                    f"the profile takes {MOST_ELEMENTS} at most",
-                )
             texts = made.texts(leaf, lambda one: self.first(one, leaf.kind, here and len(leaves) == 1))
             name = self.spelling.leaf(variable, leaf.path)
             whole = f"{{{', '.join(texts)}}}" if leaf.dims else texts[0]
@@ -169,6 +163,8 @@ class Units(Statements):
                     f"{one.name} of {function.name}: {fault[0] if fault else 'a pointer'}",
                     fault[1] if fault else "hand over an object",
                 )
+            if not isinstance(one.type, Pointer):
+                self.check_lengths(one)
             for leaf in kinds.leaves(pointee(one)):
                 texts.append(
                     f"{leaf.kind.text} {self.spelling.leaf(one, leaf.path)}{f'[{leaf.count}]' if leaf.dims else ''}"
@@ -214,16 +210,38 @@ class Units(Statements):
         self.before(function)
         self.emit(self.heading(function) + ";")
 
+    def declared_within(self, function: Function) -> None:
+        """Writes before a function what blocks of it declare: functions, and objects of the file that are defined later."""
+        for node in walk(function.definition.body):
+            meaning = self.names.meaning.get(id(node)) if isinstance(node, c_ast.Decl) else None
+            with self.names.refusals.gathered():
+                if isinstance(meaning, Function) and (meaning.definition is None or meaning.number > function.number):
+                    self.prototype(meaning, node)
+                elif isinstance(meaning, Variable) and meaning.home == "file":
+                    self.outer(meaning, node, function.number)
+
+    def outer(self, variable: Variable, node: Any, number: int) -> None:
+        """Writes an object that a block declares with extern, where it is defined behind the item of this number."""
+        if not variable.defined and variable in self.uses:
+            self.check_type(variable)
+            raise Refused(node.coord, f"no source defines {variable.name}", "give the source that defines it")
+        if variable.defined and self.defined_at(variable) > number and self.once(variable):
+            self.variable(variable)
+
     def whole_function(self, function: Function) -> None:
         node = function.definition
         self.function = function
-        self.before(function)
+        self.declared_within(function)
+        with self.names.refusals.gathered():
+            self.before(function)
         for variable in self.names.variables:
             if variable.home == "static" and variable.function is function:
                 with self.names.refusals.gathered():
                     self.variable(variable, True)
-        self.check_names(function)
-        self.emit(self.heading(function) + " {")
+        with self.names.refusals.gathered():
+            self.check_names(function)
+        with self.names.refusals.gathered():
+            self.emit(self.heading(function) + " {")
         self.normal(function)
         items = node.body.block_items or []
         for one in items:
@@ -231,7 +249,7 @@ class Units(Statements):
         self.go_to_end(node.body)
         if self.outs(function) and not (items and isinstance(items[-1], c_ast.Return)):
             self.hand_back()
-        self.emit("}")
+        self.emit("}" if function.result == kinds.VOID else FELL + "}")
         self.function = None
 
     def normal(self, function: Function) -> None:

@@ -7,15 +7,16 @@
 //! (specs/Watching.antt), so that a move costs the watchers that it visits; all clauses are looked at once before the first
 //! move, and once where the budget is spent. A conflict is resolved to the first unique implication point
 //! (specs/Chains.antt), without a pass over the variables. The variable that was most active in conflicts is decided next, to
-//! be as it last was; that each open one is listed is kept (specs/Orders.antt), their order is free. A learned line is kept
-//! once, and the history is made of it where the budget is spent (specs/Steps.antt). The layers above use what `search`
-//! answers (specs/Nexts.antt), and that `shown` appends what it is given, and after want of memory nothing. Start at
-//! searching.rt.
+//! be as it last was, and of those that never were active the lowest or the highest, as the caller says; that each open one
+//! is listed is kept (specs/Orders.antt), their order is free. A learned line is kept once, and the history is made of it
+//! where the budget is spent (specs/Steps.antt). The layers above use what `search` and `search_in_order` answer
+//! (specs/Nexts.antt), and that `shown` appends what it is given, and after want of memory nothing. Start at searching.rt.
 #![tactic(auto)]
 
 mod chain;
 mod choice;
 mod conflict;
+mod first_variables;
 mod found;
 mod history;
 mod installing;
@@ -26,6 +27,7 @@ mod minimizing;
 mod moves;
 mod next;
 mod order;
+mod orders;
 mod reading;
 mod rounds;
 mod scan;
@@ -36,7 +38,9 @@ mod visit;
 mod watch;
 mod watching;
 
+pub use first_variables::FirstVariables;
 pub use found::Found;
 pub use moves::{History, Move};
-pub use searching::search;
+pub use orders::{search_both, search_highest_part, search_lowest_part, search_whole};
+pub use searching::{search, search_in_order};
 pub use watch::{KeepWatch, NoWatch, Watch};

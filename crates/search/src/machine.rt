@@ -21,6 +21,7 @@ ghost use Rattle.search.specs.declared.moves.Move.TheVariants as move;
 
 use crate::choice::{candidate, model};
 use crate::conflict::{Lesson, lesson_of};
+use crate::first_variables::FirstVariables;
 use crate::found::Found;
 use crate::history::history_of;
 use crate::moves::Step;
@@ -50,7 +51,7 @@ pub(crate) struct Machine {
 
 impl Machine {
     /// The first state, with an empty trail.
-    pub fn new(alloc: Global, formula: &Formula) -> Result<Machine, Memory>
+    pub fn new(alloc: Global, formula: &Formula, first: FirstVariables) -> Result<Machine, Memory>
         requires formula { IsFormula formula.now }
         requires small { formula.now.variables ≤ 2 ^ 30 }
         requires few { length formula.now.clauses < 2 ^ 32 }
@@ -63,7 +64,7 @@ impl Machine {
         let values = vec![in alloc; false; size]?;
         let places = vec![in alloc; 0; size]?;
         let marks = vec![in alloc; false; size]?;
-        let order = Order::new(alloc, formula.variables)?;
+        let order = Order::new(alloc, formula.variables, first)?;
         Ok(Machine {
             trail: Vec::new(alloc),
             values,

@@ -2,6 +2,7 @@
 ghost use Rattle.std.specs.Prelude.{◌≡◌, ◌⊎◌, ◌+◌, ◌<◌, ◌≤◌, ℕ, Some, true, [], IfOk, IfNone, IfSome, OnOk, length, slice_get};
 ghost use Rattle.search.specs.Watching.{is_among};
 
+use crate::first_variables::FirstVariables;
 use std::alloc::{AllocError, Global};
 
 /// How active a variable was in conflicts.
@@ -30,31 +31,75 @@ pub(crate) struct Order {
     pub bumps: u64,
     /// By variable, whether it was true when it last left the trail.
     pub phases: Vec<bool>,
+    /// Which come first of those that were never bumped.
+    pub first: FirstVariables,
 }
 
 // Activities above this one are scaled.
 const MOST: u64 = 1 << 60;
 
+// So many variables, from 1 on, the lowest first.
+fn lowest_first(alloc: Global, variables: u32) -> Result<Vec<u32>, AllocError>
+    requires { variables ≤ 1073741824 }
+    ensures { IfOk result (λ heap. (v : ℕ) → 1 ≤ v → v ≤ variables → is_among v heap.items ≡ true) }
+{
+    let mut heap = Vec::new(alloc);
+    for variable in 0..variables {
+        heap.push(variable + 1)?;
+    }
+    Ok(heap)
+}
+
+// So many variables, from 1 on, the highest first.
+fn highest_first(alloc: Global, variables: u32) -> Result<Vec<u32>, AllocError>
+    requires { variables ≤ 1073741824 }
+    ensures { IfOk result (λ heap. (v : ℕ) → 1 ≤ v → v ≤ variables → is_among v heap.items ≡ true) }
+{
+    let mut heap = Vec::new(alloc);
+    for place in 0..variables {
+        heap.push(variables - place)?;
+    }
+    Ok(heap)
+}
+
+// By variable, where it stands in such a list.
+fn first_places(
+    alloc: Global,
+    variables: u32,
+    first: FirstVariables,
+) -> Result<Vec<usize>, AllocError>
+    requires { variables ≤ 1073741824 }
+{
+    let mut places = Vec::new(alloc);
+    places.push(0)?;
+    for variable in 0..variables {
+        let place = match first {
+            FirstVariables::Lowest => variable,
+            FirstVariables::Highest => variables - variable - 1,
+        };
+        places.push(place as usize)?;
+    }
+    Ok(places)
+}
+
 impl Order {
     /// All of so many variables, from 1 on.
-    pub fn new(alloc: Global, variables: u32) -> Result<Order, AllocError>
+    pub fn new(alloc: Global, variables: u32, first: FirstVariables) -> Result<Order, AllocError>
         requires { variables ≤ 1073741824 }
         ensures { IfOk result (λ order. (v : ℕ) → 1 ≤ v → v ≤ variables → is_among v order.heap.items ≡ true) }
     {
-        let mut heap = Vec::new(alloc);
-        let mut places = Vec::new(alloc);
-        places.push(0)?;
-        for variable in 0..variables {
-            heap.push(variable + 1)?;
-            places.push(variable as usize)?;
-        }
+        let heap = match first {
+            FirstVariables::Lowest => lowest_first(alloc, variables)?,
+            FirstVariables::Highest => highest_first(alloc, variables)?,
+        };
         Ok(Order {
             heap,
-            places,
+            places: first_places(alloc, variables, first)?,
             activities: vec![in alloc; NONE; variables as usize + 1]?,
             increment: 256,
             bumps: 0,
             phases: vec![in alloc; false; variables as usize + 1]?,
+            first,
         })
     }
 
@@ -66,7 +111,7 @@ impl Order {
     }
 
     // Whether a variable goes before another: it is more active; of variables that are as active, the one that was bumped
-    // last goes first, and of those that never were, the lowest.
+    // last goes first, and of those that never were, the lowest or the highest.
     fn precedes(&self, first: u32, second: u32) -> bool {
         let one = self.activity(first);
         let other = self.activity(second);
@@ -76,7 +121,10 @@ impl Order {
         if one.last != other.last {
             return one.last > other.last;
         }
-        first < second
+        match self.first {
+            FirstVariables::Lowest => first < second,
+            FirstVariables::Highest => first > second,
+        }
     }
 
     /// Whether a variable was true when it last left the trail; false where it was never on it.

@@ -3,6 +3,7 @@ ghost use Rattle.std.specs.Prelude.{◌≤◌, ◌^◌, IfOk};
 ghost use Rattle.search.specs.Laws.{IsFormula};
 ghost use Rattle.search.specs.Nexts.{HasEnded, IsFound};
 
+use crate::first_variables::FirstVariables;
 use crate::found::Found;
 use crate::installing::{install_all, nothing_watched};
 use crate::machine::Machine;
@@ -13,7 +14,12 @@ use fq_core::Memory;
 use std::alloc::Global;
 
 /// What a search finds.
-fn searched(alloc: Global, formula: &Formula, budget: u64) -> Result<Found, Memory>
+fn searched(
+    alloc: Global,
+    formula: &Formula,
+    budget: u64,
+    first: FirstVariables,
+) -> Result<Found, Memory>
     requires formula { IsFormula formula.now }
     requires small { formula.now.variables ≤ 2 ^ 30 }
     ensures { IfOk result (IsFound formula.now budget) }
@@ -22,7 +28,7 @@ fn searched(alloc: Global, formula: &Formula, budget: u64) -> Result<Found, Memo
     if formula.clauses.len() >= 0x1_0000_0000 {
         return Err(Memory);
     }
-    let mut machine = Machine::new(alloc, formula)?;
+    let mut machine = Machine::new(alloc, formula, first)?;
     let mut watching = nothing_watched(alloc, formula.variables)?;
     match install_all(&mut machine, &mut watching, formula, budget)? {
         Queue::Read => {}
@@ -42,11 +48,31 @@ fn searched(alloc: Global, formula: &Formula, budget: u64) -> Result<Found, Memo
 
 /// Searches a model of a formula with at most so many moves: a model, a derivation that shows that there is none, or,
 /// where the budget is spent, all the moves. A budget of 3 to the number of the formula's variables is never spent.
+///
+/// Of the variables that were never active in a conflict the `first` ones are decided before the others: what is found
+/// within a budget, and how soon, may depend on it, and nothing else does.
+pub fn search_in_order(
+    alloc: Global,
+    formula: &Formula,
+    budget: u64,
+    first: FirstVariables,
+) -> Result<Found, Memory>
+    requires formula { IsFormula formula.now }
+    requires small { formula.now.variables ≤ 2 ^ 30 }
+    ensures found { IfOk result (IsFound formula.now budget) }
+    ensures enough { 3 ^ formula.now.variables ≤ budget → IfOk result HasEnded }
+{
+    searched(alloc, formula, budget, first)
+}
+
+/// Searches a model of a formula with at most so many moves: a model, a derivation that shows that there is none, or,
+/// where the budget is spent, all the moves. A budget of 3 to the number of the formula's variables is never spent. The
+/// lowest variables are decided first of those that were never active in a conflict.
 pub fn search(alloc: Global, formula: &Formula, budget: u64) -> Result<Found, Memory>
     requires formula { IsFormula formula.now }
     requires small { formula.now.variables ≤ 2 ^ 30 }
     ensures found { IfOk result (IsFound formula.now budget) }
     ensures enough { 3 ^ formula.now.variables ≤ budget → IfOk result HasEnded }
 {
-    searched(alloc, formula, budget)
+    search_in_order(alloc, formula, budget, FirstVariables::Lowest)
 }

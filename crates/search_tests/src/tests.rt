@@ -4,7 +4,9 @@ use crate::formulas::{
 };
 use cnf::{Formula, literal_key};
 use derivation_check::{Checker, Verdict};
-use search::{Found, History, KeepWatch, Move, NoWatch, Watch, search};
+use search::{
+    FirstVariables, Found, History, KeepWatch, Move, NoWatch, Watch, search, search_in_order,
+};
 use std::alloc::Global;
 use std::process::Abort;
 use std::test::Fail;
@@ -97,6 +99,33 @@ fn one_decision(rt: HostRuntime) {
             _ => assert!(rt; false, "another move"),
         },
         _ => assert!(rt; false, "another answer"),
+    }
+}
+
+// The variable that is decided first where both are open and no clause says more.
+fn first_decided(rt: &impl Abort, alloc: Global, first: FirstVariables) -> usize {
+    let formula = formula_of(rt, alloc, 2, &[&[1, 2]]);
+    assert!(rt; is_over_variables(&formula));
+    let found = search_in_order(alloc, &formula, 1, first).expect(rt, "no memory");
+    let Found::Spent(history) = found else {
+        return 0;
+    };
+    match history.moves.first() {
+        Some(Move::Decide { literal }) => literal_key(*literal) / 2,
+        _ => 0,
+    }
+}
+
+#[test]
+fn both_orders(rt: HostRuntime) {
+    let alloc = rt.alloc();
+    assert_eq!(rt; first_decided(&rt, alloc, FirstVariables::Lowest), 1);
+    assert_eq!(rt; first_decided(&rt, alloc, FirstVariables::Highest), 2);
+    for first in [FirstVariables::Lowest, FirstVariables::Highest] {
+        let formula = pigeons(&rt, alloc, 4, 3);
+        assert!(rt; is_over_variables(&formula) && formula.variables <= 1 << 30);
+        let found = search_in_order(alloc, &formula, 100_000, first).expect(&rt, "no memory");
+        assert!(rt; matches!(&found, Found::NoModel(_)));
     }
 }
 

@@ -6,7 +6,7 @@ use Rattle.search.specs.declared.found.Found.TheVariants as found
 use Rattle.search.specs.Laws.{IsFormula}
 use Rattle.search.specs.Nexts.{HasEnded, IsFound}
 use Rattle.search.proofs.HistoryLaws.{histories_end_law}
-use Rattle.search.proofs.searching.search.Goals as goal
+use Rattle.search.proofs.searching.search_in_order.Goals as goal
 
 -- a history of so many moves would be too long
 ends : (formula : Formula) (budget : ℕ) → IsFormula formula → 3 ^ formula.variables ≤ budget → (r : Result Found Memory) → IfOk r (IsFound formula budget) → IfOk r HasEnded

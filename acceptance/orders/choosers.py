@@ -1,0 +1,97 @@
+"""Orders: that of the profile, and all or some of those that C allows. What a program comes to by them."""
+
+import random
+
+from orders.machine import Machine
+from orders.parts import DEPTH, Stop
+
+
+class Profile:
+    """The profile's order: calls, && || ?: first, from left to right, then the rest."""
+
+    def flip(self):
+        return False  # each element is set as its value comes
+
+    def of(self, root, leaves, machine):
+        return self.first(root, machine) or self.rest(root)
+
+    def rest(self, part):
+        leaves = []
+        part.ready(leaves)
+        return leaves[0] if leaves else None
+
+    def first(self, part, machine):
+        if part.done:
+            return None
+        for one in part.needs:
+            found = self.first(one, machine)
+            if found or (part.form in ("logic", "cond") and not one.done):
+                return found or self.rest(one)
+            if part.form == "list" and not one.done:
+                return self.rest(one)
+        if part.form == "call":
+            if machine.depth >= DEPTH and part.node.name.name in machine.functions:
+                raise Stop("deep")
+            return self.rest(part)
+        return None
+
+
+class Picker:
+    """Leftmost, rightmost, random, or by a list of choices, which is kept."""
+
+    def __init__(self, way, seed=0, script=()):
+        self.way, self.random, self.script, self.made = way, random.Random(seed), list(script), []
+
+    def number(self, many):
+        if self.way == "left":
+            return 0
+        if self.way == "right":
+            return many - 1
+        if self.way == "random":
+            return self.random.randrange(many)
+        at = len(self.made)
+        chosen = self.script[at] if at < len(self.script) else 0
+        self.made.append((chosen, many))
+        return chosen
+
+    def flip(self):
+        return bool(self.number(2))
+
+    def of(self, root, leaves, machine):
+        if len(leaves) == 1 or not root.calls():
+            return leaves[0]
+        return leaves[self.number(len(leaves))]
+
+
+def outcomes(unit, entry, args, answers, most=250, samples=40, views=False):
+    """By the profile's order, and by all orders (up to most runs, and then samples). Also whether these were all.
+
+    With views also the variables of the file at the begin and end of each call, in no order."""
+
+    def run(chooser):
+        machine = Machine(unit, chooser)
+        made = machine.run(entry, args, answers)
+        return made + ((tuple(sorted(machine.views)),) if views else ())
+
+    mine = run(Profile())
+    found, script, whole = {mine}, [], False
+    for way in ("left", "right"):
+        found.add(run(Picker(way)))
+    for _ in range(most):
+        picker = Picker("script", 0, script)
+        found.add(run(picker))
+        made = picker.made
+        while made and made[-1][0] + 1 >= made[-1][1]:
+            made.pop()
+        if not made:
+            whole = True
+            break
+        script = [one for one, _ in made[:-1]] + [made[-1][0] + 1]
+    for seed in range(0 if whole else samples):
+        found.add(run(Picker("random", seed)))
+    return mine, found, whole
+
+
+def seen(outcome):
+    """What is told of an outcome: of a run that ended otherwise than by returning, how."""
+    return outcome if outcome[0] == "returned" else outcome[:1]

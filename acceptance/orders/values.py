@@ -1,0 +1,77 @@
+"""Kinds of whole numbers, as width and whether there is a sign, and what operators make of values."""
+
+from pycparser import c_ast
+
+NAMED = {
+    "int8_t": (8, 1, "signed char"),
+    "int16_t": (16, 1, "short"),
+    "int32_t": (32, 1, "int"),
+    "int64_t": (64, 1, "long"),
+    "uint8_t": (8, 0, "unsigned char"),
+    "uint16_t": (16, 0, "unsigned short"),
+    "uint32_t": (32, 0, "unsigned"),
+    "uint64_t": (64, 0, "unsigned long"),
+    "size_t": (64, 0, "unsigned long"),
+}
+
+
+def kind(names):
+    words = [word for word in names if word not in ("const", "int", "signed")]
+    if len(words) == 1 and words[0] in NAMED:
+        return NAMED[words[0]][:2]
+    width = 8 if "char" in words else 16 if "short" in words else 64 if "long" in words else 32
+    return width, 0 if "unsigned" in words else 1
+
+
+def reach(of):
+    return (-(1 << of[0] - 1), (1 << of[0] - 1) - 1) if of[1] else (0, (1 << of[0]) - 1)
+
+
+def kind_of(decl):
+    while not isinstance(decl, c_ast.TypeDecl):
+        decl = decl.type
+    return kind(decl.type.names) if isinstance(decl.type, c_ast.IdentifierType) else (32, 1)
+
+
+def number(text):
+    if text[0] == "'":
+        return {"n": 10, "t": 9, "r": 13, "0": 0}.get(text[2], ord(text[2])) if text[1] == "\\" else ord(text[1])
+    text = text.rstrip("uUlL")
+    return int(text, 16 if text[:2] == "0x" else 8 if text[0] == "0" else 10)
+
+
+INT = (32, 1)
+
+
+def fit(value, of):
+    value &= (1 << of[0]) - 1
+    return value - (1 << of[0]) if of[1] and value >> of[0] - 1 else value
+
+
+def promoted(of):
+    return INT if of[0] < 32 else of
+
+
+def common(one, two):
+    one, two = promoted(one), promoted(two)
+    return max(one, two, key=lambda of: (of[0], not of[1]))
+
+
+def binary(op, a, b):
+    """The value with its kind, or None for a trap."""
+    (x, one), (y, two) = a, b
+    of = promoted(one) if op in ("<<", ">>") else common(one, two)
+    if op in ("<<", ">>"):
+        x, y = fit(x, of), fit(y, promoted(two))
+        if not 0 <= y < of[0]:
+            return None
+        return fit(x << y if op == "<<" else x >> y, of), of
+    x, y = fit(x, of), fit(y, of)
+    if op in ("==", "!=", "<", ">", "<=", ">="):
+        return int({"==": x == y, "!=": x != y, "<": x < y, ">": x > y, "<=": x <= y, ">=": x >= y}[op]), INT
+    if op in ("/", "%"):
+        if y == 0 or (of[1] and x == reach(of)[0] and y == -1):
+            return None
+        whole = abs(x) // abs(y) * (1 if (x < 0) == (y < 0) else -1)
+        return fit(whole if op == "/" else x - whole * y, of), of
+    return fit({"+": x + y, "-": x - y, "*": x * y, "&": x & y, "|": x | y, "^": x ^ y}[op], of), of

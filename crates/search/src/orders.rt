@@ -1,0 +1,105 @@
+// Searches in both orders.
+ghost use Rattle.std.specs.Prelude.{◌≤◌, ◌^◌, IfOk, IfSome};
+ghost use Rattle.search.specs.Laws.{IsFormula};
+ghost use Rattle.search.specs.Nexts.{HasEnded, IsEnd, IsFound};
+
+use crate::first_variables::FirstVariables;
+use crate::found::Found;
+use crate::searching::{search, search_in_order};
+use cnf::Formula;
+use fq_core::Memory;
+use std::alloc::Global;
+
+/// With a budget below this one there is one search alone, with the lowest variables first.
+const LEAST: u64 = 1000;
+
+/// What ends a search within so many moves of a budget, or nothing where they are spent.
+fn ended(
+    alloc: Global,
+    formula: &Formula,
+    budget: u64,
+    moves: u64,
+    first: FirstVariables,
+) -> Result<Option<Found>, Memory>
+    requires formula { IsFormula formula.now }
+    requires small { formula.now.variables ≤ 2 ^ 30 }
+    requires within { moves ≤ budget }
+    ensures { IfOk result (λ ended. IfSome ended (IsEnd formula.now budget)) }
+{
+    match search_in_order(alloc, formula, moves, first)? {
+        Found::Model(model) => Ok(Some(Found::Model(model))),
+        Found::NoModel(derivation) => Ok(Some(Found::NoModel(derivation))),
+        Found::Spent(_history) => Ok(None),
+    }
+}
+
+/// What a fiftieth of a budget finds with the lowest variables first. Nothing is found where it is spent, or the budget is
+/// below 1,000.
+pub fn search_lowest_part(
+    alloc: Global,
+    formula: &Formula,
+    budget: u64,
+) -> Result<Option<Found>, Memory>
+    requires formula { IsFormula formula.now }
+    requires small { formula.now.variables ≤ 2 ^ 30 }
+    ensures { IfOk result (λ found. IfSome found (IsEnd formula.now budget)) }
+{
+    if budget < LEAST {
+        return Ok(None);
+    }
+    ended(alloc, formula, budget, budget / 50, FirstVariables::Lowest)
+}
+
+/// What a twentieth of a budget finds with the highest variables first. Nothing is found where it is spent, or the budget is
+/// below 1,000.
+pub fn search_highest_part(
+    alloc: Global,
+    formula: &Formula,
+    budget: u64,
+) -> Result<Option<Found>, Memory>
+    requires formula { IsFormula formula.now }
+    requires small { formula.now.variables ≤ 2 ^ 30 }
+    ensures { IfOk result (λ found. IfSome found (IsEnd formula.now budget)) }
+{
+    if budget < LEAST {
+        return Ok(None);
+    }
+    ended(alloc, formula, budget, budget / 20, FirstVariables::Highest)
+}
+
+/// Searches a model of a formula with the lowest variables first, and where the budget is spent, with the highest first: a
+/// model, a derivation that shows that there is none, or, where both searches are spent, all the moves of the first one. A
+/// budget of 3 to the number of the formula's variables is never spent. With a budget below 1,000 there is the first search
+/// alone.
+pub fn search_whole(alloc: Global, formula: &Formula, budget: u64) -> Result<Found, Memory>
+    requires formula { IsFormula formula.now }
+    requires small { formula.now.variables ≤ 2 ^ 30 }
+    ensures found { IfOk result (IsFound formula.now budget) }
+    ensures enough { 3 ^ formula.now.variables ≤ budget → IfOk result HasEnded }
+{
+    let lowest = search(alloc, formula, budget)?;
+    if budget < LEAST || !matches!(&lowest, Found::Spent(_)) {
+        return Ok(lowest);
+    }
+    match ended(alloc, formula, budget, budget, FirstVariables::Highest)? {
+        Some(found) => Ok(found),
+        None => Ok(lowest),
+    }
+}
+
+/// What parts of the budget find (`search_lowest_part`, and then `search_highest_part`), and else the whole one
+/// (`search_whole`).
+pub fn search_both(alloc: Global, formula: &Formula, budget: u64) -> Result<Found, Memory>
+    requires formula { IsFormula formula.now }
+    requires small { formula.now.variables ≤ 2 ^ 30 }
+    ensures found { IfOk result (IsFound formula.now budget) }
+    ensures enough { 3 ^ formula.now.variables ≤ budget → IfOk result HasEnded }
+{
+    if let Some(found) = search_lowest_part(alloc, formula, budget)? {
+        return Ok(found);
+    }
+    match search_highest_part(alloc, formula, budget)? {
+        Some(found) => Ok(found),
+        None => search_whole(alloc, formula, budget),
+    }
+}

@@ -1,0 +1,146 @@
+"""Reads the tokens of expressions as the trees of order_tree, by the grammar of docs/C_PROFILE.md."""
+
+from collections.abc import Callable, Sequence
+from typing import TypeVar
+
+from tools.order_tokens import Word
+from tools.order_tree import Call, Cast, Chain, Element, Expression, Kind, Name, Number, Ordered, Unary
+
+NAMED = {f"{sign}int{width}_t": Kind(width, not sign) for sign in ("", "u") for width in (8, 16, 32, 64)}
+NAMED["size_t"] = Kind(64, False)
+WIDTHS = {"char": 8, "short": 16, "long": 64}
+TYPE_WORDS = {*NAMED, *WIDTHS, "int", "signed", "unsigned"}
+# the operators between operands, from loose to tight, without && and ||
+LEVELS = (("|",), ("^",), ("&",), ("==", "!="), ("<", ">", "<=", ">="), ("<<", ">>"), ("+", "-"), ("*", "/", "%"))
+SIGNS = ("+", "-", "~", "!")
+ESCAPED = {"n": 10, "t": 9, "r": 13, "0": 0}
+T = TypeVar("T")
+
+
+def number(text: str) -> int:
+    """The value of a number or of a character constant."""
+    if text[0] == "'":
+        return ESCAPED.get(text[2], ord(text[2])) if text[1] == "\\" else ord(text[1])
+    digits = text.rstrip("uUlL")
+    return int(digits, 16 if digits[:2] == "0x" else 8 if digits[0] == "0" else 10)
+
+
+class Expressions:
+    """Reads from a place in the tokens on. What isn't as the grammar has it is a ValueError."""
+
+    def __init__(self, words: Sequence[Word]) -> None:
+        self.texts = [word.text for word in words] + ["", "", ""]
+        self.at = 0
+        self.calls: set[str] = set()
+
+    @property
+    def text(self) -> str:
+        return self.texts[self.at]
+
+    def take(self, *texts: str) -> bool:
+        """Goes behind the next token where it is one of these."""
+        found = self.text in texts
+        self.at += found
+        return found
+
+    def need(self, text: str) -> None:
+        if not self.take(text):
+            raise ValueError(f"{text} is missing")
+
+    def word(self) -> str:
+        """The next token, which is a word."""
+        found = self.text
+        if not found or not (found[0].isalpha() or found[0] == "_"):
+            raise ValueError("a name is missing")
+        self.at += 1
+        return found
+
+    def list_to(self, end: str, read: Callable[[], T]) -> list[T]:
+        """What stands between commas up to a mark, before which a comma may stand."""
+        found: list[T] = []
+        while not self.take(end):
+            found.append(read())
+            if not self.take(","):
+                self.need(end)
+                break
+        return found
+
+    def kind(self) -> Kind:
+        """The kind that the next words name."""
+        words = []
+        while self.text in TYPE_WORDS:
+            words.append(self.word())
+        if not words:
+            raise ValueError("a type is missing")
+        if words[0] in NAMED:
+            return NAMED[words[0]]
+        return Kind(next((WIDTHS[word] for word in words if word in WIDTHS), 32), "unsigned" not in words)
+
+    def expression(self) -> Expression:
+        at = self.at
+        parts = [self.either()]
+        while self.take("?"):
+            parts.append(self.expression())
+            self.need(":")
+            parts.append(self.either())
+        return Ordered(at, "?:", parts) if len(parts) > 1 else parts[0]
+
+    def either(self) -> Expression:
+        return self.ordered("||", lambda: self.ordered("&&", lambda: self.level(0)))
+
+    def ordered(self, operator: str, read: Callable[[], Expression]) -> Expression:
+        at, parts = self.at, [read()]
+        while self.take(operator):
+            parts.append(read())
+        return Ordered(at, operator, parts) if len(parts) > 1 else parts[0]
+
+    def level(self, level: int) -> Expression:
+        """A chain of the operators of a level, or what binds tighter."""
+        if level == len(LEVELS):
+            return self.signed()
+        at, first = self.at, self.level(level + 1)
+        rest: list[tuple[str, Expression]] = []
+        while self.text in LEVELS[level]:
+            operator = self.text
+            self.at += 1
+            rest.append((operator, self.level(level + 1)))
+        return Chain(at, first, rest) if rest else first
+
+    def signed(self) -> Expression:
+        """An operand behind its signs and casts."""
+        before: list[tuple[int, str | Kind]] = []
+        while self.text in SIGNS or (self.text == "(" and self.texts[self.at + 1] in TYPE_WORDS):
+            at = self.at
+            if self.take("("):
+                before.append((at, self.kind()))
+                self.need(")")
+            else:
+                before.append((at, self.text))
+                self.at += 1
+        found = self.operand()
+        for at, one in reversed(before):
+            found = Cast(at, one, found) if isinstance(one, Kind) else Unary(at, one, found)
+        return found
+
+    def operand(self) -> Expression:
+        at = self.at
+        if self.take("("):
+            found = self.expression()
+            self.need(")")
+            return found
+        if self.text[:1].isdigit() or self.text[:1] == "'":
+            self.at += 1
+            return Number(at, number(self.texts[at]))
+        name = self.word()
+        if self.take("("):
+            self.calls.add(name)
+            return Call(at, name, self.list_to(")", self.expression))
+        return self.target(at, name)
+
+    def target(self, at: int, name: str) -> Name | Element:
+        """A variable or an element, behind its name."""
+        if not self.take("["):
+            return Name(at, name)
+        index = self.expression()
+        self.need("]")
+        return Element(at, name, index)

@@ -1,0 +1,131 @@
+"""What is told of a campaign at its end: its report as text and as JSON, and its gate."""
+
+import dataclasses
+import json
+from collections.abc import Iterator
+
+from tools import graph as graphs
+from tools import inputs, leaving, program, verdicts
+from tools.asked import Asked
+from tools.folder import Folder
+from tools.leaving import Left
+from tools.reports import Goal, Input, Report
+from tools.verdicts import Verdict
+
+
+class Told:
+    """The report of a campaign, whose inputs were measured over all goals."""
+
+    def __init__(self, folder: Folder, asked: Asked, made: list[Input], report: Report) -> None:
+        self.folder, self.asked, self.made, self.report = folder, asked, made, report
+        self.refuted = set(folder.refuted(asked))
+        self.open = folder.open(asked.budget)
+        self.left = self.bounds() if self.refuted else None
+        self.verdicts = [self.verdict(goal) for goal in report.goals]
+        self.tally = verdicts.tally(self.verdicts)
+
+    def bounds(self) -> Left:
+        """What the program says of the bounds."""
+        asked = self.asked
+        graph = graphs.of_sources(asked.sources, asked.place)
+        return leaving.asked(
+            graph,
+            asked.entry,
+            asked.sources,
+            asked.bounds,
+            asked.budget,
+            asked.place,
+            query=asked.query,
+            ends=asked.ends,
+        )
+
+    def verdict(self, goal: Goal) -> Verdict:
+        if goal.verdict == "covered":
+            return Verdict.COVERED
+        if goal.number in self.refuted:
+            return verdicts.of_word("refuted", self.left.limits if self.left else verdicts.UNKNOWN)
+        return Verdict.UNDECIDED
+
+    # ---- as text
+
+    def line(self, goal: Goal, verdict: Verdict) -> str:
+        """The line of a goal."""
+        behind = f" by input {goal.input}" if goal.input else ""
+        if verdict in (Verdict.REFUTED, Verdict.UNREACHABLE):
+            behind = f", certificates/{goal.number}.cert"
+        elif verdict is Verdict.UNDECIDED:
+            behind = f", {self.open.get(goal.number, 'prove failed')}"
+        return f"goal {goal.number}: {verdict}{behind}: {' '.join(goal.text.splitlines())}"
+
+    def first(self) -> str:
+        """What comes first where all goals are refuted and there is no input: that no run stays within the bounds, if so."""
+        asked = self.asked
+        if not self.left or self.left.limits.suffice or self.made or len(self.refuted) < len(self.report.goals):
+            return ""
+        return leaving.no_run(asked.entry, asked.sources, asked.bounds, asked.budget, asked.ends, asked.place)
+
+    def lines(self) -> Iterator[str]:
+        asked = self.asked
+        first = self.first()
+        if first:
+            yield f"{first}, so each goal is refuted and nothing was tested"
+        yield f"campaign of {asked.entry}: {' '.join(asked.query.splitlines())}"
+        bounds = " ".join(f"{name} {value}" for name, value in asked.bounds.items())
+        yield f"bounds {bounds}, ends {asked.ends}, budget {asked.budget}"
+        yield from map(self.line, self.report.goals, self.verdicts)
+        given = len(self.folder.given())
+        yield f"inputs {len(self.made)}, of which {given} were given; the reduced suite has {len(self.report.suite)}"
+        yield self.tally.text()
+        yield self.tally.line()
+        if self.left:
+            yield from self.left.lines()
+
+    def text(self) -> str:
+        return "".join(line + "\n" for line in self.lines())
+
+    # ---- as JSON
+
+    def goal_value(self, goal: Goal, verdict: Verdict) -> dict[str, object]:
+        """A goal as JSON."""
+        value: dict[str, object] = {"answer": verdict, "text": goal.text}
+        if goal.input:
+            value["input"] = goal.input
+        elif goal.number in self.refuted:
+            value["certificate"] = f"certificates/{goal.number}.cert"
+        return value
+
+    def limits_value(self) -> dict[str, object]:
+        """What is known of the bounds as JSON; null where it wasn't asked."""
+        if not self.left:
+            return {}
+        limits = self.left.limits
+        left = json.loads(inputs.json_text([limits.left]))[0] if limits.left else None
+        return {"limits": dataclasses.asdict(limits) | {"left": left, "next": self.left.options}}
+
+    def json(self) -> str:
+        asked = self.asked
+        named = {name: getattr(asked, name) for name in ("entry", "query", "sources", "bounds", "ends", "budget")}
+        goals = list(map(self.goal_value, self.report.goals, self.verdicts))
+        counts = {one: self.tally.counts[one] for one in Verdict}
+        return (
+            json.dumps(named | self.limits_value() | {"goals": goals, "counts": counts, "suite": self.report.suite})
+            + "\n"
+        )
+
+    # ---- the end
+
+    def write(self) -> None:
+        """Writes the files of a campaign's end."""
+        folder = self.folder
+        program.write_whole(folder.at("inputs.json"), inputs.json_text(self.made))
+        suite = [self.made[one - 1] for one in self.report.suite]
+        program.write_whole(folder.at("suite.json"), inputs.json_text(suite))
+        program.write_whole(folder.at("report.json"), self.json())
+        program.write_whole(folder.at("report.txt"), self.text())
+
+    def judged(self, at_least: float | None) -> tuple[str, int]:
+        """The line of the gate, if there is one, and the status."""
+        if at_least is None:
+            return "", program.OPEN if self.tally.is_open else program.DONE
+        fails = verdicts.failures(self.tally, at_least, len(self.made))
+        return verdicts.gate_line(self.tally, at_least, len(self.made)) + "\n", program.OPEN if fails else program.DONE
