@@ -67,7 +67,7 @@ def end_line(faces: Faces, run: Run, entry: str) -> str:
         return node_line(faces, faces.graph.nodes[last])
     edge = leaving[0]
     test = f"{faces.condition(edge)}, in " if edge.is_guard else ""
-    return f"{edge.place} {faces.graph.owner(edge)}: {test}{faces.statement(edge)}"
+    return f"{faces.place(edge)} {faces.graph.owner(edge)}: {test}{faces.statement(edge)}"
 
 
 class Explained:

@@ -1,7 +1,7 @@
 """bin/page: shows reports as one HTML file: the sources with a mark at each goal, and what each goal is.
 
-A REPORT is a report of `measure` or `generate` (text or JSON), or the folder of a campaign, which has all that is needed. For a
-report the sources are named by --source; with --entry the page also has the paths of its inputs (--inputs for a report of
+A REPORT is a report of `measure` or `generate` (text or JSON), one of `mcdc` as JSON, of which each condition is a goal, or the
+folder of a campaign; the last two have all that is needed. For a report the sources are named by --source; with --entry the page also has the paths of its inputs (--inputs for a report of
 `measure`), and says whether a refuted goal is unreachable, by `bounds`; with --query it has the commands that write and check the
 certificate of a refuted goal.
 """
@@ -37,11 +37,12 @@ COLOURS = {
 }
 
 
-def first_place(letters: list[Letter]) -> tuple[str, int, int] | None:
+def first_place(faces: Faces, letters: list[Letter]) -> tuple[str, int, int] | None:
     """The place of the first letter that has one; a node has no column."""
     for letter in letters:
         if letter.edge:
-            return letter.edge.file, letter.edge.line, letter.edge.column
+            edge = faces.shown(letter.edge)
+            return edge.file, edge.line, edge.column
         if letter.node:
             return letter.node.file, letter.node.line, 0
     return None
@@ -74,7 +75,7 @@ class Page:
             letters = graphs.letters(self.graph, goal.text)
         except (ValueError, IndexError):
             raise Failure(f"{one.name}: goal {goal.number} isn't one of these sources: {goal.text[:80]}") from None
-        place = first_place(letters)
+        place = first_place(self.faces, letters)
         if place:
             self.places.setdefault(place, []).append(len(self.goals))
         owners = [owner for letter in letters if (owner := self.owner(letter))]
@@ -111,7 +112,7 @@ class Page:
         value = {
             "goals": self.goals,
             "letters": self.letters,
-            "lines": [f"{names[edge.file]}:{edge.line}" for edge in self.graph.edges],
+            "lines": [f"{names[edge.file]}:{self.faces.shown(edge).line}" for edge in self.graph.edges],
             "reports": [one.name for one in self.reports],
             "inputs": [[given.told() for given in one.given] for one in self.reports],
             "paths": taken,
@@ -212,7 +213,7 @@ def main() -> int:
         raise Failure("the reports are of different sources")
     graph = graphs.of_sources(sources, place)
     for one in reports:
-        if not one.folder:
+        if not one.verdicts:
             one.judge(graph)
     page = Page(reports, graph, Faces(graph, sources, place))
     program.write_whole(given.out, page_text(page))

@@ -6,7 +6,7 @@ import os
 import shlex
 from dataclasses import dataclass, field
 
-from tools import inputs, leaving, program, verdicts
+from tools import conditions_read, inputs, leaving, program, verdicts
 from tools.explain import report_of
 from tools.folder import STEPS, Folder
 from tools.graph import Graph
@@ -64,6 +64,11 @@ def shown(name: str, query: str, given: argparse.Namespace) -> Shown:
     """A report that is named, with what the words say of it."""
     if os.path.isdir(name):
         return of_campaign(name)
+    conditions = conditions_read.of_file(name)
+    if conditions:
+        sources = given.source or list(conditions.sources)
+        made = conditions.given
+        return Shown(name, conditions.report(), sources, conditions.entry, "", made, ".", "", conditions.verdicts)
     report = report_of(name)
     if report.command not in ("measure", "generate"):
         raise Failure(f"{name}: it is an answer of {report.command}; the page shows those of measure and generate")
