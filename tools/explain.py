@@ -33,9 +33,18 @@ def report_of(word: str) -> Report:
     """The report in a file or on standard input; one that isn't read is a failure."""
     try:
         text = (sys.stdin.buffer.read() if word == "-" else program.read(word)).decode()
+        if text.startswith("fshell traces 1"):
+            raise ValueError(of_traces(text))
         return report_of_json(json.loads(text)) if text.startswith("{") else report_of_text(text)
     except (ValueError, KeyError, TypeError, RecursionError) as fault:
-        raise Failure(f"{word}: it is no report: {str(fault)[:80]}") from None
+        raise Failure(f"{word}: it is no report: {str(fault)[:110]}") from None
+
+
+def of_traces(text: str) -> str:
+    """What is said of a trace file."""
+    if "\r\n" in text:
+        return "it is a trace file that came through another system: its lines end with carriage return and line feed"
+    return "it is a trace file; replay measures it"
 
 
 def letter_line(faces: Faces, letter: Letter) -> str:
