@@ -41,8 +41,8 @@ fn read_file<F: Files>(
     files: &mut F,
     file: &str,
 ) -> Result<(Formula, Derivation), Fault>
-    ensures given { IfOk result (λ pair. AreCertificateOf (reads F.holds F.last_failed F.faults F.received files.old files.new) file.now pair.0 pair.1) }
-    ensures refused { IfErr result (λ fault. IfRefused fault (IsRefused (reads F.holds F.last_failed F.faults F.received files.old files.new) file.now)) }
+    ensures given { IfOk result (λ pair. AreCertificateOf (reads F.Files files.old files.new) file.now pair.0 pair.1) }
+    ensures refused { IfErr result (λ fault. IfRefused fault (IsRefused (reads F.Files files.old files.new) file.now)) }
 {
     let bytes = read(alloc, files, file, MOST_CERTIFICATE_BYTES)?;
     read_certificate(alloc, &bytes)
@@ -150,7 +150,7 @@ pub fn check_graph<F: Files>(
     requires once { IsOnce graph.now }
     requires bounds { AreBounds request.now.bounds }
     requires some { 1 ≤ request.now.goal }
-    ensures { Tells (IsDueOfCheck (reads F.holds F.last_failed F.faults F.received files.old files.new) (checking request.now) graph.now) (checking request.now).sources result }
+    ensures { Tells (IsDueOfCheck (reads F.Files files.old files.new) (checking request.now) graph.now) (checking request.now).sources result }
 {
     let Some(entry) = entry_named(graph, request.entry.as_bytes()) else {
         return Err(Fault::Refused(nowhere(36)));

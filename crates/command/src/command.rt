@@ -38,10 +38,10 @@ pub fn run<F: Files, O: Sink, E: Sink, W: Watch>(
     err: &mut E,
     watch: &mut W,
 ) -> Status
-    ensures ends { Ends (IsDue (reads F.holds F.last_failed F.faults F.received files.old files.new) (texts words.now))
-        result (writes O.taken O.faults O.may_lack_memory out.old out.new) (writes E.taken E.faults E.may_lack_memory err.old err.new)
-        (watched W.seen watch.old watch.new) }
-    ensures certificate { Certifies (reads F.holds F.last_failed F.faults F.received files.old files.new) (texts words.now) result }
+    ensures ends { Ends (IsDue (reads F.Files files.old files.new) (texts words.now))
+        result (writes O.Sink out.old out.new) (writes E.Sink err.old err.new)
+        (watched W.Watch watch.old watch.new) }
+    ensures certificate { Certifies (reads F.Files files.old files.new) (texts words.now) result }
 {
     run_words(alloc, words, files, out, err, watch)
 }
@@ -55,9 +55,9 @@ fn run_words<F: Files, O: Sink, E: Sink, W: Watch>(
     err: &mut E,
     watch: &mut W,
 ) -> Status
-    ensures { Ends (IsDue (reads F.holds F.last_failed F.faults F.received files.old files.new) (texts words.now))
-        result (writes O.taken O.faults O.may_lack_memory out.old out.new) (writes E.taken E.faults E.may_lack_memory err.old err.new)
-        (watched W.seen watch.old watch.new) }
+    ensures { Ends (IsDue (reads F.Files files.old files.new) (texts words.now))
+        result (writes O.Sink out.old out.new) (writes E.Sink err.old err.new)
+        (watched W.Watch watch.old watch.new) }
 {
     match request(alloc, words) {
         Ok(request) => serve(alloc, &request, files, out, err, watch),
@@ -76,9 +76,9 @@ fn serve<F: Files, O: Sink, E: Sink, W: Watch>(
     watch: &mut W,
 ) -> Status
     requires { IsInRange (asked request.now) }
-    ensures { Ends (IsDueOf (reads F.holds F.last_failed F.faults F.received files.old files.new) (asked request.now))
-        result (writes O.taken O.faults O.may_lack_memory out.old out.new) (writes E.taken E.faults E.may_lack_memory err.old err.new)
-        (watched W.seen watch.old watch.new) }
+    ensures { Ends (IsDueOf (reads F.Files files.old files.new) (asked request.now))
+        result (writes O.Sink out.old out.new) (writes E.Sink err.old err.new)
+        (watched W.Watch watch.old watch.new) }
 {
     refused_by_these_codes();
     match answer(alloc, request, files, watch) {
@@ -111,7 +111,7 @@ fn sources_of<'a>(request: &'a Request<'a>) -> &'a [&'a str]
 
 // Writes what there is of an answer.
 fn write_reply<O: Sink, E: Sink>(reply: Reply, out: &mut O, err: &mut E) -> Status
-    ensures { WritesReply reply result (writes O.taken O.faults O.may_lack_memory out.old out.new) (writes E.taken E.faults E.may_lack_memory err.old err.new) }
+    ensures { WritesReply reply result (writes O.Sink out.old out.new) (writes E.Sink err.old err.new) }
 {
     match reply {
         Reply::Answer { text, left_open } => conclude(out, &text, left_open),
@@ -121,7 +121,7 @@ fn write_reply<O: Sink, E: Sink>(reply: Reply, out: &mut O, err: &mut E) -> Stat
 
 // Writes the text of an answer.
 fn conclude<O: Sink>(out: &mut O, text: &[u8], left_open: bool) -> Status
-    ensures { EndsWriting (status_with left_open) text.now result (writes O.taken O.faults O.may_lack_memory out.old out.new) }
+    ensures { EndsWriting (status_with left_open) text.now result (writes O.Sink out.old out.new) }
 {
     match write_all(out, text) {
         Ok(()) if left_open => Status::DoneOpen,
@@ -133,7 +133,7 @@ fn conclude<O: Sink>(out: &mut O, text: &[u8], left_open: bool) -> Status
 
 // Writes the line of a certificate whose formula isn't the goal's.
 fn reject<E: Sink>(err: &mut E, line: &[u8]) -> Status
-    ensures { EndsWriting Status.CertificateRejected line.now result (writes E.taken E.faults E.may_lack_memory err.old err.new) }
+    ensures { EndsWriting Status.CertificateRejected line.now result (writes E.Sink err.old err.new) }
 {
     match write_all(err, line) {
         Ok(()) => Status::CertificateRejected,
@@ -145,7 +145,7 @@ fn reject<E: Sink>(err: &mut E, line: &[u8]) -> Status
 // Writes the refusal's line.
 fn refuse<E: Sink>(alloc: Global, sources: &[&str], refusal: &Refusal, err: &mut E) -> Status
     requires { IsSome (status_of refusal.now.code) }
-    ensures { Refuses (texts_at sources.now) refusal.now result (writes E.taken E.faults E.may_lack_memory err.old err.new) }
+    ensures { Refuses (texts_at sources.now) refusal.now result (writes E.Sink err.old err.new) }
 {
     let Some(status) = refused_status(refusal.code) else {
         unreachable!()

@@ -62,10 +62,10 @@ fn measure_graph<F: Files>(
     graph: &Graph,
     files: &mut F,
 ) -> Result<Vec<u8>, Fault>
-    ensures ok { IfOk result (λ text. IsDueOfMeasure (reads F.holds F.last_failed F.faults F.received files.old files.new)
+    ensures ok { IfOk result (λ text. IsDueOfMeasure (reads F.Files files.old files.new)
         (measuring request.now) graph.now (answered text.items)) }
     ensures err { IfErr result (λ fault. IfRefused fault (λ refusal.
-        IsDueOfMeasure (reads F.holds F.last_failed F.faults F.received files.old files.new)
+        IsDueOfMeasure (reads F.Files files.old files.new)
         (measuring request.now) graph.now (said_by (measuring request.now).sources refusal))) }
 {
     let Some(entry) = entry_named(graph, request.entry.as_bytes()) else {
@@ -87,9 +87,9 @@ fn measure_graph<F: Files>(
 }
 
 fn measure<F: Files>(alloc: Global, request: &Measure, files: &mut F) -> Result<Vec<u8>, Fault>
-    ensures ok { IfOk result (λ text. let r = reads F.holds F.last_failed F.faults F.received files.old files.new in
+    ensures ok { IfOk result (λ text. let r = reads F.Files files.old files.new in
         OfSources r (measuring request.now).sources (IsDueOfMeasure r (measuring request.now)) (answered text.items)) }
-    ensures err { IfErr result (λ fault. IfRefused fault (λ refusal. let r = reads F.holds F.last_failed F.faults F.received files.old files.new in
+    ensures err { IfErr result (λ fault. IfRefused fault (λ refusal. let r = reads F.Files files.old files.new in
         OfSources r (measuring request.now).sources (IsDueOfMeasure r (measuring request.now)) (said_by (measuring request.now).sources refusal))) }
 {
     let graph = automaton(alloc, files, &request.sources)?;
@@ -107,9 +107,9 @@ fn goals_of_graph(alloc: Global, request: &Goals, graph: &Graph) -> Result<Vec<u
 }
 
 fn goals<F: Files>(alloc: Global, request: &Goals, files: &mut F) -> Result<Vec<u8>, Fault>
-    ensures ok { IfOk result (λ text. OfSources (reads F.holds F.last_failed F.faults F.received files.old files.new)
+    ensures ok { IfOk result (λ text. OfSources (reads F.Files files.old files.new)
         (listing request.now).sources (IsDueOfGoals (listing request.now)) (answered text.items)) }
-    ensures err { IfErr result (λ fault. IfRefused fault (λ refusal. OfSources (reads F.holds F.last_failed F.faults F.received files.old files.new)
+    ensures err { IfErr result (λ fault. IfRefused fault (λ refusal. OfSources (reads F.Files files.old files.new)
         (listing request.now).sources (IsDueOfGoals (listing request.now)) (said_by (listing request.now).sources refusal))) }
 {
     let graph = automaton(alloc, files, &request.sources)?;
@@ -123,10 +123,10 @@ fn runs_of_graph<F: Files>(
     graph: &Graph,
     files: &mut F,
 ) -> Result<Vec<u8>, Fault>
-    ensures ok { IfOk result (λ text. IsDueOfRuns (reads F.holds F.last_failed F.faults F.received files.old files.new)
+    ensures ok { IfOk result (λ text. IsDueOfRuns (reads F.Files files.old files.new)
         (running request.now) graph.now (answered text.items)) }
     ensures err { IfErr result (λ fault. IfRefused fault (λ refusal.
-        IsDueOfRuns (reads F.holds F.last_failed F.faults F.received files.old files.new)
+        IsDueOfRuns (reads F.Files files.old files.new)
         (running request.now) graph.now (said_by (running request.now).sources refusal))) }
 {
     let Some(entry) = entry_named(graph, request.entry.as_bytes()) else {
@@ -137,9 +137,9 @@ fn runs_of_graph<F: Files>(
 }
 
 fn runs<F: Files>(alloc: Global, request: &Runs, files: &mut F) -> Result<Vec<u8>, Fault>
-    ensures ok { IfOk result (λ text. let r = reads F.holds F.last_failed F.faults F.received files.old files.new in
+    ensures ok { IfOk result (λ text. let r = reads F.Files files.old files.new in
         OfSources r (running request.now).sources (IsDueOfRuns r (running request.now)) (answered text.items)) }
-    ensures err { IfErr result (λ fault. IfRefused fault (λ refusal. let r = reads F.holds F.last_failed F.faults F.received files.old files.new in
+    ensures err { IfErr result (λ fault. IfRefused fault (λ refusal. let r = reads F.Files files.old files.new in
         OfSources r (running request.now).sources (IsDueOfRuns r (running request.now)) (said_by (running request.now).sources refusal))) }
 {
     let graph = automaton(alloc, files, &request.sources)?;
@@ -154,8 +154,8 @@ fn generate<F: Files, W: Watch>(
 ) -> Result<Reply, Fault>
     requires { AreBounds request.now.bounds }
     ensures { let m = generating request.now in
-        Gives (OfSources (reads F.holds F.last_failed F.faults F.received files.old files.new) m.sources (IsDueOfGenerate m))
-        m.sources (watched W.seen watch.old watch.new) result }
+        Gives (OfSources (reads F.Files files.old files.new) m.sources (IsDueOfGenerate m))
+        m.sources (watched W.Watch watch.old watch.new) result }
 {
     let graph = automaton(alloc, files, &request.sources)?;
     generate_graph(alloc, request, &graph, watch)
@@ -170,8 +170,8 @@ fn prove<F: Files, W: Watch>(
     requires bounds { AreBounds request.now.bounds }
     requires some { 1 ≤ request.now.goal }
     ensures { let m = proving request.now in
-        Gives (OfSources (reads F.holds F.last_failed F.faults F.received files.old files.new) m.sources (IsDueOfProve m))
-        m.sources (watched W.seen watch.old watch.new) result }
+        Gives (OfSources (reads F.Files files.old files.new) m.sources (IsDueOfProve m))
+        m.sources (watched W.Watch watch.old watch.new) result }
 {
     let graph = automaton(alloc, files, &request.sources)?;
     prove_graph(alloc, request, &graph, watch)
@@ -180,7 +180,7 @@ fn prove<F: Files, W: Watch>(
 fn check<F: Files>(alloc: Global, request: &Check, files: &mut F) -> Result<Reply, Fault>
     requires bounds { AreBounds request.now.bounds }
     requires some { 1 ≤ request.now.goal }
-    ensures { let m = checking request.now in let r = reads F.holds F.last_failed F.faults F.received files.old files.new in
+    ensures { let m = checking request.now in let r = reads F.Files files.old files.new in
         Tells (OfSources r m.sources (IsDueOfCheck r m)) m.sources result }
 {
     let graph = automaton(alloc, files, &request.sources)?;
@@ -195,8 +195,8 @@ fn bounds<F: Files, W: Watch>(
 ) -> Result<Reply, Fault>
     requires { AreBounds request.now.bounds }
     ensures { let m = sufficing request.now in
-        Gives (OfSources (reads F.holds F.last_failed F.faults F.received files.old files.new) m.sources (IsDueOfBounds m))
-        m.sources (watched W.seen watch.old watch.new) result }
+        Gives (OfSources (reads F.Files files.old files.new) m.sources (IsDueOfBounds m))
+        m.sources (watched W.Watch watch.old watch.new) result }
 {
     let graph = automaton(alloc, files, &request.sources)?;
     bounds_graph(alloc, request, &graph, watch)
@@ -211,8 +211,8 @@ fn least<F: Files, W: Watch>(
     requires bounds { AreBounds request.now.bounds }
     requires some { 1 ≤ request.now.goal }
     ensures { let m = proving request.now in
-        Gives (OfSources (reads F.holds F.last_failed F.faults F.received files.old files.new) m.sources (IsDueOfLeast m))
-        m.sources (watched W.seen watch.old watch.new) result }
+        Gives (OfSources (reads F.Files files.old files.new) m.sources (IsDueOfLeast m))
+        m.sources (watched W.Watch watch.old watch.new) result }
 {
     let graph = automaton(alloc, files, &request.sources)?;
     least_graph(alloc, request, &graph, watch)
@@ -225,10 +225,10 @@ fn traces_of_graph<F: Files>(
     graph: &Graph,
     files: &mut F,
 ) -> Result<Vec<u8>, Fault>
-    ensures ok { IfOk result (λ text. IsDueOfTraces (reads F.holds F.last_failed F.faults F.received files.old files.new)
+    ensures ok { IfOk result (λ text. IsDueOfTraces (reads F.Files files.old files.new)
         (tracing request.now) graph.now (answered text.items)) }
     ensures err { IfErr result (λ fault. IfRefused fault (λ refusal.
-        IsDueOfTraces (reads F.holds F.last_failed F.faults F.received files.old files.new)
+        IsDueOfTraces (reads F.Files files.old files.new)
         (tracing request.now) graph.now (said_by (tracing request.now).sources refusal))) }
 {
     let Some(entry) = entry_named(graph, request.entry.as_bytes()) else {
@@ -239,9 +239,9 @@ fn traces_of_graph<F: Files>(
 }
 
 fn traces<F: Files>(alloc: Global, request: &Traces, files: &mut F) -> Result<Vec<u8>, Fault>
-    ensures ok { IfOk result (λ text. let r = reads F.holds F.last_failed F.faults F.received files.old files.new in
+    ensures ok { IfOk result (λ text. let r = reads F.Files files.old files.new in
         OfSources r (tracing request.now).sources (IsDueOfTraces r (tracing request.now)) (answered text.items)) }
-    ensures err { IfErr result (λ fault. IfRefused fault (λ refusal. let r = reads F.holds F.last_failed F.faults F.received files.old files.new in
+    ensures err { IfErr result (λ fault. IfRefused fault (λ refusal. let r = reads F.Files files.old files.new in
         OfSources r (tracing request.now).sources (IsDueOfTraces r (tracing request.now)) (said_by (tracing request.now).sources refusal))) }
 {
     let graph = automaton(alloc, files, &request.sources)?;
@@ -249,9 +249,9 @@ fn traces<F: Files>(alloc: Global, request: &Traces, files: &mut F) -> Result<Ve
 }
 
 fn replay<F: Files>(alloc: Global, request: &Replay, files: &mut F) -> Result<Vec<u8>, Fault>
-    ensures ok { IfOk result (λ text. let r = reads F.holds F.last_failed F.faults F.received files.old files.new in
+    ensures ok { IfOk result (λ text. let r = reads F.Files files.old files.new in
         OfSources r (replaying request.now).sources (IsDueOfReplay r (replaying request.now)) (answered text.items)) }
-    ensures err { IfErr result (λ fault. IfRefused fault (λ refusal. let r = reads F.holds F.last_failed F.faults F.received files.old files.new in
+    ensures err { IfErr result (λ fault. IfRefused fault (λ refusal. let r = reads F.Files files.old files.new in
         OfSources r (replaying request.now).sources (IsDueOfReplay r (replaying request.now)) (said_by (replaying request.now).sources refusal))) }
 {
     let graph = automaton(alloc, files, &request.sources)?;
@@ -266,10 +266,10 @@ fn ends_on_trees<F: Files>(
     files: &mut F,
 ) -> Result<Vec<u8>, Fault>
     requires { FitUnit trees.now.typed }
-    ensures ok { IfOk result (λ text. IsDueOfTrees (reads F.holds F.last_failed F.faults F.received files.old files.new)
+    ensures ok { IfOk result (λ text. IsDueOfTrees (reads F.Files files.old files.new)
         (running request.now) trees.now.graph trees.now.typed (answered text.items)) }
     ensures err { IfErr result (λ fault. IfRefused fault (λ refusal.
-        IsDueOfTrees (reads F.holds F.last_failed F.faults F.received files.old files.new)
+        IsDueOfTrees (reads F.Files files.old files.new)
         (running request.now) trees.now.graph trees.now.typed (said_by (running request.now).sources refusal))) }
 {
     let Some(entry) = entry_named(&trees.graph, request.entry.as_bytes()) else {
@@ -281,9 +281,9 @@ fn ends_on_trees<F: Files>(
 }
 
 fn run_on_trees<F: Files>(alloc: Global, request: &Runs, files: &mut F) -> Result<Vec<u8>, Fault>
-    ensures ok { IfOk result (λ text. let r = reads F.holds F.last_failed F.faults F.received files.old files.new in
+    ensures ok { IfOk result (λ text. let r = reads F.Files files.old files.new in
         OfTrees r (running request.now).sources (IsDueOfTrees r (running request.now)) (answered text.items)) }
-    ensures err { IfErr result (λ fault. IfRefused fault (λ refusal. let r = reads F.holds F.last_failed F.faults F.received files.old files.new in
+    ensures err { IfErr result (λ fault. IfRefused fault (λ refusal. let r = reads F.Files files.old files.new in
         OfTrees r (running request.now).sources (IsDueOfTrees r (running request.now)) (said_by (running request.now).sources refusal))) }
 {
     let trees = read_trees(alloc, files, &request.sources)?;
@@ -292,9 +292,9 @@ fn run_on_trees<F: Files>(alloc: Global, request: &Runs, files: &mut F) -> Resul
 
 // The text of the sources' automaton.
 fn graph<F: Files>(alloc: Global, sources: &[&str], files: &mut F) -> Result<Vec<u8>, Fault>
-    ensures ok { IfOk result (λ text. OfSources (reads F.holds F.last_failed F.faults F.received files.old files.new)
+    ensures ok { IfOk result (λ text. OfSources (reads F.Files files.old files.new)
         (texts_at sources.now) IsDueOfGraph (answered text.items)) }
-    ensures err { IfErr result (λ fault. IfRefused fault (λ refusal. OfSources (reads F.holds F.last_failed F.faults F.received files.old files.new)
+    ensures err { IfErr result (λ fault. IfRefused fault (λ refusal. OfSources (reads F.Files files.old files.new)
         (texts_at sources.now) IsDueOfGraph (said_by (texts_at sources.now) refusal))) }
 {
     let graph = automaton(alloc, files, sources)?;
@@ -323,8 +323,8 @@ pub fn answer<F: Files, W: Watch>(
     watch: &mut W,
 ) -> Result<Reply, Fault>
     requires { IsInRange (asked request.now) }
-    ensures { Gives (IsDueOf (reads F.holds F.last_failed F.faults F.received files.old files.new) (asked request.now))
-        (sources_of (asked request.now)) (watched W.seen watch.old watch.new) result }
+    ensures { Gives (IsDueOf (reads F.Files files.old files.new) (asked request.now))
+        (sources_of (asked request.now)) (watched W.Watch watch.old watch.new) result }
 {
     match request {
         Request::Measure(request) => plain(measure(alloc, request, files)),

@@ -34,7 +34,7 @@ fn said_of<W: Watch>(
 ) -> Result<Reply, Memory>
     requires { HasInputFor (parameter_kinds graph.now entry.now.number) suffice }
     ensures { IfOk result (λ reply. (shown : List Shown) × (said_in reply shown ≡ said_of_bounds graph.now (seen entry.now) bounds suffice)
-        × IsShown shown (watched W.seen watch.old watch.new)) }
+        × IsShown shown (watched W.Watch watch.old watch.new)) }
 {
     match suffice {
         Suffice::Yes {
@@ -78,7 +78,7 @@ fn asked<W: Watch>(
     requires startable { entry.now.function.now.arrays ≡ [] }
     requires bounds { AreBounds request.now.bounds }
     ensures { let m = sufficing request.now in
-        Gives (IsAskedOfBounds graph.now (seen entry.now) (within m.bounds) m.sources m.budget) m.sources (watched W.seen watch.old watch.new) result }
+        Gives (IsAskedOfBounds graph.now (seen entry.now) (within m.bounds) m.sources m.budget) m.sources (watched W.Watch watch.old watch.new) result }
 {
     let bounds = within(request.bounds);
     let suffice = bounds_suffice(alloc, graph, entry.number, bounds, request.budget as u64)?;
@@ -95,7 +95,7 @@ pub fn bounds_graph<W: Watch>(
 ) -> Result<Reply, Fault>
     requires once { IsOnce graph.now }
     requires bounds { AreBounds request.now.bounds }
-    ensures { Gives (IsDueOfBounds (sufficing request.now) graph.now) (sufficing request.now).sources (watched W.seen watch.old watch.new) result }
+    ensures { Gives (IsDueOfBounds (sufficing request.now) graph.now) (sufficing request.now).sources (watched W.Watch watch.old watch.new) result }
 {
     let Some(entry) = entry_named(graph, request.entry.as_bytes()) else {
         return Err(Fault::Refused(nowhere(36)));
