@@ -1,5 +1,7 @@
 """Certificates beside a checker of their own, which is written here from docs/CERTIFICATES.md.
 
+Those of bounds that suffice, which `prove-bounds` writes and `check-bounds` reads, are tried in the same way as those of goals.
+
 Each goal below is refuted within its bounds. What `prove` writes for it must be a certificate that the checker here accepts,
 and that `check` accepts for its goal; each line of its DRAT form, as bin/drat writes it, must follow by unit propagation. With
 the certificate of the goal before it `check` must answer 91, and of each changed certificate, one of some bytes being another
@@ -10,6 +12,7 @@ import os
 import re
 import subprocess
 import tempfile
+from typing import NamedTuple
 
 import programs
 
@@ -27,6 +30,33 @@ GOALS = [
     (TWICE, "cover @LINE(4)", "1", []),
     (COUNT, "cover {i == 2}.\"ID*\".{i == 1}", "1", ["--turns", "2"]),
 ]
+
+THREE = "int f(int x) {\n  int s = 0;\n  for (int i = 0; i < 3; i++) {\n    s = s + x;\n  }\n  return s;\n}\n"
+FEW = "int f(int n) {\n  assume(n < 5);\n  int i = 0;\n  while (i < n) {\n    i = i + 1;\n  }\n  return i;\n}\n"
+READS = "#include <stdint.h>\nint8_t in(void);\nint f(uint8_t x) {\n  int s = 0;\n  while (in() > 0 && s < 3) {\n    s = s + 1;\n  }\n  return s + x;\n}\n"
+
+# a source and bounds that suffice for it
+BOUNDS = [
+    (NEVER, []),
+    (FEW, ["--turns", "4"]),
+    (THREE, ["--turns", "3"]),
+    (READS, ["--turns", "3", "--answers", "4"]),
+]
+
+
+class Case(NamedTuple):
+    """What a certificate is asked of: the commands that write and check it, the words before it, and the source."""
+
+    name: str
+    prove: str
+    check: str
+    asked: list[str]
+    bounds: list[str]
+    source: str
+
+
+CASES = [Case(query, "prove", "check", ["f", query, goal], bounds, source) for source, query, goal, bounds in GOALS]
+CASES += [Case(f"bounds {' '.join(bounds)}", "prove-bounds", "check-bounds", ["f"], bounds, source) for source, bounds in BOUNDS]
 
 NUMBER = r"(?:0|[1-9][0-9]*)"
 
@@ -134,29 +164,33 @@ def failures():
             with open(os.path.join(folder, name), "w", encoding="ascii") as file:
                 file.write(text)
 
-        def checked(source, query, goal, bounds, text):
-            write("s.c", source)
-            write("goal.cert", text)
-            return run(program, folder, ["check", *bounds, "f", query, goal, "goal.cert", "s.c"])
+        def proved(case):
+            write("s.c", case.source)
+            return run(program, folder, [case.prove, *case.bounds, *case.asked, "s.c"])
 
-        for source, query, goal, bounds in GOALS:
-            write("s.c", source)
-            status, text, _ = run(program, folder, ["prove", *bounds, "f", query, goal, "s.c"])
+        def checked(case, text):
+            write("s.c", case.source)
+            write("some.cert", text)
+            return run(program, folder, [case.check, *case.bounds, *case.asked, "some.cert", "s.c"])
+
+        for case in CASES:
+            status, text, _ = proved(case)
             texts.append(text)
             count += 2
             if status != 0 or not is_right(text):
-                wrong.append(f"{query}: what prove wrote isn't right")
+                wrong.append(f"{case.name}: what {case.prove} wrote isn't right")
             if status == 0 and not is_drat(folder, text):
-                wrong.append(f"{query}: a line of the DRAT form doesn't follow")
-            if checked(source, query, goal, bounds, text)[0] != 0:
-                wrong.append(f"{query}: check rejects what prove wrote")
+                wrong.append(f"{case.name}: a line of the DRAT form doesn't follow")
+            if checked(case, text)[0] != 0:
+                wrong.append(f"{case.name}: {case.check} rejects what {case.prove} wrote")
             for changed in changes(text):
                 count += 1
-                if checked(source, query, goal, bounds, changed)[0] == 0 and not is_right(changed):
-                    wrong.append(f"{query}: check accepts a certificate that isn't right")
-        for place, (source, query, goal, bounds) in enumerate(GOALS):
+                if checked(case, changed)[0] == 0 and not is_right(changed):
+                    wrong.append(f"{case.name}: {case.check} accepts a certificate that isn't right")
+        # (the certificate of the case before it, which is of another formula: of another goal, or of a goal and of bounds)
+        for place, case in enumerate(CASES):
             count += 1
-            status, out, err = checked(source, query, goal, bounds, texts[place - 1])
+            status, out, err = checked(case, texts[place - 1])
             if status != 10 or out or not err.startswith("error 91 OtherFormula "):
-                wrong.append(f"{query}: {status} {out!r} {err!r} for the certificate of the goal before")
+                wrong.append(f"{case.name}: {status} {out!r} {err!r} for the certificate of the case before")
     return count, wrong

@@ -1,4 +1,4 @@
-"""The cases of the commands bounds, least, traces, replay and trees, in the form that cases.json has: a module for each command.
+"""The cases of the commands bounds, prove-bounds, check-bounds, least, traces, replay and trees, in the form that cases.json has: a module for each command.
 
 What they share stands here: small sources, and the cases that each command has, of its words, its sources and its streams.
 """

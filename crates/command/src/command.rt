@@ -3,7 +3,7 @@ ghost use Rattle.std.specs.Prelude.{◌≡◌, IsSome};
 ghost use Rattle.command_words.specs.Reading.{texts};
 ghost use Rattle.command_words.specs.Request.{asked, texts_at};
 ghost use Rattle.command.specs.Asked.{sources_of};
-ghost use Rattle.command.specs.Certified.{Certifies};
+ghost use Rattle.command.specs.Certified.{Certifies, CertifiesBounds};
 ghost use Rattle.command.specs.Due.{IsDue, IsDueOf};
 ghost use Rattle.command.specs.Ranges.{IsInRange};
 ghost use Rattle.command.specs.Refusal.{status_of};
@@ -29,7 +29,8 @@ static SAMPLE_SOURCES: [&str; 1] = ["sample.c"];
 /// Does what the words after the program's name ask for. The whole text is made before its first byte is written. The watch is
 /// shown each goal that stays undecided, with its formula and the history of its search.
 ///
-/// Where `check` is done, no input has a run within the bounds that hits the goal, whatever bytes the certificate has.
+/// Where `check` is done, no input has a run within the bounds that hits the goal, whatever bytes the certificate has. Where
+/// `check-bounds` is done, no input has a run that leaves the bounds.
 pub fn run<F: Files, O: Sink, E: Sink, W: Watch>(
     alloc: Global,
     words: &[String],
@@ -42,6 +43,7 @@ pub fn run<F: Files, O: Sink, E: Sink, W: Watch>(
         result (writes O.Sink out.old out.new) (writes E.Sink err.old err.new)
         (watched W.Watch watch.old watch.new) }
     ensures certificate { Certifies (reads F.Files files.old files.new) (texts words.now) result }
+    ensures bounds_certificate { CertifiesBounds (reads F.Files files.old files.new) (texts words.now) result }
 {
     run_words(alloc, words, files, out, err, watch)
 }
@@ -100,6 +102,8 @@ fn sources_of<'a>(request: &'a Request<'a>) -> &'a [&'a str]
         Request::Prove(request) => &request.sources,
         Request::Check(request) => &request.sources,
         Request::Bounds(request) => &request.sources,
+        Request::ProveBounds(request) => &request.sources,
+        Request::CheckBounds(request) => &request.sources,
         Request::Least(request) => &request.sources,
         Request::Traces(request) => &request.sources,
         Request::Replay(request) => &request.sources,
@@ -131,7 +135,7 @@ fn conclude<O: Sink>(out: &mut O, text: &[u8], left_open: bool) -> Status
     }
 }
 
-// Writes the line of a certificate whose formula isn't the goal's.
+// Writes the line of a certificate whose formula is another one than ours.
 fn reject<E: Sink>(err: &mut E, line: &[u8]) -> Status
     ensures { EndsWriting Status.CertificateRejected line.now result (writes E.Sink err.old err.new) }
 {

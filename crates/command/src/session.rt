@@ -1,8 +1,9 @@
 // From a request to the text that it asks for.
 ghost use Rattle.std.specs.Prelude.{◌≡◌, ◌≤◌, ◌<◌, Some, false, IfOk, IfErr, MatchResult, length};
-ghost use Rattle.command_words.specs.Request.{asked, checking, generating, listing, measuring, proving, replaying, running, sufficing, texts_at, tracing};
+ghost use Rattle.command_words.specs.Request.{asked, checking, checking_bounds, generating, listing, measuring, proving, replaying, running, sufficing, texts_at, tracing};
 ghost use Rattle.command.specs.Asked.{sources_of};
 ghost use Rattle.command.specs.Checking.{IsDueOfCheck};
+ghost use Rattle.command.specs.CheckingBounds.{IsDueOfCheckBounds};
 ghost use Rattle.command.specs.Due.{IsDueOf, IsDueOfGoals, IsDueOfGraph, IsDueOfMeasure, IsDueOfReplay, IsDueOfRuns, IsDueOfTraces, IsDueOfTrees};
 ghost use Rattle.command.specs.Generating.{IsDueOfGenerate};
 ghost use Rattle.command.specs.Lowering.{IsDueOfLeast};
@@ -19,6 +20,7 @@ ghost use Rattle.command.specs.Watched.{watched};
 ghost use Rattle.tree_meaning.specs.Running.{FitUnit};
 
 use crate::checking::check_graph;
+use crate::checking_bounds::check_bounds_graph;
 use crate::entry::{Entry, entry_named};
 use crate::generating::generate_graph;
 use crate::inputs::read_inputs;
@@ -33,11 +35,11 @@ use crate::replaying::replay_graph;
 use crate::reply::Reply;
 use crate::sampling::sample;
 use crate::sources::{Trees, automaton, read_trees};
-use crate::sufficing::bounds_graph;
+use crate::sufficing::{Form, bounds_graph};
 use crate::tracing::trace_inputs;
 use cfa::Graph;
 use command_words::{
-    Check, Generate, Goals, Measure, Prove, Replay, Request, Runs, Suffice, Traces,
+    Check, CheckBounds, Generate, Goals, Measure, Prove, Replay, Request, Runs, Suffice, Traces,
 };
 use fq_core::{Fault, Memory};
 use fq_io::Files;
@@ -189,17 +191,31 @@ fn check<F: Files>(alloc: Global, request: &Check, files: &mut F) -> Result<Repl
 
 fn bounds<F: Files, W: Watch>(
     alloc: Global,
+    form: Form,
     request: &Suffice,
     files: &mut F,
     watch: &mut W,
 ) -> Result<Reply, Fault>
     requires { AreBounds request.now.bounds }
     ensures { let m = sufficing request.now in
-        Gives (OfSources (reads F.Files files.old files.new) m.sources (IsDueOfBounds m))
+        Gives (OfSources (reads F.Files files.old files.new) m.sources (IsDueOfBounds form m))
         m.sources (watched W.Watch watch.old watch.new) result }
 {
     let graph = automaton(alloc, files, &request.sources)?;
-    bounds_graph(alloc, request, &graph, watch)
+    bounds_graph(alloc, form, request, &graph, watch)
+}
+
+fn check_bounds<F: Files>(
+    alloc: Global,
+    request: &CheckBounds,
+    files: &mut F,
+) -> Result<Reply, Fault>
+    requires { AreBounds request.now.bounds }
+    ensures { let m = checking_bounds request.now in let r = reads F.Files files.old files.new in
+        Tells (OfSources r m.sources (IsDueOfCheckBounds r m)) m.sources result }
+{
+    let graph = automaton(alloc, files, &request.sources)?;
+    check_bounds_graph(alloc, request, &graph, files)
 }
 
 fn least<F: Files, W: Watch>(
@@ -333,7 +349,9 @@ pub fn answer<F: Files, W: Watch>(
         Request::Runs(request) => plain(runs(alloc, request, files)),
         Request::Prove(request) => prove(alloc, request, files, watch),
         Request::Check(request) => check(alloc, request, files),
-        Request::Bounds(request) => bounds(alloc, request, files, watch),
+        Request::Bounds(request) => bounds(alloc, Form::Line, request, files, watch),
+        Request::ProveBounds(request) => bounds(alloc, Form::Certificate, request, files, watch),
+        Request::CheckBounds(request) => check_bounds(alloc, request, files),
         Request::Least(request) => least(alloc, request, files, watch),
         Request::Traces(request) => plain(traces(alloc, request, files)),
         Request::Replay(request) => plain(replay(alloc, request, files)),

@@ -46,6 +46,9 @@ returns-in-Trees g c =
 pub returns-in-Bounds : goal.returns-in-Bounds
 returns-in-Bounds g c = rw c.in-Bounds.is c.bounds.ensures
 
+pub returns-in-ProveBounds : goal.returns-in-ProveBounds
+returns-in-ProveBounds g c = rw c.in-ProveBounds.is c.bounds-in-ProveBounds.ensures
+
 pub returns-in-Least : goal.returns-in-Least
 returns-in-Least g c = rw c.in-Least.is c.least.ensures
 
@@ -68,3 +71,8 @@ pub returns-in-Check : goal.returns-in-Check
 returns-in-Check g c =
     gives_told (IsDueOf (reads g.F.Files c.args.files.now c.check.new.files) (asked c.args.request.now)) (sources_of (asked c.args.request.now))
     (watched g.W.Watch c.args.watch.now c.args.watch.now) c.check.result refl (rw c.in-Check.is c.check.ensures)
+
+pub returns-in-CheckBounds : goal.returns-in-CheckBounds
+returns-in-CheckBounds g c =
+    gives_told (IsDueOf (reads g.F.Files c.args.files.now c.check_bounds.new.files) (asked c.args.request.now)) (sources_of (asked c.args.request.now))
+    (watched g.W.Watch c.args.watch.now c.args.watch.now) c.check_bounds.result refl (rw c.in-CheckBounds.is c.check_bounds.ensures)
