@@ -57,7 +57,7 @@ fn searched(
 }
 
 /// The formula of the inputs that leave the bounds.
-fn leaving_formula(
+pub(crate) fn leaving_formula(
     alloc: Global,
     graph: &Graph,
     entry: u32,
