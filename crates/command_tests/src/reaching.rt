@@ -165,11 +165,7 @@ fn certificates_of_bounds(rt: HostRuntime) -> Result<(), Fail> {
             certificate.as_str(),
             (rejected, "", "error 91 OtherFormula "),
         ),
-        (
-            "3",
-            goal.as_str(),
-            (rejected, "", "error 91 OtherFormula "),
-        ),
+        ("3", goal.as_str(), (rejected, "", "error 91 OtherFormula ")),
         (
             "3",
             none.as_str(),

@@ -92,7 +92,10 @@ fn show(alloc: Global, request: &Request) -> Result<String, Fail> {
         }
         Request::ProveBounds(m) => {
             let bounds = show_bounds(alloc, m.bounds)?;
-            format!(in alloc; "prove-bounds {} {:?} {bounds} {}", m.entry, m.sources, m.budget)?
+            format!(in alloc;
+                "prove-bounds {} {:?} {bounds} {}",
+                m.entry, m.sources, m.budget
+            )?
         }
         Request::CheckBounds(m) => {
             let bounds = show_bounds(alloc, m.bounds)?;
@@ -247,10 +250,7 @@ static ASKED: [(&str, &str); 44] = [
         "prove-bounds --answers=0 f --budget 20000000 a.c b.c --turns 1000 --frames 64",
         "prove-bounds f [\"a.c\", \"b.c\"] 1000/64/0 20000000",
     ),
-    (
-        "check-bounds f c a.c",
-        "check-bounds f c [\"a.c\"] 4/8/16",
-    ),
+    ("check-bounds f c a.c", "check-bounds f c [\"a.c\"] 4/8/16"),
     (
         "check-bounds --turns 0 f c --frames=1 a.c -- --answers",
         "check-bounds f c [\"a.c\", \"--answers\"] 0/1/16",

@@ -123,11 +123,11 @@ module _ (after : Reads) (m : Checking) (budget : ℕ) (said : Said) (is : said.
 pub accepted_means_unreachable : ((texts : List SourceText) → front.HasOneOutcome texts) → UnhitIsUnreachable → AcceptedMeansUnreachable
 accepted_means_unreachable front_law unhit = record {
   by_certificates = λ before after m file said other same told checked done suffices sufficed.
-  let it = at_sources m said done before checked in
-  let within_bounds = bounds_at_sources (bounds_checked_of m file) other sufficed after suffices in
-  joined front_law unhit before after m same told it within_bounds.graph within_bounds.automaton within_bounds.entry within_bounds.entry_is within_bounds.none;
+      let it = at_sources m said done before checked in
+      let within_bounds = bounds_at_sources (bounds_checked_of m file) other sufficed after suffices in
+      joined front_law unhit before after m same told it within_bounds.graph within_bounds.automaton within_bounds.entry within_bounds.entry_is within_bounds.none;
   by_search = λ before after m budget said other same told checked done suffices sufficed.
-  let it = at_sources m said done before checked in
-  let within_bounds = stays after m budget other (ap (λ (s : Said). s.out) sufficed) suffices in
-  joined front_law unhit before after m same told it within_bounds.graph within_bounds.have within_bounds.entry within_bounds.named within_bounds.none;
+      let it = at_sources m said done before checked in
+      let within_bounds = stays after m budget other (ap (λ (s : Said). s.out) sufficed) suffices in
+      joined front_law unhit before after m same told it within_bounds.graph within_bounds.have within_bounds.entry within_bounds.named within_bounds.none;
 }
