@@ -105,7 +105,7 @@ def scanned(unit: Unit, text: str, refusals: Refusals) -> str:
                 stack.pop()
                 if file not in unit.files and not is_system(file):
                     unit.files.append(file)
-            file, line = marker.group(2), int(marker.group(1))
+            file, line = os.path.normpath(marker.group(2)), int(marker.group(1))
             made.append(f'# {line} "{file}"')
             continue
         if not is_system(file):
