@@ -16,6 +16,7 @@ import sys
 from tools import program
 from tools.project import criteria, gate, runner, settings
 from tools.project import init as initial
+from tools.project import report as reports
 from tools.project.results import Results
 from tools.project.tables import Faults
 from tools.project.tasks import Context
@@ -58,6 +59,8 @@ def words() -> argparse.Namespace:
             dest="work",
             help=f"the work folder ({NAME} beside the settings)",
         )
+        if name != "check":
+            one.add_argument("--since", metavar="FOLDER", help="tells the difference to the report in this folder")
         if name == "run":
             one.add_argument(
                 "--jobs",
@@ -145,7 +148,19 @@ def run(given: argparse.Namespace) -> int:
             file=sys.stderr,
         )
         results = Results(context, context.requirements)
+        print("\n".join(reports.write(results, given.since)), file=sys.stderr)
         return judged(results)
+
+
+def report(given: argparse.Namespace) -> int:
+    """Writes the report of what is done."""
+    work = work_of(given)
+    with work.lock():
+        context = context_of(given, work)
+        if told_left(context):
+            return program.OPEN
+        print("\n".join(reports.write(Results(context, context.requirements), given.since)))
+    return program.DONE
 
 
 def judged(results: Results) -> int:
@@ -167,7 +182,7 @@ def check(given: argparse.Namespace) -> int:
 def main() -> int:
     given = words()
     try:
-        return {"init": init, "run": run, "check": check}[given.command](given)
+        return {"init": init, "run": run, "report": report, "check": check}[given.command](given)
     except Faults as faults:
         for line in faults.lines:
             print(f"project: {line}", file=sys.stderr)

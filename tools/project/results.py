@@ -42,6 +42,10 @@ class Test:
     end: str = ""
     value: dict[str, Any] = field(default_factory=dict)
 
+    @property
+    def numbers(self) -> tuple[tuple[int, ...], tuple[int, ...]]:
+        return self.args, self.answers
+
 
 @dataclass
 class Goal:
@@ -214,6 +218,19 @@ class Results:
     # ---- functions
 
     @cached_property
+    def own_files(self) -> dict[str, str]:
+        """The module's own file, from the settings' folder, for each file of the unit: headers too, drivers and stubs not."""
+        module, unit = self.context.settings.module, self.context.unit
+        drivers = {os.path.normpath(name) for name in module.drivers}
+        return {
+            name: os.path.normpath(file) for name, file in unit.own.items() if os.path.normpath(file) not in drivers
+        }
+
+    def own(self, file: str) -> str:
+        """The user's own file for one of the unit."""
+        return os.path.normpath(self.context.unit.own.get(file, file))
+
+    @cached_property
     def files(self) -> dict[str, str]:
         """The file of each function."""
         return {one.name: self.graph.nodes[one.entry].file for one in self.graph.functions}
@@ -221,8 +238,7 @@ class Results:
     @cached_property
     def functions(self) -> list[str]:
         """The module's own functions, in the order of the sources: those of drivers and stubs aren't."""
-        drivers = {os.path.basename(name) for name in self.context.settings.module.drivers}
-        return [name for name, file in self.files.items() if os.path.basename(file) not in drivers]
+        return [name for name, file in self.files.items() if file in self.own_files]
 
     @cached_property
     def unreached(self) -> list[str]:

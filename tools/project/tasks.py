@@ -48,6 +48,10 @@ class Context:
         """The number of an entry's parameters."""
         return len(self.signatures[entry.function].parameters)
 
+    def given_key(self) -> list[str]:
+        """What is given of the inputs, with their ids and requirements."""
+        return [json.dumps([one.value() for one in self.given[entry.function]]) for entry in self.settings.entries]
+
     def slice(self, entry: Entry) -> str:
         """The sum of what the runs of an entry depend on."""
         return self.slices.sum(self.reached(entry))
