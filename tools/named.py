@@ -109,7 +109,7 @@ def _numbers(values: object, what: str) -> tuple[int, ...]:
         raise ValueError(f"{what}: {fault}") from None
 
 
-def _keys(value: dict[str, Any], taken: tuple[str, ...]) -> dict[str, Any]:
+def keys_of(value: dict[str, Any], taken: tuple[str, ...]) -> dict[str, Any]:
     """The id, the requirements and the own keys of an object."""
     name, needed = value.get("id", ""), value.get("requirements", [])
     if not isinstance(name, str):
@@ -127,7 +127,7 @@ def _keys(value: dict[str, Any], taken: tuple[str, ...]) -> dict[str, Any]:
 def plain(value: dict[str, Any]) -> Named:
     """The input of an object in the program's form."""
     args, answers = _numbers(value.get("args"), "args"), _numbers(value.get("answers", []), "answers")
-    return Named(args, answers, **_keys(value, ("args", "answers")))
+    return Named(args, answers, **keys_of(value, ("args", "answers")))
 
 
 def arguments(value: dict[str, Any], entry: Signature) -> tuple[int, ...]:

@@ -10,9 +10,9 @@ from tools import graph as graphs
 from tools import named
 from tools.decisions import Decision, Decisions
 from tools.explain import letter_line
+from tools.naming import Reader
 from tools.project import criteria
 from tools.project.carry import Ordinals
-from tools.project.given import Reader
 from tools.project.requirements import Requirement, task_name
 from tools.project.tasks import Campaign, Context, Task, tasks_of
 from tools.project.work import Place
@@ -332,7 +332,8 @@ class Results:
             tests = self.tests(entry.function)
             if not tests:
                 continue
-            reader = Reader(self.context.unit, self.graph, entry.function)
+            unit = self.context.unit
+            reader = Reader(unit.place, unit.sources, self.graph, entry.function)
             own = [named.Named(one.args, one.answers, one.id, one.requirements) for one in tests]
             asked, runs = reader.runs([one.numbers for one in own])
             for test, run, value in zip(tests, runs, reader.with_names(own, asked)):

@@ -6,13 +6,13 @@ import shutil
 import sys
 from collections.abc import Callable, Iterable
 
-from tools import program
+from tools import inputs, program
 from tools.graph import Graph
 from tools.named import Named, Signature
+from tools.naming import Reader
 from tools.program import Failure
 from tools.project import requirements
 from tools.project import unit as units
-from tools.project.given import Reader
 from tools.project.settings import Entry, Settings
 from tools.project.slices import Slices
 from tools.project.tables import Faults
@@ -23,7 +23,7 @@ from tools.project.work import Work
 
 def _given(settings: Settings, work: Work, unit: Unit, graph: Graph, entry: Entry) -> tuple[list[Named], Signature]:
     """The given inputs of an entry, which are kept in the program's form as long as nothing has changed."""
-    reader = Reader(unit, graph, entry.function)
+    reader = Reader(unit.place, unit.sources, graph, entry.function)
     place = work.task(entry.function, "given")
     sums = [(name, sum_of_file(settings.at(name))) for name in entry.inputs]
     key = sum_of_text(repr((unit.sum(), sums, entry.function)))
@@ -32,11 +32,20 @@ def _given(settings: Settings, work: Work, unit: Unit, graph: Graph, entry: Entr
             reader.of_values(place.value("inputs.json"), "inputs.json"),
             reader.signature,
         )
-    found = [one for name in entry.inputs for one in reader.of_file(settings.at(name), name)]
+    found = [one for name in entry.inputs for one in _of_file(reader, settings.at(name), name)]
     if entry.inputs:
         place.keep("inputs.json", [one.value() for one in found])
         place.finish(key)
     return found, reader.signature
+
+
+def _of_file(reader: Reader, path: str, shown: str) -> list[Named]:
+    """The inputs of a file in any form."""
+    text = program.read(path).decode(errors="surrogateescape")
+    if text.lstrip(" \t\r\n")[:1] == "[":
+        return reader.of_text(text, shown)
+    found = [Named(one.args, one.answers) for one in inputs.of_file(path)]
+    return reader.of_values([one.value() for one in found], shown)
 
 
 def context_of(settings: Settings, work: Work, jobs: int, logins: str | None) -> Context:

@@ -60,7 +60,9 @@ def sum_of_file(path: str) -> str:
 
 def _key(module: Module) -> str:
     """What a unit is made from, beside files."""
-    return sum_of_text(json.dumps(asdict(module)) + sum_of_file(program.program()))
+    adapt = os.path.join(program.ROOT, "tools", "adapt")
+    tools = [sum_of_file(os.path.join(adapt, name)) for name in sorted(os.listdir(adapt))]
+    return sum_of_text(json.dumps([asdict(module), sum_of_file(program.program()), tools]))
 
 
 def kept(settings: Settings, place: str) -> Unit | None:

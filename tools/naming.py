@@ -1,29 +1,28 @@
-"""The inputs of an entry that the module's files give, with their ids and requirements, and inputs as objects with names."""
+"""Reads the inputs of an entry from files, with the names of arguments and answers or without, and writes them with names."""
 
 import json
+import os
 from collections.abc import Sequence
 from typing import Any
 
-from tools import inputs, named, program
-from tools.folder import STEPS
+from tools import named, program
 from tools.graph import Graph
 from tools.named import Named, Signature
 from tools.program import Failure
-from tools.project.unit import Unit
 from tools.reports import Run
 from tools.sources import Source
 
 Numbers = tuple[tuple[int, ...], tuple[int, ...]]
+STEPS = "1000000"
 
 
 class Reader:
-    """Reads and writes the inputs of one entry of a unit."""
+    """Reads and writes the inputs of one entry. `place` is the folder in which the sources' names stand."""
 
-    def __init__(self, unit: Unit, graph: Graph, entry: str) -> None:
-        self.unit, self.graph, self.entry = unit, graph, entry
-        self.signature: Signature = named.signature(
-            (Source(name, program.read(unit.at(name))) for name in unit.sources), entry
-        )
+    def __init__(self, place: str, sources: Sequence[str], graph: Graph, entry: str) -> None:
+        self.place, self.names, self.graph, self.entry = place, list(sources), graph, entry
+        texts = (Source(name, program.read(os.path.join(place, name))) for name in sources)
+        self.signature: Signature = named.signature(texts, entry)
 
     def asks(self, given: list[Numbers]) -> list[list[str]]:
         """For each input, the input functions that its run asks, in order."""
@@ -35,17 +34,14 @@ class Reader:
             return [], []
         text = json.dumps([{"args": args, "answers": answers} for args, answers in given])
         with program.as_file(text) as path:
-            words = ["runs", self.entry, path, *self.unit.sources, "--steps", STEPS]
-            runs = program.report(words, self.unit.place).runs
+            words = ["runs", self.entry, path, *self.names, "--steps", STEPS]
+            runs = program.report(words, self.place).runs
         edges = self.graph.edges
         asked = [[edges[one].name for one in run.edges if edges[one].operation == "answer"] for run in runs]
         return asked, runs
 
-    def of_file(self, path: str, shown: str) -> list[Named]:
-        """The inputs of a file in any form; `shown` is how the file is named in what is told."""
-        text = program.read(path).decode(errors="surrogateescape")
-        if text.lstrip(" \t\r\n")[:1] != "[":
-            return [Named(one.args, one.answers) for one in inputs.of_file(path)]
+    def of_text(self, text: str, shown: str) -> list[Named]:
+        """The inputs of a JSON text; `shown` is how its file is named in what is told."""
         try:
             values = json.loads(text)
         except (ValueError, RecursionError) as fault:
@@ -79,7 +75,7 @@ class Reader:
                 raise ValueError(f"it has {len(one.args)} arguments; the entry is {self.signature}")
             return one
         named.answers(value, self.graph.inputs, self.signature)
-        keys = named._keys(value, ("arguments", "answers"))
+        keys = named.keys_of(value, ("arguments", "answers"))
         return Named(named.arguments(value, self.signature), **keys)
 
     def _ordered(self, values: list[Any], found: list[Named], shown: str) -> list[Named]:
@@ -121,3 +117,25 @@ class Reader:
             head = {key: keys.pop(key) for key in ("id", "requirements") if key in keys}
             found.append({**head, **value, **keys})
         return found
+
+
+def of_value(value: dict[str, Any], entry: Signature) -> Named:
+    """The input of an object in the program's form; a failure where it isn't one of the entry."""
+    try:
+        one = named.plain(value)
+    except ValueError as fault:
+        raise Failure(str(fault)) from None
+    if len(one.args) != len(entry.parameters):
+        raise Failure(f"an input has {len(one.args)} arguments; the entry is {entry}")
+    return one
+
+
+def has_names(text: str) -> bool:
+    """Whether a text is a JSON list in which an input has names."""
+    if text.lstrip(" \t\r\n")[:1] != "[":
+        return False
+    try:
+        values = json.loads(text)
+    except (ValueError, RecursionError):
+        return False
+    return isinstance(values, list) and any(named.is_named(one) for one in values)
