@@ -108,7 +108,8 @@ class Caller:
         """How many elements a pointer's object has; 0 where it is one object alone."""
         if one.name in self.wanted.lengths:
             return self.wanted.lengths[one.name]
-        return self.wanted.length if after is not None and is_length(after) else 0
+        is_row = isinstance(one.type, Pointer) and isinstance(one.type.target, Int)
+        return self.wanted.length if is_row and after is not None and is_length(after) else 0
 
     def arguments(self, listed: list[Parameter], is_step: bool) -> tuple[list[str], list[str]]:
         """The statements before a call, and its arguments."""
@@ -180,7 +181,7 @@ class Caller:
             if is_one:
                 return [*before, f"return {call};"]
             head, kept, tail = (
-                [f"{self.result.text} result = 0;", ""],
+                [f"{self.result.text} result = 0;"],
                 f"result = {call};",
                 ["return result;"],
             )

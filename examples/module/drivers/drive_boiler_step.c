@@ -6,7 +6,6 @@ int drive_boiler_step(int16_t target)
 {
   boiler_reset(target);
   int result = 0;
-
   for (int step = 0; step < 4; step++) {
     result = boiler_step();
   }
