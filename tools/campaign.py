@@ -189,9 +189,19 @@ def with_meaning(asked: Asked) -> Asked:
     return dataclasses.replace(asked, meaning=meaning, places=places)
 
 
+def given_inputs(given: argparse.Namespace, folder: Folder) -> list[Input]:
+    """The inputs that are given."""
+    if not given.inputs:
+        return []
+    if given.words:
+        return inputs.of_entry(given.inputs, given.words[0], given.words[2:])
+    asked = folder.asked()
+    return inputs.of_entry(given.inputs, asked.entry, asked.sources, asked.place)
+
+
 def begun(given: argparse.Namespace, folder: Folder) -> None:
     """Makes the folder, or takes the one that is there. None is made for what is refused."""
-    read = inputs.of_file(given.inputs) if given.inputs else []
+    read = given_inputs(given, folder)
     if given.words:
         asked = asked_by(given)
         measured(asked, read)

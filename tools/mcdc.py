@@ -111,7 +111,7 @@ def main() -> int:
     all_asked = [ask(given, graph, decision, len(decisions)) for decision in decisions]
     if not all_asked:
         raise Failure("there is no decision")
-    made = inputs.of_file(given.inputs) if given.inputs else []
+    made = inputs.of_entry(given.inputs, given.entry, given.sources) if given.inputs else []
     made = inputs.once(made + [one for asked in all_asked for one in asked.report.inputs])
     with program.as_file(inputs.json_text(made)) as path:
         take(graph, all_asked, program.report(["runs", given.entry, path, *given.sources, "--steps", STEPS]).runs)
