@@ -154,6 +154,8 @@ def parser_of_words() -> argparse.ArgumentParser:
     parser.add_argument("--sshloginfile", metavar="FILE", help="the machines, as GNU parallel reads them")
     gate = "the status is 1 where less than P percent are covered"
     parser.add_argument("--at-least", type=verdicts.percent, metavar="P", help=gate)
+    counted = "a report of mcdc as JSON, whose conditions are counted too, and must pass the gate"
+    parser.add_argument("--mcdc", metavar="FILE", help=counted)
     parser.add_argument("--left", action="store_true", help="only prints the goals that are left, a line each")
     parser.add_argument("--one", type=numbers, metavar="N[,N..]", help="only decides goal N, or several")
     return parser
@@ -236,6 +238,8 @@ def main() -> int:
     begun(given, folder)
     with locked(folder):
         folder.clean()
+        if given.mcdc:
+            folder.take_conditions(folder.asked(), given.mcdc)
         campaign = Campaign(folder, folder.jobs(given.jobs), given.sshloginfile)
         if given.left:
             campaign.generate()
