@@ -141,7 +141,7 @@ def bounds_of(given: argparse.Namespace, graph: Graph, report: Report) -> tuple[
     if not given.entry:
         return verdicts.UNKNOWN, [WITHIN]
     budget = report.bounds.get("budget", 5_000_000)
-    left = leaving.asked(graph, given.entry, given.sources, report.bounds, budget)
+    left = leaving.asked(graph, given.entry, given.sources, report.bounds, budget, query=None, ends=report.ends)
     return left.limits, list(left.lines())
 
 

@@ -117,12 +117,12 @@ def asked(
     budget: int,
     place: str | None = None,
     *,
-    query: str,
+    query: str | None,
     ends: str,
 ) -> Left:
     """What the program says of bounds; where it names an input that leaves them, its run is counted. Where they suffice, what
     the query refutes over runs with these ends is unreachable, unless C leaves an order of evaluation open that matters.
-    """
+    Where the query isn't known it is None."""
     words = ["bounds", entry, *sources, *options_of(bounds), "--budget", str(budget)]
     said = program.answer(words, place).strip()
     if not said.startswith("bounds left "):

@@ -100,7 +100,7 @@ def bounds_of(given: argparse.Namespace, graph: Graph, all_asked: list[Asked]) -
     if not needs:
         return Left(Limits())
     bounds = {name: getattr(given, name) for name in BOUNDS}
-    return leaving.asked(graph, given.entry, given.sources, bounds, given.budget)
+    return leaving.asked(graph, given.entry, given.sources, bounds, given.budget, query="", ends="returned")
 
 
 def main() -> int:

@@ -37,7 +37,16 @@ class Shown:
         limits = verdicts.UNKNOWN
         if self.entry and self.report.count("refuted"):
             budget = self.report.bounds.get("budget", 5_000_000)
-            left = leaving.asked(graph, self.entry, self.sources, self.report.bounds, budget, self.place)
+            left = leaving.asked(
+                graph,
+                self.entry,
+                self.sources,
+                self.report.bounds,
+                budget,
+                self.place,
+                query=self.query or None,
+                ends=self.report.ends,
+            )
             limits, self.said = left.limits, list(left.lines())
         self.verdicts = [verdicts.of_word(goal.verdict, limits) for goal in self.report.goals]
 
