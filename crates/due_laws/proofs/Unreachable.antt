@@ -1,6 +1,6 @@
 -- A goal that is refuted within bounds that suffice is unreachable.
-use Rattle.std.proofs.Common.{◌≡◌, ℕ, ◌-◌, List, [], map, get_or, Option, Some, None, refl, sym, ap, subst, ◌∙◌, inl, inr, arith}
-use Rattle.std.specs.Prelude.{◌==◌, IsTrue, MatchOption, false, slice_get}
+use Rattle.std.proofs.Common.{◌≡◌, ℕ, List, [], map, get_or, Option, Some, None, refl, sym, ap, subst, ◌∙◌, inl, inr, arith}
+use Rattle.std.specs.Prelude.{◌==◌, IsTrue, MatchOption, false}
 use Rattle.bounds_check.specs.Laws.{UnhitIsUnreachable}
 use Rattle.bounds_check.specs.Leaving.{NoneLeaves}
 use Rattle.bounds_check.specs.Sufficing.{IsSuffice}
@@ -15,7 +15,6 @@ use Rattle.fq_io.specs.Counts.{Rose}
 use Rattle.report.specs.Suffice.{suffice_text}
 use Rattle.command_words.specs.Reading.{Text}
 use Rattle.command_words.specs.Request.{suffice, Checking}
-use Rattle.command.specs.declared.status.Status.TheVariants as status
 use Rattle.command.specs.Certified.{IsRefutedGoal}
 use Rattle.command.specs.Due.{IsDueOf}
 use Rattle.command.specs.Ranges.{within}
@@ -123,11 +122,11 @@ module _ (after : Reads) (m : Checking) (budget : ℕ) (said : Said) (is : said.
 pub accepted_means_unreachable : ((texts : List SourceText) → front.HasOneOutcome texts) → UnhitIsUnreachable → AcceptedMeansUnreachable
 accepted_means_unreachable front_law unhit = record {
   by_certificates = λ before after m file said other same told checked done suffices sufficed.
-  let it = at_sources m said done before checked in
-  let within_bounds = bounds_at_sources (bounds_checked_of m file) other sufficed after suffices in
-  joined front_law unhit before after m same told it within_bounds.graph within_bounds.automaton within_bounds.entry within_bounds.entry_is within_bounds.none;
+      let it = at_sources m said done before checked in
+      let within_bounds = bounds_at_sources (bounds_checked_of m file) other sufficed after suffices in
+      joined front_law unhit before after m same told it within_bounds.graph within_bounds.automaton within_bounds.entry within_bounds.entry_is within_bounds.none;
   by_search = λ before after m budget said other same told checked done suffices sufficed.
-  let it = at_sources m said done before checked in
-  let within_bounds = stays after m budget other (ap (λ (s : Said). s.out) sufficed) suffices in
-  joined front_law unhit before after m same told it within_bounds.graph within_bounds.have within_bounds.entry within_bounds.named within_bounds.none;
+      let it = at_sources m said done before checked in
+      let within_bounds = stays after m budget other (ap (λ (s : Said). s.out) sufficed) suffices in
+      joined front_law unhit before after m same told it within_bounds.graph within_bounds.have within_bounds.entry within_bounds.named within_bounds.none;
 }
