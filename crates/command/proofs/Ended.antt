@@ -1,5 +1,5 @@
 -- How a run ends.
-use Rattle.std.proofs.Common.{◌≡◌, ℕ, Bool, List, [], None, Some, inl, inr, refl, sym, ap, subst, append-nil}
+use Rattle.std.proofs.Common.{◌≡◌, ℕ, List, [], None, Some, inl, inr, refl, sym, ap, subst, append-nil}
 use Rattle.std.specs.Prelude.{Option, IsSomeAnd, MatchOption}
 use Rattle.std.specs.Io.KnownBytes.{Appends, Keeps}
 use Rattle.fq_core.specs.declared.refusal.Refusal.{Refusal}

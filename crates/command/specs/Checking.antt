@@ -1,5 +1,5 @@
 -- What is due of checking a certificate of a goal.
-use Rattle.std.specs.Prelude.{◌≡◌, ◌⊎◌, ℕ, List}
+use Rattle.std.specs.Prelude.{◌⊎◌, ℕ, List}
 use Rattle.cfa.specs.declared.parts.GraphParts.{GraphParts}
 use Rattle.cfa.specs.declared.state.Predicates.{Predicates}
 use Rattle.cnf.specs.declared.derivation.Derivation.{Derivation}

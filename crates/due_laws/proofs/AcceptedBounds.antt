@@ -1,5 +1,5 @@
 -- What `prove-bounds` writes is a certificate that `check-bounds` accepts.
-use Rattle.std.proofs.Common.{◌≡◌, ◌⊎◌, ℕ, ◌≤◌, List, [], ◌∷◌, ◌++◌, length, map, Option, Some, None, refl, sym, ap, subst, ◌∙◌, inl, inr}
+use Rattle.std.proofs.Common.{◌≡◌, ◌⊎◌, ◌≤◌, List, [], ◌∷◌, ◌++◌, length, map, Option, Some, None, refl, sym, ap, subst, ◌∙◌, inl, inr}
 use Rattle.std.specs.Prelude.{IsTrue, MatchOption}
 use Rattle.bounds_check.specs.Sufficing.{IsSuffice, IsWithinLimits}
 use Rattle.bounds_check.specs.declared.suffice.Suffice.{Suffice}

@@ -1,6 +1,6 @@
 -- A goal that is refuted within bounds that suffice is unreachable.
-use Rattle.std.proofs.Common.{◌≡◌, ℕ, ◌-◌, List, [], map, get_or, Option, Some, None, refl, sym, ap, subst, ◌∙◌, inl, inr, arith}
-use Rattle.std.specs.Prelude.{◌==◌, IsTrue, MatchOption, false, slice_get}
+use Rattle.std.proofs.Common.{◌≡◌, ℕ, List, [], map, get_or, Option, Some, None, refl, sym, ap, subst, ◌∙◌, inl, inr, arith}
+use Rattle.std.specs.Prelude.{◌==◌, IsTrue, MatchOption, false}
 use Rattle.bounds_check.specs.Laws.{UnhitIsUnreachable}
 use Rattle.bounds_check.specs.Leaving.{NoneLeaves}
 use Rattle.bounds_check.specs.Sufficing.{IsSuffice}
@@ -15,7 +15,6 @@ use Rattle.fq_io.specs.Counts.{Rose}
 use Rattle.report.specs.Suffice.{suffice_text}
 use Rattle.command_words.specs.Reading.{Text}
 use Rattle.command_words.specs.Request.{suffice, Checking}
-use Rattle.command.specs.declared.status.Status.TheVariants as status
 use Rattle.command.specs.Certified.{IsRefutedGoal}
 use Rattle.command.specs.Due.{IsDueOf}
 use Rattle.command.specs.Ranges.{within}
