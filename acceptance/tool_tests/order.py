@@ -12,7 +12,7 @@ from tool_tests import Case, put, run
 
 GRAPH = ("graph",)
 RULE = ("value", "answers", "end")
-ISSUE = """int g = 1;
+OPERANDS = """int g = 1;
 int h(void) { g = 5; return 1; }
 int k(int x) {
   if (g + h() == 2) {
@@ -36,8 +36,8 @@ def told(*lines):
 
 
 CASES = [
-    Case("order: operands", ["order", "k", "a.c"], {"a.c": ISSUE}, 1, f"a.c:4:7: warning: value: {G_AND_H}\n", needs=GRAPH),
-    Case("order: a function that isn't reached", ["order", "h", "a.c"], {"a.c": ISSUE}, needs=GRAPH),
+    Case("order: operands", ["order", "k", "a.c"], {"a.c": OPERANDS}, 1, f"a.c:4:7: warning: value: {G_AND_H}\n", needs=GRAPH),
+    Case("order: a function that isn't reached", ["order", "h", "a.c"], {"a.c": OPERANDS}, needs=GRAPH),
     Case("order: two sources and a macro", ["order", "k", "low.c", "top.c"], TWO, 1,
          f"top.c:3:15: warning: value: {G_AND_H}\n", needs=GRAPH),
     Case("order: what a predicate reads", ["order", "k", "a.c", "--query", "cover {g == 0} . @ENTRY(i)"], {"a.c": WATCH}, 1,
@@ -50,7 +50,7 @@ CASES = [
     Case("order: runs that returned", ["order", "k", "a.c"], {"a.c": STRICT}, needs=GRAPH),
     Case("order: any ends", ["order", "k", "a.c", "--ends", "any"], {"a.c": STRICT}, 1,
          "a.c:1:40: warning: strict: one part may end the run (trap), and another does something\n", needs=GRAPH),
-    Case("order: no such entry", ["order", "f", "a.c"], {"a.c": ISSUE}, 2, "",
+    Case("order: no such entry", ["order", "f", "a.c"], {"a.c": OPERANDS}, 2, "",
          "order: f is no function with a body and without array parameters\n", needs=GRAPH),
     Case("order: an entry with an array", ["order", "h", "a.c"], {"a.c": LENT}, 2, "",
          "order: h is no function with a body and without array parameters\n", needs=GRAPH),
@@ -68,7 +68,7 @@ def wrong_words(folder):
 
 
 def as_json(folder):
-    put(folder, {"a.c": ISSUE})
+    put(folder, {"a.c": OPERANDS})
     ended = run(folder, ["order", "k", "a.c", "--json"])
     due = {"kind": "value", "file": "a.c", "line": 4, "column": 7, "function": "k", "why": G_AND_H}
     yield ended.returncode == 1 and json.loads(ended.stdout) == {"classes": list(RULE), "warnings": [due]}
@@ -89,13 +89,13 @@ def rows_by_c(folder):
 
 
 OPEN = "C leaves the order of evaluation open at a.c:4:7 (value)"
-FREE = ISSUE.replace("g + h() == 2", "h() == 3")  # false by each order
+FREE = OPERANDS.replace("g + h() == 2", "h() == 3")  # false by each order
 
 
 def a_campaign_that_is_restricted(folder):
     """A refuted goal is unreachable only where each order of evaluation gives the same."""
     for text, verdict, line in (
-        (ISSUE, "refuted within the bounds", f"no refuted goal is called unreachable: {OPEN}"),
+        (OPERANDS, "refuted within the bounds", f"no refuted goal is called unreachable: {OPEN}"),
         (FREE, "unreachable", "the bounds suffice: no run at all leaves them"),
     ):
         put(folder, {"a.c": text})
@@ -130,7 +130,7 @@ def put_report(folder, text, query):
 def explain_is_restricted(folder):
     """A report's query isn't known, so its predicates may read anything."""
     last = "no refuted goal is called unreachable: "
-    put_report(folder, ISSUE, "cover @CONDITIONEDGE")
+    put_report(folder, OPERANDS, "cover @CONDITIONEDGE")
     yield run(folder, ["explain", "report", "a.c", "--entry", "k"]).stdout.splitlines()[-1] == last + OPEN
     put_report(folder, WATCH, "cover {g == 0} . @ENTRY(i)")
     told_of = run(folder, ["explain", "report", "a.c", "--entry", "k"]).stdout.splitlines()[-1]
@@ -141,7 +141,7 @@ def explain_is_restricted(folder):
 
 
 def page_is_restricted(folder):
-    for text, is_restricted in ((ISSUE, True), (FREE, False)):
+    for text, is_restricted in ((OPERANDS, True), (FREE, False)):
         put_report(folder, text, "cover @CONDITIONEDGE")
         words = ["page", "report", "-o", "new", "--source", "a.c", "--entry", "k", "--query", "cover @CONDITIONEDGE"]
         yield run(folder, words).returncode == 0
@@ -150,7 +150,7 @@ def page_is_restricted(folder):
 
 
 def lcov_leaves_nothing_out(folder):
-    put_report(folder, ISSUE, "cover ID")
+    put_report(folder, OPERANDS, "cover ID")
     ended = run(folder, ["lcov", "k", "in", "a.c", "-o", "new", "--refuted", "report"])
     yield ended.returncode == 2 and OPEN in ended.stderr and not os.path.exists(os.path.join(folder, "new"))
 
