@@ -1,5 +1,7 @@
 """Certificates beside a checker of their own, which is written here from docs/CERTIFICATES.md.
 
+Those of bounds that suffice, which `prove-bounds` writes and `check-bounds` reads, are tried in the same way as those of goals.
+
 Each goal below is refuted within its bounds. What `prove` writes for it must be a certificate that the checker here accepts,
 and that `check` accepts for its goal; each line of its DRAT form, as bin/drat writes it, must follow by unit propagation. With
 the certificate of the goal before it `check` must answer 91, and of each changed certificate, one of some bytes being another
@@ -11,9 +13,9 @@ import os
 import re
 import subprocess
 import tempfile
+from typing import NamedTuple
 
 import programs
-
 
 NEVER = "int f(int x) {\n  if (x > 10 && x < 5) {\n    return 1;\n  }\n  return 0;\n}\n"
 COUNT = "int f(int n) {\n  int i = 0;\n  while (i < n) {\n    i = i + 1;\n  }\n  if (i == 3) {\n    return 1;\n  }\n  return 0;\n}\n"
@@ -27,6 +29,33 @@ GOALS = [
     (TWICE, "cover @LINE(4)", "1", []),
     (COUNT, "cover {i == 2}.\"ID*\".{i == 1}", "1", ["--turns", "2"]),
 ]
+
+THREE = "int f(int x) {\n  int s = 0;\n  for (int i = 0; i < 3; i++) {\n    s = s + x;\n  }\n  return s;\n}\n"
+FEW = "int f(int n) {\n  assume(n < 5);\n  int i = 0;\n  while (i < n) {\n    i = i + 1;\n  }\n  return i;\n}\n"
+READS = "#include <stdint.h>\nint8_t in(void);\nint f(uint8_t x) {\n  int s = 0;\n  while (in() > 0 && s < 3) {\n    s = s + 1;\n  }\n  return s + x;\n}\n"
+
+# a source and bounds that suffice for it
+BOUNDS = [
+    (NEVER, []),
+    (FEW, ["--turns", "4"]),
+    (THREE, ["--turns", "3"]),
+    (READS, ["--turns", "3", "--answers", "4"]),
+]
+
+
+class Case(NamedTuple):
+    """What a certificate is asked of: the commands that write and check it, the words before it, and the source."""
+
+    name: str
+    prove: str
+    check: str
+    asked: list[str]
+    bounds: list[str]
+    source: str
+
+
+CASES = [Case(query, "prove", "check", ["f", query, goal], bounds, source) for source, query, goal, bounds in GOALS]
+CASES += [Case(f"bounds {' '.join(bounds)}", "prove-bounds", "check-bounds", ["f"], bounds, source) for source, bounds in BOUNDS]
 
 NUMBER = r"(?:0|[1-9][0-9]*)"
 
@@ -127,55 +156,55 @@ def changes(text):
 
 
 class Written:
-    """A goal's source and certificates in a folder, and what the program says of them."""
+    """The source and the certificates of a case in a folder, and what the program says of them."""
 
-    def __init__(self, folder, goal):
-        self.program, self.folder = programs.program(), folder
-        self.source, self.query, self.number, self.bounds = goal
-        self.write("s.c", self.source)
+    def __init__(self, folder, case):
+        self.program, self.folder, self.case = programs.program(), folder, case
+        self.write("s.c", case.source)
 
     def write(self, name, text):
         with open(os.path.join(self.folder, name), "w", encoding="ascii") as file:
             file.write(text)
 
     def proved(self):
-        """The status and the text of `prove`."""
-        return run(self.program, self.folder, ["prove", *self.bounds, "f", self.query, self.number, "s.c"])[:2]
+        """The status and the text of the command that writes the certificate."""
+        return run(self.program, self.folder, [self.case.prove, *self.case.bounds, *self.case.asked, "s.c"])[:2]
 
     def checked(self, text):
-        """What `check` says of a certificate."""
-        self.write("goal.cert", text)
-        return run(self.program, self.folder, ["check", *self.bounds, "f", self.query, self.number, "goal.cert", "s.c"])
+        """What the command that reads a certificate says of this one."""
+        self.write("some.cert", text)
+        return run(self.program, self.folder, [self.case.check, *self.case.bounds, *self.case.asked, "some.cert", "s.c"])
 
 
-def of_goal(goal):
-    """How many certificates of a goal were checked, and a line for each answer that is wrong."""
+def of_case(case):
+    """How many certificates of a case were checked, and a line for each answer that is wrong."""
     with tempfile.TemporaryDirectory() as folder:
-        written = Written(folder, goal)
+        written = Written(folder, case)
         status, text = written.proved()
         count, wrong = 2, []
         if status != 0 or not is_right(text):
-            wrong.append(f"{written.query}: what prove wrote isn't right")
+            wrong.append(f"{case.name}: what {case.prove} wrote isn't right")
         if status == 0 and not is_drat(folder, text):
-            wrong.append(f"{written.query}: a line of the DRAT form doesn't follow")
+            wrong.append(f"{case.name}: a line of the DRAT form doesn't follow")
         if written.checked(text)[0] != 0:
-            wrong.append(f"{written.query}: check rejects what prove wrote")
+            wrong.append(f"{case.name}: {case.check} rejects what {case.prove} wrote")
         for changed in changes(text):
             count += 1
             if written.checked(changed)[0] == 0 and not is_right(changed):
-                wrong.append(f"{written.query}: check accepts a certificate that isn't right")
+                wrong.append(f"{case.name}: {case.check} accepts a certificate that isn't right")
     return count, wrong
 
 
-def of_another(goal, before):
-    """What is wrong with what `check` says of the certificate of the goal before."""
+def of_another(case, before):
+    """What is wrong with what is said of the certificate of the case before, which is of another formula: of another goal, or of
+    a goal and of bounds."""
     with tempfile.TemporaryDirectory() as folder:
         text = Written(folder, before).proved()[1]
-        status, out, err = Written(folder, goal).checked(text)
+        status, out, err = Written(folder, case).checked(text)
     is_due = status == 10 and not out and err.startswith("error 91 OtherFormula ")
-    return 1, [] if is_due else [f"{goal[1]}: {status} {out!r} {err!r} for the certificate of the goal before"]
+    return 1, [] if is_due else [f"{case.name}: {status} {out!r} {err!r} for the certificate of the case before"]
 
 
 def parts():
-    return [functools.partial(of_goal, goal) for goal in GOALS] + [
-        functools.partial(of_another, goal, GOALS[place - 1]) for place, goal in enumerate(GOALS)]
+    return [functools.partial(of_case, case) for case in CASES] + [
+        functools.partial(of_another, case, CASES[place - 1]) for place, case in enumerate(CASES)]

@@ -37,7 +37,7 @@ def rows() -> Iterator[tuple[str, str]]:
     of_program = sum(len(runs) for text in texts for runs in documents.examples(text))
     of_tools = sum(len(list(documents.tool_examples(text))) for text in texts)
     yield "documents", f"{of_program} examples of the program and {of_tools} of tools"
-    yield "certificates", f"{len(certificates.GOALS)} goals, with some fifty changed certificates each"
+    yield "certificates", f"{len(certificates.GOALS)} goals and {len(certificates.BOUNDS)} bounds, with some fifty changed certificates each"
     yield "replays", f"{len(list(replays.measurements()))} measurements"
     bounds = sum(len(program.bounds) for program in all_inputs.TABLE)
     queries = sum(len(program.bounds) * len(program.queries) for program in all_inputs.TABLE)
@@ -58,7 +58,7 @@ def wrong() -> list[str]:
     with open(HOME, encoding="utf-8") as file:
         found = TABLE.search(file.read())
     is_due = found is not None and found[0] == table()
-    return [] if is_due else ["acceptance/README.md: its counts are others; acceptance/counts.py --write puts them right"]
+    return [] if is_due else ["acceptance/README.md: its counts are others; bin/test --write puts them right"]
 
 
 def write() -> None:

@@ -501,6 +501,8 @@ def gate_is_whole_where_it_can_be(tree):
     yield not os.path.exists(tree.path("release/GATE"))
     tree.write("help", KEEPS_NOTHING)
     yield gate.is_whole(4, "keeps nothing from run to run, and 4 processors are enough")
+    status, _, calls = gate.run("some")
+    yield status == 70 and calls == []
     yield gate.is_whole(3, "3 processors are too few for all from nothing within three hours, but nothing can be left out: "
                            "release/GATE names no commit")
 

@@ -39,8 +39,14 @@ ENDS = (
 )
 RUN = (*ENDS, "command/Stages:OfSources")
 ROWS = {
-    "the whole theorem": (*ENDS, "command/Due:IsDue", "command/Certified:Certifies"),
+    "the whole theorem": (
+        *ENDS,
+        "command/Due:IsDue",
+        "command/Certified:Certifies",
+        "command/Certified:CertifiesBounds",
+    ),
     "a certificate that `check` accepted": ("command/Certified:Certifies",),
+    "one that `check-bounds` accepted": ("command/Certified:CertifiesBounds",),
     "`measure`": (*RUN, "command/Due:IsDueOfMeasure"),
     "`goals`": (*RUN, "command/Due:IsDueOfGoals"),
     "`graph`": (*RUN, "command/Due:IsDueOfGraph"),
@@ -49,7 +55,8 @@ ROWS = {
     "`generate`": (*RUN, "command/Generating:IsDueOfGenerate"),
     "`prove`": (*RUN, "command/Proving:IsDueOfProve"),
     "`check`": (*RUN, "command/Checking:IsDueOfCheck"),
-    "`bounds`": (*RUN, "command/Sufficing:IsDueOfBounds"),
+    "`bounds`, `prove-bounds`": (*RUN, "command/Sufficing:IsDueOfBounds"),
+    "`check-bounds`": (*RUN, "command/CheckingBounds:IsDueOfCheckBounds"),
     "`least`": (*RUN, "command/Lowering:IsDueOfLeast"),
     "`traces`": (*RUN, "command/Due:IsDueOfTraces"),
     "`replay`": (*RUN, "command/Due:IsDueOfReplay"),
@@ -230,7 +237,7 @@ def wrong() -> list[str]:
     with open(HOME, encoding="utf-8") as file:
         found = TABLE.search(file.read())
     is_due = found is not None and found[0] == table()
-    return [] if is_due else ["docs/THEOREM.md: its counts are others; tools/believed.py --write puts them right"]
+    return [] if is_due else ["docs/THEOREM.md: its counts are others; bin/test --write puts them right"]
 
 
 def write() -> None:

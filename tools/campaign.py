@@ -154,6 +154,8 @@ def parser_of_words() -> argparse.ArgumentParser:
     parser.add_argument("--sshloginfile", metavar="FILE", help="the machines, as GNU parallel reads them")
     gate = "the status is 1 where less than P percent are covered"
     parser.add_argument("--at-least", type=verdicts.percent, metavar="P", help=gate)
+    counted = "a report of mcdc as JSON, whose conditions are counted too, and must pass the gate"
+    parser.add_argument("--mcdc", metavar="FILE", help=counted)
     parser.add_argument("--left", action="store_true", help="only prints the goals that are left, a line each")
     parser.add_argument("--one", type=numbers, metavar="N[,N..]", help="only decides goal N, or several")
     return parser
@@ -187,9 +189,19 @@ def with_meaning(asked: Asked) -> Asked:
     return dataclasses.replace(asked, meaning=meaning, places=places)
 
 
+def given_inputs(given: argparse.Namespace, folder: Folder) -> list[Input]:
+    """The inputs that are given."""
+    if not given.inputs:
+        return []
+    if given.words:
+        return inputs.of_entry(given.inputs, given.words[0], given.words[2:])
+    asked = folder.asked()
+    return inputs.of_entry(given.inputs, asked.entry, asked.sources, asked.place)
+
+
 def begun(given: argparse.Namespace, folder: Folder) -> None:
     """Makes the folder, or takes the one that is there. None is made for what is refused."""
-    read = inputs.of_file(given.inputs) if given.inputs else []
+    read = given_inputs(given, folder)
     if given.words:
         asked = asked_by(given)
         measured(asked, read)
@@ -236,6 +248,8 @@ def main() -> int:
     begun(given, folder)
     with locked(folder):
         folder.clean()
+        if given.mcdc:
+            folder.take_conditions(folder.asked(), given.mcdc)
         campaign = Campaign(folder, folder.jobs(given.jobs), given.sshloginfile)
         if given.left:
             campaign.generate()

@@ -9,6 +9,7 @@ stands there:
   found/N                prove's line for goal N, with an input
   certificates/N.cert    prove's certificate for goal N, and N.sum, its sum, once `check` accepted it
   open/N                 the budget that goal N was tried with, and what prove said
+  mcdc.json              the report of bin/mcdc that was given
   machine/               the lock, the number of jobs and the log of GNU parallel: what differs from machine to machine
 """
 
@@ -17,8 +18,9 @@ import json
 import os
 import sys
 
-from tools import inputs, program
+from tools import conditions_read, inputs, program
 from tools.asked import Asked, sum_of
+from tools.conditions_read import Conditions
 from tools.program import Failure
 from tools.reports import Input, Report, report_of_json
 
@@ -188,6 +190,21 @@ class Folder:
             return ended.stderr.strip() or f"status {ended.status}"
         program.write_whole(self.at("certificates", f"{goal}.sum"), sum_of(path) + "\n")
         return ""
+
+    def take_conditions(self, asked: Asked, path: str) -> None:
+        """Keeps a report of bin/mcdc; one of another entry or of other sources is a failure."""
+        found = conditions_read.of_file(path)
+        if not found:
+            raise Failure(f"{path}: it is no report of mcdc as JSON")
+        if (found.entry, found.sums) != (asked.entry, asked.sums):
+            raise Failure(f"{path}: it is of another entry or of other sources than the campaign")
+        program.write_whole(self.at("mcdc.json"), program.read(path).decode())
+
+    def conditions(self, asked: Asked) -> Conditions | None:
+        """The report of bin/mcdc that was kept, where it is of the sources as they are."""
+        path = self.at("mcdc.json")
+        found = conditions_read.of_file(path) if os.path.exists(path) else None
+        return found if found and found.sums == asked.sums else None
 
     # ---- one goal
 

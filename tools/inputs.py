@@ -2,7 +2,8 @@
 
 Each FILE is a report of `generate` as text or JSON, lines of `prove` or `least` that name an input, a trace file, or a file of
 inputs in either form. All their inputs are written as one file that `measure` reads, in order, each once. With `--to traces`
-it is a file that `replay` reads, as `traces` writes it of the inputs whose runs are counted.
+it is a file that `replay` reads, as `traces` writes it of the inputs whose runs are counted. With --entry and --source a FILE may
+have names in place of rows of numbers, {"arguments": {"speed": 0}, "answers": {"rx_byte": [1, 2]}}, and `--to named` writes it so.
 """
 
 import argparse
@@ -11,10 +12,12 @@ import re
 import sys
 from collections.abc import Iterator, Sequence
 
-from tools import program
+from tools import graph as graphs
+from tools import naming, program
 from tools.program import Failure
 from tools.reports import ENDS, Input, Report, Run, input_of, number, report_of_json, report_of_text
 
+FORMS = ("lines", "json", "traces", "named")
 _WORD = re.compile(r"-?[0-9]+")
 _ONE = re.compile(r"goal \d+ (?:covered|least) (args(?: -?\d+)*(?: answers(?: -?\d+)+)?)")
 _TRACE = re.compile(r"(args(?: -?\d+)*(?: answers(?: -?\d+)+)?) edges(?: \d+)*")
@@ -98,11 +101,21 @@ def of_file(path: str, kept: bool = False) -> list[Input]:
         raise Failure(f"{path}: no inputs are read: {fault}") from None
 
 
+def of_entry(path: str, entry: str, sources: Sequence[str], place: str = ".", kept: bool = False) -> list[Input]:
+    """The inputs of a file in any form, also with the names of an entry's arguments and of the functions that answer."""
+    text = program.read(path).decode(errors="surrogateescape")
+    if not naming.has_names(text):
+        return of_file(path, kept)
+    reader = naming.Reader(place, sources, graphs.of_sources(sources, place), entry)
+    found = [(one, one.keys()) for one in reader.of_text(text, path)]
+    return [Input(one.args, one.answers, json.dumps(keys) if keys else "") for one, keys in found]
+
+
 def runs_of(
     entry: str, path: str, sources: Sequence[str], options: Sequence[str] = ()
 ) -> tuple[list[Input], list[Run]]:
     """The inputs of a file in any of its forms, and their runs."""
-    read = of_file(path)
+    read = of_entry(path, entry, sources)
     with program.as_file(json_text(read)) as made:
         return read, program.report(["runs", entry, made, *sources, *options]).runs
 
@@ -148,29 +161,47 @@ def traces_text(inputs: list[Input], entry: str, sources: list[str], ends: str) 
         return program.answer(["traces", entry, path, *sources, "--ends", ends])
 
 
+def named_text(inputs: list[Input], entry: str, sources: list[str]) -> str:
+    """A file in JSON with the names of arguments and of the functions that answer, a line for each input."""
+    reader = naming.Reader(".", sources, graphs.of_sources(sources), entry)
+    given = []
+    for one in inputs:
+        own = json.loads(one.own) if one.own else {}
+        given.append(naming.of_value({"args": list(one.args), "answers": list(one.answers), **own}, reader.signature))
+    told = reader.with_names(given, reader.asks([one.numbers for one in given]))
+    return "[" + ",\n ".join(json.dumps(one, ensure_ascii=False) for one in told) + "]\n"
+
+
 def words() -> argparse.Namespace:
     parser = argparse.ArgumentParser(prog="inputs", description=__doc__, formatter_class=argparse.RawTextHelpFormatter)
     parser.add_argument("files", nargs="+", metavar="FILE")
     parser.add_argument("-o", metavar="OUT", dest="out", help="the file that is written; else standard output")
-    parser.add_argument(
-        "--to", choices=("lines", "json", "traces"), help="the form; else lines where they are enough, or JSON"
-    )
+    parser.add_argument("--to", choices=FORMS, help="the form; else lines where they are enough, or JSON")
     parser.add_argument("--suite", action="store_true", help="of a report, the inputs of its suite alone")
-    parser.add_argument("--entry", help="for traces: the function in which runs begin")
-    parser.add_argument("--source", action="append", default=[], help="for traces: a source, in their order")
+    parser.add_argument("--entry", help="for traces and names: the function in which runs begin")
+    parser.add_argument("--source", action="append", default=[], help="for traces and names: a source, in their order")
     parser.add_argument("--ends", choices=ENDS, default="returned", help="for traces: the ends of runs that count")
     given = parser.parse_intermixed_args()
-    if given.to == "traces" and not (given.entry and given.source):
-        parser.error("--to traces needs --entry and --source")
+    if given.to in ("traces", "named") and not (given.entry and given.source):
+        parser.error(f"--to {given.to} needs --entry and --source")
     return given
 
 
 def main() -> int:
     given = words()
-    read = [one for path in given.files for one in of_file(path, given.suite)]
+    has_entry = given.entry and given.source
+    read = [
+        one
+        for path in given.files
+        for one in (
+            of_entry(path, given.entry, given.source, kept=given.suite) if has_entry else of_file(path, given.suite)
+        )
+    ]
     inputs = once(read)
     if given.to == "traces":
         text = traces_text(inputs, given.entry, given.source, given.ends)
+    elif given.to == "named":
+        text = named_text(inputs, given.entry, given.source)
     else:
         text = {"lines": lines_text, "json": json_text, None: best_text}[given.to](inputs)
     program.give(text, given.out)

@@ -6,6 +6,7 @@ its head, a frame stands from a call to its return, and each answer counts.
 
 from collections.abc import Iterator, Sequence
 from dataclasses import dataclass, field
+from typing import Any
 
 from tools import inputs, order, program
 from tools.graph import Edge, Graph
@@ -97,6 +98,12 @@ class Left:
             yield "whether a run leaves the bounds is open: the budget of `bounds` was spent"
 
 
+def of_value(value: dict[str, Any]) -> Left:
+    """What a campaign's report has as `limits`."""
+    left = inputs.of_object(value["left"]) if value["left"] else None
+    return Left(Limits(value["suffice"], left, value["where"], value["restriction"]), value["next"])
+
+
 def options_of(bounds: dict[str, int]) -> list[str]:
     """The bounds as options of the program."""
     return [word for name in BOUNDS for word in (f"--{name}", str(bounds[name]))]
@@ -110,12 +117,12 @@ def asked(
     budget: int,
     place: str | None = None,
     *,
-    query: str,
+    query: str | None,
     ends: str,
 ) -> Left:
     """What the program says of bounds; where it names an input that leaves them, its run is counted. Where they suffice, what
     the query refutes over runs with these ends is unreachable, unless C leaves an order of evaluation open that matters.
-    """
+    Where the query isn't known it is None."""
     words = ["bounds", entry, *sources, *options_of(bounds), "--budget", str(budget)]
     said = program.answer(words, place).strip()
     if not said.startswith("bounds left "):

@@ -89,7 +89,7 @@ def page(name: str, what: str, synopsis: list[str], parts: dict[str, str]) -> st
 
 def command_pages(commands: str) -> dict[str, str]:
     """The pages of the program and of each of its commands, by their names."""
-    table = [cells for cells in rows(commands) if len(cells) == 3 and re.fullmatch(r"`[a-z]+`", cells[0])]
+    table = [cells for cells in rows(commands) if len(cells) == 3 and re.fullmatch(r"`[a-z-]+`", cells[0])]
     options = [cells for cells in rows(commands) if len(cells) == 4]
     about = commands.split("## ", 1)[0].split("\n\n", 1)[1]
     statuses = "".join(f"| {cells[0]} | {cells[1]} |\n" for cells in rows(commands) if re.fullmatch(r"\d+", cells[0]))
@@ -142,7 +142,7 @@ def tool_pages(tools: str) -> dict[str, str]:
 
 def completion(commands: str, helps: dict[str, str]) -> str:
     """Completion for bash: of the program's commands with their options, and of each tool's options; else files."""
-    table = [cells for cells in rows(commands) if len(cells) == 3 and re.fullmatch(r"`[a-z]+`", cells[0])]
+    table = [cells for cells in rows(commands) if len(cells) == 3 and re.fullmatch(r"`[a-z-]+`", cells[0])]
     cases = "\n".join(
         f"    {cells[0].strip('`')}) options='{' '.join(one[0] for one in OPTIONS.findall(cells[1]))}' ;;"
         for cells in table

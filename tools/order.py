@@ -58,9 +58,13 @@ def watched_by(query: str) -> set[str]:
     return {name for text in _PREDICATE.findall(query) for name in _NAME.findall(_COMMENT.sub(" ", text))}
 
 
-def classes(query: str = "", ends: str = "returned", watch: Iterable[str] = ()) -> tuple[str, ...]:
+def classes(query: str | None = "", ends: str = "returned", watch: Iterable[str] = ()) -> tuple[str, ...]:
     """The classes that are looked for."""
-    return ALWAYS + (("watched",) if watch or watched_by(query) else ()) + (("strict",) if ends != "returned" else ())
+    return (
+        ALWAYS
+        + (("watched",) if watch or query is None or watched_by(query) else ())
+        + (("strict",) if ends != "returned" else ())
+    )
 
 
 def unit_of(sources: Sequence[str], folder: str | None = None) -> tuple[Unit, list[order_tokens.Word]]:
@@ -78,19 +82,20 @@ def unit_of(sources: Sequence[str], folder: str | None = None) -> tuple[Unit, li
 def warnings(
     entry: str,
     sources: Sequence[str],
-    query: str = "",
+    query: str | None = "",
     ends: str = "returned",
     watch: Iterable[str] = (),
     folder: str | None = None,
 ) -> list[Warned]:
-    """All that is told of what an entry reaches, in the order of the sources; each place once for each class."""
+    """All that is told of what an entry reaches, in the order of the sources; each place once for each class. Where the query
+    isn't known, its predicates may read anything."""
     unit, words = unit_of(sources, folder)
     function = unit.functions.get(entry)
     if not function or any(one.length for one in function.parameters):
         raise Failure(f"{entry} is no function with a body and without array parameters")
     wanted = classes(query, ends, watch)
     found: dict[tuple[str, str], Warned] = {}
-    for one in told(unit, entry, {*watch, *watched_by(query)}):
+    for one in told(unit, entry, None if query is None else {*watch, *watched_by(query)}):
         if one.kind in wanted:
             word = words[one.at]
             made = Warned(one.kind, word.file, word.line, word.column, one.function, one.why)
@@ -98,14 +103,14 @@ def warnings(
     return list(found.values())
 
 
-def needed(query: str, ends: str) -> tuple[str, ...]:
+def needed(query: str | None, ends: str) -> tuple[str, ...]:
     """The classes of which a unit must be free where a goal is called unreachable, whatever the order (docs/ORDER.md)."""
     return ("value", "watched") if ends == "returned" else classes(query, ends)
 
 
-def restriction(entry: str, sources: Sequence[str], query: str, ends: str, folder: str | None = None) -> str:
+def restriction(entry: str, sources: Sequence[str], query: str | None, ends: str, folder: str | None = None) -> str:
     """Why a goal isn't called unreachable though it is by FShell's order of evaluation; nothing where each order gives the
-    same. The query's predicates may also stand in the texts of its goals."""
+    same."""
     try:
         found = warnings(entry, sources, query, ends, folder=folder)
     except Failure as failure:

@@ -62,7 +62,7 @@ class Walk(Seen):
         self.of_function: dict[str, Effects] = {}
         self.stands: dict[tuple[str, int], set[Object]] = {}  # the arrays that calls lend to a parameter
         self.depth: dict[str, int] = {}
-        self.named: set[str] = set()  # what predicates read, by its name,
+        self.named: set[str] | None = set()  # what predicates read, by its name; None where it isn't known,
         self.watched: set[Object] = set()  # and those objects
         self.here: Function
         self.found: dict[tuple[int, str], Told] | None = None
@@ -244,7 +244,9 @@ class Walk(Seen):
         return not self.meant(one).isdisjoint(self.meant(two))
 
     def is_watched(self, thing: Object) -> bool:
-        return self.face(thing) in self.named or not self.watched.isdisjoint(self.meant(thing))
+        if self.named is None or self.face(thing) in self.named:
+            return True
+        return not self.watched.isdisjoint(self.meant(thing))
 
     def face(self, thing: Object) -> str:
         """An object's name."""

@@ -13,11 +13,11 @@ from tools.order_tree import Unit
 
 
 class Rule(Walk):
-    """From an entry on; `named` are the variables that predicates read."""
+    """From an entry on; `named` are the variables that predicates read, None where these aren't known."""
 
-    def __init__(self, unit: Unit, entry: str, named: Iterable[str] = ()) -> None:
+    def __init__(self, unit: Unit, entry: str, named: Iterable[str] | None = ()) -> None:
         super().__init__()
-        self.functions, self.named = unit.functions, set(named)
+        self.functions, self.named = unit.functions, None if named is None else set(named)
         self.set_constants(unit)
         for one in unit.variables:
             self.globals[one.name] = self.variable(one, ("global", one.name))
@@ -77,6 +77,8 @@ class Rule(Walk):
 
     def seen_by_predicates(self) -> set[Object]:
         """The variables of the file and the arrays that predicates with these names may read."""
+        if self.named is None:
+            return set()
         found: set[Object] = {("global", name) for name in self.named}
         for (name, at), things in self.stands.items():
             if self.functions[name].parameters[at].name in self.named:
@@ -84,6 +86,6 @@ class Rule(Walk):
         return found
 
 
-def told(unit: Unit, entry: str, named: Iterable[str] = ()) -> list[Told]:
+def told(unit: Unit, entry: str, named: Iterable[str] | None = ()) -> list[Told]:
     """All that is told of the functions that an entry reaches, in the order of the sources."""
     return Rule(unit, entry, named).told

@@ -40,9 +40,9 @@ CASES = [
     Case("order: a function that isn't reached", ["order", "h", "a.c"], {"a.c": OPERANDS}, needs=GRAPH),
     Case("order: two sources and a macro", ["order", "k", "low.c", "top.c"], TWO, 1,
          f"top.c:3:15: warning: value: {G_AND_H}\n", needs=GRAPH),
-    Case("order: what a predicate reads", ["order", "k", "a.c", "--query", "cover @ENTRY(i) {g == 0}"], {"a.c": WATCH}, 1,
+    Case("order: what a predicate reads", ["order", "k", "a.c", "--query", "cover {g == 0} . @ENTRY(i)"], {"a.c": WATCH}, 1,
          "a.c:1:96: warning: watched: one part writes g, which a predicate reads, and another has nodes\n", needs=GRAPH),
-    Case("order: what a predicate doesn't read", ["order", "k", "a.c", "--query", "cover @ENTRY(i) {e == 0}"], {"a.c": WATCH},
+    Case("order: what a predicate doesn't read", ["order", "k", "a.c", "--query", "cover {e == 0} . @ENTRY(i)"], {"a.c": WATCH},
          needs=GRAPH),
     Case("order: a lent array by its name there", ["order", "k", "a.c", "--watch", "q"], {"a.c": LENT}, 1,
          "a.c:1:103: warning: watched: one part writes a, which a predicate reads, and another has nodes\n", needs=GRAPH),
@@ -114,16 +114,43 @@ def watched_restricts(folder):
     def of(source, query, ends):
         return order.restriction("k", [source], query, ends, folder)
 
-    yield of("a.c", "cover @ENTRY(i) {g == 0}", "returned") == "C leaves the order of evaluation open at a.c:1:96 (watched)"
+    yield of("a.c", "cover {g == 0} . @ENTRY(i)", "returned") == "C leaves the order of evaluation open at a.c:1:96 (watched)"
     yield of("a.c", "cover @ENTRY(i)", "returned") == ""
     yield of("b.c", "cover ID", "returned") == ""
     yield of("b.c", "cover ID", "trapped") == "C leaves the order of evaluation open at b.c:1:40 (strict)"
 
 
-def lcov_leaves_nothing_out(folder):
-    put(folder, {"a.c": OPERANDS, "in": "0\n"})
-    report = subprocess.run([programs.LAUNCHER, "generate", "k", "cover ID", "a.c"], cwd=folder, capture_output=True, text=True)
+def put_report(folder, text, query):
+    """A source and a report of what is generated for a query of it."""
+    put(folder, {"a.c": text, "in": "0\n"})
+    report = subprocess.run([programs.LAUNCHER, "generate", "k", query, "a.c"], cwd=folder, capture_output=True, text=True)
     put(folder, {"report": report.stdout})
+
+
+def explain_is_restricted(folder):
+    """A report's query isn't known, so its predicates may read anything."""
+    last = "no refuted goal is called unreachable: "
+    put_report(folder, OPERANDS, "cover @CONDITIONEDGE")
+    yield run(folder, ["explain", "report", "a.c", "--entry", "k"]).stdout.splitlines()[-1] == last + OPEN
+    put_report(folder, WATCH, "cover {g == 0} . @ENTRY(i)")
+    told_of = run(folder, ["explain", "report", "a.c", "--entry", "k"]).stdout.splitlines()[-1]
+    yield told_of == last + "C leaves the order of evaluation open at a.c:1:96 (watched)"
+    put_report(folder, FREE, "cover @CONDITIONEDGE")
+    lines = run(folder, ["explain", "report", "a.c", "--entry", "k"]).stdout.splitlines()
+    yield "goal 1: unreachable" in lines and not any(last in line for line in lines)
+
+
+def page_is_restricted(folder):
+    for text, is_restricted in ((OPERANDS, True), (FREE, False)):
+        put_report(folder, text, "cover @CONDITIONEDGE")
+        words = ["page", "report", "-o", "new", "--source", "a.c", "--entry", "k", "--query", "cover @CONDITIONEDGE"]
+        yield run(folder, words).returncode == 0
+        with open(os.path.join(folder, "new"), encoding="utf-8") as file:
+            yield (OPEN in file.read()) == is_restricted
+
+
+def lcov_leaves_nothing_out(folder):
+    put_report(folder, OPERANDS, "cover ID")
     ended = run(folder, ["lcov", "k", "in", "a.c", "-o", "new", "--refuted", "report"])
     yield ended.returncode == 2 and OPEN in ended.stderr and not os.path.exists(os.path.join(folder, "new"))
 
@@ -241,6 +268,7 @@ def programs_by_compilers(folder):
 
 
 TRIED = [(GRAPH, wrong_words), (GRAPH, as_json), (GRAPH, rows_by_c), (GRAPH, watched_restricts), (GRAPH, lcov_leaves_nothing_out),
+         (GRAPH, explain_is_restricted), (("graph", "jinja2"), page_is_restricted),
          (("graph", "parallel"), a_campaign_that_is_restricted), (("pycparser",), rows_by_all_orders),
          (("pycparser",), programs_by_all_orders), (("pycparser",), watched_by_all_orders),
          (("graph", "gcc", "clang"), rows_by_compilers), (("graph", "gcc", "clang"), programs_by_compilers)]  # fmt: skip

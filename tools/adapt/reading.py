@@ -114,7 +114,8 @@ class Places:
         number, name, flags = int(marker.group(1)), marker.group(2), marker.group(3).split()
         if "1" in flags:
             self.stack.append((self.file, self.alias))
-            self.file, self.line, self.alias = name, number, ("", 0)
+            # (a header that is named by two ways is one file)
+            self.file, self.line, self.alias = os.path.normpath(name), number, ("", 0)
         elif "2" in flags and self.stack:
             if self.file not in self.unit.files and not is_system(self.file):
                 self.unit.files.append(self.file)

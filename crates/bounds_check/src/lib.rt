@@ -4,18 +4,21 @@
 //! (`unwinder`): by unwound_laws an input leaves the bounds exactly where no entry that holds in its world has ended. One
 //! literal of the unwinding's circuit says so, and goal_formula gives its formula (`staying.rt`), which is searched (`search`).
 //! A model is an input that leaves the bounds (`leaving.rt`); a derivation is confirmed (`confirmation`) before the bounds are
-//! said to suffice; a search that spent its budget is handed out with its formula.
+//! said to suffice; a search that spent its budget is handed out with its formula. [`bounds_formula`] in formula.rt gives that
+//! formula alone, for whoever checks a derivation over it.
 //!
 //! The definitions are in specs/: `Leaving` (when a formula is exact for leaving the bounds), `Sufficing` (what is said of each
 //! answer), `Laws` (where no input leaves the bounds, a goal that is refuted within them is unreachable), and for the parts
 //! below `Parts`.
 #![tactic(auto)]
 
+mod formula;
 pub mod laws;
 mod leaving;
 mod staying;
 mod suffice;
 mod sufficing;
 
+pub use formula::bounds_formula;
 pub use suffice::Suffice;
 pub use sufficing::bounds_suffice;

@@ -12,12 +12,13 @@ use Rattle.goals.specs.GoalForm.{GoalForm}
 use Rattle.goals.specs.declared.plan.Plan.{Plan}
 use Rattle.report.specs.Generated.{sample_text}
 use Rattle.sample.specs.Sample.{query_text}
-use Rattle.command_words.specs.Request.{Checking, Generating, Proving, Sufficing}
+use Rattle.command_words.specs.Request.{Checking, CheckingBounds, Generating, Proving, Sufficing}
 use Rattle.command.specs.declared.reply.Reply.{Reply}
 use Rattle.command.specs.Asked.{sample_file}
 use Rattle.command.specs.Certificates as certificates
 use Rattle.command.specs.Certificates.{AreCertificateOf}
 use Rattle.command.specs.Checking.{IsChecked, IsDueOfCheck}
+use Rattle.command.specs.CheckingBounds.{IsCheckedBounds, IsDueOfCheckBounds}
 use Rattle.command.specs.Generating.{IsDueOfGenerate, IsGeneration, generated_report}
 use Rattle.command.specs.Lowering.{IsDueOfLeast, IsLowered}
 use Rattle.command.specs.Proving.{IsDueOfProve, IsProved}
@@ -30,6 +31,7 @@ use Rattle.command.specs.Runs.{EntryFunction, entry_of}
 use Rattle.command.specs.Said.{Said}
 use Rattle.command.specs.Sampling.{IsSampled, default_bounds, default_budget}
 use Rattle.command.specs.Stages.{OfCertificate, OfGoal, OfQuery, no_such_entry, no_such_goal}
+use Rattle.command.specs.declared.sufficing.Form.{Form}
 use Rattle.command.specs.Sufficing.{IsAskedOfBounds, IsDueOfBounds}
 use Rattle.command.specs.Watched.{Watched}
 use Rattle.command.proofs.GivesLaws.{gives_map, tells_map}
@@ -107,13 +109,31 @@ module _ (m : Proving) (graph : GraphParts) where
           (λ said due. least_at said (inr (p, (plan, planned, goal_some plan m.goal (LeastThen entry p plan) found.0 found.1 said due))))
           (gives found.0 found.1)
 
-module _ (m : Sufficing) (graph : GraphParts) where
-  pub bounds_no_entry : entry_of graph m.entry ≡ None → IsDueOfBounds m graph no_such_entry
+module _ (form : Form) (m : Sufficing) (graph : GraphParts) where
+  pub bounds_no_entry : entry_of graph m.entry ≡ None → IsDueOfBounds form m graph no_such_entry
   bounds_no_entry none = rw none refl
 
   pub bounds_gives : (entry : EntryFunction) → entry_of graph m.entry ≡ Some entry → (w : Watched) (r : Result Reply Fault)
-      → Gives (IsAskedOfBounds graph entry (within m.bounds) m.sources m.budget) m.sources w r → Gives (IsDueOfBounds m graph) m.sources w r
-  bounds_gives entry some w r = gives_map (IsAskedOfBounds graph entry (within m.bounds) m.sources m.budget) (IsDueOfBounds m graph) m.sources w r (λ said due. rw some due)
+      → Gives (IsAskedOfBounds form graph entry (within m.bounds) m.sources m.budget) m.sources w r → Gives (IsDueOfBounds form m graph) m.sources w r
+  bounds_gives entry some w r =
+      gives_map (IsAskedOfBounds form graph entry (within m.bounds) m.sources m.budget) (IsDueOfBounds form m graph) m.sources w r (λ said due. rw some due)
+
+module _ (r : Reads) (m : CheckingBounds) (graph : GraphParts) where
+  pub check_bounds_no_entry : entry_of graph m.entry ≡ None → IsDueOfCheckBounds r m graph no_such_entry
+  check_bounds_no_entry none = rw none refl
+
+  module _ (entry : EntryFunction) (some : entry_of graph m.entry ≡ Some entry) where
+    check_bounds_at : (said : Said) → OfCertificate r m.sources m.certificate (IsCheckedBounds m graph entry) said → IsDueOfCheckBounds r m graph said
+    check_bounds_at said due = rw some due
+
+    pub check_bounds_no_certificate : (e : Fault) → IfRefused e (certificates.IsRefused r m.certificate) → IfRefused e (λ x. IsDueOfCheckBounds r m graph (said_by m.sources x))
+    check_bounds_no_certificate e cause = refused_map e cause (λ x why. check_bounds_at (said_by m.sources x) (inl (x, why, refl)))
+
+    pub check_bounds_tells : (theirs : Formula) (derivation : Derivation) → AreCertificateOf r m.certificate theirs derivation → (a : Result Reply Fault)
+        → Tells (IsCheckedBounds m graph entry theirs derivation) m.sources a → Tells (IsDueOfCheckBounds r m graph) m.sources a
+    check_bounds_tells theirs derivation held a =
+        tells_map (IsCheckedBounds m graph entry theirs derivation) (IsDueOfCheckBounds r m graph) m.sources a
+        (λ said due. check_bounds_at said (inr (theirs, (derivation, held, due))))
 
 module _ (r : Reads) (m : Checking) (graph : GraphParts) where
   abbrev CheckThen : EntryFunction → Predicates → Plan → GoalForm → Said → Type 0

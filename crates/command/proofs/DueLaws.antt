@@ -18,10 +18,11 @@ use Rattle.goals.specs.declared.plan.Plan.{Plan}
 use Rattle.trace_file.specs.declared.trace.Trace.{Trace}
 use Rattle.typed_trees.specs.declared.unit.Typed.{Typed}
 use Rattle.command_words.specs.Reading.{Text}
-use Rattle.command_words.specs.Request.{Checking, Measuring, Replaying, Running, Tracing}
+use Rattle.command_words.specs.Request.{Checking, CheckingBounds, Measuring, Replaying, Running, Tracing}
 use Rattle.command.specs.Certificates as certificates
 use Rattle.command.specs.Certificates.{AreCertificateOf}
 use Rattle.command.specs.Checking.{IsChecked, IsDueOfCheck}
+use Rattle.command.specs.CheckingBounds.{IsCheckedBounds, IsDueOfCheckBounds}
 use Rattle.command.specs.Due.{IsDueOfMeasure, IsDueOfReplay, IsDueOfRuns, IsDueOfTraces, IsDueOfTrees}
 use Rattle.command.specs.Inputs.{AreRefused, at_read, at_form}
 use Rattle.command.specs.Inputs as inputs
@@ -255,6 +256,13 @@ module _ (holds held : List ℕ → Option (List ℕ)) (last : Option (Option (L
                   said (λ goal. certificate_since m.sources m.certificate (IsChecked m graph entry made.0 made.1.0 goal) said) made.1.2,
             ),
           )
+
+  pub check_bounds_since : (m : CheckingBounds) (graph : GraphParts) (said : Said) → IsDueOfCheckBounds since m graph said → IsDueOfCheckBounds all m graph said
+  check_bounds_since m graph said due =
+      entry_since graph m.entry
+      (λ entry. OfCertificate since m.sources m.certificate (IsCheckedBounds m graph entry))
+      (λ entry. OfCertificate all m.sources m.certificate (IsCheckedBounds m graph entry))
+      said (λ entry. certificate_since m.sources m.certificate (IsCheckedBounds m graph entry) said) due
 
 -- ---- a run can start on each of the inputs
 

@@ -1,8 +1,9 @@
 -- How a run ends.
-use Rattle.std.proofs.Common.{◌≡◌, ℕ, Bool, List, [], None, Some, inl, inr, refl, sym, ap, subst, append-nil}
+use Rattle.std.proofs.Common.{◌≡◌, ℕ, List, [], None, Some, inl, inr, refl, sym, ap, subst, append-nil}
 use Rattle.std.specs.Prelude.{Option, IsSomeAnd, MatchOption}
 use Rattle.std.specs.Io.KnownBytes.{Appends, Keeps}
 use Rattle.fq_core.specs.declared.refusal.Refusal.{Refusal}
+use Rattle.fq_io.specs.declared.sinks.Sink.{Ghosts}
 use Rattle.suite.specs.Generated.{Shown}
 use Rattle.command.specs.declared.status.Status.{Status}
 use Rattle.command.specs.declared.status.Status.TheVariants as status
@@ -50,27 +51,27 @@ module _ (due : Said → Type 0) (wanted : Status) (bytes : List ℕ) (shown : L
       (record { status = Some wanted; out = []; err = bytes; shown = shown }, is, ap Some (sym written.0), (Appends-nil out.before out.after none, written.1), is_shown)
 
   -- what is due is written to one sink, and the other one is as it was
-  pub ends_answered : {S : Type 0} (taken : S → Option (List ℕ)) (faults : S → ℕ) (may_lack_memory : Bool) (e : S) (s : Status) (out : Writes)
-      → due (record { status = Some wanted; out = bytes; err = []; shown = shown }) → EndsWriting wanted bytes s out → Ends due s out (writes taken faults may_lack_memory e e) watch
-  ends_answered taken faults may_lack_memory e s out is written = ends_out s out (writes taken faults may_lack_memory e e) is written (Keeps-refl (taken e))
+  pub ends_answered : {S : Type 0} (sink : Ghosts S) (e : S) (s : Status) (out : Writes)
+      → due (record { status = Some wanted; out = bytes; err = []; shown = shown }) → EndsWriting wanted bytes s out → Ends due s out (writes sink e e) watch
+  ends_answered sink e s out is written = ends_out s out (writes sink e e) is written (Keeps-refl (sink.taken e))
 
-  pub ends_rejected : {S : Type 0} (taken : S → Option (List ℕ)) (faults : S → ℕ) (may_lack_memory : Bool) (o : S) (s : Status) (err : Writes)
-      → due (record { status = Some wanted; out = []; err = bytes; shown = shown }) → EndsWriting wanted bytes s err → Ends due s (writes taken faults may_lack_memory o o) err watch
-  ends_rejected taken faults may_lack_memory o s err is written = ends_err s (writes taken faults may_lack_memory o o) err is written (Keeps-refl (taken o))
+  pub ends_rejected : {S : Type 0} (sink : Ghosts S) (o : S) (s : Status) (err : Writes)
+      → due (record { status = Some wanted; out = []; err = bytes; shown = shown }) → EndsWriting wanted bytes s err → Ends due s (writes sink o o) err watch
+  ends_rejected sink o s err is written = ends_err s (writes sink o o) err is written (Keeps-refl (sink.taken o))
 
 -- a refusal that is due is written, or its writing is cut short, and the watch was shown nothing
-pub ends_refused : {S : Type 0} (taken : S → Option (List ℕ)) (faults : S → ℕ) (may_lack_memory : Bool) (o : S) (due : Said → Type 0) (sources : List (List ℕ))
+pub ends_refused : {S : Type 0} (sink : Ghosts S) (o : S) (due : Said → Type 0) (sources : List (List ℕ))
     (refusal : Refusal) (s : Status) (err : Writes) (watch : Watched) → due (said_by sources refusal) → IsShownNone watch → Refuses sources refusal s err
-    → Ends due s (writes taken faults may_lack_memory o o) err watch
+    → Ends due s (writes sink o o) err watch
 unfolding said_by
-ends_refused taken faults may_lack_memory o due sources refusal s err watch is none refuses =
+ends_refused sink o due sources refusal s err watch is none refuses =
     by (status_of refusal.code) is refuses
   where
     by : (known : Option Status) → due (refused known (line_of sources refusal)) → IsSomeAnd known (λ wanted. EndsWriting wanted (line_of sources refusal) s err)
-        → Ends due s (writes taken faults may_lack_memory o o) err watch
+        → Ends due s (writes sink o o) err watch
     by None said written = absurd written
     by (Some wanted) said written =
-        ends_rejected due wanted (line_of sources refusal) [] watch (shown_nothing watch none) taken faults may_lack_memory o s err said written
+        ends_rejected due wanted (line_of sources refusal) [] watch (shown_nothing watch none) sink o s err said written
 
 -- a reply that is due is written, or its writing is cut short
 pub ends_reply : (due : Said → Type 0) (r : Reply) (s : Status) (out err : Writes) (watch : Watched) (shown : List Shown) → due (said_in r shown) → IsShown shown watch

@@ -12,7 +12,7 @@ use Rattle.command_words.specs.declared.command_option.CommandOption.TheVariants
 use Rattle.command_words.specs.declared.requests.Bounds.{Bounds}
 use Rattle.command_words.specs.Reading.{Text, Use, reading, values}
 use Rattle.command_words.specs.Request as asks
-use Rattle.command_words.specs.Request.{Asked, asked_by, bounds_of, bounds_with, check_of, checked, generate_of, generated, goal_in, goals_of, graph_of, least_of, listed, lowered, measure_of, measured, number_in, number_of, positionals_of, printed, prove_of, proved, replay_of, replayed, request_of, run_on_trees, run_with, runs_of, sample_of, sampled, suffice_of, sufficed, traced, traces_of, trees_of}
+use Rattle.command_words.specs.Request.{Asked, asked_by, bounds_checked, bounds_of, bounds_proved, bounds_with, check_bounds_of, check_of, checked, generate_of, generated, goal_in, goals_of, graph_of, least_of, listed, lowered, measure_of, measured, number_in, number_of, of_bounds, positionals_of, printed, prove_bounds_of, prove_of, proved, replay_of, replayed, request_of, run_on_trees, run_with, runs_of, sample_of, sampled, suffice_of, sufficed, traced, traces_of, trees_of}
 use Rattle.command.specs.Ranges.{AreBounds, IsInRange}
 
 -- ---- numbers
@@ -81,6 +81,14 @@ module _ (a : Asked) where
   sufficed_within (entry ∷ source ∷ sources) (Some b) (Some n) ok is = asked_is _ ok is
   sufficed_within words bounds budget ok is = none_asked is
 
+  bounds_proved_within : (words : List Text) (bounds : Option Bounds) (budget : Option ℕ) → IfSome bounds AreBounds → bounds_proved words bounds budget ≡ Some a → IsInRange a
+  bounds_proved_within (entry ∷ source ∷ sources) (Some b) (Some n) ok is = asked_is _ ok is
+  bounds_proved_within words bounds budget ok is = none_asked is
+
+  bounds_checked_within : (words : List Text) (bounds : Option Bounds) → IfSome bounds AreBounds → bounds_checked words bounds ≡ Some a → IsInRange a
+  bounds_checked_within (entry ∷ certificate ∷ source ∷ sources) (Some b) ok is = asked_is _ ok is
+  bounds_checked_within words bounds ok is = none_asked is
+
   lowered_within : (words : List Text) (bounds : Option Bounds) (ends : Option Ends) (budget : Option ℕ)
       → IfSome bounds AreBounds → lowered words bounds ends budget ≡ Some a → IsInRange a
   lowered_within (entry ∷ query ∷ number ∷ source ∷ sources) (Some b) (Some e) (Some n) ok is =
@@ -137,6 +145,14 @@ module _ (a : Asked) where
   choose true x y left right is = left is
   choose false x y left right is = right is
 
+  of_bounds_within : (name : Text) (words : List Text) → of_bounds name words ≡ Some a → IsInRange a
+  unfolding of_bounds
+  of_bounds_within name words is =
+      choose (bytes_eq name (codes "bounds")) _ _ (asked_within suffice_of (Turns ∷ Frames ∷ Answers ∷ Budget ∷ []) words (λ uses. sufficed_within _ _ _ (bounds_ok uses)))
+      (choose (bytes_eq name (codes "prove-bounds")) _ _ (asked_within prove_bounds_of (Turns ∷ Frames ∷ Answers ∷ Budget ∷ []) words (λ uses. bounds_proved_within _ _ _ (bounds_ok uses)))
+      (choose (bytes_eq name (codes "check-bounds")) _ _ (asked_within check_bounds_of (Turns ∷ Frames ∷ Answers ∷ []) words (λ uses. bounds_checked_within _ _ (bounds_ok uses)))
+      none_asked)) is
+
   -- what words ask for is in range
   pub in_range : (words : List Text) → request_of words ≡ Some a → IsInRange a
   in_range [] is = none_asked is
@@ -147,10 +163,9 @@ module _ (a : Asked) where
       (choose (bytes_eq name (codes "runs")) _ _ (asked_within runs_of (Steps ∷ []) words (λ uses. run_within _ _))
       (choose (bytes_eq name (codes "prove")) _ _ (asked_within prove_of (Turns ∷ Frames ∷ Answers ∷ ends_option ∷ Budget ∷ []) words (λ uses. proved_within _ _ _ _ (bounds_ok uses)))
       (choose (bytes_eq name (codes "check")) _ _ (asked_within check_of (Turns ∷ Frames ∷ Answers ∷ ends_option ∷ []) words (λ uses. checked_within _ _ _ (bounds_ok uses)))
-      (choose (bytes_eq name (codes "bounds")) _ _ (asked_within suffice_of (Turns ∷ Frames ∷ Answers ∷ Budget ∷ []) words (λ uses. sufficed_within _ _ _ (bounds_ok uses)))
       (choose (bytes_eq name (codes "least")) _ _ (asked_within least_of (Turns ∷ Frames ∷ Answers ∷ ends_option ∷ Budget ∷ []) words (λ uses. lowered_within _ _ _ _ (bounds_ok uses)))
       (choose (bytes_eq name (codes "traces")) _ _ (asked_within traces_of (Steps ∷ ends_option ∷ []) words (λ uses. traced_within _ _ _))
       (choose (bytes_eq name (codes "replay")) _ _ (asked_within replay_of (ends_option ∷ Json ∷ []) words (λ uses. replayed_within _ _ _))
       (choose (bytes_eq name (codes "trees")) _ _ (asked_within trees_of (Steps ∷ []) words (λ uses. trees_within _ _))
       (choose (bytes_eq name (codes "graph")) _ _ (asked_within graph_of [] words (λ uses. printed_within (positionals_of uses)))
-      (choose (bytes_eq name (codes "sample")) _ _ (asked_within sample_of [] words (λ uses. sampled_within (positionals_of uses))) none_asked)))))))))))) is
+      (choose (bytes_eq name (codes "sample")) _ _ (asked_within sample_of [] words (λ uses. sampled_within (positionals_of uses))) (of_bounds_within name words)))))))))))) is

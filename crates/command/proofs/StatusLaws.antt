@@ -25,6 +25,7 @@ use Rattle.goals.specs.declared.plan.Plan.{Plan}
 use Rattle.path_runner.specs.declared.path.PathRecord.{PathRecord}
 use Rattle.reached.specs.declared.bounds.Bounds.{Bounds}
 use Rattle.report.specs.Generated.{sample_text}
+use Rattle.report.specs.Suffice.{suffice_text}
 use Rattle.report.specs.Texts.{goals_text, runs_text}
 use Rattle.trace_file.specs.Written.{traces_text}
 use Rattle.sample.specs.Sample.{query_text}
@@ -42,11 +43,13 @@ use Rattle.typing_faults.specs.Laws.{IsOneOf}
 use Rattle.unwinder.specs.Unwinding.{IsUnwindFault}
 use Rattle.command_words.specs.Reading.{Text}
 use Rattle.command_words.specs.Request as asks
-use Rattle.command_words.specs.Request.{Asked, Checking, Generating, Listing, Measuring, Proving, Replaying, Running, Sufficing, Tracing}
+use Rattle.command_words.specs.Request.{Asked, Checking, CheckingBounds, Generating, Listing, Measuring, Proving, Replaying, Running, Sufficing, Tracing}
 use Rattle.command.specs.Asked.{sample_file}
 use Rattle.command.specs.Certificates as certificates
-use Rattle.command.specs.Checking.{IsChecked, IsCompared, IsDueOfCheck, said_of_verdict}
+use Rattle.command.specs.Checking.{IsChecked, IsDueOfCheck, accepted_text}
+use Rattle.command.specs.CheckingBounds.{IsCheckedBounds, IsDueOfCheckBounds}
 use Rattle.command.specs.Codes.{RefusalsHaveTheirCodes, certificate_codes, input_codes, query_codes, trace_codes, unread_codes}
+use Rattle.command.specs.Comparing.{IsCompared, said_of_verdict}
 use Rattle.command.specs.Due.{IsDueOf, IsDueOfGoals, IsDueOfGraph, IsDueOfMeasure, IsDueOfReplay, IsDueOfRuns, IsDueOfTraces, IsDueOfTrees}
 use Rattle.command.specs.Generating.{IsDueOfGenerate, IsGeneration, generated_report}
 use Rattle.command.specs.Inputs as inputs
@@ -65,6 +68,8 @@ use Rattle.command.specs.Said.{Said, answered}
 use Rattle.command.specs.Sampling.{IsSampled, default_bounds, default_budget, sample_source}
 use Rattle.command.specs.Sources.{AreRefused, IsReadUpTo}
 use Rattle.command.specs.Stages.{OfCertificate, OfEntry, OfGoal, OfInputs, OfQuery, OfSources, OfTexts, OfTraces, OfTrees, Says, no_such_entry, no_such_goal}
+use Rattle.command.specs.declared.sufficing.Form.{Form}
+use Rattle.command.specs.declared.sufficing.Form.TheVariants as form
 use Rattle.command.specs.Sufficing.{IsAskedOfBounds, IsDueOfBounds, said_of_bounds}
 use Rattle.command.specs.Traces as traces
 use Rattle.command.specs.Traces.{inputs_in, longest}
@@ -218,13 +223,13 @@ traced_told graph entry ends steps given said is = by (nat_lt most_listed (edges
     by true e = nowhere_coded 54 (place.Limit most_listed) said refl e
     by false e = answered_done _ said e
 
-module _ (graph : GraphParts) (entry : EntryFunction) (bounds : Bounds) where
-  found_told : (s : Suffice) (said : Said) → said ≡ said_of_bounds graph entry bounds s → HasStatus said
+module _ (shape : Form) (graph : GraphParts) (entry : EntryFunction) (bounds : Bounds) where
+  found_told : (s : Suffice) (said : Said) → said ≡ said_of_bounds shape graph entry bounds s → HasStatus said
   found_told (suffice.Yes formula derivation) said is = answered_done _ said is
   found_told (suffice.Left input) said is = answered_done _ said is
   found_told (suffice.Open formula history) said is = subst HasStatus (sym is) refl
 
-  asked_told : (names : List Text) (budget : ℕ) (said : Said) → IsAskedOfBounds graph entry bounds names budget said → HasStatus said
+  asked_told : (names : List Text) (budget : ℕ) (said : Said) → IsAskedOfBounds shape graph entry bounds names budget said → HasStatus said
   asked_told names budget said (inl says) =
       says_coded names (λ (x : Refusal). IsUnwindFault graph no_predicates bounds entry.function (fault.Refused x)) said
       (unwind_coded graph entry.function no_predicates bounds) says
@@ -257,21 +262,30 @@ module _ (graph : GraphParts) (entry : EntryFunction) (p : Predicates) (plan : P
       says_coded names (IsGoalRefused graph entry.function p plan bounds goal) said (goal_coded graph entry.function p plan bounds goal) says
   lowered_told names budget said (inr made) = least_told number bounds ends made.1.0 said made.1.3
 
-module _ (m : Checking) where
-  verdict_told : (v : Verdict) (said : Said) → said ≡ said_of_verdict m v → HasStatus said
+module _ (text : List ℕ) where
+  verdict_told : (v : Verdict) (said : Said) → said ≡ said_of_verdict text v → HasStatus said
   verdict_told verdict.Yes said is = answered_done _ said is
   verdict_told (verdict.BadStep line) said is = nowhere_coded 92 (place.Line line) said refl is
   verdict_told verdict.NoEmptyClause said is = nowhere_coded 93 place.Nowhere said refl is
 
-  compared_told : (theirs ours : Formula) (derivation : Derivation) (said : Said) → IsCompared m theirs ours derivation said → HasStatus said
+  compared_told : (theirs ours : Formula) (derivation : Derivation) (said : Said) → IsCompared text theirs ours derivation said → HasStatus said
   compared_told theirs ours derivation said (inl other) = subst HasStatus (sym other.2) refl
   compared_told theirs ours derivation said (inr same) = verdict_told same.1.0 said same.1.2
 
+module _ (m : Checking) where
   checked_told : (graph : GraphParts) (entry : EntryFunction) (p : Predicates) (plan : Plan) (goal : GoalForm) (theirs : Formula) (derivation : Derivation) (said : Said)
       → IsChecked m graph entry p plan goal theirs derivation said → HasStatus said
   checked_told graph entry p plan goal theirs derivation said (inl says) =
       says_coded m.sources (IsGoalRefused graph entry.function p plan (within m.bounds) goal) said (goal_coded graph entry.function p plan (within m.bounds) goal) says
-  checked_told graph entry p plan goal theirs derivation said (inr made) = compared_told theirs (made.1.0).formula derivation said made.1.2
+  checked_told graph entry p plan goal theirs derivation said (inr made) = compared_told (accepted_text m) theirs (made.1.0).formula derivation said made.1.2
+
+module _ (m : CheckingBounds) where
+  checked_bounds_told : (graph : GraphParts) (entry : EntryFunction) (theirs : Formula) (derivation : Derivation) (said : Said)
+      → IsCheckedBounds m graph entry theirs derivation said → HasStatus said
+  checked_bounds_told graph entry theirs derivation said (inl says) =
+      says_coded m.sources (λ (x : Refusal). IsUnwindFault graph no_predicates (within m.bounds) entry.function (fault.Refused x)) said
+      (unwind_coded graph entry.function no_predicates (within m.bounds)) says
+  checked_bounds_told graph entry theirs derivation said (inr made) = compared_told (suffice_text (within m.bounds)) theirs made.1.0 derivation said made.1.2
 
 -- ---- the commands
 
@@ -307,8 +321,11 @@ module _ (law : RefusedByTheseCodes) (r : Reads) where
       of_entry law graph m.entry _ (λ entry. of_query law m.sources graph m.query _ (λ p plan. of_goal law plan m.goal _ (λ goal.
       of_certificate law r m.sources m.certificate _ (checked_told m graph entry p plan goal))))
 
-  bounds_told : (m : Sufficing) (graph : GraphParts) (said : Said) → IsDueOfBounds m graph said → HasStatus said
-  bounds_told m graph = of_entry law graph m.entry _ (λ entry. asked_told graph entry (within m.bounds) m.sources m.budget)
+  bounds_told : (shape : Form) (m : Sufficing) (graph : GraphParts) (said : Said) → IsDueOfBounds shape m graph said → HasStatus said
+  bounds_told shape m graph = of_entry law graph m.entry _ (λ entry. asked_told shape graph entry (within m.bounds) m.sources m.budget)
+
+  check_bounds_told : (m : CheckingBounds) (graph : GraphParts) (said : Said) → IsDueOfCheckBounds r m graph said → HasStatus said
+  check_bounds_told m graph = of_entry law graph m.entry _ (λ entry. of_certificate law r m.sources m.certificate _ (checked_bounds_told m graph entry))
 
   lowest_told : (m : Proving) (graph : GraphParts) (said : Said) → IsDueOfLeast m graph said → HasStatus said
   lowest_told m graph =
@@ -343,7 +360,9 @@ module _ (law : RefusedByTheseCodes) (r : Reads) where
   due_told (asks.runs m) said due = of_sources law r m.sources (IsDueOfRuns r m) (runs_told m) said due
   due_told (asks.prove m) said due = of_sources law r m.sources (IsDueOfProve m) (prove_told m) said due
   due_told (asks.check m) said due = of_sources law r m.sources (IsDueOfCheck r m) (check_told m) said due
-  due_told (asks.suffice m) said due = of_sources law r m.sources (IsDueOfBounds m) (bounds_told m) said due
+  due_told (asks.suffice m) said due = of_sources law r m.sources (IsDueOfBounds form.Line m) (bounds_told form.Line m) said due
+  due_told (asks.prove_bounds m) said due = of_sources law r m.sources (IsDueOfBounds form.Certificate m) (bounds_told form.Certificate m) said due
+  due_told (asks.check_bounds m) said due = of_sources law r m.sources (IsDueOfCheckBounds r m) (check_bounds_told m) said due
   due_told (asks.least m) said due = of_sources law r m.sources (IsDueOfLeast m) (lowest_told m) said due
   due_told (asks.traces m) said due = of_sources law r m.sources (IsDueOfTraces r m) (traces_told m) said due
   due_told (asks.replay m) said due = of_sources law r m.sources (IsDueOfReplay r m) (replay_told m) said due

@@ -1,6 +1,6 @@
 -- The automaton and the typed tree of texts.
 use Rattle.std.proofs.Common.{refl}
-use Rattle.std.specs.Prelude.{ℕ, IsErrOf, List, Result, Ok, Err}
+use Rattle.std.specs.Prelude.{ℕ, IsErrOf, List, Result, Err}
 use Rattle.fq_core.specs.Refusals.{IfRefused, refusal}
 use Rattle.fq_core.specs.declared.refusal.Fault.{Fault}
 use Rattle.fq_core.specs.declared.refusal.Fault.TheVariants as fault

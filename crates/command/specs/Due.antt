@@ -8,6 +8,7 @@ use Rattle.command_words.specs.Reading.{Text}
 use Rattle.command_words.specs.Request as asks
 use Rattle.command_words.specs.Request.{Asked, measure, generate, goals, runs, prove, check, suffice, sample, Measuring, Listing, Replaying, Running, Tracing, request_of}
 use Rattle.command.specs.Checking.{IsDueOfCheck}
+use Rattle.command.specs.CheckingBounds.{IsDueOfCheckBounds}
 use Rattle.command.specs.Generating.{IsDueOfGenerate}
 use Rattle.command.specs.Lowering.{IsDueOfLeast}
 use Rattle.command.specs.Measured.{IsMeasured}
@@ -18,6 +19,7 @@ use Rattle.command.specs.Recorded.{recorded}
 use Rattle.command.specs.Said.{Said, answered}
 use Rattle.command.specs.Sampling.{IsDueOfSample}
 use Rattle.command.specs.Stages.{OfEntry, OfInputs, OfQuery, OfSources, OfTraces, OfTrees, usage}
+use Rattle.command.specs.declared.sufficing.Form.TheVariants as form
 use Rattle.command.specs.Sufficing.{IsDueOfBounds}
 use Rattle.command.specs.Traces.{inputs_in, longest}
 use Rattle.command.specs.Tracing.{traced}
@@ -64,7 +66,9 @@ module _ (r : Reads) where
   IsDueOf (runs m) said = OfSources r m.sources (IsDueOfRuns m) said
   IsDueOf (prove m) said = OfSources r m.sources (IsDueOfProve m) said
   IsDueOf (check m) said = OfSources r m.sources (IsDueOfCheck r m) said
-  IsDueOf (suffice m) said = OfSources r m.sources (IsDueOfBounds m) said
+  IsDueOf (suffice m) said = OfSources r m.sources (IsDueOfBounds form.Line m) said
+  IsDueOf (asks.prove_bounds m) said = OfSources r m.sources (IsDueOfBounds form.Certificate m) said
+  IsDueOf (asks.check_bounds m) said = OfSources r m.sources (IsDueOfCheckBounds r m) said
   IsDueOf (asks.least m) said = OfSources r m.sources (IsDueOfLeast m) said
   IsDueOf (asks.traces m) said = OfSources r m.sources (IsDueOfTraces m) said
   IsDueOf (asks.replay m) said = OfSources r m.sources (IsDueOfReplay m) said

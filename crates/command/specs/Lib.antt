@@ -2,7 +2,9 @@ pub mod Asked
 pub mod Certificates
 pub mod Certified
 pub mod Checking
+pub mod CheckingBounds
 pub mod Codes
+pub mod Comparing
 pub mod Due
 pub mod Entries
 pub mod Generating

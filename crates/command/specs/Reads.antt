@@ -1,6 +1,7 @@
 -- What is read of files.
 use Rattle.std.specs.Prelude.{◌≡◌, ◌<◌, ℕ, List, Option, Some, IfSome, length}
 use Rattle.fq_io.specs.Counts.{Rose, RosePast}
+use Rattle.fq_io.specs.declared.files.Files.{Ghosts}
 
 -- what the files told before a call, the name of the last read that failed after it, and the counts of faults and of
 -- received bytes
@@ -12,14 +13,14 @@ pub record Reads : Type 0 where
   pub received_before : ℕ
   pub received_after : ℕ
 
-abbrev pub reads : {F : Type 0} → (F → List ℕ → Option (List ℕ)) → (F → Option (Option (List ℕ))) → (F → ℕ) → (F → ℕ) → F → F → Reads
-reads holds last_failed faults received old new = record {
-  holds = holds old;
-  last_failed = last_failed new;
-  faults_before = faults old;
-  faults_after = faults new;
-  received_before = received old;
-  received_after = received new;
+abbrev pub reads : {F : Type 0} → Ghosts F → F → F → Reads
+reads files old new = record {
+  holds = files.holds old;
+  last_failed = files.last_failed new;
+  faults_before = files.faults old;
+  faults_after = files.faults new;
+  received_before = files.received old;
+  received_after = files.received new;
 }
 
 -- these are the bytes of the file, where files tell what they hold

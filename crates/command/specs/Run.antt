@@ -4,6 +4,7 @@ use Rattle.std.specs.Io.KnownBytes.{Appends, Keeps}
 use Rattle.fq_core.specs.declared.refusal.Refusal.{Refusal}
 use Rattle.fq_io.specs.Bytes.{AppendsPart}
 use Rattle.fq_io.specs.Counts.{Rose}
+use Rattle.fq_io.specs.declared.sinks.Sink.{Ghosts}
 use Rattle.command.specs.declared.status.Status.{Status}
 use Rattle.command.specs.declared.status.Status.TheVariants as status
 use Rattle.command.specs.Refusal.{line_of, status_of}
@@ -23,13 +24,13 @@ pub record Writes : Type 0 where
   pub faults_after : ℕ
   pub may_lack_memory : Bool
 
-abbrev pub writes : {S : Type 0} → (S → Option (List ℕ)) → (S → ℕ) → Bool → S → S → Writes
-writes taken faults may_lack_memory old new = record {
-  before = taken old;
-  after = taken new;
-  faults_before = faults old;
-  faults_after = faults new;
-  may_lack_memory = may_lack_memory;
+abbrev pub writes : {S : Type 0} → Ghosts S → S → S → Writes
+writes sink old new = record {
+  before = sink.taken old;
+  after = sink.taken new;
+  faults_before = sink.faults old;
+  faults_after = sink.faults new;
+  may_lack_memory = sink.may_lack_memory;
 }
 
 abbrev pub Gains : Writes → List ℕ → Type 0

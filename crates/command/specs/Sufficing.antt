@@ -4,6 +4,9 @@ use Rattle.fq_core.specs.declared.refusal.Fault.TheVariants as fault
 use Rattle.fq_core.specs.declared.refusal.Refusal.{Refusal}
 use Rattle.c_values.specs.declared.kinds.Kind.{Kind}
 use Rattle.cfa.specs.declared.parts.GraphParts.{GraphParts}
+use Rattle.certificate.specs.Certificates.{certificate_text}
+use Rattle.cnf.specs.declared.derivation.Derivation.{Derivation}
+use Rattle.cnf.specs.declared.formula.Formula.{Formula}
 use Rattle.bounds_check.specs.Sufficing.{IsOpenWhereShort, IsSuffice, IsWithinLimits}
 use Rattle.bounds_check.specs.declared.suffice.Suffice.{Suffice}
 use Rattle.bounds_check.specs.declared.suffice.Suffice.TheVariants.{Left, Open, Yes}
@@ -14,6 +17,8 @@ use Rattle.unwinder.specs.Unwinding.{IsUnwindFault}
 use Rattle.command_words.specs.Reading.{Text}
 use Rattle.command_words.specs.Request.{Sufficing}
 use Rattle.command.specs.declared.status.Status.TheVariants as status
+use Rattle.command.specs.declared.sufficing.Form.{Form}
+use Rattle.command.specs.declared.sufficing.Form.TheVariants.{Certificate, Line}
 use Rattle.command.specs.Ranges.{within}
 use Rattle.command.specs.Runs.{EntryFunction, no_predicates}
 use Rattle.command.specs.Said.{Said, answered}
@@ -25,11 +30,16 @@ HasInputFor kinds (Yes formula derivation) = Unit {0}
 HasInputFor kinds (Left input) = HasWords (length kinds) input
 HasInputFor kinds (Open formula history) = Unit {0}
 
-module _ (graph : GraphParts) (entry : EntryFunction) (bounds : Bounds) where
+-- what is written where no input leaves the bounds: the line that they suffice, or the certificate of the formula and its derivation
+abbrev pub sufficient_text : Form → Bounds → Formula → Derivation → List ℕ
+sufficient_text Line bounds formula derivation = suffice_text bounds
+sufficient_text Certificate bounds formula derivation = certificate_text formula derivation
+
+module _ (form : Form) (graph : GraphParts) (entry : EntryFunction) (bounds : Bounds) where
   -- What is said of what is found: no input leaves the bounds; this input does; or it stays open, and the watch is shown, as
   -- number 0, the formula of the inputs that leave and the history of its search.
   abbrev pub said_of_bounds : Suffice → Said
-  said_of_bounds (Yes formula derivation) = answered (suffice_text bounds)
+  said_of_bounds (Yes formula derivation) = answered (sufficient_text form bounds formula derivation)
   said_of_bounds (Left input) = answered (left_text graph entry.number input)
   said_of_bounds (Open formula history) =
       record { status = Some status.DoneOpen; out = open_bounds_text; err = []; shown = (0, formula, history) ∷ [] }
@@ -43,6 +53,6 @@ module _ (graph : GraphParts) (entry : EntryFunction) (bounds : Bounds) where
       × ((suffice : Suffice) × IsSuffice graph entry.function bounds budget suffice × IsOpenWhereShort graph entry.function bounds budget suffice
       × (said ≡ said_of_bounds suffice)))
 
--- what is due of `bounds`, by the sources' automaton
-abbrev pub IsDueOfBounds : Sufficing → GraphParts → Said → Type 0
-IsDueOfBounds m graph said = OfEntry graph m.entry (λ entry. IsAskedOfBounds graph entry (within m.bounds) m.sources m.budget) said
+-- what is due of `bounds`, which writes a line, and of `prove-bounds`, which writes a certificate, by the sources' automaton
+abbrev pub IsDueOfBounds : Form → Sufficing → GraphParts → Said → Type 0
+IsDueOfBounds form m graph said = OfEntry graph m.entry (λ entry. IsAskedOfBounds form graph entry (within m.bounds) m.sources m.budget) said

@@ -1,5 +1,6 @@
 -- What a watch is shown.
 use Rattle.std.specs.Prelude.{◌≡◌, List, Option}
+use Rattle.search.specs.declared.watch.Watch.{Ghosts}
 use Rattle.suite.specs.Generated.{Shown, seen_also}
 
 -- what a watch had seen before a call, and after it, where that is told
@@ -7,8 +8,8 @@ pub record Watched : Type 0 where
   pub before : Option (List Shown)
   pub after : Option (List Shown)
 
-abbrev pub watched : {W : Type 0} → (W → Option (List Shown)) → W → W → Watched
-watched seen old new = record { before = seen old; after = seen new }
+abbrev pub watched : {W : Type 0} → Ghosts W → W → W → Watched
+watched watch old new = record { before = watch.seen old; after = watch.seen new }
 
 -- it was shown this, in order, and nothing else
 abbrev pub IsShown : List Shown → Watched → Type 0

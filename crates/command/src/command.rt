@@ -3,7 +3,7 @@ ghost use Rattle.std.specs.Prelude.{◌≡◌, IsSome};
 ghost use Rattle.command_words.specs.Reading.{texts};
 ghost use Rattle.command_words.specs.Request.{asked, texts_at};
 ghost use Rattle.command.specs.Asked.{sources_of};
-ghost use Rattle.command.specs.Certified.{Certifies};
+ghost use Rattle.command.specs.Certified.{Certifies, CertifiesBounds};
 ghost use Rattle.command.specs.Due.{IsDue, IsDueOf};
 ghost use Rattle.command.specs.Ranges.{IsInRange};
 ghost use Rattle.command.specs.Refusal.{status_of};
@@ -29,7 +29,8 @@ static SAMPLE_SOURCES: [&str; 1] = ["sample.c"];
 /// Does what the words after the program's name ask for. The whole text is made before its first byte is written. The watch is
 /// shown each goal that stays undecided, with its formula and the history of its search.
 ///
-/// Where `check` is done, no input has a run within the bounds that hits the goal, whatever bytes the certificate has.
+/// Where `check` is done, no input has a run within the bounds that hits the goal, whatever bytes the certificate has. Where
+/// `check-bounds` is done, no input has a run that leaves the bounds.
 pub fn run<F: Files, O: Sink, E: Sink, W: Watch>(
     alloc: Global,
     words: &[String],
@@ -38,10 +39,11 @@ pub fn run<F: Files, O: Sink, E: Sink, W: Watch>(
     err: &mut E,
     watch: &mut W,
 ) -> Status
-    ensures ends { Ends (IsDue (reads F.holds F.last_failed F.faults F.received files.old files.new) (texts words.now))
-        result (writes O.taken O.faults O.may_lack_memory out.old out.new) (writes E.taken E.faults E.may_lack_memory err.old err.new)
-        (watched W.seen watch.old watch.new) }
-    ensures certificate { Certifies (reads F.holds F.last_failed F.faults F.received files.old files.new) (texts words.now) result }
+    ensures ends { Ends (IsDue (reads F.Files files.old files.new) (texts words.now))
+        result (writes O.Sink out.old out.new) (writes E.Sink err.old err.new)
+        (watched W.Watch watch.old watch.new) }
+    ensures certificate { Certifies (reads F.Files files.old files.new) (texts words.now) result }
+    ensures bounds_certificate { CertifiesBounds (reads F.Files files.old files.new) (texts words.now) result }
 {
     run_words(alloc, words, files, out, err, watch)
 }
@@ -55,9 +57,9 @@ fn run_words<F: Files, O: Sink, E: Sink, W: Watch>(
     err: &mut E,
     watch: &mut W,
 ) -> Status
-    ensures { Ends (IsDue (reads F.holds F.last_failed F.faults F.received files.old files.new) (texts words.now))
-        result (writes O.taken O.faults O.may_lack_memory out.old out.new) (writes E.taken E.faults E.may_lack_memory err.old err.new)
-        (watched W.seen watch.old watch.new) }
+    ensures { Ends (IsDue (reads F.Files files.old files.new) (texts words.now))
+        result (writes O.Sink out.old out.new) (writes E.Sink err.old err.new)
+        (watched W.Watch watch.old watch.new) }
 {
     match request(alloc, words) {
         Ok(request) => serve(alloc, &request, files, out, err, watch),
@@ -76,9 +78,9 @@ fn serve<F: Files, O: Sink, E: Sink, W: Watch>(
     watch: &mut W,
 ) -> Status
     requires { IsInRange (asked request.now) }
-    ensures { Ends (IsDueOf (reads F.holds F.last_failed F.faults F.received files.old files.new) (asked request.now))
-        result (writes O.taken O.faults O.may_lack_memory out.old out.new) (writes E.taken E.faults E.may_lack_memory err.old err.new)
-        (watched W.seen watch.old watch.new) }
+    ensures { Ends (IsDueOf (reads F.Files files.old files.new) (asked request.now))
+        result (writes O.Sink out.old out.new) (writes E.Sink err.old err.new)
+        (watched W.Watch watch.old watch.new) }
 {
     refused_by_these_codes();
     match answer(alloc, request, files, watch) {
@@ -100,6 +102,8 @@ fn sources_of<'a>(request: &'a Request<'a>) -> &'a [&'a str]
         Request::Prove(request) => &request.sources,
         Request::Check(request) => &request.sources,
         Request::Bounds(request) => &request.sources,
+        Request::ProveBounds(request) => &request.sources,
+        Request::CheckBounds(request) => &request.sources,
         Request::Least(request) => &request.sources,
         Request::Traces(request) => &request.sources,
         Request::Replay(request) => &request.sources,
@@ -111,7 +115,7 @@ fn sources_of<'a>(request: &'a Request<'a>) -> &'a [&'a str]
 
 // Writes what there is of an answer.
 fn write_reply<O: Sink, E: Sink>(reply: Reply, out: &mut O, err: &mut E) -> Status
-    ensures { WritesReply reply result (writes O.taken O.faults O.may_lack_memory out.old out.new) (writes E.taken E.faults E.may_lack_memory err.old err.new) }
+    ensures { WritesReply reply result (writes O.Sink out.old out.new) (writes E.Sink err.old err.new) }
 {
     match reply {
         Reply::Answer { text, left_open } => conclude(out, &text, left_open),
@@ -121,7 +125,7 @@ fn write_reply<O: Sink, E: Sink>(reply: Reply, out: &mut O, err: &mut E) -> Stat
 
 // Writes the text of an answer.
 fn conclude<O: Sink>(out: &mut O, text: &[u8], left_open: bool) -> Status
-    ensures { EndsWriting (status_with left_open) text.now result (writes O.taken O.faults O.may_lack_memory out.old out.new) }
+    ensures { EndsWriting (status_with left_open) text.now result (writes O.Sink out.old out.new) }
 {
     match write_all(out, text) {
         Ok(()) if left_open => Status::DoneOpen,
@@ -131,9 +135,9 @@ fn conclude<O: Sink>(out: &mut O, text: &[u8], left_open: bool) -> Status
     }
 }
 
-// Writes the line of a certificate whose formula isn't the goal's.
+// Writes the line of a certificate whose formula is another one than ours.
 fn reject<E: Sink>(err: &mut E, line: &[u8]) -> Status
-    ensures { EndsWriting Status.CertificateRejected line.now result (writes E.taken E.faults E.may_lack_memory err.old err.new) }
+    ensures { EndsWriting Status.CertificateRejected line.now result (writes E.Sink err.old err.new) }
 {
     match write_all(err, line) {
         Ok(()) => Status::CertificateRejected,
@@ -145,7 +149,7 @@ fn reject<E: Sink>(err: &mut E, line: &[u8]) -> Status
 // Writes the refusal's line.
 fn refuse<E: Sink>(alloc: Global, sources: &[&str], refusal: &Refusal, err: &mut E) -> Status
     requires { IsSome (status_of refusal.now.code) }
-    ensures { Refuses (texts_at sources.now) refusal.now result (writes E.taken E.faults E.may_lack_memory err.old err.new) }
+    ensures { Refuses (texts_at sources.now) refusal.now result (writes E.Sink err.old err.new) }
 {
     let Some(status) = refused_status(refusal.code) else {
         unreachable!()

@@ -1,8 +1,8 @@
-// The line of a certificate whose formula isn't the goal's.
+// The line of a certificate whose formula is another one than ours.
 ghost use Rattle.std.specs.Prelude.{◌≡◌, ◌++◌, IfOk, OnOk, Some};
 ghost use Rattle.std.specs.Option.{option_copied};
 ghost use Rattle.certificate.specs.Differences.{IsFirstDifference};
-ghost use Rattle.command.specs.Checking.{clause_or_none, difference_line, difference_text};
+ghost use Rattle.command.specs.Comparing.{clause_or_none, difference_line, difference_text};
 
 use certificate::Difference;
 use cnf::{Clause, Formula, push_clause, push_number};

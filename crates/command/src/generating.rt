@@ -92,7 +92,7 @@ fn generation<W: Watch>(
     ensures { let m = generating request.now in
         Gives (IsGeneration m.sources graph.now (seen entry.now) planned.now.predicates planned.now.plan (within m.bounds) m.ends m.budget
         (generated_report graph.now entry.now.number planned.now.plan (within m.bounds) m.ends m.budget m.json))
-        m.sources (watched W.seen watch.old watch.new) result }
+        m.sources (watched W.Watch watch.old watch.new) result }
 {
     let bounds = within(request.bounds);
     let budget = request.budget as u64;
@@ -133,7 +133,7 @@ pub fn generate_graph<W: Watch>(
 ) -> Result<Reply, Fault>
     requires once { IsOnce graph.now }
     requires bounds { AreBounds request.now.bounds }
-    ensures { Gives (IsDueOfGenerate (generating request.now) graph.now) (generating request.now).sources (watched W.seen watch.old watch.new) result }
+    ensures { Gives (IsDueOfGenerate (generating request.now) graph.now) (generating request.now).sources (watched W.Watch watch.old watch.new) result }
 {
     let Some(entry) = entry_named(graph, request.entry.as_bytes()) else {
         return Err(Fault::Refused(nowhere(36)));

@@ -21,11 +21,11 @@ pub fn read_inputs<F: Files>(
     file: &str,
     parameters: u32,
 ) -> Result<Vec<Input>, Fault>
-    ensures given { IfOk result (λ inputs. AreInputsOf (reads F.holds F.last_failed F.faults F.received files.old files.new) file.now parameters inputs.items) }
+    ensures given { IfOk result (λ inputs. AreInputsOf (reads F.Files files.old files.new) file.now parameters inputs.items) }
     ensures few { IfOk result (λ inputs. length inputs.items < 2 ^ 32) }
     ensures words { IfOk result (λ inputs. All (λ input. length input.words ≡ parameters) inputs.items) }
     ensures refused { IfErr result (λ fault. IfRefused fault
-        (AreRefused (reads F.holds F.last_failed F.faults F.received files.old files.new) file.now parameters)) }
+        (AreRefused (reads F.Files files.old files.new) file.now parameters)) }
     ensures same_files { F.holds files.new ≡ F.holds files.old }
     ensures no_fault { OnOk result (F.faults files.new ≡ F.faults files.old) }
     ensures received { F.received files.old ≤ F.received files.new }

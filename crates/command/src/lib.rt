@@ -5,7 +5,8 @@
 //! of which goals of the query the inputs cover, for `goals` the list of the goals, for `runs` how the inputs' runs end and
 //! which edges they take, for `graph` the automaton of the sources, for `generate` the report of inputs that were made for
 //! the goals, for `prove` a certificate that no input covers a goal, or what stands in its place, for `check` whether a
-//! certificate refutes a goal, for `bounds` whether an input leaves the bounds, for `least` the least input that covers a goal, for
+//! certificate refutes a goal, for `bounds` whether an input leaves the bounds, for `prove-bounds` a certificate that none does, or
+//! what stands in its place, for `check-bounds` whether a certificate says so, for `least` the least input that covers a goal, for
 //! `traces` a file of inputs with the edges of their runs, for `replay` the report of measuring such a file, for `trees` how the
 //! inputs' runs end by the meaning of the sources' trees, for `sample` what is found of a large program, and else the line of the
 //! refusal that is due.
@@ -16,8 +17,11 @@
 //! `sample` `sample`, the printed texts `report`. Start at [`run`] in command.rt.
 #![tactic(auto)]
 
+mod certificates;
 mod checking;
+mod checking_bounds;
 mod command;
+mod comparing;
 mod difference;
 mod entry;
 mod generating;

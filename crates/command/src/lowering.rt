@@ -37,7 +37,7 @@ fn said_of<W: Watch>(
     watch: &mut W,
 ) -> Result<Reply, Memory>
     ensures { IfOk result (λ reply. (shown : List Shown) × (said_in reply shown ≡ said_of_least number bounds ends least)
-        × IsShown shown (watched W.seen watch.old watch.new)) }
+        × IsShown shown (watched W.Watch watch.old watch.new)) }
 {
     match least {
         Least::Found {
@@ -90,7 +90,7 @@ fn lowered<W: Watch>(
     requires there { request.now.goal ≤ length planned.now.plan.goals }
     ensures { (goal : GoalForm) → slice_get planned.now.plan.goals (request.now.goal - 1) ≡ Some goal → let m = proving request.now in
         Gives (IsLowered graph.now (seen entry.now) planned.now.predicates planned.now.plan (within m.bounds) m.ends m.goal goal m.sources m.budget)
-        m.sources (watched W.seen watch.old watch.new) result }
+        m.sources (watched W.Watch watch.old watch.new) result }
 {
     let bounds = within(request.bounds);
     let mut unwound = unwind(
@@ -124,7 +124,7 @@ pub fn least_graph<W: Watch>(
     requires once { IsOnce graph.now }
     requires bounds { AreBounds request.now.bounds }
     requires some { 1 ≤ request.now.goal }
-    ensures { Gives (IsDueOfLeast (proving request.now) graph.now) (proving request.now).sources (watched W.seen watch.old watch.new) result }
+    ensures { Gives (IsDueOfLeast (proving request.now) graph.now) (proving request.now).sources (watched W.Watch watch.old watch.new) result }
 {
     let Some(entry) = entry_named(graph, request.entry.as_bytes()) else {
         return Err(Fault::Refused(nowhere(36)));

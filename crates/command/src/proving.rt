@@ -72,7 +72,7 @@ fn said_of<W: Watch>(
     requires decided { (goal : GoalForm) × ((budget : ℕ) × IsDecided graph.now entry.now.function.now planned.now.predicates planned.now.plan unwound.now.bounds unwound.now.ends goal budget decided) }
     ensures { IfOk result (λ reply. (goal : GoalForm) (budget : ℕ) → IsDecided graph.now entry.now.function.now planned.now.predicates planned.now.plan unwound.now.bounds unwound.now.ends goal budget decided
         → (shown : List Shown) × IsSaidOf graph.now (seen entry.now) planned.now.predicates planned.now.plan unwound.now.bounds unwound.now.ends number goal decided (said_in reply shown)
-        × IsShown shown (watched W.seen watch.old watch.new)) }
+        × IsShown shown (watched W.Watch watch.old watch.new)) }
 {
     match decided {
         Decided::Covered(input) => {
@@ -121,7 +121,7 @@ fn proof<W: Watch>(
     requires there { request.now.goal ≤ length planned.now.plan.goals }
     ensures { (goal : GoalForm) → slice_get planned.now.plan.goals (request.now.goal - 1) ≡ Some goal → let m = proving request.now in
         Gives (IsProved graph.now (seen entry.now) planned.now.predicates planned.now.plan (within m.bounds) m.ends m.goal goal m.sources m.budget)
-        m.sources (watched W.seen watch.old watch.new) result }
+        m.sources (watched W.Watch watch.old watch.new) result }
 {
     let mut unwound = unwind(
         alloc,
@@ -163,7 +163,7 @@ pub fn prove_graph<W: Watch>(
     requires once { IsOnce graph.now }
     requires bounds { AreBounds request.now.bounds }
     requires some { 1 ≤ request.now.goal }
-    ensures { Gives (IsDueOfProve (proving request.now) graph.now) (proving request.now).sources (watched W.seen watch.old watch.new) result }
+    ensures { Gives (IsDueOfProve (proving request.now) graph.now) (proving request.now).sources (watched W.Watch watch.old watch.new) result }
 {
     let Some(entry) = entry_named(graph, request.entry.as_bytes()) else {
         return Err(Fault::Refused(nowhere(36)));

@@ -38,9 +38,9 @@ fn read_traces<F: Files>(
     requires number { slice_get graph.now.functions entry.now.number ≡ Some entry.now.function.now }
     requires startable { entry.now.function.now.arrays ≡ [] }
     requires predicates { IsPredicates graph.now predicates.now }
-    ensures given { IfOk result (λ traces. AreTracesOf (reads F.holds F.last_failed F.faults F.received files.old files.new) graph.now entry.now.function.now ends file.now predicates.now traces.items) }
+    ensures given { IfOk result (λ traces. AreTracesOf (reads F.Files files.old files.new) graph.now entry.now.function.now ends file.now predicates.now traces.items) }
     ensures refused { IfErr result (λ fault. IfRefused fault
-        (AreRefused (reads F.holds F.last_failed F.faults F.received files.old files.new) graph.now entry.now.function.now ends file.now)) }
+        (AreRefused (reads F.Files files.old files.new) graph.now entry.now.function.now ends file.now)) }
 {
     let bytes = read(alloc, files, file, MOST_TRACE_BYTES)?;
     read_trace(alloc, graph, entry.number, predicates, ends, &bytes)
@@ -76,10 +76,10 @@ pub fn replay_graph<F: Files>(
     graph: &Graph,
     files: &mut F,
 ) -> Result<Vec<u8>, Fault>
-    ensures ok { IfOk result (λ text. IsDueOfReplay (reads F.holds F.last_failed F.faults F.received files.old files.new)
+    ensures ok { IfOk result (λ text. IsDueOfReplay (reads F.Files files.old files.new)
         (replaying request.now) graph.now (answered text.items)) }
     ensures err { IfErr result (λ fault. IfRefused fault (λ refusal.
-        IsDueOfReplay (reads F.holds F.last_failed F.faults F.received files.old files.new)
+        IsDueOfReplay (reads F.Files files.old files.new)
         (replaying request.now) graph.now (said_by (replaying request.now).sources refusal))) }
 {
     let Some(entry) = entry_named(graph, request.entry.as_bytes()) else {

@@ -5,6 +5,6 @@
 pub enum Reply {
     /// The text of an answer, and whether something in it is left open.
     Answer { text: Vec<u8>, left_open: bool },
-    /// The line of a certificate whose formula isn't the goal's.
+    /// The line of a certificate whose formula is another one than ours.
     OtherFormula { line: Vec<u8> },
 }

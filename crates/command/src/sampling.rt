@@ -80,7 +80,7 @@ fn generation<W: Watch>(
     requires predicates { IsPredicates graph.now planned.now.predicates }
     requires plan { IsPlanOver graph.now planned.now.plan }
     ensures { Gives (IsGeneration (sample_file ∷ []) graph.now (seen entry.now) planned.now.predicates planned.now.plan default_bounds counted.Returned default_budget
-        (λ made. sample_text number graph.now planned.now.plan made.answers)) (sample_file ∷ []) (watched W.seen watch.old watch.new) result }
+        (λ made. sample_text number graph.now planned.now.plan made.answers)) (sample_file ∷ []) (watched W.Watch watch.old watch.new) result }
 {
     let made = generate(
         alloc,
@@ -110,7 +110,7 @@ fn sample_graph<W: Watch>(
     requires least { 1 ≤ number }
     requires most { number ≤ 200 }
     requires once { IsOnce graph.now }
-    ensures { Gives (IsSampled number graph.now) (sample_file ∷ []) (watched W.seen watch.old watch.new) result }
+    ensures { Gives (IsSampled number graph.now) (sample_file ∷ []) (watched W.Watch watch.old watch.new) result }
 {
     let Some(entry) = entry_named(graph, b"f") else {
         return Err(Fault::Refused(nowhere(36)));
@@ -124,7 +124,7 @@ fn sample_graph<W: Watch>(
 pub fn sample<W: Watch>(alloc: Global, number: u32, watch: &mut W) -> Result<Reply, Fault>
     requires least { 1 ≤ number }
     requires most { number ≤ 200 }
-    ensures { Gives (IsDueOfSample number) (sample_file ∷ []) (watched W.seen watch.old watch.new) result }
+    ensures { Gives (IsDueOfSample number) (sample_file ∷ []) (watched W.Watch watch.old watch.new) result }
 {
     let graph = sample_automaton(alloc, number)?;
     sample_graph(alloc, number, &graph, watch)

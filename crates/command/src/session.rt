@@ -1,8 +1,9 @@
 // From a request to the text that it asks for.
 ghost use Rattle.std.specs.Prelude.{◌≡◌, ◌≤◌, ◌<◌, Some, false, IfOk, IfErr, MatchResult, length};
-ghost use Rattle.command_words.specs.Request.{asked, checking, generating, listing, measuring, proving, replaying, running, sufficing, texts_at, tracing};
+ghost use Rattle.command_words.specs.Request.{asked, checking, checking_bounds, generating, listing, measuring, proving, replaying, running, sufficing, texts_at, tracing};
 ghost use Rattle.command.specs.Asked.{sources_of};
 ghost use Rattle.command.specs.Checking.{IsDueOfCheck};
+ghost use Rattle.command.specs.CheckingBounds.{IsDueOfCheckBounds};
 ghost use Rattle.command.specs.Due.{IsDueOf, IsDueOfGoals, IsDueOfGraph, IsDueOfMeasure, IsDueOfReplay, IsDueOfRuns, IsDueOfTraces, IsDueOfTrees};
 ghost use Rattle.command.specs.Generating.{IsDueOfGenerate};
 ghost use Rattle.command.specs.Lowering.{IsDueOfLeast};
@@ -19,6 +20,7 @@ ghost use Rattle.command.specs.Watched.{watched};
 ghost use Rattle.tree_meaning.specs.Running.{FitUnit};
 
 use crate::checking::check_graph;
+use crate::checking_bounds::check_bounds_graph;
 use crate::entry::{Entry, entry_named};
 use crate::generating::generate_graph;
 use crate::inputs::read_inputs;
@@ -33,11 +35,11 @@ use crate::replaying::replay_graph;
 use crate::reply::Reply;
 use crate::sampling::sample;
 use crate::sources::{Trees, automaton, read_trees};
-use crate::sufficing::bounds_graph;
+use crate::sufficing::{Form, bounds_graph};
 use crate::tracing::trace_inputs;
 use cfa::Graph;
 use command_words::{
-    Check, Generate, Goals, Measure, Prove, Replay, Request, Runs, Suffice, Traces,
+    Check, CheckBounds, Generate, Goals, Measure, Prove, Replay, Request, Runs, Suffice, Traces,
 };
 use fq_core::{Fault, Memory};
 use fq_io::Files;
@@ -62,10 +64,10 @@ fn measure_graph<F: Files>(
     graph: &Graph,
     files: &mut F,
 ) -> Result<Vec<u8>, Fault>
-    ensures ok { IfOk result (λ text. IsDueOfMeasure (reads F.holds F.last_failed F.faults F.received files.old files.new)
+    ensures ok { IfOk result (λ text. IsDueOfMeasure (reads F.Files files.old files.new)
         (measuring request.now) graph.now (answered text.items)) }
     ensures err { IfErr result (λ fault. IfRefused fault (λ refusal.
-        IsDueOfMeasure (reads F.holds F.last_failed F.faults F.received files.old files.new)
+        IsDueOfMeasure (reads F.Files files.old files.new)
         (measuring request.now) graph.now (said_by (measuring request.now).sources refusal))) }
 {
     let Some(entry) = entry_named(graph, request.entry.as_bytes()) else {
@@ -87,9 +89,9 @@ fn measure_graph<F: Files>(
 }
 
 fn measure<F: Files>(alloc: Global, request: &Measure, files: &mut F) -> Result<Vec<u8>, Fault>
-    ensures ok { IfOk result (λ text. let r = reads F.holds F.last_failed F.faults F.received files.old files.new in
+    ensures ok { IfOk result (λ text. let r = reads F.Files files.old files.new in
         OfSources r (measuring request.now).sources (IsDueOfMeasure r (measuring request.now)) (answered text.items)) }
-    ensures err { IfErr result (λ fault. IfRefused fault (λ refusal. let r = reads F.holds F.last_failed F.faults F.received files.old files.new in
+    ensures err { IfErr result (λ fault. IfRefused fault (λ refusal. let r = reads F.Files files.old files.new in
         OfSources r (measuring request.now).sources (IsDueOfMeasure r (measuring request.now)) (said_by (measuring request.now).sources refusal))) }
 {
     let graph = automaton(alloc, files, &request.sources)?;
@@ -107,9 +109,9 @@ fn goals_of_graph(alloc: Global, request: &Goals, graph: &Graph) -> Result<Vec<u
 }
 
 fn goals<F: Files>(alloc: Global, request: &Goals, files: &mut F) -> Result<Vec<u8>, Fault>
-    ensures ok { IfOk result (λ text. OfSources (reads F.holds F.last_failed F.faults F.received files.old files.new)
+    ensures ok { IfOk result (λ text. OfSources (reads F.Files files.old files.new)
         (listing request.now).sources (IsDueOfGoals (listing request.now)) (answered text.items)) }
-    ensures err { IfErr result (λ fault. IfRefused fault (λ refusal. OfSources (reads F.holds F.last_failed F.faults F.received files.old files.new)
+    ensures err { IfErr result (λ fault. IfRefused fault (λ refusal. OfSources (reads F.Files files.old files.new)
         (listing request.now).sources (IsDueOfGoals (listing request.now)) (said_by (listing request.now).sources refusal))) }
 {
     let graph = automaton(alloc, files, &request.sources)?;
@@ -123,10 +125,10 @@ fn runs_of_graph<F: Files>(
     graph: &Graph,
     files: &mut F,
 ) -> Result<Vec<u8>, Fault>
-    ensures ok { IfOk result (λ text. IsDueOfRuns (reads F.holds F.last_failed F.faults F.received files.old files.new)
+    ensures ok { IfOk result (λ text. IsDueOfRuns (reads F.Files files.old files.new)
         (running request.now) graph.now (answered text.items)) }
     ensures err { IfErr result (λ fault. IfRefused fault (λ refusal.
-        IsDueOfRuns (reads F.holds F.last_failed F.faults F.received files.old files.new)
+        IsDueOfRuns (reads F.Files files.old files.new)
         (running request.now) graph.now (said_by (running request.now).sources refusal))) }
 {
     let Some(entry) = entry_named(graph, request.entry.as_bytes()) else {
@@ -137,9 +139,9 @@ fn runs_of_graph<F: Files>(
 }
 
 fn runs<F: Files>(alloc: Global, request: &Runs, files: &mut F) -> Result<Vec<u8>, Fault>
-    ensures ok { IfOk result (λ text. let r = reads F.holds F.last_failed F.faults F.received files.old files.new in
+    ensures ok { IfOk result (λ text. let r = reads F.Files files.old files.new in
         OfSources r (running request.now).sources (IsDueOfRuns r (running request.now)) (answered text.items)) }
-    ensures err { IfErr result (λ fault. IfRefused fault (λ refusal. let r = reads F.holds F.last_failed F.faults F.received files.old files.new in
+    ensures err { IfErr result (λ fault. IfRefused fault (λ refusal. let r = reads F.Files files.old files.new in
         OfSources r (running request.now).sources (IsDueOfRuns r (running request.now)) (said_by (running request.now).sources refusal))) }
 {
     let graph = automaton(alloc, files, &request.sources)?;
@@ -154,8 +156,8 @@ fn generate<F: Files, W: Watch>(
 ) -> Result<Reply, Fault>
     requires { AreBounds request.now.bounds }
     ensures { let m = generating request.now in
-        Gives (OfSources (reads F.holds F.last_failed F.faults F.received files.old files.new) m.sources (IsDueOfGenerate m))
-        m.sources (watched W.seen watch.old watch.new) result }
+        Gives (OfSources (reads F.Files files.old files.new) m.sources (IsDueOfGenerate m))
+        m.sources (watched W.Watch watch.old watch.new) result }
 {
     let graph = automaton(alloc, files, &request.sources)?;
     generate_graph(alloc, request, &graph, watch)
@@ -170,8 +172,8 @@ fn prove<F: Files, W: Watch>(
     requires bounds { AreBounds request.now.bounds }
     requires some { 1 ≤ request.now.goal }
     ensures { let m = proving request.now in
-        Gives (OfSources (reads F.holds F.last_failed F.faults F.received files.old files.new) m.sources (IsDueOfProve m))
-        m.sources (watched W.seen watch.old watch.new) result }
+        Gives (OfSources (reads F.Files files.old files.new) m.sources (IsDueOfProve m))
+        m.sources (watched W.Watch watch.old watch.new) result }
 {
     let graph = automaton(alloc, files, &request.sources)?;
     prove_graph(alloc, request, &graph, watch)
@@ -180,7 +182,7 @@ fn prove<F: Files, W: Watch>(
 fn check<F: Files>(alloc: Global, request: &Check, files: &mut F) -> Result<Reply, Fault>
     requires bounds { AreBounds request.now.bounds }
     requires some { 1 ≤ request.now.goal }
-    ensures { let m = checking request.now in let r = reads F.holds F.last_failed F.faults F.received files.old files.new in
+    ensures { let m = checking request.now in let r = reads F.Files files.old files.new in
         Tells (OfSources r m.sources (IsDueOfCheck r m)) m.sources result }
 {
     let graph = automaton(alloc, files, &request.sources)?;
@@ -189,17 +191,31 @@ fn check<F: Files>(alloc: Global, request: &Check, files: &mut F) -> Result<Repl
 
 fn bounds<F: Files, W: Watch>(
     alloc: Global,
+    form: Form,
     request: &Suffice,
     files: &mut F,
     watch: &mut W,
 ) -> Result<Reply, Fault>
     requires { AreBounds request.now.bounds }
     ensures { let m = sufficing request.now in
-        Gives (OfSources (reads F.holds F.last_failed F.faults F.received files.old files.new) m.sources (IsDueOfBounds m))
-        m.sources (watched W.seen watch.old watch.new) result }
+        Gives (OfSources (reads F.Files files.old files.new) m.sources (IsDueOfBounds form m))
+        m.sources (watched W.Watch watch.old watch.new) result }
 {
     let graph = automaton(alloc, files, &request.sources)?;
-    bounds_graph(alloc, request, &graph, watch)
+    bounds_graph(alloc, form, request, &graph, watch)
+}
+
+fn check_bounds<F: Files>(
+    alloc: Global,
+    request: &CheckBounds,
+    files: &mut F,
+) -> Result<Reply, Fault>
+    requires { AreBounds request.now.bounds }
+    ensures { let m = checking_bounds request.now in let r = reads F.Files files.old files.new in
+        Tells (OfSources r m.sources (IsDueOfCheckBounds r m)) m.sources result }
+{
+    let graph = automaton(alloc, files, &request.sources)?;
+    check_bounds_graph(alloc, request, &graph, files)
 }
 
 fn least<F: Files, W: Watch>(
@@ -211,8 +227,8 @@ fn least<F: Files, W: Watch>(
     requires bounds { AreBounds request.now.bounds }
     requires some { 1 ≤ request.now.goal }
     ensures { let m = proving request.now in
-        Gives (OfSources (reads F.holds F.last_failed F.faults F.received files.old files.new) m.sources (IsDueOfLeast m))
-        m.sources (watched W.seen watch.old watch.new) result }
+        Gives (OfSources (reads F.Files files.old files.new) m.sources (IsDueOfLeast m))
+        m.sources (watched W.Watch watch.old watch.new) result }
 {
     let graph = automaton(alloc, files, &request.sources)?;
     least_graph(alloc, request, &graph, watch)
@@ -225,10 +241,10 @@ fn traces_of_graph<F: Files>(
     graph: &Graph,
     files: &mut F,
 ) -> Result<Vec<u8>, Fault>
-    ensures ok { IfOk result (λ text. IsDueOfTraces (reads F.holds F.last_failed F.faults F.received files.old files.new)
+    ensures ok { IfOk result (λ text. IsDueOfTraces (reads F.Files files.old files.new)
         (tracing request.now) graph.now (answered text.items)) }
     ensures err { IfErr result (λ fault. IfRefused fault (λ refusal.
-        IsDueOfTraces (reads F.holds F.last_failed F.faults F.received files.old files.new)
+        IsDueOfTraces (reads F.Files files.old files.new)
         (tracing request.now) graph.now (said_by (tracing request.now).sources refusal))) }
 {
     let Some(entry) = entry_named(graph, request.entry.as_bytes()) else {
@@ -239,9 +255,9 @@ fn traces_of_graph<F: Files>(
 }
 
 fn traces<F: Files>(alloc: Global, request: &Traces, files: &mut F) -> Result<Vec<u8>, Fault>
-    ensures ok { IfOk result (λ text. let r = reads F.holds F.last_failed F.faults F.received files.old files.new in
+    ensures ok { IfOk result (λ text. let r = reads F.Files files.old files.new in
         OfSources r (tracing request.now).sources (IsDueOfTraces r (tracing request.now)) (answered text.items)) }
-    ensures err { IfErr result (λ fault. IfRefused fault (λ refusal. let r = reads F.holds F.last_failed F.faults F.received files.old files.new in
+    ensures err { IfErr result (λ fault. IfRefused fault (λ refusal. let r = reads F.Files files.old files.new in
         OfSources r (tracing request.now).sources (IsDueOfTraces r (tracing request.now)) (said_by (tracing request.now).sources refusal))) }
 {
     let graph = automaton(alloc, files, &request.sources)?;
@@ -249,9 +265,9 @@ fn traces<F: Files>(alloc: Global, request: &Traces, files: &mut F) -> Result<Ve
 }
 
 fn replay<F: Files>(alloc: Global, request: &Replay, files: &mut F) -> Result<Vec<u8>, Fault>
-    ensures ok { IfOk result (λ text. let r = reads F.holds F.last_failed F.faults F.received files.old files.new in
+    ensures ok { IfOk result (λ text. let r = reads F.Files files.old files.new in
         OfSources r (replaying request.now).sources (IsDueOfReplay r (replaying request.now)) (answered text.items)) }
-    ensures err { IfErr result (λ fault. IfRefused fault (λ refusal. let r = reads F.holds F.last_failed F.faults F.received files.old files.new in
+    ensures err { IfErr result (λ fault. IfRefused fault (λ refusal. let r = reads F.Files files.old files.new in
         OfSources r (replaying request.now).sources (IsDueOfReplay r (replaying request.now)) (said_by (replaying request.now).sources refusal))) }
 {
     let graph = automaton(alloc, files, &request.sources)?;
@@ -266,10 +282,10 @@ fn ends_on_trees<F: Files>(
     files: &mut F,
 ) -> Result<Vec<u8>, Fault>
     requires { FitUnit trees.now.typed }
-    ensures ok { IfOk result (λ text. IsDueOfTrees (reads F.holds F.last_failed F.faults F.received files.old files.new)
+    ensures ok { IfOk result (λ text. IsDueOfTrees (reads F.Files files.old files.new)
         (running request.now) trees.now.graph trees.now.typed (answered text.items)) }
     ensures err { IfErr result (λ fault. IfRefused fault (λ refusal.
-        IsDueOfTrees (reads F.holds F.last_failed F.faults F.received files.old files.new)
+        IsDueOfTrees (reads F.Files files.old files.new)
         (running request.now) trees.now.graph trees.now.typed (said_by (running request.now).sources refusal))) }
 {
     let Some(entry) = entry_named(&trees.graph, request.entry.as_bytes()) else {
@@ -281,9 +297,9 @@ fn ends_on_trees<F: Files>(
 }
 
 fn run_on_trees<F: Files>(alloc: Global, request: &Runs, files: &mut F) -> Result<Vec<u8>, Fault>
-    ensures ok { IfOk result (λ text. let r = reads F.holds F.last_failed F.faults F.received files.old files.new in
+    ensures ok { IfOk result (λ text. let r = reads F.Files files.old files.new in
         OfTrees r (running request.now).sources (IsDueOfTrees r (running request.now)) (answered text.items)) }
-    ensures err { IfErr result (λ fault. IfRefused fault (λ refusal. let r = reads F.holds F.last_failed F.faults F.received files.old files.new in
+    ensures err { IfErr result (λ fault. IfRefused fault (λ refusal. let r = reads F.Files files.old files.new in
         OfTrees r (running request.now).sources (IsDueOfTrees r (running request.now)) (said_by (running request.now).sources refusal))) }
 {
     let trees = read_trees(alloc, files, &request.sources)?;
@@ -292,9 +308,9 @@ fn run_on_trees<F: Files>(alloc: Global, request: &Runs, files: &mut F) -> Resul
 
 // The text of the sources' automaton.
 fn graph<F: Files>(alloc: Global, sources: &[&str], files: &mut F) -> Result<Vec<u8>, Fault>
-    ensures ok { IfOk result (λ text. OfSources (reads F.holds F.last_failed F.faults F.received files.old files.new)
+    ensures ok { IfOk result (λ text. OfSources (reads F.Files files.old files.new)
         (texts_at sources.now) IsDueOfGraph (answered text.items)) }
-    ensures err { IfErr result (λ fault. IfRefused fault (λ refusal. OfSources (reads F.holds F.last_failed F.faults F.received files.old files.new)
+    ensures err { IfErr result (λ fault. IfRefused fault (λ refusal. OfSources (reads F.Files files.old files.new)
         (texts_at sources.now) IsDueOfGraph (said_by (texts_at sources.now) refusal))) }
 {
     let graph = automaton(alloc, files, sources)?;
@@ -323,8 +339,8 @@ pub fn answer<F: Files, W: Watch>(
     watch: &mut W,
 ) -> Result<Reply, Fault>
     requires { IsInRange (asked request.now) }
-    ensures { Gives (IsDueOf (reads F.holds F.last_failed F.faults F.received files.old files.new) (asked request.now))
-        (sources_of (asked request.now)) (watched W.seen watch.old watch.new) result }
+    ensures { Gives (IsDueOf (reads F.Files files.old files.new) (asked request.now))
+        (sources_of (asked request.now)) (watched W.Watch watch.old watch.new) result }
 {
     match request {
         Request::Measure(request) => plain(measure(alloc, request, files)),
@@ -333,7 +349,9 @@ pub fn answer<F: Files, W: Watch>(
         Request::Runs(request) => plain(runs(alloc, request, files)),
         Request::Prove(request) => prove(alloc, request, files, watch),
         Request::Check(request) => check(alloc, request, files),
-        Request::Bounds(request) => bounds(alloc, request, files, watch),
+        Request::Bounds(request) => bounds(alloc, Form::Line, request, files, watch),
+        Request::ProveBounds(request) => bounds(alloc, Form::Certificate, request, files, watch),
+        Request::CheckBounds(request) => check_bounds(alloc, request, files),
         Request::Least(request) => least(alloc, request, files, watch),
         Request::Traces(request) => plain(traces(alloc, request, files)),
         Request::Replay(request) => plain(replay(alloc, request, files)),

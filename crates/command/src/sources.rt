@@ -42,7 +42,7 @@ pub fn read<F: Files>(
     ensures held { IfOk result (λ bytes. Sees (F.holds files.old) file.now bytes.items) }
     ensures short { IfOk result (λ bytes. vec_len bytes ≤ limit) }
     ensures unread { IfErr result (λ fault. IfRefused fault
-        (IsUnread (reads F.holds F.last_failed F.faults F.received files.old files.new) limit file.now)) }
+        (IsUnread (reads F.Files files.old files.new) limit file.now)) }
     ensures same_files { F.holds files.new ≡ F.holds files.old }
     ensures no_fault { OnOk result (F.faults files.new ≡ F.faults files.old) }
     ensures received { F.received files.old ≤ F.received files.new }
@@ -60,7 +60,7 @@ pub fn read<F: Files>(
 fn read_source<F: Files>(alloc: Global, files: &mut F, file: &str) -> Result<SourceText, Fault>
     ensures read { IfOk result (λ text. IsRead (F.holds files.old) file.now text) }
     ensures unread { IfErr result (λ fault. IfRefused fault
-        (IsUnread (reads F.holds F.last_failed F.faults F.received files.old files.new) most_source file.now)) }
+        (IsUnread (reads F.Files files.old files.new) most_source file.now)) }
     ensures same_files { F.holds files.new ≡ F.holds files.old }
     ensures no_fault { OnOk result (F.faults files.new ≡ F.faults files.old) }
     ensures received { F.received files.old ≤ F.received files.new }
@@ -81,7 +81,7 @@ fn read_sources<F: Files>(
 ) -> Result<Vec<SourceText>, Fault>
     ensures read { IfOk result (λ texts. AreRead (F.holds files.old) (texts_at names.now) texts.items) }
     ensures unread { IfErr result (λ fault. IfRefused fault
-        (IsReadUpTo (reads F.holds F.last_failed F.faults F.received files.old files.new) (texts_at names.now))) }
+        (IsReadUpTo (reads F.Files files.old files.new) (texts_at names.now))) }
     ensures same_files { F.holds files.new ≡ F.holds files.old }
     ensures no_fault { OnOk result (F.faults files.new ≡ F.faults files.old) }
     ensures received { F.received files.old ≤ F.received files.new }
@@ -99,7 +99,7 @@ pub fn automaton<F: Files>(alloc: Global, files: &mut F, names: &[&str]) -> Resu
     ensures accepted { IfOk result (λ graph. HaveAutomaton (F.holds files.old) (texts_at names.now) graph) }
     ensures once { IfOk result IsOnce }
     ensures refused { IfErr result (λ fault. IfRefused fault (λ refusal.
-        IsReadUpTo (reads F.holds F.last_failed F.faults F.received files.old files.new) (texts_at names.now) refusal
+        IsReadUpTo (reads F.Files files.old files.new) (texts_at names.now) refusal
         ⊎ AreRefused (F.holds files.old) (texts_at names.now) refusal)) }
     ensures same_files { F.holds files.new ≡ F.holds files.old }
     ensures no_fault { OnOk result (F.faults files.new ≡ F.faults files.old) }
@@ -139,7 +139,7 @@ pub fn read_trees<F: Files>(alloc: Global, files: &mut F, names: &[&str]) -> Res
     ensures accepted { IfOk result (λ trees. HaveTrees (F.holds files.old) (texts_at names.now) trees.graph trees.typed) }
     ensures fits { IfOk result (λ trees. FitUnit trees.typed) }
     ensures refused { IfErr result (λ fault. IfRefused fault (λ refusal.
-        IsReadUpTo (reads F.holds F.last_failed F.faults F.received files.old files.new) (texts_at names.now) refusal
+        IsReadUpTo (reads F.Files files.old files.new) (texts_at names.now) refusal
         ⊎ AreRefused (F.holds files.old) (texts_at names.now) refusal)) }
     ensures same_files { F.holds files.new ≡ F.holds files.old }
     ensures no_fault { OnOk result (F.faults files.new ≡ F.faults files.old) }

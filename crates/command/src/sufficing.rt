@@ -7,7 +7,7 @@ ghost use Rattle.command_words.specs.Request.{sufficing};
 ghost use Rattle.command.specs.Entries.{seen};
 ghost use Rattle.command.specs.Ranges.{AreBounds, within};
 ghost use Rattle.command.specs.Replies.{Gives, said_in};
-ghost use Rattle.command.specs.Sufficing.{HasInputFor, IsAskedOfBounds, IsDueOfBounds, said_of_bounds};
+ghost use Rattle.command.specs.Sufficing.{HasInputFor, IsAskedOfBounds, IsDueOfBounds, said_of_bounds, sufficient_text};
 ghost use Rattle.command.specs.Watched.{IsShown, watched};
 
 use crate::entry::{Entry, entry_named};
@@ -15,7 +15,9 @@ use crate::generating::within;
 use crate::refusal::nowhere;
 use crate::reply::Reply;
 use bounds_check::{Suffice, bounds_suffice};
+use certificate::write_certificate;
 use cfa::Graph;
+use cnf::{Derivation, Formula};
 use command_words::Suffice as Asked;
 use fq_core::{Fault, Memory};
 use reached::Bounds;
@@ -23,9 +25,35 @@ use report::{left_text, open_bounds_text, suffice_text};
 use search::Watch;
 use std::alloc::Global;
 
+/// What is written where bounds suffice.
+#[derive(Clone, Copy)]
+pub enum Form {
+    /// The line that says so.
+    Line,
+    /// A certificate that says so.
+    Certificate,
+}
+
+// What is written where no input leaves the bounds, by this derivation.
+fn sufficient(
+    alloc: Global,
+    form: Form,
+    bounds: Bounds,
+    formula: &Formula,
+    derivation: &Derivation,
+) -> Result<Vec<u8>, Memory>
+    ensures { IfOk result (λ text. text.items ≡ sufficient_text form bounds formula.now derivation.now) }
+{
+    match form {
+        Form::Line => suffice_text(alloc, bounds),
+        Form::Certificate => write_certificate(alloc, formula, derivation),
+    }
+}
+
 // What is said of what is found. The watch is shown the search where it stays open.
 fn said_of<W: Watch>(
     alloc: Global,
+    form: Form,
     graph: &Graph,
     entry: &Entry,
     bounds: Bounds,
@@ -33,15 +61,15 @@ fn said_of<W: Watch>(
     watch: &mut W,
 ) -> Result<Reply, Memory>
     requires { HasInputFor (parameter_kinds graph.now entry.now.number) suffice }
-    ensures { IfOk result (λ reply. (shown : List Shown) × (said_in reply shown ≡ said_of_bounds graph.now (seen entry.now) bounds suffice)
-        × IsShown shown (watched W.seen watch.old watch.new)) }
+    ensures { IfOk result (λ reply. (shown : List Shown) × (said_in reply shown ≡ said_of_bounds form graph.now (seen entry.now) bounds suffice)
+        × IsShown shown (watched W.Watch watch.old watch.new)) }
 {
     match suffice {
         Suffice::Yes {
-            formula: _formula,
-            derivation: _derivation,
+            formula,
+            derivation,
         } => {
-            let text = suffice_text(alloc, bounds)?;
+            let text = sufficient(alloc, form, bounds, &formula, &derivation)?;
             Ok(Reply::Answer {
                 text,
                 left_open: false,
@@ -68,6 +96,7 @@ fn said_of<W: Watch>(
 // Finds whether the bounds suffice, and says it.
 fn asked<W: Watch>(
     alloc: Global,
+    form: Form,
     request: &Asked,
     graph: &Graph,
     entry: &Entry,
@@ -78,27 +107,28 @@ fn asked<W: Watch>(
     requires startable { entry.now.function.now.arrays ≡ [] }
     requires bounds { AreBounds request.now.bounds }
     ensures { let m = sufficing request.now in
-        Gives (IsAskedOfBounds graph.now (seen entry.now) (within m.bounds) m.sources m.budget) m.sources (watched W.seen watch.old watch.new) result }
+        Gives (IsAskedOfBounds form graph.now (seen entry.now) (within m.bounds) m.sources m.budget) m.sources (watched W.Watch watch.old watch.new) result }
 {
     let bounds = within(request.bounds);
     let suffice = bounds_suffice(alloc, graph, entry.number, bounds, request.budget as u64)?;
-    let reply = said_of(alloc, graph, entry, bounds, suffice, watch)?;
+    let reply = said_of(alloc, form, graph, entry, bounds, suffice, watch)?;
     Ok(reply)
 }
 
-/// What is due of `bounds` over an automaton.
+/// What is due of `bounds` and `prove-bounds` over an automaton, by what is written where the bounds suffice.
 pub fn bounds_graph<W: Watch>(
     alloc: Global,
+    form: Form,
     request: &Asked,
     graph: &Graph,
     watch: &mut W,
 ) -> Result<Reply, Fault>
     requires once { IsOnce graph.now }
     requires bounds { AreBounds request.now.bounds }
-    ensures { Gives (IsDueOfBounds (sufficing request.now) graph.now) (sufficing request.now).sources (watched W.seen watch.old watch.new) result }
+    ensures { Gives (IsDueOfBounds form (sufficing request.now) graph.now) (sufficing request.now).sources (watched W.Watch watch.old watch.new) result }
 {
     let Some(entry) = entry_named(graph, request.entry.as_bytes()) else {
         return Err(Fault::Refused(nowhere(36)));
     };
-    asked(alloc, request, graph, &entry, watch)
+    asked(alloc, form, request, graph, &entry, watch)
 }

@@ -1,9 +1,11 @@
-// The commands `bounds`, `least`, `traces`, `replay` and `trees`.
-use crate::searching::SOURCES;
+// The commands `bounds`, `prove-bounds`, `check-bounds`, `least`, `traces`, `replay` and `trees`.
+use crate::searching::{SOURCES, text_of};
 use crate::tests::{A_C, QUERY, TWO_INPUTS, compare, files, words};
 use command::*;
 use fq_io::{Take, VecSink};
-use search::KeepWatch;
+use search::{KeepWatch, NoWatch};
+use std::alloc::Global;
+use std::process::Abort;
 use std::test::Fail;
 
 // The loop takes as many turns as its input, which is at most 3.
@@ -66,6 +68,111 @@ fn bounds_that_suffice_or_not(rt: HostRuntime) -> Result<(), Fail> {
         ),
     ] {
         compare(&rt, rt.alloc(), words, &[("x.c", source)], want)?;
+    }
+    Ok(())
+}
+
+// What `prove-bounds` writes where they don't suffice is what `bounds` writes.
+#[test]
+fn bounds_without_a_certificate(rt: HostRuntime) -> Result<(), Fail> {
+    for (words, want) in [
+        (
+            ["prove-bounds", "--turns", "2", "f", "x.c"].as_slice(),
+            (Status::Done, "bounds left args 3\n", ""),
+        ),
+        (
+            &["prove-bounds", "--turns", "2", "--budget", "1", "f", "x.c"],
+            (Status::DoneOpen, "bounds open\n", ""),
+        ),
+        (
+            &["prove-bounds", "g", "x.c"],
+            (Status::SourceRefused, "", "error 36 NoSuchEntry\n"),
+        ),
+        (
+            &["check-bounds", "g", "no.cert", "x.c"],
+            (Status::SourceRefused, "", "error 36 NoSuchEntry\n"),
+        ),
+        (
+            &["check-bounds", "f", "no.cert", "x.c"],
+            (Status::ReadFault, "", "error 7 ReadFault no.cert\n"),
+        ),
+        (
+            &["check-bounds", "f", "x.c", "x.c"],
+            (
+                Status::CertificateRejected,
+                "",
+                "error 90 CertificateForm line 1\n",
+            ),
+        ),
+    ] {
+        compare(&rt, rt.alloc(), words, &[("x.c", L_C)], want)?;
+    }
+    Ok(())
+}
+
+// Checks a certificate of the bounds of `l.c`, and compares the status and the text on `out`; of the line on `err` only the
+// beginning.
+fn compare_check_bounds(
+    rt: &impl Abort,
+    alloc: Global,
+    turns: &str,
+    certificate: &str,
+    want: (Status, &str, &str),
+) -> Result<(), Fail> {
+    let entries = [("l.c", L_C), ("l.cert", certificate)];
+    let mut files = files(alloc, &entries, &[])?;
+    let words = words(
+        alloc,
+        &["check-bounds", "--turns", turns, "f", "l.cert", "l.c"],
+    )?;
+    let mut out = VecSink::new(alloc);
+    let mut err = VecSink::new(alloc);
+    let status = run(alloc, &words, &mut files, &mut out, &mut err, &mut NoWatch);
+    assert_eq!(rt; status, want.0);
+    assert_eq!(rt; out.taken(), want.1.as_bytes());
+    let line = str::from_utf8(err.taken())?;
+    assert!(rt; line.starts_with(want.2), "{line}");
+    Ok(())
+}
+
+// The certificate that is proved is accepted for its bounds, and for no others; nor is one of a goal, or one with its lines taken
+// away.
+#[test]
+fn certificates_of_bounds(rt: HostRuntime) -> Result<(), Fail> {
+    let alloc = rt.alloc();
+    let sources = [("l.c", L_C)];
+    let proved = ["prove-bounds", "--turns", "3", "f", "l.c"];
+    let certificate = text_of(&rt, alloc, &proved, &sources)?;
+    let refuted = ["prove", "--turns", "2", "f", "cover {i == 3}", "1", "l.c"];
+    let goal = text_of(&rt, alloc, &refuted, &sources)?;
+    let Some((formula, _)) = certificate.as_str().split_once("derivation ") else {
+        return Err(Fail::from("no derivation"));
+    };
+    let none = format!(in alloc; "{formula}derivation 0\n")?;
+    let rejected = Status::CertificateRejected;
+    for (turns, certificate, want) in [
+        (
+            "3",
+            certificate.as_str(),
+            (
+                Status::Done,
+                "bounds suffice turns 3 frames 8 answers 16\n",
+                "",
+            ),
+        ),
+        (
+            "2",
+            certificate.as_str(),
+            (rejected, "", "error 91 OtherFormula "),
+        ),
+        ("3", goal.as_str(), (rejected, "", "error 91 OtherFormula ")),
+        (
+            "3",
+            none.as_str(),
+            (rejected, "", "error 93 NoEmptyClause\n"),
+        ),
+    ] {
+        compare_check_bounds(&rt, alloc, turns, certificate, want)?;
     }
     Ok(())
 }

@@ -220,7 +220,7 @@ suite\ncovered 0 refuted 2 undecided 0 of 2\n",
 }
 
 // The text of an answer that is done.
-fn text_of(
+pub fn text_of(
     rt: &impl Abort,
     alloc: Global,
     texts: &[&str],

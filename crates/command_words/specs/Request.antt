@@ -11,6 +11,7 @@ use Rattle.command_words.specs.declared.command_option.CommandOption.{CommandOpt
 use Rattle.command_words.specs.declared.command_option.CommandOption.TheVariants.{Steps, Turns, Frames, Answers, Ends as ends_option, Budget, Json}
 use Rattle.command_words.specs.declared.requests.Bounds.{Bounds}
 use Rattle.command_words.specs.declared.requests.Check.{Check}
+use Rattle.command_words.specs.declared.requests.CheckBounds.{CheckBounds}
 use Rattle.command_words.specs.declared.requests.Generate.{Generate}
 use Rattle.command_words.specs.declared.requests.Goals.{Goals}
 use Rattle.command_words.specs.declared.requests.Measure.{Measure}
@@ -78,6 +79,12 @@ pub record Sufficing : Type 0 where
   pub bounds : Bounds
   pub budget : ℕ
 
+pub record CheckingBounds : Type 0 where
+  pub entry : Text
+  pub certificate : Text
+  pub sources : List Text
+  pub bounds : Bounds
+
 pub record Tracing : Type 0 where
   pub entry : Text
   pub inputs : Text
@@ -102,6 +109,10 @@ pub data Asked : Type 0 where
   check : Checking → Asked
   -- whether bounds suffice
   suffice : Sufficing → Asked
+  -- for a certificate that bounds suffice
+  prove_bounds : Sufficing → Asked
+  -- whether a certificate says that bounds suffice
+  check_bounds : CheckingBounds → Asked
   -- for the least input of a goal
   least : Proving → Asked
   traces : Tracing → Asked
@@ -140,6 +151,9 @@ checking m = record { entry = m.entry.now; query = m.query.now; goal = m.goal; c
 abbrev pub sufficing : Suffice → Sufficing
 sufficing m = record { entry = m.entry.now; sources = texts_at m.sources.items; bounds = m.bounds; budget = m.budget }
 
+abbrev pub checking_bounds : CheckBounds → CheckingBounds
+checking_bounds m = record { entry = m.entry.now; certificate = m.certificate.now; sources = texts_at m.sources.items; bounds = m.bounds }
+
 abbrev pub tracing : Traces → Tracing
 tracing m = record { entry = m.entry.now; inputs = m.inputs.now; sources = texts_at m.sources.items; steps = m.steps; ends = m.ends }
 
@@ -154,6 +168,8 @@ asked (request.Runs m) = runs (running m)
 asked (request.Prove m) = prove (proving m)
 asked (request.Check m) = check (checking m)
 asked (request.Bounds m) = suffice (sufficing m)
+asked (request.ProveBounds m) = prove_bounds (sufficing m)
+asked (request.CheckBounds m) = check_bounds (checking_bounds m)
 asked (request.Least m) = least (proving m)
 asked (request.Traces m) = traces (tracing m)
 asked (request.Replay m) = replay (replaying m)
@@ -260,6 +276,14 @@ abbrev pub sufficed : List Text → Option Bounds → Option ℕ → Option Aske
 sufficed (entry ∷ source ∷ sources) (Some bounds) (Some budget) = Some (suffice record { entry = entry; sources = source ∷ sources; bounds = bounds; budget = budget })
 sufficed _ _ _ = None
 
+abbrev pub bounds_proved : List Text → Option Bounds → Option ℕ → Option Asked
+bounds_proved (entry ∷ source ∷ sources) (Some bounds) (Some budget) = Some (prove_bounds record { entry = entry; sources = source ∷ sources; bounds = bounds; budget = budget })
+bounds_proved _ _ _ = None
+
+abbrev pub bounds_checked : List Text → Option Bounds → Option Asked
+bounds_checked (entry ∷ certificate ∷ source ∷ sources) (Some bounds) = Some (check_bounds record { entry = entry; certificate = certificate; sources = source ∷ sources; bounds = bounds })
+bounds_checked _ _ = None
+
 abbrev pub lowered : List Text → Option Bounds → Option Ends → Option ℕ → Option Asked
 lowered (entry ∷ query ∷ number ∷ source ∷ sources) (Some bounds) (Some ends) (Some budget) = option_map (λ goal. least record { entry = entry; query = query; goal = goal; sources = source ∷ sources; bounds = bounds; ends = ends; budget = budget }) (goal_in number)
 lowered _ _ _ _ = None
@@ -310,6 +334,12 @@ check_of uses = checked (positionals_of uses) (bounds_of uses) (ends_of uses)
 abbrev pub suffice_of : List Use → Option Asked
 suffice_of uses = sufficed (positionals_of uses) (bounds_of uses) (budget_of uses)
 
+abbrev pub prove_bounds_of : List Use → Option Asked
+prove_bounds_of uses = bounds_proved (positionals_of uses) (bounds_of uses) (budget_of uses)
+
+abbrev pub check_bounds_of : List Use → Option Asked
+check_bounds_of uses = bounds_checked (positionals_of uses) (bounds_of uses)
+
 abbrev pub least_of : List Use → Option Asked
 least_of uses = lowered (positionals_of uses) (bounds_of uses) (ends_of uses) (budget_of uses)
 
@@ -332,6 +362,13 @@ sample_of uses = sampled (positionals_of uses)
 abbrev pub asked_by : (List Use → Option Asked) → List CommandOption → List Text → Option Asked
 asked_by f options words = option_and_then f (reading options words None)
 
+-- the commands that ask of bounds alone
+unfoldable pub of_bounds : Text → List Text → Option Asked
+of_bounds name words =
+    if bytes_eq name (codes "bounds") then asked_by suffice_of (Turns ∷ Frames ∷ Answers ∷ Budget ∷ []) words else
+    (if bytes_eq name (codes "prove-bounds") then asked_by prove_bounds_of (Turns ∷ Frames ∷ Answers ∷ Budget ∷ []) words else
+    (if bytes_eq name (codes "check-bounds") then asked_by check_bounds_of (Turns ∷ Frames ∷ Answers ∷ []) words else None))
+
 -- What the words ask for, or None where they are no command: the first word names the command.
 abbrev pub request_of : List Text → Option Asked
 request_of [] = None
@@ -342,10 +379,9 @@ request_of (name ∷ words) =
     (if bytes_eq name (codes "runs") then asked_by runs_of (Steps ∷ []) words else
     (if bytes_eq name (codes "prove") then asked_by prove_of (Turns ∷ Frames ∷ Answers ∷ ends_option ∷ Budget ∷ []) words else
     (if bytes_eq name (codes "check") then asked_by check_of (Turns ∷ Frames ∷ Answers ∷ ends_option ∷ []) words else
-    (if bytes_eq name (codes "bounds") then asked_by suffice_of (Turns ∷ Frames ∷ Answers ∷ Budget ∷ []) words else
     (if bytes_eq name (codes "least") then asked_by least_of (Turns ∷ Frames ∷ Answers ∷ ends_option ∷ Budget ∷ []) words else
     (if bytes_eq name (codes "traces") then asked_by traces_of (Steps ∷ ends_option ∷ []) words else
     (if bytes_eq name (codes "replay") then asked_by replay_of (ends_option ∷ Json ∷ []) words else
     (if bytes_eq name (codes "trees") then asked_by trees_of (Steps ∷ []) words else
     (if bytes_eq name (codes "graph") then asked_by graph_of [] words else
-    (if bytes_eq name (codes "sample") then asked_by sample_of [] words else None))))))))))))
+    (if bytes_eq name (codes "sample") then asked_by sample_of [] words else of_bounds name words)))))))))))

@@ -3,14 +3,15 @@ ghost use Rattle.std.specs.Prelude.{◌≡◌, None, Some, IfOk, IsErrOf};
 ghost use Rattle.clap.specs.Matches.{found_of};
 ghost use Rattle.clap.specs.Walk.{rows_of};
 ghost use Rattle.command_words.specs.Reading.{texts, row_values};
-ghost use Rattle.command_words.specs.Request.{asked, asked_by, bounds_in, check_of, generate_of, goals_of, graph_of, least_of, measure_of, prove_of, replay_of, request_of, runs_of, sample_of, suffice_of, traces_of, trees_of};
+ghost use Rattle.command_words.specs.Request.{asked, asked_by, bounds_in, check_bounds_of, check_of, generate_of, goals_of, graph_of, least_of, measure_of, of_bounds, prove_bounds_of, prove_of, replay_of, request_of, runs_of, sample_of, suffice_of, traces_of, trees_of};
 
 use crate::CommandOption;
 use crate::matching::{WORDS, matches, values_of};
 use crate::requests::{
-    Bounds, Refused, Request, bounds_given, budget_given, check_with, ends_given, flag_given,
-    generate_with, goals_with, graph_with, least_with, measure_with, number_given, prove_with,
-    replay_with, runs_with, sample_with, steps_given, suffice_with, traces_with, trees_with,
+    Bounds, Refused, Request, bounds_given, budget_given, check_bounds_with, check_with,
+    ends_given, flag_given, generate_with, goals_with, graph_with, least_with, measure_with,
+    number_given, prove_bounds_with, prove_with, replay_with, runs_with, sample_with, steps_given,
+    suffice_with, traces_with, trees_with,
 };
 use clap::ArgMatches;
 use std::alloc::{AllocError, Global};
@@ -54,6 +55,19 @@ const BOUNDS: [CommandOption; 4] = [
     CommandOption::Frames,
     CommandOption::Answers,
     CommandOption::Budget,
+];
+
+const PROVE_BOUNDS: [CommandOption; 4] = [
+    CommandOption::Turns,
+    CommandOption::Frames,
+    CommandOption::Answers,
+    CommandOption::Budget,
+];
+
+const CHECK_BOUNDS: [CommandOption; 3] = [
+    CommandOption::Turns,
+    CommandOption::Frames,
+    CommandOption::Answers,
 ];
 
 const LEAST: [CommandOption; 5] = [
@@ -185,6 +199,27 @@ fn suffice<'a>(alloc: Global, words: &'a [String]) -> Result<Request<'a>, Refuse
     suffice_with(alloc, &positionals, bounds, budget_given(&budget))
 }
 
+fn prove_bounds<'a>(alloc: Global, words: &'a [String]) -> Result<Request<'a>, Refused>
+    ensures ok { IfOk result (λ r. asked_by prove_bounds_of PROVE_BOUNDS (texts words.now) ≡ Some (asked r)) }
+    ensures usage { IsErrOf result Refused.Usage → asked_by prove_bounds_of PROVE_BOUNDS (texts words.now) ≡ None }
+{
+    let matches = matches(alloc, "prove-bounds", &PROVE_BOUNDS, words)?;
+    let positionals = values_of(alloc, &matches, WORDS)?;
+    let bounds = bounds(alloc, &matches)?;
+    let budget = values_of(alloc, &matches, CommandOption::Budget.name())?;
+    prove_bounds_with(alloc, &positionals, bounds, budget_given(&budget))
+}
+
+fn check_bounds<'a>(alloc: Global, words: &'a [String]) -> Result<Request<'a>, Refused>
+    ensures ok { IfOk result (λ r. asked_by check_bounds_of CHECK_BOUNDS (texts words.now) ≡ Some (asked r)) }
+    ensures usage { IsErrOf result Refused.Usage → asked_by check_bounds_of CHECK_BOUNDS (texts words.now) ≡ None }
+{
+    let matches = matches(alloc, "check-bounds", &CHECK_BOUNDS, words)?;
+    let positionals = values_of(alloc, &matches, WORDS)?;
+    let bounds = bounds(alloc, &matches)?;
+    check_bounds_with(alloc, &positionals, bounds)
+}
+
 fn least<'a>(alloc: Global, words: &'a [String]) -> Result<Request<'a>, Refused>
     ensures ok { IfOk result (λ r. asked_by least_of LEAST (texts words.now) ≡ Some (asked r)) }
     ensures usage { IsErrOf result Refused.Usage → asked_by least_of LEAST (texts words.now) ≡ None }
@@ -253,6 +288,23 @@ fn sample<'a>(alloc: Global, words: &'a [String]) -> Result<Request<'a>, Refused
     sample_with(&positionals)
 }
 
+// What the words ask for behind the name of a command that asks of bounds alone.
+#[tactic(auto, unfolding(crate::specs::Request::of_bounds))]
+fn of_bounds<'a>(alloc: Global, name: &str, words: &'a [String]) -> Result<Request<'a>, Refused>
+    ensures ok { IfOk result (λ r. of_bounds name.now (texts words.now) ≡ Some (asked r)) }
+    ensures usage { IsErrOf result Refused.Usage → of_bounds name.now (texts words.now) ≡ None }
+{
+    if name == "bounds" {
+        suffice(alloc, words)
+    } else if name == "prove-bounds" {
+        prove_bounds(alloc, words)
+    } else if name == "check-bounds" {
+        check_bounds(alloc, words)
+    } else {
+        Err(Refused::Usage)
+    }
+}
+
 /// What the words ask for. `Usage` comes exactly where they are no command.
 pub fn request<'a>(alloc: Global, words: &'a [String]) -> Result<Request<'a>, Refused>
     ensures ok { IfOk result (λ r. request_of (texts words.now) ≡ Some (asked r)) }
@@ -265,13 +317,13 @@ pub fn request<'a>(alloc: Global, words: &'a [String]) -> Result<Request<'a>, Re
         [name, rest @ ..] if name.as_str() == "runs" => runs(alloc, rest),
         [name, rest @ ..] if name.as_str() == "prove" => prove(alloc, rest),
         [name, rest @ ..] if name.as_str() == "check" => check(alloc, rest),
-        [name, rest @ ..] if name.as_str() == "bounds" => suffice(alloc, rest),
         [name, rest @ ..] if name.as_str() == "least" => least(alloc, rest),
         [name, rest @ ..] if name.as_str() == "traces" => traces(alloc, rest),
         [name, rest @ ..] if name.as_str() == "replay" => replay(alloc, rest),
         [name, rest @ ..] if name.as_str() == "trees" => trees(alloc, rest),
         [name, rest @ ..] if name.as_str() == "graph" => graph(alloc, rest),
         [name, rest @ ..] if name.as_str() == "sample" => sample(alloc, rest),
-        _ => Err(Refused::Usage),
+        [name, rest @ ..] => of_bounds(alloc, name, rest),
+        [] => Err(Refused::Usage),
     }
 }

@@ -18,5 +18,6 @@ mod requests;
 pub use command_line::request;
 pub use command_option::CommandOption;
 pub use requests::{
-    Bounds, Check, Generate, Goals, Measure, Prove, Refused, Replay, Request, Runs, Suffice, Traces,
+    Bounds, Check, CheckBounds, Generate, Goals, Measure, Prove, Refused, Replay, Request, Runs,
+    Suffice, Traces,
 };

@@ -2,7 +2,7 @@
 ghost use Rattle.std.specs.Prelude.{◌≡◌, ◌&&◌, nat_le, length, map, IfOk, IsErrOf, None, Some};
 ghost use Rattle.std.specs.Char.{is_ascii_digit};
 ghost use Rattle.std.specs.List.{list_all};
-ghost use Rattle.command_words.specs.Request.{asked, bounds_with, budget_in, checked, ends_in, ends_named, flag_of, generated, goal_in, listed, lowered, measured, number_in, number_of, printed, proved, replayed, run_on_trees, run_with, sampled, steps_in, sufficed, traced};
+ghost use Rattle.command_words.specs.Request.{asked, bounds_checked, bounds_proved, bounds_with, budget_in, checked, ends_in, ends_named, flag_of, generated, goal_in, listed, lowered, measured, number_in, number_of, printed, proved, replayed, run_on_trees, run_with, sampled, steps_in, sufficed, traced};
 
 use c_meaning::Ends;
 use std::alloc::{AllocError, Global};
@@ -138,6 +138,18 @@ pub struct Suffice<'a> {
     pub budget: u32,
 }
 
+/// Whether a certificate says that bounds suffice.
+#[derive(Debug, Drop)]
+pub struct CheckBounds<'a> {
+    /// The name of the entry function.
+    pub entry: &'a str,
+    /// The name of the certificate's file.
+    pub certificate: &'a str,
+    /// The names of the sources' files, one at least.
+    pub sources: Vec<&'a str>,
+    pub bounds: Bounds,
+}
+
 /// The trace file of given inputs.
 #[derive(Debug, Drop)]
 pub struct Traces<'a> {
@@ -178,6 +190,9 @@ pub enum Request<'a> {
     Prove(Prove<'a>),
     Check(Check<'a>),
     Bounds(Suffice<'a>),
+    /// A certificate that bounds suffice, or what stands in its place, by the words of `bounds`.
+    ProveBounds(Suffice<'a>),
+    CheckBounds(CheckBounds<'a>),
     /// The least input that covers a goal, by the words of `prove`.
     Least(Prove<'a>),
     Traces(Traces<'a>),
@@ -480,6 +495,55 @@ pub fn suffice_with<'a>(
             bounds,
             budget,
         })),
+        _ => Err(Refused::Usage),
+    }
+}
+
+/// The request of `prove-bounds`.
+pub fn prove_bounds_with<'a>(
+    alloc: Global,
+    positionals: &[&'a str],
+    bounds: Option<Bounds>,
+    budget: Option<u32>,
+) -> Result<Request<'a>, Refused>
+    ensures ok { IfOk result (λ r. bounds_proved (map (λ v. v.now) positionals.now) bounds budget ≡ Some (asked r)) }
+    ensures usage { IsErrOf result Refused.Usage → bounds_proved (map (λ v. v.now) positionals.now) bounds budget ≡ None }
+{
+    let (Some(bounds), Some(budget)) = (bounds, budget) else {
+        return Err(Refused::Usage);
+    };
+    match positionals {
+        [entry, sources @ ..] if !sources.is_empty() => Ok(Request::ProveBounds(Suffice {
+            entry: *entry,
+            sources: sources.to_vec(alloc)?,
+            bounds,
+            budget,
+        })),
+        _ => Err(Refused::Usage),
+    }
+}
+
+/// The request of `check-bounds`.
+pub fn check_bounds_with<'a>(
+    alloc: Global,
+    positionals: &[&'a str],
+    bounds: Option<Bounds>,
+) -> Result<Request<'a>, Refused>
+    ensures ok { IfOk result (λ r. bounds_checked (map (λ v. v.now) positionals.now) bounds ≡ Some (asked r)) }
+    ensures usage { IsErrOf result Refused.Usage → bounds_checked (map (λ v. v.now) positionals.now) bounds ≡ None }
+{
+    let Some(bounds) = bounds else {
+        return Err(Refused::Usage);
+    };
+    match positionals {
+        [entry, certificate, sources @ ..] if !sources.is_empty() => Ok(Request::CheckBounds(
+            CheckBounds {
+                entry: *entry,
+                certificate: *certificate,
+                sources: sources.to_vec(alloc)?,
+                bounds,
+            },
+        )),
         _ => Err(Refused::Usage),
     }
 }

@@ -90,6 +90,20 @@ fn show(alloc: Global, request: &Request) -> Result<String, Fail> {
             let bounds = show_bounds(alloc, m.bounds)?;
             format!(in alloc; "bounds {} {:?} {bounds} {}", m.entry, m.sources, m.budget)?
         }
+        Request::ProveBounds(m) => {
+            let bounds = show_bounds(alloc, m.bounds)?;
+            format!(in alloc;
+                "prove-bounds {} {:?} {bounds} {}",
+                m.entry, m.sources, m.budget
+            )?
+        }
+        Request::CheckBounds(m) => {
+            let bounds = show_bounds(alloc, m.bounds)?;
+            format!(in alloc;
+                "check-bounds {} {} {:?} {bounds}",
+                m.entry, m.certificate, m.sources
+            )?
+        }
         Request::Least(m) => {
             let bounds = show_bounds(alloc, m.bounds)?;
             format!(in alloc;
@@ -145,7 +159,7 @@ fn answer(alloc: Global, line: &str) -> Result<String, Fail> {
 }
 
 // What lines ask for.
-static ASKED: [(&str, &str); 40] = [
+static ASKED: [(&str, &str); 44] = [
     (
         "measure f q in a.c",
         "measure f q in [\"a.c\"] 100000 returned false",
@@ -229,6 +243,19 @@ static ASKED: [(&str, &str); 40] = [
         "bounds f [\"a.c\", \"b.c\"] 3/8/16 1",
     ),
     (
+        "prove-bounds f a.c",
+        "prove-bounds f [\"a.c\"] 4/8/16 5000000",
+    ),
+    (
+        "prove-bounds --answers=0 f --budget 20000000 a.c b.c --turns 1000 --frames 64",
+        "prove-bounds f [\"a.c\", \"b.c\"] 1000/64/0 20000000",
+    ),
+    ("check-bounds f c a.c", "check-bounds f c [\"a.c\"] 4/8/16"),
+    (
+        "check-bounds --turns 0 f c --frames=1 a.c -- --answers",
+        "check-bounds f c [\"a.c\", \"--answers\"] 0/1/16",
+    ),
+    (
         "least f q 2 a.c --ends any --answers 0",
         "least f q 2 [\"a.c\"] 4/8/0 any 5000000",
     ),
@@ -258,7 +285,7 @@ static ASKED: [(&str, &str); 40] = [
 ];
 
 // Lines that ask for nothing.
-static REFUSED: [&str; 77] = [
+static REFUSED: [&str; 86] = [
     "measure f q in a.c --ends",
     "measure f q in a.c --ends blocked",
     "measure f q in a.c --ends Returned",
@@ -315,6 +342,15 @@ static REFUSED: [&str; 77] = [
     "bounds f a.c --ends any",
     "bounds f a.c --json",
     "bounds f a.c --frames 0",
+    "prove-bounds f",
+    "prove-bounds f a.c --ends any",
+    "prove-bounds f a.c --json",
+    "prove-bounds f a.c --budget 0",
+    "prove-bounds f a.c --turns 1 --turns 1",
+    "check-bounds f c",
+    "check-bounds f c a.c --budget 1",
+    "check-bounds f c a.c --ends any",
+    "check-bounds f c a.c --answers 257",
     "least f q 0 a.c",
     "least f q 1",
     "least f q 1 a.c --json",

@@ -1,6 +1,6 @@
 -- What `prove` writes is a certificate that `check` accepts.
 use Rattle.std.proofs.Common.{◌≡◌, ◌⊎◌, ℕ, ◌≤◌, List, [], ◌∷◌, ◌++◌, length, map, get_or, Option, Some, None, refl, sym, ap, subst, ◌∙◌, inl, inr, arith}
-use Rattle.std.specs.Prelude.{◌-◌, IfSome, IsTrue, MatchOption, slice_get}
+use Rattle.std.specs.Prelude.{◌==◌, ◌-◌, IfSome, IsTrue, MatchOption, false, slice_get}
 use Rattle.c_front.specs.Laws as front
 use Rattle.c_lex.specs.declared.token.SourceText.{SourceText}
 use Rattle.certificate.specs.Certificates.{IsPair, certificate_text}
@@ -25,7 +25,8 @@ use Rattle.suite.specs.Made.{IsDecided}
 use Rattle.command_words.specs.Reading.{Text}
 use Rattle.command_words.specs.Request.{prove, check, Checking, Proving}
 use Rattle.command.specs.Certificates.{AreCertificateOf}
-use Rattle.command.specs.Checking.{IsChecked, IsCompared, said_of_verdict}
+use Rattle.command.specs.Checking.{IsChecked, accepted_text}
+use Rattle.command.specs.Comparing.{IsCompared, said_of_verdict}
 use Rattle.command.specs.Due.{IsDueOf}
 use Rattle.command.specs.OneGoal.{IsGoalWithin}
 use Rattle.command.specs.Proving.{IsProved, IsSaidOf}
@@ -37,28 +38,32 @@ use Rattle.command.specs.Runs.{EntryFunction, entry_of}
 use Rattle.command.specs.Said.{Said}
 use Rattle.command.specs.Sources.{AreRead, HaveAutomaton}
 use Rattle.command.specs.Stages.{OfCertificate, OfEntry, OfGoal, OfQuery, Says, no_such_entry, no_such_goal}
-use Rattle.due_laws.specs.Accepted.{CertificatesAreAccepted, SaysCertificate, SaysRefuted, checking_of}
-use Rattle.due_laws.specs.Determined.{SaysOtherFormula, are_told}
+use Rattle.due_laws.specs.Accepted.{CertificatesAreAccepted, SaysRefuted, checking_of}
+use Rattle.due_laws.specs.Determined.{SaysCertificate, SaysOtherFormula, are_told}
 use Rattle.due_laws.proofs.OneDue.{Told, both_told, no_automaton, not_all_read, not_planned, one_automaton, one_plan}
 use Rattle.due_laws.proofs.OneKind.{not_certificate, not_goal_refused, one_certificate, one_verdict}
 
 -- ---- what is no certificate
 
-abbrev first_byte : List ℕ → ℕ
+abbrev pub first_byte : List ℕ → ℕ
 first_byte text = get_or text 0 0
 
-nothing_said : (said : Said) → SaysCertificate said → said.out ≡ [] → ⊥
+pub nothing_said : (said : Said) → SaysCertificate said → said.out ≡ [] → ⊥
 nothing_said said h e = let no : 0 ≡ 102 = ap first_byte (sym e ∙ h.is) in absurd (omega (arith, no))
 
-no_text : (names : List Text) (x : Refusal) → (said_by names x).out ≡ []
+pub no_text : (names : List Text) (x : Refusal) → (said_by names x).out ≡ []
 unfolding said_by
 no_text names x = refl
 
-refusal_said : (names : List Text) (P : Refusal → Type 0) (said : Said) → SaysCertificate said → Says names P said → ⊥
+pub refusal_said : (names : List Text) (P : Refusal → Type 0) (said : Said) → SaysCertificate said → Says names P said → ⊥
 refusal_said names P said h is = nothing_said said h (ap (λ (s : Said). s.out) is.2 ∙ no_text names is.0)
 
-line_said : (said : Said) (text : List ℕ) → SaysCertificate said → said.out ≡ text → first_byte text ≡ 103 → ⊥
-line_said said text h e first = let no : 103 ≡ 102 = sym first ∙ ap first_byte (sym e ∙ h.is) in absurd (omega (arith, no))
+-- a text that begins with another byte
+pub line_said : (said : Said) (text : List ℕ) (byte : ℕ) → (byte == 102) ≡ false → SaysCertificate said → said.out ≡ text → first_byte text ≡ byte → ⊥
+line_said said text byte other h e first =
+    let no : byte ≡ 102 = sym first ∙ ap first_byte (sym e ∙ h.is) in
+    let same : (102 == 102) ≡ false = subst (λ (n : ℕ). (n == 102) ≡ false) no other in
+    absurd (cc)
 
 -- ---- what `prove` says
 
@@ -87,7 +92,7 @@ module _ (before : Reads) (m : Proving) (said : Said) (h : SaysCertificate said)
   by_goal graph have entry named p plan planned goal there (inr a) = by a.1.0 a.1.1 a.1.2
     where
       by : (decided : Decided) → IsDecided graph entry.function p plan (within m.bounds) m.ends goal m.budget decided → IsSaidOf graph entry p plan (within m.bounds) m.ends m.goal goal decided said → IsRefuted before m said
-      by (Covered input) is s = absurd (line_said said _ h (ap (λ (z : Said). z.out) s.3) refl)
+      by (Covered input) is s = absurd (line_said said _ 103 refl h (ap (λ (z : Said). z.out) s.3) refl)
       by (Refuted formula derivation) is s = record {
         graph = graph;
         have = have;
@@ -105,7 +110,7 @@ module _ (before : Reads) (m : Proving) (said : Said) (h : SaysCertificate said)
         pair = is.3;
         is = ap (λ (z : Said). z.out) s;
       }
-      by (Undecided formula history) is s = absurd (line_said said _ h (ap (λ (z : Said). z.out) s) refl)
+      by (Undecided formula history) is s = absurd (line_said said _ 103 refl h (ap (λ (z : Said). z.out) s) refl)
 
   by_plan : (graph : GraphParts) → HaveAutomaton before.holds m.sources graph → (entry : EntryFunction) → entry_of graph m.entry ≡ Some entry → (p : Predicates) (plan : Plan) → IsPlanned graph m.query p plan
       → OfGoal plan m.goal (λ goal. IsProved graph entry p plan (within m.bounds) m.ends m.goal goal m.sources m.budget) said → IsRefuted before m said
@@ -152,7 +157,7 @@ still_read holds other (f ∷ fs) (t ∷ ts) e h =
       still_read holds other fs ts (same_tail (holds f) (other f) (map holds fs) (map other fs) e) h.1,
     )
 
-still_have : (before after : Reads) (files : List Text) (graph : GraphParts) → map before.holds files ≡ map after.holds files → HaveAutomaton before.holds files graph → HaveAutomaton after.holds files graph
+pub still_have : (before after : Reads) (files : List Text) (graph : GraphParts) → map before.holds files ≡ map after.holds files → HaveAutomaton before.holds files graph → HaveAutomaton after.holds files graph
 still_have before after files graph e h = record { texts = h.texts; read = still_read before.holds after.holds files h.texts e h.read; automaton = h.automaton }
 
 -- ---- what `check` says
@@ -177,12 +182,12 @@ module _ (front_law : (texts : List SourceText) → front.HasOneOutcome texts) (
   held = record { bytes = said.out; seen = seen; short = short; is = (it.pair, it.is) }
 
   -- `check` compares the certificate's formula with the one that it makes anew, and gives the verdict on the derivation
-  by_compared : (ours : Formula) (v : Said) → IsCompared n it.formula ours it.derivation v → IsAccepted v
+  by_compared : (ours : Formula) (v : Said) → IsCompared (accepted_text n) it.formula ours it.derivation v → IsAccepted v
   by_compared ours v (inl a) = inr (record { theirs = it.formula; ours = ours; difference = a.0; is = a.2 })
   by_compared ours v (inr a) =
       let checks : IsVerdict it.formula it.derivation verdict.Yes = it.checks in
       let own = subst (λ (f : Formula). IsVerdict f it.derivation a.1.0) (sym a.0) a.1.1 in
-      inl (a.1.2 ∙ ap (said_of_verdict n) (one_verdict after still n parts_told.1 it.formula it.derivation a.1.0 verdict.Yes own checks))
+      inl (a.1.2 ∙ ap (said_of_verdict (accepted_text n)) (one_verdict after still file parts_told.1 it.formula it.derivation a.1.0 verdict.Yes own checks))
 
   abbrev Checked : EntryFunction → Predicates → Plan → GoalForm → Formula → Derivation → Said → Type 0
   Checked = IsChecked n it.graph
@@ -192,9 +197,9 @@ module _ (front_law : (texts : List SourceText) → front.HasOneOutcome texts) (
   by_checked v (inr a) = by_compared a.1.0.formula v a.1.2
 
   by_certificate : (v : Said) → OfCertificate after m.sources file (Checked it.entry it.p it.plan it.goal) v → IsAccepted v
-  by_certificate v (inl a) = absurd (not_certificate after still n parts_told.1 a.0 it.formula it.derivation a.1 held)
+  by_certificate v (inl a) = absurd (not_certificate after still file parts_told.1 a.0 it.formula it.derivation a.1 held)
   by_certificate v (inr a) =
-      let pair = one_certificate after still n parts_told.1 a.0 it.formula a.1.0 it.derivation a.1.1 held in
+      let pair = one_certificate after still file parts_told.1 a.0 it.formula a.1.0 it.derivation a.1.1 held in
       by_checked v
       (subst (λ (d : Derivation). Checked it.entry it.p it.plan it.goal it.formula d v) pair.derivation
       (subst (λ (f : Formula). Checked it.entry it.p it.plan it.goal f a.1.0 v) pair.formula a.1.2))

@@ -1,4 +1,5 @@
 mod Accepted
+mod AcceptedBounds
 mod Agreement
 mod OneDue
 mod OneFile
@@ -8,3 +9,4 @@ mod OneLine
 mod Printed
 mod PrintedLines
 mod Remeasured
+mod Unreachable

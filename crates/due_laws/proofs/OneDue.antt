@@ -496,6 +496,8 @@ at_most_one front_law trees_law predicates_law hits_law r words still told said 
     asked_once (prove m) h c d = absurd (none_told (are_told r (files_of (prove m))) h)
     asked_once (check m) h c d = absurd (none_told (are_told r (files_of (check m))) h)
     asked_once (suffice m) h c d = absurd (none_told (are_told r (files_of (suffice m))) h)
+    asked_once (asks.prove_bounds m) h c d = absurd (none_told (are_told r (files_of (asks.prove_bounds m))) h)
+    asked_once (asks.check_bounds m) h c d = absurd (none_told (are_told r (files_of (asks.check_bounds m))) h)
     asked_once (asks.least m) h c d = absurd (none_told (are_told r (files_of (asks.least m))) h)
     asked_once (asks.traces m) h c d = traced_once front_law predicates_law hits_law r still m h said other c d
     asked_once (asks.replay m) h c d = replayed_once front_law predicates_law hits_law r still m h said other c d

@@ -1,5 +1,5 @@
 -- Two texts that are due of one command are the same, or both are answers.
-use Rattle.std.proofs.Common.{◌≡◌, ℕ, ◌<◌, ◌≤◌, Bool, true, false, List, [], ◌∷◌, ◌++◌, length, Option, Some, None, refl, sym, ap, subst, ◌∙◌, inl, inr, ⊎_elim, arith}
+use Rattle.std.proofs.Common.{◌≡◌, ℕ, ◌<◌, ◌≤◌, Bool, true, false, List, [], ◌∷◌, ◌++◌, length, map, Option, Some, None, refl, sym, ap, subst, ◌∙◌, inl, inr, ⊎_elim, arith}
 use Rattle.std.specs.Option.{is_some}
 use Rattle.std.proofs.lemmas.Bool.{cases_lt}
 use Rattle.std.proofs.lemmas.Slice.Zip.{AllZip-long}
@@ -16,13 +16,14 @@ use Rattle.c_meaning.specs.declared.ends.Ends.{Ends}
 use Rattle.c_meaning.specs.declared.ends.Ends.TheVariants as counted
 use Rattle.c_meaning.specs.declared.input.Input.{Input}
 use Rattle.c_values.specs.Kind.{IsValue}
-use Rattle.certificate.specs.Certificates.{IsCertificate}
+use Rattle.certificate.specs.Certificates.{IsCertificate, certificate_text, derivation_head, line_text}
 use Rattle.certificate.specs.Refusals.{IsRefusedAtLine, bad_line}
 use Rattle.certificate.proofs.PairLaws.{no_certificate, one_pair}
 use Rattle.cfa.specs.Contexts.{Pair}
 use Rattle.cfa.specs.declared.parts.Function.{Function}
 use Rattle.cfa.specs.declared.parts.GraphParts.{GraphParts}
 use Rattle.cfa.specs.declared.state.Predicates.{Predicates}
+use Rattle.cnf.specs.Dimacs.{dimacs_lines, text_of_lines}
 use Rattle.cnf.specs.declared.derivation.Derivation.{Derivation}
 use Rattle.cnf.specs.declared.formula.Formula.{Formula}
 use Rattle.derivation_check.specs.Verdicts.{IsVerdict}
@@ -38,6 +39,7 @@ use Rattle.reached.specs.declared.step.Step.{Step}
 use Rattle.reached_laws.specs.Laws.{NotTooMany, OneCount, OneSize}
 use Rattle.report.specs.Generated.{sample_text}
 use Rattle.report.specs.Least.{least_text}
+use Rattle.report.specs.Suffice.{suffice_text}
 use Rattle.sample.specs.Sample.{query_text}
 use Rattle.search.specs.declared.moves.History.{History}
 use Rattle.bounds_check.specs.Sufficing as sufficing
@@ -57,12 +59,14 @@ use Rattle.unwinding_size.specs.Sizes.{size_sum}
 use Rattle.typed_sources.specs.Laws as trees
 use Rattle.command_words.specs.Reading.{Text}
 use Rattle.command_words.specs.Request as asks
-use Rattle.command_words.specs.Request.{Asked, measure, generate, goals, runs, prove, check, suffice, sample, Checking, Generating, Proving, Sufficing, request_of}
+use Rattle.command_words.specs.Request.{Asked, measure, generate, goals, runs, prove, check, suffice, sample, Checking, CheckingBounds, Generating, Proving, Sufficing, request_of}
 use Rattle.command.specs.Asked.{sample_file}
 use Rattle.command.specs.Certificates.{AreCertificateOf}
 use Rattle.command.specs.Certificates as certificates
-use Rattle.command.specs.Checking.{IsChecked, IsCompared, said_of_verdict}
-use Rattle.due_laws.specs.Determined.{AreAlike, AreOfOneKind, AreOfOneLeast, AreOfOneSuffice, AtMostOneKindIsDue, SaysCompared, SaysLeft, SaysOpen, answers, are_told, files_of}
+use Rattle.command.specs.Checking.{IsChecked, accepted_text}
+use Rattle.command.specs.CheckingBounds.{IsCheckedBounds}
+use Rattle.command.specs.Comparing.{IsCompared, said_of_verdict}
+use Rattle.due_laws.specs.Determined.{AreAlike, AreOfOneCheck, AreOfOneKind, AreOfOneLeast, AreOfOneProof, AreOfOneSuffice, AtMostOneKindIsDue, SaysCertificate, SaysCompared, SaysLeft, SaysOpen, answers, are_told, files_of}
 use Rattle.command.specs.Due.{IsDueOf}
 use Rattle.command.specs.Generating.{IsGeneration, concluded, generated_report, is_open}
 use Rattle.command.specs.Lowering.{IsLowered, said_of_least}
@@ -75,7 +79,9 @@ use Rattle.command.specs.Refusal.{said_by}
 use Rattle.command.specs.Said.{Said, answered, status_with}
 use Rattle.command.specs.Sampling.{IsDueOfSample, IsSampled, default_bounds, default_budget, sample_source}
 use Rattle.command.specs.Stages.{OfCertificate, OfEntry, OfGoal, OfQuery, OfTexts, no_such_entry, no_such_goal, usage}
-use Rattle.command.specs.Sufficing.{IsAskedOfBounds, said_of_bounds}
+use Rattle.command.specs.declared.sufficing.Form.{Form}
+use Rattle.command.specs.declared.sufficing.Form.TheVariants as form
+use Rattle.command.specs.Sufficing.{IsAskedOfBounds, said_of_bounds, sufficient_text}
 use Rattle.due_laws.proofs.Agreement.{no_arrays}
 use Rattle.due_laws.proofs.OneLeast.{one_least_input}
 use Rattle.due_laws.proofs.OneLine.{one_line}
@@ -89,6 +95,12 @@ one_lowest x y e = inl e
 
 one_suffice : TellsSame AreOfOneSuffice
 one_suffice x y e = inl e
+
+one_bounds_proof : TellsSame AreOfOneProof
+one_bounds_proof x y e = inl (inl e)
+
+one_comparison : (text : List ℕ) → TellsSame (AreOfOneCheck text)
+one_comparison text x y e = inl e
 
 -- where a run can begin at the entry of a name, it has no array parameters
 one_by_entry : (graph : GraphParts) (name : Text) (Alike : Said → Said → Type 0) → TellsSame Alike → (Then : EntryFunction → Said → Type 0)
@@ -114,13 +126,13 @@ by_one x y f a b = same_refused x y (a ∙ sym b)
 
 module _ (size : OneSize) (few : NotTooMany) (graph : GraphParts) (f : Function) (p : Predicates) (bounds : Bounds) where
   -- what some list of the pairs that are reached says
-  record Counted : Type 0 where
-    pairs : List Pair
-    steps : List (List Step)
-    reached : AreReached graph bounds f pairs steps
-    few_pairs : length pairs ≤ 50000
+  pub record Counted : Type 0 where
+    pub pairs : List Pair
+    pub steps : List (List Step)
+    pub reached : AreReached graph bounds f pairs steps
+    pub few_pairs : length pairs ≤ 50000
 
-  abbrev SizeOf : Counted → ℕ
+  abbrev pub SizeOf : Counted → ℕ
   SizeOf c = size_sum graph p f c.pairs c.steps
 
   not_many : Counted → AreTooMany graph bounds f → ⊥
@@ -136,7 +148,7 @@ module _ (size : OneSize) (few : NotTooMany) (graph : GraphParts) (f : Function)
   of_large large = record { pairs = large.pairs; steps = large.steps; reached = large.reached; few_pairs = large.few }
 
   -- a refusal by the counts of an unwinding comes only where they are past their limits
-  not_unwound : (c : Counted) → SizeOf c ≤ 4194304 → (x : Refusal) → IsUnwindFault graph p bounds f (fault.Refused x) → ⊥
+  pub not_unwound : (c : Counted) → SizeOf c ≤ 4194304 → (x : Refusal) → IsUnwindFault graph p bounds f (fault.Refused x) → ⊥
   not_unwound c small x (inl a) = not_many c a.1
   not_unwound c small x (inr a) = not_large c small a.1
 
@@ -268,23 +280,36 @@ module _ (count : OneCount) (size : OneSize) (few : NotTooMany) where
 
   -- ---- what is said of bounds
 
-  suffice_said : (graph : GraphParts) (entry : EntryFunction) (bounds : Bounds) (s : Suffice) (said : Said) → said ≡ said_of_bounds graph entry bounds s → IsTrue (answers said.status)
-  suffice_said graph entry bounds (found.Yes formula derivation) said is = subst (λ (s : Said). IsTrue (answers s.status)) (sym is) refl
-  suffice_said graph entry bounds (found.Left input) said is = subst (λ (s : Said). IsTrue (answers s.status)) (sym is) refl
-  suffice_said graph entry bounds (found.Open formula history) said is = subst (λ (s : Said). IsTrue (answers s.status)) (sym is) refl
+  suffice_said : (shape : Form) (graph : GraphParts) (entry : EntryFunction) (bounds : Bounds) (s : Suffice) (said : Said) → said ≡ said_of_bounds shape graph entry bounds s
+      → IsTrue (answers said.status)
+  suffice_said shape graph entry bounds (found.Yes formula derivation) said is = subst (λ (s : Said). IsTrue (answers s.status)) (sym is) refl
+  suffice_said shape graph entry bounds (found.Left input) said is = subst (λ (s : Said). IsTrue (answers s.status)) (sym is) refl
+  suffice_said shape graph entry bounds (found.Open formula history) said is = subst (λ (s : Said). IsTrue (answers s.status)) (sym is) refl
 
-  abbrev limited : (graph : GraphParts) (entry : EntryFunction) (bounds : Bounds) → sufficing.IsWithinLimits graph entry.function bounds → Counted size few graph entry.function no_predicates bounds
+  abbrev pub limited : (graph : GraphParts) (entry : EntryFunction) (bounds : Bounds) → sufficing.IsWithinLimits graph entry.function bounds → Counted size few graph entry.function no_predicates bounds
   limited graph entry bounds h = record { pairs = h.pairs; steps = h.steps; reached = h.reached; few_pairs = h.few_pairs }
 
-  module _ (graph : GraphParts) (entry : EntryFunction) (bounds : Bounds) (budget : ℕ) where
+  -- what is said by a line and by a certificate is alike in these ways
+  abbrev AlikeAs : Form → Said → Said → Type 0
+  AlikeAs form.Line = AreOfOneSuffice
+  AlikeAs form.Certificate = AreOfOneProof
+
+  alike_as : (shape : Form) (x y : Said) → AreOfOneSuffice x y → AlikeAs shape x y
+  alike_as form.Line x y is = is
+  alike_as form.Certificate x y is = inl is
+
+  certified : (formula : Formula) (derivation : Derivation) (x : Said) → x.out ≡ certificate_text formula derivation → SaysCertificate x
+  certified formula derivation x is = record { rest = text_of_lines (dimacs_lines formula ++ derivation_head (length derivation.lines) ∷ map line_text derivation.lines); is = is }
+
+  module _ (shape : Form) (graph : GraphParts) (entry : EntryFunction) (bounds : Bounds) (budget : ℕ) where
     abbrev Sufficient : Suffice → Type 0
     Sufficient s = IsSuffice graph entry.function bounds budget s
 
     abbrev Heard : Suffice → Said → Type 0
-    Heard s said = said ≡ said_of_bounds graph entry bounds s
+    Heard s said = said ≡ said_of_bounds shape graph entry bounds s
 
-    alike : (s t : Suffice) (x y : Said) → Heard s x → Heard t y → (SaysOpen x ⊎ SaysOpen y) ⊎ (SaysLeft x × SaysLeft y) → AreOfOneSuffice x y
-    alike s t x y c d why = inr (suffice_said graph entry bounds s x c, suffice_said graph entry bounds t y d, why)
+    alike : (s t : Suffice) (x y : Said) → Heard s x → Heard t y → (SaysOpen x ⊎ SaysOpen y) ⊎ (SaysLeft x × SaysLeft y) → AlikeAs shape x y
+    alike s t x y c d why = alike_as shape x y (inr (suffice_said shape graph entry bounds s x c, suffice_said shape graph entry bounds t y d, why))
 
     spent : (formula : Formula) (history : History) (x : Said) → Heard (found.Open formula history) x → SaysOpen x
     spent formula history x c = ap (λ (s : Said). s.status) c
@@ -292,64 +317,70 @@ module _ (count : OneCount) (size : OneSize) (few : NotTooMany) where
     left : (input : Input) (x : Said) → Heard (found.Left input) x → SaysLeft x
     left input x c = record { graph = graph; entry = entry.number; input = input; is = c }
 
-    one_heard : (arrays : entry.function.arrays ≡ []) (s t : Suffice) (x y : Said) → Sufficient s → Sufficient t → Heard s x → Heard t y → AreOfOneSuffice x y
-    one_heard arrays (found.Yes formula derivation) (found.Yes form other) x y a b c d = inl (c ∙ sym d)
+    -- no input leaves the bounds, by two derivations
+    both_suffice : (by : Form) (formula other : Formula) (derivation line : Derivation) (x y : Said) → x ≡ answered (sufficient_text by bounds formula derivation)
+        → y ≡ answered (sufficient_text by bounds other line) → AlikeAs by x y
+    both_suffice form.Line formula other derivation line x y c d = inl (c ∙ sym d)
+    both_suffice form.Certificate formula other derivation line x y c d =
+        inr (
+          subst (λ (s : Said). IsTrue (answers s.status)) (sym c) refl,
+          subst (λ (s : Said). IsTrue (answers s.status)) (sym d) refl,
+          certified formula derivation x (ap (λ (s : Said). s.out) c),
+          certified other line y (ap (λ (s : Said). s.out) d),
+        )
+
+    one_heard : (arrays : entry.function.arrays ≡ []) (s t : Suffice) (x y : Said) → Sufficient s → Sufficient t → Heard s x → Heard t y → AlikeAs shape x y
+    one_heard arrays (found.Yes formula derivation) (found.Yes other line) x y a b c d = both_suffice shape formula other derivation line x y c d
     one_heard arrays (found.Yes formula derivation) (found.Left input) x y a b c d = absurd (a.0 input (left_given entry.function bounds arrays graph input b) b.leaves)
-    one_heard arrays (found.Left input) (found.Yes form derivation) x y a b c d = absurd (b.0 input (left_given entry.function bounds arrays graph input a) a.leaves)
+    one_heard arrays (found.Left input) (found.Yes other derivation) x y a b c d = absurd (b.0 input (left_given entry.function bounds arrays graph input a) a.leaves)
     one_heard arrays (found.Left input) (found.Left other) x y a b c d = alike (found.Left input) (found.Left other) x y c d (inr (left input x c, left other y d))
     one_heard arrays (found.Open formula history) t x y a b c d = alike (found.Open formula history) t x y c d (inl (inl (spent formula history x c)))
-    one_heard arrays (found.Yes formula derivation) (found.Open form history) x y a b c d = alike (found.Yes formula derivation) (found.Open form history) x y c d (inl (inr (spent form history y d)))
-    one_heard arrays (found.Left input) (found.Open form history) x y a b c d = alike (found.Left input) (found.Open form history) x y c d (inl (inr (spent form history y d)))
+    one_heard arrays (found.Yes formula derivation) (found.Open other history) x y a b c d = alike (found.Yes formula derivation) (found.Open other history) x y c d (inl (inr (spent other history y d)))
+    one_heard arrays (found.Left input) (found.Open other history) x y a b c d = alike (found.Left input) (found.Open other history) x y c d (inl (inr (spent other history y d)))
 
-    one_sufficing : (arrays : entry.function.arrays ≡ []) (names : List Text) → AnyTwo AreOfOneSuffice (IsAskedOfBounds graph entry bounds names budget)
+    one_sufficing : (arrays : entry.function.arrays ≡ []) (names : List Text) → AnyTwo (AlikeAs shape) (IsAskedOfBounds shape graph entry bounds names budget)
     one_sufficing arrays names x y (inl a) (inl b) =
-        inl (one_saying names (λ (z : Refusal). IsUnwindFault graph no_predicates bounds entry.function (fault.Refused z)) (one_unwound size few graph entry.function no_predicates bounds) x y a b)
+        alike_as shape x y (inl (one_saying names (λ (z : Refusal). IsUnwindFault graph no_predicates bounds entry.function (fault.Refused z)) (one_unwound size few graph entry.function no_predicates bounds) x y a b))
     one_sufficing arrays names x y (inl a) (inr b) = absurd (not_unwound size few graph entry.function no_predicates bounds (limited graph entry bounds b.0) b.0.small a.0 a.1)
     one_sufficing arrays names x y (inr a) (inl b) = absurd (not_unwound size few graph entry.function no_predicates bounds (limited graph entry bounds a.0) a.0.small b.0 b.1)
     one_sufficing arrays names x y (inr a) (inr b) = one_heard arrays a.1.0 b.1.0 x y a.1.1 b.1.1 a.1.3 b.1.3
 
 -- ---- the certificate's file
 
-module _ (r : Reads) (still : Rose r.faults_before r.faults_after → ⊥) (m : Checking) (h : IsTrue (is_some (r.holds m.certificate))) where
-  -- the same is said, or what two comparisons come to, one of them that the formula is another one
-  abbrev AreChecked : Said → Said → Type 0
-  AreChecked said other = AreAlike (check m) said other
-
-  checked : TellsSame AreChecked
-  checked x y e = inl e
-
+module _ (r : Reads) (still : Rose r.faults_before r.faults_after → ⊥) (file : Text) (h : IsTrue (is_some (r.holds file))) where
   pub record SamePair (f g : Formula) (d e : Derivation) : Type 0 where
     pub formula : f ≡ g
     pub derivation : d ≡ e
 
-  pub one_certificate : (f g : Formula) (d e : Derivation) → AreCertificateOf r m.certificate f d → AreCertificateOf r m.certificate g e → SamePair f g d e
+  pub one_certificate : (f g : Formula) (d e : Derivation) → AreCertificateOf r file f d → AreCertificateOf r file g e → SamePair f g d e
   one_certificate f g d e a b =
-      let bytes = one_seen r still m.certificate a.bytes b.bytes h a.seen b.seen in
+      let bytes = one_seen r still file a.bytes b.bytes h a.seen b.seen in
       let both = one_pair b.bytes f g d e (subst (λ (held : List ℕ). IsCertificate held f d) bytes a.is) b.is in
       record { formula = both.0; derivation = both.1 }
 
-  pub not_certificate : (x : Refusal) (f : Formula) (d : Derivation) → certificates.IsRefused r m.certificate x → AreCertificateOf r m.certificate f d → ⊥
-  not_certificate x f d (certificates.at_read a) b = not_seen r still certificates.most_certificate m.certificate x b.bytes h a b.seen b.short
+  pub not_certificate : (x : Refusal) (f : Formula) (d : Derivation) → certificates.IsRefused r file x → AreCertificateOf r file f d → ⊥
+  not_certificate x f d (certificates.at_read a) b = not_seen r still certificates.most_certificate file x b.bytes h a b.seen b.short
   not_certificate x f d (certificates.at_form bytes seen short a) b =
-      let same = one_seen r still m.certificate bytes b.bytes h seen b.seen in
+      let same = one_seen r still file bytes b.bytes h seen b.seen in
       no_certificate bytes a.line a.first f d (subst (λ (held : List ℕ). IsCertificate held f d) (sym same) b.is)
 
   -- bytes that are no certificate are refused at one line
   same_line : (bytes : List ℕ) (s t : Refusal) → IsRefusedAtLine bytes s → IsRefusedAtLine bytes t → s ≡ t
   same_line bytes s t c d = same_refused s t (c.is ∙ ap bad_line (one_line bytes c.line d.line c.first d.first) ∙ sym d.is)
 
-  refused_once : Once (certificates.IsRefused r m.certificate)
-  refused_once s t (certificates.at_read c) (certificates.at_read d) = unread_is r still certificates.most_certificate m.certificate s c ∙ sym (unread_is r still certificates.most_certificate m.certificate t d)
-  refused_once s t (certificates.at_read c) (certificates.at_form bytes seen short d) = absurd (not_seen r still certificates.most_certificate m.certificate s bytes h c seen short)
-  refused_once s t (certificates.at_form bytes seen short c) (certificates.at_read d) = absurd (not_seen r still certificates.most_certificate m.certificate t bytes h d seen short)
+  refused_once : Once (certificates.IsRefused r file)
+  refused_once s t (certificates.at_read c) (certificates.at_read d) = unread_is r still certificates.most_certificate file s c ∙ sym (unread_is r still certificates.most_certificate file t d)
+  refused_once s t (certificates.at_read c) (certificates.at_form bytes seen short d) = absurd (not_seen r still certificates.most_certificate file s bytes h c seen short)
+  refused_once s t (certificates.at_form bytes seen short c) (certificates.at_read d) = absurd (not_seen r still certificates.most_certificate file t bytes h d seen short)
   refused_once s t (certificates.at_form bytes seen short c) (certificates.at_form others sight few d) =
-      same_line others s t (subst (λ (held : List ℕ). IsRefusedAtLine held s) (one_seen r still m.certificate bytes others h seen sight) c) d
+      same_line others s t (subst (λ (held : List ℕ). IsRefusedAtLine held s) (one_seen r still file bytes others h seen sight) c) d
 
-  one_of_certificate : (sources : List Text) (Then : Formula → Derivation → Said → Type 0) → ((f : Formula) (d : Derivation) → AnyTwo AreChecked (Then f d)) → AnyTwo AreChecked (OfCertificate r sources m.certificate Then)
-  one_of_certificate sources Then alike x y (inl a) (inl b) = inl (one_saying sources (certificates.IsRefused r m.certificate) refused_once x y a b)
-  one_of_certificate sources Then alike x y (inl a) (inr b) = absurd (not_certificate a.0 b.0 b.1.0 a.1 b.1.1)
-  one_of_certificate sources Then alike x y (inr a) (inl b) = absurd (not_certificate b.0 a.0 a.1.0 b.1 a.1.1)
-  one_of_certificate sources Then alike x y (inr a) (inr b) =
+  one_of_certificate : (text : List ℕ) (sources : List Text) (Then : Formula → Derivation → Said → Type 0) → ((f : Formula) (d : Derivation) → AnyTwo (AreOfOneCheck text) (Then f d))
+      → AnyTwo (AreOfOneCheck text) (OfCertificate r sources file Then)
+  one_of_certificate text sources Then alike x y (inl a) (inl b) = inl (one_saying sources (certificates.IsRefused r file) refused_once x y a b)
+  one_of_certificate text sources Then alike x y (inl a) (inr b) = absurd (not_certificate a.0 b.0 b.1.0 a.1 b.1.1)
+  one_of_certificate text sources Then alike x y (inr a) (inl b) = absurd (not_certificate b.0 a.0 a.1.0 b.1 a.1.1)
+  one_of_certificate text sources Then alike x y (inr a) (inr b) =
       let same = one_certificate a.0 b.0 a.1.0 b.1.0 a.1.1 b.1.1 in
       alike b.0 b.1.0 x y (subst (λ (d : Derivation). Then b.0 d x) same.derivation (subst (λ (f : Formula). Then f a.1.0 x) same.formula a.1.2)) b.1.2
 
@@ -373,27 +404,39 @@ module _ (r : Reads) (still : Rose r.faults_before r.faults_after → ⊥) (m : 
   one_verdict f d verdict.NoEmptyClause (verdict.BadStep line) a b = absurd (b.3 (a.0 (line - 1) (omega (arith, b.0, b.1))))
   one_verdict f d verdict.NoEmptyClause verdict.NoEmptyClause a b = refl
 
-  says_compared : (theirs ours : Formula) (d : Derivation) (x : Said) → IsCompared m theirs ours d x → SaysCompared m x
-  says_compared theirs ours d x (inl a) = inl (record { theirs = theirs; ours = ours; difference = a.0; is = a.2 })
-  says_compared theirs ours d x (inr a) = inr (a.1.0, a.1.2)
+  says_compared : (text : List ℕ) (theirs ours : Formula) (d : Derivation) (x : Said) → IsCompared text theirs ours d x → SaysCompared text x
+  says_compared text theirs ours d x (inl a) = inl (record { theirs = theirs; ours = ours; difference = a.0; is = a.2 })
+  says_compared text theirs ours d x (inr a) = inr (a.1.0, a.1.2)
 
-  compared : (theirs ours other : Formula) (d : Derivation) (x y : Said) → IsCompared m theirs ours d x → IsCompared m theirs other d y → AreChecked x y
-  compared theirs ours other d x y (inl a) b =
-      inr (says_compared theirs ours d x (inl a), says_compared theirs other d y b, inl (record { theirs = theirs; ours = ours; difference = a.0; is = a.2 }))
-  compared theirs ours other d x y (inr a) (inl b) =
-      inr (says_compared theirs ours d x (inr a), says_compared theirs other d y (inl b), inr (record { theirs = theirs; ours = other; difference = b.0; is = b.2 }))
-  compared theirs ours other d x y (inr a) (inr b) =
+  compared : (text : List ℕ) (theirs ours other : Formula) (d : Derivation) (x y : Said) → IsCompared text theirs ours d x → IsCompared text theirs other d y → AreOfOneCheck text x y
+  compared text theirs ours other d x y (inl a) b =
+      inr (says_compared text theirs ours d x (inl a), says_compared text theirs other d y b, inl (record { theirs = theirs; ours = ours; difference = a.0; is = a.2 }))
+  compared text theirs ours other d x y (inr a) (inl b) =
+      inr (says_compared text theirs ours d x (inr a), says_compared text theirs other d y (inl b), inr (record { theirs = theirs; ours = other; difference = b.0; is = b.2 }))
+  compared text theirs ours other d x y (inr a) (inr b) =
       let mine = subst (λ (f : Formula). IsVerdict f d a.1.0) (sym a.0) a.1.1 in
       let yours = subst (λ (f : Formula). IsVerdict f d b.1.0) (sym b.0) b.1.1 in
-      inl (a.1.2 ∙ ap (said_of_verdict m) (one_verdict theirs d a.1.0 b.1.0 mine yours) ∙ sym b.1.2)
+      inl (a.1.2 ∙ ap (said_of_verdict text) (one_verdict theirs d a.1.0 b.1.0 mine yours) ∙ sym b.1.2)
 
   module _ (count : OneCount) (size : OneSize) (few : NotTooMany) where
-    one_check : (graph : GraphParts) (entry : EntryFunction) (p : Predicates) (plan : Plan) (goal : GoalForm) (theirs : Formula) (d : Derivation) → AnyTwo AreChecked (IsChecked m graph entry p plan goal theirs d)
-    one_check graph entry p plan goal theirs d x y (inl a) (inl b) =
+    one_check_bounds : (m : CheckingBounds) (graph : GraphParts) (entry : EntryFunction) (theirs : Formula) (d : Derivation)
+        → AnyTwo (AreOfOneCheck (suffice_text (within m.bounds))) (IsCheckedBounds m graph entry theirs d)
+    one_check_bounds m graph entry theirs d x y (inl a) (inl b) =
+        inl (one_saying m.sources (λ (z : Refusal). IsUnwindFault graph no_predicates (within m.bounds) entry.function (fault.Refused z))
+        (one_unwound size few graph entry.function no_predicates (within m.bounds)) x y a b)
+    one_check_bounds m graph entry theirs d x y (inl a) (inr b) =
+        absurd (not_unwound size few graph entry.function no_predicates (within m.bounds) (limited count size few graph entry (within m.bounds) b.0) b.0.small a.0 a.1)
+    one_check_bounds m graph entry theirs d x y (inr a) (inl b) =
+        absurd (not_unwound size few graph entry.function no_predicates (within m.bounds) (limited count size few graph entry (within m.bounds) a.0) a.0.small b.0 b.1)
+    one_check_bounds m graph entry theirs d x y (inr a) (inr b) = compared (suffice_text (within m.bounds)) theirs a.1.0 b.1.0 d x y a.1.2 b.1.2
+
+    one_check : (m : Checking) (graph : GraphParts) (entry : EntryFunction) (p : Predicates) (plan : Plan) (goal : GoalForm) (theirs : Formula) (d : Derivation)
+        → AnyTwo (AreOfOneCheck (accepted_text m)) (IsChecked m graph entry p plan goal theirs d)
+    one_check m graph entry p plan goal theirs d x y (inl a) (inl b) =
         inl (one_saying m.sources (IsGoalRefused graph entry.function p plan (within m.bounds) goal) (one_goal_refused count size few graph entry.function p plan (within m.bounds) m.ends goal) x y a b)
-    one_check graph entry p plan goal theirs d x y (inl a) (inr b) = absurd (not_goal_refused count size few graph entry.function p plan (within m.bounds) m.ends goal b.0 a.0 a.1)
-    one_check graph entry p plan goal theirs d x y (inr a) (inl b) = absurd (not_goal_refused count size few graph entry.function p plan (within m.bounds) m.ends goal a.0 b.0 b.1)
-    one_check graph entry p plan goal theirs d x y (inr a) (inr b) = compared theirs a.1.0.formula b.1.0.formula d x y a.1.2 b.1.2
+    one_check m graph entry p plan goal theirs d x y (inl a) (inr b) = absurd (not_goal_refused count size few graph entry.function p plan (within m.bounds) m.ends goal b.0 a.0 a.1)
+    one_check m graph entry p plan goal theirs d x y (inr a) (inl b) = absurd (not_goal_refused count size few graph entry.function p plan (within m.bounds) m.ends goal a.0 b.0 b.1)
+    one_check m graph entry p plan goal theirs d x y (inr a) (inr b) = compared (accepted_text m) theirs a.1.0.formula b.1.0.formula d x y a.1.2 b.1.2
 
 -- ---- the whole
 
@@ -444,9 +487,25 @@ module _ (front_law : (texts : List SourceText) → front.HasOneOutcome texts) (
 
     one_bounds : (m : Sufficing) → IsTrue (are_told r m.sources) → AnyTwo AreOfOneSuffice (IsDueOf r (suffice m))
     one_bounds m h =
-        let Asking : GraphParts → EntryFunction → Said → Type 0 = λ graph entry. IsAskedOfBounds graph entry (within m.bounds) m.sources m.budget in
+        let Asking : GraphParts → EntryFunction → Said → Type 0 = λ graph entry. IsAskedOfBounds form.Line graph entry (within m.bounds) m.sources m.budget in
         one_of_sources r still front_law m.sources h AreOfOneSuffice one_suffice (λ graph. OfEntry graph m.entry (Asking graph)) (λ graph.
-        one_by_entry graph m.entry AreOfOneSuffice one_suffice (Asking graph) (λ entry arrays. one_sufficing count size few graph entry (within m.bounds) m.budget arrays m.sources))
+        one_by_entry graph m.entry AreOfOneSuffice one_suffice (Asking graph) (λ entry arrays. one_sufficing count size few form.Line graph entry (within m.bounds) m.budget arrays m.sources))
+
+    one_prove_bounds : (m : Sufficing) → IsTrue (are_told r m.sources) → AnyTwo AreOfOneProof (IsDueOf r (asks.prove_bounds m))
+    one_prove_bounds m h =
+        let Asking : GraphParts → EntryFunction → Said → Type 0 = λ graph entry. IsAskedOfBounds form.Certificate graph entry (within m.bounds) m.sources m.budget in
+        one_of_sources r still front_law m.sources h AreOfOneProof one_bounds_proof (λ graph. OfEntry graph m.entry (Asking graph)) (λ graph.
+        one_by_entry graph m.entry AreOfOneProof one_bounds_proof (Asking graph)
+        (λ entry arrays. one_sufficing count size few form.Certificate graph entry (within m.bounds) m.budget arrays m.sources))
+
+    one_bounds_checked : (m : CheckingBounds) → IsTrue (are_told r (m.sources ++ m.certificate ∷ [])) → AnyTwo (AreOfOneCheck (suffice_text (within m.bounds))) (IsDueOf r (asks.check_bounds m))
+    one_bounds_checked m h =
+        let t = both_told front_law predicates_law hits_law r still m.sources m.certificate h in
+        let text = suffice_text (within m.bounds) in
+        let Asking : GraphParts → EntryFunction → Said → Type 0 = λ graph entry. OfCertificate r m.sources m.certificate (IsCheckedBounds m graph entry) in
+        one_of_sources r still front_law m.sources t.0 (AreOfOneCheck text) (one_comparison text) (λ graph. OfEntry graph m.entry (Asking graph)) (λ graph.
+        one_by (AreOfOneCheck text) (one_comparison text) (entry_of graph m.entry) no_such_entry (Asking graph) (λ entry.
+        one_of_certificate r still m.certificate t.1 text m.sources (IsCheckedBounds m graph entry) (one_check_bounds r still m.certificate t.1 count size few m graph entry)))
 
     one_least : (m : Proving) → IsTrue (are_told r m.sources) → AnyTwo AreOfOneLeast (IsDueOf r (asks.least m))
     one_least m h =
@@ -460,19 +519,19 @@ module _ (front_law : (texts : List SourceText) → front.HasOneOutcome texts) (
         one_by AreOfOneLeast one_lowest (slice_get plan.goals (m.goal - 1)) no_such_goal (Lowered graph entry p plan) (λ goal.
         one_lowering count size few graph entry p plan (within m.bounds) m.ends m.goal goal m.budget m.sources))))
 
-    one_checked : (m : Checking) → IsTrue (are_told r (m.sources ++ m.certificate ∷ [])) → AnyTwo (AreAlike (check m)) (IsDueOf r (check m))
+    one_checked : (m : Checking) → IsTrue (are_told r (m.sources ++ m.certificate ∷ [])) → AnyTwo (AreOfOneCheck (accepted_text m)) (IsDueOf r (check m))
     one_checked m h =
         let t = both_told front_law predicates_law hits_law r still m.sources m.certificate h in
-        let Same : TellsSame (AreAlike (check m)) = checked r still m t.1 in
+        let text = accepted_text m in
         let Seen : GraphParts → EntryFunction → Predicates → Plan → GoalForm → Said → Type 0 = λ graph entry p plan goal.
         OfCertificate r m.sources m.certificate (IsChecked m graph entry p plan goal) in
         let Goal : GraphParts → EntryFunction → Predicates → Plan → Said → Type 0 = λ graph entry p plan. OfGoal plan m.goal (Seen graph entry p plan) in
         let Asking : GraphParts → EntryFunction → Said → Type 0 = λ graph entry. OfQuery m.sources graph m.query (Goal graph entry) in
-        one_of_sources r still front_law m.sources t.0 (AreAlike (check m)) Same (λ graph. OfEntry graph m.entry (Asking graph)) (λ graph.
-        one_by (AreAlike (check m)) Same (entry_of graph m.entry) no_such_entry (Asking graph) (λ entry.
-        one_of_query predicates_law graph m.query (AreAlike (check m)) Same m.sources (Goal graph entry) (λ p plan.
-        one_by (AreAlike (check m)) Same (slice_get plan.goals (m.goal - 1)) no_such_goal (Seen graph entry p plan) (λ goal.
-        one_of_certificate r still m t.1 m.sources (IsChecked m graph entry p plan goal) (one_check r still m t.1 count size few graph entry p plan goal)))))
+        one_of_sources r still front_law m.sources t.0 (AreOfOneCheck text) (one_comparison text) (λ graph. OfEntry graph m.entry (Asking graph)) (λ graph.
+        one_by (AreOfOneCheck text) (one_comparison text) (entry_of graph m.entry) no_such_entry (Asking graph) (λ entry.
+        one_of_query predicates_law graph m.query (AreOfOneCheck text) (one_comparison text) m.sources (Goal graph entry) (λ p plan.
+        one_by (AreOfOneCheck text) (one_comparison text) (slice_get plan.goals (m.goal - 1)) no_such_goal (Seen graph entry p plan) (λ goal.
+        one_of_certificate r still m.certificate t.1 text m.sources (IsChecked m graph entry p plan goal) (one_check r still m.certificate t.1 count size few m graph entry p plan goal)))))
 
     one_asked : (asked : Asked) → IsTrue (are_told r (files_of asked)) → (said other : Said) → IsDueOf r asked said → IsDueOf r asked other → AreAlike asked said other
     one_asked (measure m) h said other c d = measured_once front_law predicates_law hits_law r still m h said other c d
@@ -482,6 +541,8 @@ module _ (front_law : (texts : List SourceText) → front.HasOneOutcome texts) (
     one_asked (prove m) h said other c d = one_prove m h said other c d
     one_asked (check m) h said other c d = one_checked m h said other c d
     one_asked (suffice m) h said other c d = one_bounds m h said other c d
+    one_asked (asks.prove_bounds m) h said other c d = one_prove_bounds m h said other c d
+    one_asked (asks.check_bounds m) h said other c d = one_bounds_checked m h said other c d
     one_asked (asks.least m) h said other c d = one_least m h said other c d
     one_asked (asks.traces m) h said other c d = traced_once front_law predicates_law hits_law r still m h said other c d
     one_asked (asks.replay m) h said other c d = replayed_once front_law predicates_law hits_law r still m h said other c d

@@ -3,3 +3,4 @@ pub mod Agreement
 pub mod Determined
 pub mod Printed
 pub mod Remeasured
+pub mod Unreachable

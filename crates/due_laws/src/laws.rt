@@ -1,10 +1,12 @@
 //! Laws of what is due. Each function does nothing else: its contract is the law.
-ghost use Rattle.due_laws.specs.Accepted.{CertificatesAreAccepted};
+ghost use Rattle.due_laws.specs.Accepted.{BoundsCertificatesAreAccepted, CertificatesAreAccepted};
 ghost use Rattle.due_laws.specs.Agreement.{CountsAddUp, CoveredIsNeverRefuted};
 ghost use Rattle.due_laws.specs.Determined.{AtMostOneIsDue, AtMostOneKindIsDue};
 ghost use Rattle.due_laws.specs.Printed.{PrintedInputsAreRead, PrintedLinesAreRead};
 ghost use Rattle.due_laws.specs.Remeasured.{MadeInputsAreMeasured};
+ghost use Rattle.due_laws.specs.Unreachable.{AcceptedMeansUnreachable};
 
+use bounds_check::laws::unhit_is_unreachable;
 use hits::laws::one_list_of_hits;
 use path_runner::laws::recorded_runs;
 use reached_laws::laws::{not_too_many, one_count, one_size};
@@ -19,8 +21,8 @@ pub fn at_most_one_is_due()
     one_list_of_hits();
 }
 
-/// Two texts that are due of any command are alike: the same refusal, or both answers; but for `check`, of which one may say that
-/// the formula is another one.
+/// Two texts that are due of any command are alike: the same refusal, or both answers; but for `check` and `check-bounds`, of
+/// which one may say that the formula is another one.
 pub fn at_most_one_kind_is_due()
     ensures { AtMostOneKindIsDue }
 {
@@ -54,6 +56,28 @@ pub fn certificates_are_accepted()
     one_count();
     one_size();
     not_too_many();
+}
+
+/// What `prove-bounds` writes of bounds that suffice is a certificate, and `check-bounds` accepts it, or says that its formula is
+/// another one than it makes itself.
+pub fn bounds_certificates_are_accepted()
+    ensures { BoundsCertificatesAreAccepted }
+{
+    c_front::laws::one_outcome();
+    predicates::laws::one_outcome();
+    one_list_of_hits();
+    one_count();
+    one_size();
+    not_too_many();
+}
+
+/// Where `check` accepts a certificate of a goal, and `check-bounds` one of the bounds, or `bounds` says that they suffice, no input
+/// at all has a run that hits the goal, of whatever length.
+pub fn accepted_means_unreachable()
+    ensures { AcceptedMeansUnreachable }
+{
+    c_front::laws::one_outcome();
+    unhit_is_unreachable();
 }
 
 /// The inputs in the JSON report of a generation, read as an array of inputs, are those that were made.

@@ -17,7 +17,7 @@ use confirmation::confirm;
 use fq_core::{Fault, Memory, Place, Refusal};
 use goal_formula::{GoalFormula, formula, input_of, is_goal_too_large};
 use goals::Plan;
-use search::{Found, search};
+use search::{Found, search_both};
 use std::alloc::Global;
 use unwinder::Unwound;
 
@@ -63,7 +63,7 @@ fn searched(
     requires small { formula.formula.variables ≤ 2 ^ 30 }
     ensures { IfOk result (λ decided. ForFormula graph.now predicates.now unwound.now formula (λ f plan g. IsDecided graph.now f predicates.now plan unwound.now.bounds unwound.now.ends g budget decided)) }
 {
-    match search(alloc, &formula.formula, budget)? {
+    match search_both(alloc, &formula.formula, budget)? {
         Found::Model(model) => {
             let input = made_input(alloc, graph, predicates, unwound, &formula, &model)?;
             Ok(Decided::Covered(input))

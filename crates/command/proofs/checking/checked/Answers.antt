@@ -1,7 +1,8 @@
 use Rattle.std.proofs.Common.{inl, inr, refl, arith}
 use Rattle.std.proofs.lemmas.Result.{err_from_is_err_and}
 use Rattle.command_words.specs.Request.{checking}
-use Rattle.command.specs.Checking.{IsChecked, IsCompared}
+use Rattle.command.specs.Checking.{IsChecked, accepted_text}
+use Rattle.command.specs.Comparing.{IsCompared}
 use Rattle.command.specs.Entries.{seen}
 use Rattle.command.proofs.GivesLaws.{tells_map, tells_refused}
 use Rattle.command.proofs.GoalLaws.{exact_at, goal_is_within, goal_refused, there_still, unwind_refused, unwound_some}
@@ -46,10 +47,10 @@ returns c = λ one is.
     let m = checking c.args.request.now in
     let unwound = rw c.within.ensures at (c.in_ok-unwound.ensures.accepted c.args.entry.now.function.now c.requires.number) in
     let exact = c.in_ok-ours.ensures.accepted c.args.entry.now.function.now one (there_still _ _ _ _ _ _ _ unwound c.requires.number) is in
-    tells_map (IsCompared m c.args.theirs.now c.in_ok-ours.ours.formula c.args.derivation.now)
+    tells_map (IsCompared (accepted_text m) c.args.theirs.now c.in_ok-ours.ours.formula c.args.derivation.now)
     (IsChecked m c.args.graph.now (seen c.args.entry.now) c.args.planned.now.predicates c.args.planned.now.plan one c.args.theirs.now c.args.derivation.now) m.sources c.compared.result
     (λ said due. inr (
       goal_is_within _ _ _ _ _ _ _ unwound c.args.planned.now.plan one (c.in_ok-ours.ensures.size one is),
       (c.in_ok-ours.ours, exact_at _ _ _ _ _ _ _ unwound c.args.planned.now.plan one _ exact, due),
     ))
-    c.compared.ensures
+    (rw c.within-2.ensures at (rw c.in_ok-text.ensures at (c.compared.ensures m.sources)))

@@ -19,6 +19,6 @@ returns-in-Ok g c = due_asked _ (texts c.args.words.now) _ c.in-Ok.ensures.ok _ 
 pub returns-in-Err-Usage : goal.returns-in-Err-Usage
 returns-in-Err-Usage g c =
     let none = c.request.ensures.usage (rw c.in-Err-Usage.field-0-is at c.in-Err-Usage.is) in
-    let r = reads g.F.Files.holds g.F.Files.last_failed g.F.Files.faults g.F.Files.received c.args.files.now c.args.files.now in
-    ends_refused g.O.Sink.taken g.O.Sink.faults g.O.Sink.may_lack_memory c.args.out.now (IsDue r (texts c.args.words.now)) [] _ _ _ _
+    let r = reads g.F.Files c.args.files.now c.args.files.now in
+    ends_refused g.O.Sink c.args.out.now (IsDue r (texts c.args.words.now)) [] _ _ _ _
     (due_nowhere [] 2 _ (IsDue r (texts c.args.words.now)) c.nowhere.ensures (due_usage r (texts c.args.words.now) none)) refl c.refuse.ensures

@@ -15,4 +15,4 @@ returns-in-Ok g c =
 pub returns-in-Err-Refused : goal.returns-in-Err-Refused
 returns-in-Err-Refused g c =
     let given = rw (c.in-Err-Refused.field-0-is, ← c.sources_of.ensures) at c.in-Err-Refused.ensures in
-    ends_refused g.O.Sink.taken g.O.Sink.faults g.O.Sink.may_lack_memory c.args.out.now _ _ _ _ _ _ given.0 given.1 c.refuse.ensures
+    ends_refused g.O.Sink c.args.out.now _ _ _ _ _ _ given.0 given.1 c.refuse.ensures

@@ -17,7 +17,7 @@ returns-in_err-suffice g c =
     let m = sufficing c.args.request.now in
     let why = rw c.within-bounds.ensures at (c.in_err-suffice.ensures.refused c.args.entry.now.function.now c.requires.number) in
     let p = err_from_is_err_and c.from_residual.result c.from_residual.ensures.1 in
-    rw (p.1, p.2) (gives_refused (IsAskedOfBounds c.args.graph.now (seen c.args.entry.now) (within m.bounds) m.sources m.budget) m.sources _ c.in_err-suffice.field-0.0
+    rw (p.1, p.2) (gives_refused (IsAskedOfBounds c.args.form c.args.graph.now (seen c.args.entry.now) (within m.bounds) m.sources m.budget) m.sources _ c.in_err-suffice.field-0.0
     (refused_map c.in_err-suffice.field-0.0 (bounds_refused c.args.graph.now c.args.entry.now.function.now (within m.bounds) c.in_err-suffice.field-0.0 why) (λ x cause. inl (x, cause, refl))) refl)
 
 pub said_of-requires : goal.said_of-requires

@@ -9,12 +9,12 @@ use Rattle.command.proofs.sufficing.bounds_graph.Goals as goal
 pub returns-in_default : goal.returns-in_default
 returns-in_default g c =
     let none = rw (c.in_default.is, c.as_bytes.ensures.value) at c.entry_named.ensures.entry in (
-      due_nowhere _ 36 _ (IsDueOfBounds (sufficing c.args.request.now) c.args.graph.now) c.nowhere.ensures
-          (bounds_no_entry (sufficing c.args.request.now) c.args.graph.now (sym none)),
+      due_nowhere _ 36 _ (IsDueOfBounds c.args.form (sufficing c.args.request.now) c.args.graph.now) c.nowhere.ensures
+          (bounds_no_entry c.args.form (sufficing c.args.request.now) c.args.graph.now (sym none)),
       refl,
     )
 
 pub returns : goal.returns
 returns g c =
     let some = rw (c.in-Some.is, c.as_bytes.ensures.value) at c.entry_named.ensures.entry in
-    bounds_gives (sufficing c.args.request.now) c.args.graph.now (seen c.in-Some.entry) (sym some) _ c.asked.result c.asked.ensures
+    bounds_gives c.args.form (sufficing c.args.request.now) c.args.graph.now (seen c.in-Some.entry) (sym some) _ c.asked.result c.asked.ensures

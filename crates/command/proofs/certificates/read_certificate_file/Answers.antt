@@ -3,7 +3,7 @@ use Rattle.std.proofs.lemmas.Result.{err_from_is_err_and}
 use Rattle.command.specs.Certificates.{at_read}
 use Rattle.command.proofs.ReadsLaws.{refused_map}
 use Rattle.command.proofs.CertificateLaws.{certificate_given, certificate_refused}
-use Rattle.command.proofs.checking.read_file.Goals as goal
+use Rattle.command.proofs.certificates.read_certificate_file.Goals as goal
 
 pub returns-in_err-bytes-clause-refused : goal.returns-in_err-bytes-clause-refused
 returns-in_err-bytes-clause-refused g c =

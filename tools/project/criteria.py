@@ -1,0 +1,60 @@
+"""The names of criteria that stand for queries, as docs/CRITERIA.md has them, over the functions that an entry reaches."""
+
+import difflib
+from collections.abc import Sequence
+
+from tools.graph import Graph
+
+MCDC = "mcdc"
+COVER = {
+    "statements": "NODES(ID)",
+    "steps": "EDGES(ID)",
+    "basic-blocks": "@BASICBLOCKENTRY",
+    "decisions": "@DECISIONEDGE",
+    "conditions": "@CONDITIONEDGE",
+    "returns": "@STMTTYPE(RETURN)",
+}
+NAMES = (*COVER, MCDC)
+
+
+def is_query(text: str) -> bool:
+    """Whether a text is a query of its own, and no criterion's name."""
+    return text.split(maxsplit=1)[:1] in (["in"], ["cover"])
+
+
+def fault(text: str) -> str:
+    """What is wrong with a criterion's name, if anything; queries are read by the program."""
+    if text in NAMES or is_query(text):
+        return ""
+    near = difflib.get_close_matches(text, NAMES, 1)
+    return f"{text} is no criterion and no query" + (f"; is {near[0]} meant?" if near else f"; {', '.join(NAMES)}")
+
+
+def union(functions: Sequence[str]) -> str:
+    """A filter that keeps these functions; its brackets are as few deep as they can be."""
+    if len(functions) == 1:
+        return f"@FUNC({functions[0]})"
+    half = len(functions) // 2
+    return f"UNION({union(functions[:half])},{union(functions[half:])})"
+
+
+def query(text: str, functions: Sequence[str], graph: Graph) -> str:
+    """The query that a criterion's name stands for over these functions of an automaton; a query stands for itself."""
+    if is_query(text):
+        return text
+    scope = "" if len(functions) == len(graph.functions) else f"in {union(functions)} "
+    return f"{scope}cover {COVER[text]}"
+
+
+def reached(graph: Graph, entry: str) -> list[str]:
+    """The functions that runs of an entry may call, and the entry, in the order of the automaton."""
+    calls: dict[str, set[str]] = {}
+    for edge in graph.edges:
+        if edge.operation == "call":
+            calls.setdefault(graph.owner(edge), set()).add(edge.name)
+    found, waiting = {entry}, [entry]
+    while waiting:
+        for name in sorted(calls.get(waiting.pop(), set()) - found):
+            found.add(name)
+            waiting.append(name)
+    return [one.name for one in graph.functions if one.name in found]

@@ -1,0 +1,126 @@
+"""What is to be looked at in a module, each at its place: for SARIF and as lines that editors know from gcc."""
+
+import os
+import re
+import subprocess
+import sys
+from collections.abc import Iterator
+from dataclasses import dataclass
+
+from tools import program
+from tools.project.results import GOOD, NONE_WITHIN, OPEN, Results, state_of
+from tools.verdicts import Verdict
+
+RULES = {
+    "run-time-error": (
+        "error",
+        "A run is ended by a trap: an assert that fails, a division by 0, an index or a shift outside.",
+    ),
+    "open-goal": ("warning", "Neither an input nor a certificate is known for a goal."),
+    "refuted-goal": ("warning", "No run within the bounds meets a goal; one beyond them may."),
+    "unreachable-goal": ("note", "No run at all meets a goal."),
+    "open-condition": ("warning", "No pair of inputs shows that a condition decides on its own."),
+    "open-requirement": ("warning", "Nothing shows a requirement."),
+    "unreached-function": ("warning", "No entry reaches a function, so nothing of it is tested."),
+    "order-of-evaluation": (
+        "warning",
+        "C leaves open in which order parts of an expression are evaluated, where that matters.",
+    ),
+    "possible-error": ("warning", "A run-time error isn't ruled out at a place."),
+}
+_LINE = re.compile(r"(.+?):(\d+):(\d+): (?:warning|note|error): (.*)")
+OF_VERDICT = {
+    Verdict.UNDECIDED: "open-goal",
+    Verdict.MISSED: "open-goal",
+    Verdict.REFUTED: "refuted-goal",
+    Verdict.UNREACHABLE: "unreachable-goal",
+}
+
+
+@dataclass(frozen=True)
+class Finding:
+    """A finding at a place of a file of the module's own; lines and columns count from 1."""
+
+    rule: str
+    file: str
+    line: int
+    column: int
+    text: str
+
+    @property
+    def level(self) -> str:
+        return RULES[self.rule][0]
+
+    @property
+    def gcc_line(self) -> str:
+        """The line that gcc would write."""
+        return f"{self.file}:{self.line}:{self.column}: {self.level}: {self.text} [{self.rule}]"
+
+
+class Finder:
+    """Gathers the findings of a module."""
+
+    def __init__(self, results: Results) -> None:
+        self.results = results
+
+    def at(self, rule: str, file: str, line: int, column: int, text: str) -> Finding:
+        return Finding(rule, self.results.own(file), max(line, 1), max(column, 1), text)
+
+    def placed(self, rule: str, place: str, text: str) -> Finding:
+        """A finding at FILE:LINE:COLUMN."""
+        file, line, column = place.rsplit(":", 2)
+        return self.at(rule, file, int(line), int(column), text)
+
+    def all(self) -> list[Finding]:
+        """The findings by their files and places."""
+        parts = (self.goals(), self.errors(), self.conditions(), self.functions(), self.requirements(), self.orders())
+        found = dict.fromkeys(one for part in parts for one in part)
+        return sorted(found, key=lambda one: (one.file, one.line, one.column, one.rule, one.text))
+
+    def goals(self) -> Iterator[Finding]:
+        for row in self.results.rows:
+            if row.verdict in OF_VERDICT:
+                told = self.results.told(row.text)
+                yield self.at(
+                    OF_VERDICT[row.verdict], row.file, row.line, row.column, f"{row.verdict}: {row.criterion}: {told}"
+                )
+
+    def errors(self) -> Iterator[Finding]:
+        for entry in self.results.entries:
+            for place, verdict, line in self.results.errors(entry.function):
+                if verdict is Verdict.COVERED:
+                    yield self.placed("run-time-error", place, f"a run of {entry.function} is ended here, by {line}")
+                elif verdict is not Verdict.UNREACHABLE:
+                    yield self.placed(
+                        "possible-error", place, f"a run-time error in runs of {entry.function} is {verdict}"
+                    )
+
+    def conditions(self) -> Iterator[Finding]:
+        for one in self.results.conditions:
+            if one.state in (OPEN, NONE_WITHIN):
+                text = f"the condition {one.text} of {one.statement}: {one.state}"
+                yield self.placed("open-condition", one.place, text)
+
+    def functions(self) -> Iterator[Finding]:
+        for name in self.results.unreached:
+            node = self.results.graph.nodes[self.results.graph.function(name).entry]
+            yield self.at("unreached-function", node.file, node.line, 1, f"no entry reaches {name}")
+
+    def requirements(self) -> Iterator[Finding]:
+        settings = self.results.context.settings
+        for one in self.results.requirements:
+            state = state_of(one, self.results)[0]
+            if state not in GOOD:
+                text = f"requirement {one.id} ({one.text}): {state}"
+                yield Finding("open-requirement", settings.requirements or settings.path, one.line, 1, text)
+
+    def orders(self) -> Iterator[Finding]:
+        """What bin/order says of each entry, where that tool is there."""
+        tool, unit = os.path.join(program.ROOT, "bin", "order"), self.results.context.unit
+        for entry in self.results.entries if os.path.isfile(tool) else ():
+            words = [sys.executable, tool, entry.function, *unit.sources]
+            ended = subprocess.run(words, cwd=unit.place, capture_output=True, text=True, check=False)
+            for line in ended.stdout.splitlines():
+                found = _LINE.fullmatch(line)
+                if found:
+                    yield self.at("order-of-evaluation", found[1], int(found[2]), int(found[3]), found[4])

@@ -1,0 +1,189 @@
+"""bin/project: tests, reports and judges a module of many functions, as its fshell.toml says.
+
+  init SOURCE..   writes a fshell.toml for sources: an entry for each function that can be one
+  run             does what isn't done yet, writes the report, and judges the gate
+  report          writes the report of what is done
+  check           judges the gate by what is done, and does nothing else
+
+A run that was stopped goes on where it was; a second one with nothing changed does nothing. The status is 0 where the gate passes,
+and 1 where it fails or something isn't done yet.
+"""
+
+import argparse
+import os
+import sys
+
+from tools import program
+from tools.project import criteria, gate, runner, settings
+from tools.project import init as initial
+from tools.project import report as reports
+from tools.project.results import Results
+from tools.project.tables import Faults
+from tools.project.tasks import Context
+from tools.project.work import NAME, Work
+
+FILE = "fshell.toml"
+
+
+def jobs(word: str) -> int:
+    """How many jobs there are: one at least."""
+    if not word.isdecimal() or int(word) < 1:
+        raise argparse.ArgumentTypeError(f"{word} is no number from 1 on")
+    return int(word)
+
+
+def words() -> argparse.Namespace:
+    parser = argparse.ArgumentParser(
+        prog="project",
+        description=__doc__,
+        formatter_class=argparse.RawTextHelpFormatter,
+    )
+    commands = parser.add_subparsers(dest="command", metavar="COMMAND", required=True)
+    _init_words(commands.add_parser("init", help="writes a fshell.toml for sources"))
+    for name, told in (
+        ("run", "does what isn't done yet, writes the report, and judges the gate"),
+        ("report", "writes the report of what is done"),
+        ("check", "judges the gate by what is done"),
+    ):
+        one = commands.add_parser(name, help=told, description=told)
+        one.add_argument(
+            "file",
+            nargs="?",
+            default=FILE,
+            metavar="FILE",
+            help=f"the settings ({FILE})",
+        )
+        one.add_argument(
+            "-o",
+            metavar="DIR",
+            dest="work",
+            help=f"the work folder ({NAME} beside the settings)",
+        )
+        if name != "check":
+            one.add_argument("--since", metavar="FOLDER", help="tells the difference to the report in this folder")
+        if name == "run":
+            one.add_argument(
+                "--jobs",
+                type=jobs,
+                default=os.cpu_count() or 1,
+                metavar="N",
+                help="jobs side by side",
+            )
+            one.add_argument(
+                "--sshloginfile",
+                metavar="FILE",
+                help="the machines, as GNU parallel reads them",
+            )
+    return parser.parse_args()
+
+
+def _init_words(one: argparse.ArgumentParser) -> None:
+    one.description = (
+        "Writes a fshell.toml for sources: an entry for each function that can be one, and why others can't."
+    )
+    one.add_argument("sources", nargs="+", metavar="SOURCE")
+    one.add_argument("-o", default=FILE, metavar="FILE", dest="file", help=f"the file that is written ({FILE})")
+    one.add_argument("--driver", action="append", default=[], metavar="SOURCE", help="a source with drivers or stubs")
+    one.add_argument("-I", action="append", default=[], metavar="DIR", dest="include", help="a folder with headers")
+    one.add_argument("-D", action="append", default=[], metavar="NAME=VALUE", dest="defines", help="a macro")
+    one.add_argument("--input", action="append", default=[], metavar="NAME", help="as for bin/adapt")
+    one.add_argument(
+        "--query", action="append", default=[], metavar="QUERY", help="a criterion or query of each entry (decisions)"
+    )
+
+
+def init(given: argparse.Namespace) -> int:
+    """Writes the settings."""
+    wrong = [one for one in map(criteria.fault, given.query) if one]
+    if wrong:
+        raise Faults(wrong)
+    folder = os.path.dirname(os.path.abspath(given.file))
+
+    def named(paths: list[str]) -> tuple[str, ...]:
+        return tuple(os.path.relpath(path, folder) for path in paths)
+
+    module = settings.Module(
+        named(given.sources), named(given.driver), named(given.include), tuple(given.defines), tuple(given.input)
+    )
+    entries, functions = initial.write(given.file, module, given.query or ["decisions"])
+    print(f"{given.file}: {entries} entries for {functions} functions")
+    return program.DONE
+
+
+def context_of(given: argparse.Namespace, work: Work) -> Context:
+    """The context of a command."""
+    read = settings.of_file(given.file)
+    return runner.context_of(read, work, getattr(given, "jobs", 1), getattr(given, "sshloginfile", None))
+
+
+def work_of(given: argparse.Namespace) -> Work:
+    """The work folder: it is made where there are settings."""
+    program.read(given.file)
+    return Work(given.work or os.path.join(os.path.dirname(os.path.abspath(given.file)), NAME))
+
+
+def told_left(context: Context) -> bool:
+    """Whether something isn't done, which is told."""
+    left = runner.left(context)
+    for task in left:
+        print(f"not done yet: {task.entry.function}, {task.name}")
+    if left:
+        print(
+            f"{len(left)} tasks aren't done as the sources and {context.settings.path} stand; bin/project run does them"
+        )
+    return bool(left)
+
+
+def run(given: argparse.Namespace) -> int:
+    """Does what isn't done, and the rest."""
+    if given.sshloginfile:
+        program.read(given.sshloginfile)
+    work = work_of(given)
+    settings.of_file(given.file)
+    with work.lock():
+        context = context_of(given, work)
+        count = runner.run(context)
+        print(
+            f"{count} tasks were done" if count else "nothing was left to be done",
+            file=sys.stderr,
+        )
+        results = Results(context, context.requirements)
+        print("\n".join(reports.write(results, given.since)), file=sys.stderr)
+        return judged(results)
+
+
+def report(given: argparse.Namespace) -> int:
+    """Writes the report of what is done."""
+    work = work_of(given)
+    with work.lock():
+        context = context_of(given, work)
+        if told_left(context):
+            return program.OPEN
+        print("\n".join(reports.write(Results(context, context.requirements), given.since)))
+    return program.DONE
+
+
+def judged(results: Results) -> int:
+    """Tells the gate's judgement; its status."""
+    told, passes = gate.verdict(results)
+    print("\n".join([*gate.lines(results), *told]))
+    return program.DONE if passes else program.OPEN
+
+
+def check(given: argparse.Namespace) -> int:
+    """Judges by what is done."""
+    work = work_of(given)
+    context = context_of(given, work)
+    if told_left(context):
+        return program.OPEN
+    return judged(Results(context, context.requirements))
+
+
+def main() -> int:
+    given = words()
+    try:
+        return {"init": init, "run": run, "report": report, "check": check}[given.command](given)
+    except Faults as faults:
+        for line in faults.lines:
+            print(f"project: {line}", file=sys.stderr)
+        return program.FAILED

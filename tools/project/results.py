@@ -1,0 +1,381 @@
+"""What the tasks found, brought together: tests, goals with their verdicts over all entries, MC/DC, bounds and errors."""
+
+import os
+from collections.abc import Iterator
+from dataclasses import dataclass, field
+from functools import cached_property
+from typing import Any
+
+from tools import graph as graphs
+from tools import named
+from tools.decisions import Decision, Decisions
+from tools.explain import letter_line
+from tools.naming import Reader
+from tools.project import criteria
+from tools.project.carry import Ordinals
+from tools.project.requirements import Requirement, task_name
+from tools.project.tasks import Campaign, Context, Task, tasks_of
+from tools.project.work import Place
+from tools.sources import Faces
+from tools.verdicts import Tally, Verdict, tally
+
+# of several entries' verdicts on a goal, the first in this order is the module's
+ORDER = (
+    Verdict.COVERED,
+    Verdict.UNDECIDED,
+    Verdict.MISSED,
+    Verdict.REFUTED,
+    Verdict.UNREACHABLE,
+)
+
+
+@dataclass
+class Test:
+    """An input of an entry, with how its run ends; `file` is the one that gives it, or empty where it was made."""
+
+    id: str
+    entry: str
+    args: tuple[int, ...]
+    answers: tuple[int, ...]
+    requirements: tuple[str, ...]
+    is_given: bool
+    end: str = ""
+    value: dict[str, Any] = field(default_factory=dict)
+
+    @property
+    def numbers(self) -> tuple[tuple[int, ...], tuple[int, ...]]:
+        return self.args, self.answers
+
+
+@dataclass
+class Goal:
+    """A goal of an entry's query."""
+
+    entry: str
+    task: str
+    number: int
+    text: str
+    verdict: Verdict
+    test: Test | None = None
+    certificate: str = ""
+
+
+@dataclass
+class Row:
+    """A goal of a criterion over all entries that ask for it."""
+
+    criterion: str
+    text: str
+    function: str
+    file: str
+    line: int
+    column: int
+    verdict: Verdict
+    goals: list[Goal]
+
+    @property
+    def place(self) -> str:
+        return f"{self.file}:{self.line}"
+
+    @property
+    def test(self) -> Test | None:
+        return next((goal.test for goal in self.goals if goal.test), None)
+
+
+@dataclass
+class Condition:
+    """A condition of a decision: `state` is shown, no pair, no pair within the bounds, or undecided."""
+
+    function: str
+    decision: int
+    place: str
+    statement: str
+    text: str
+    state: str
+    pair: list[Test]
+
+
+NO_PAIR, NONE_WITHIN, SHOWN, OPEN = (
+    "no pair",
+    "no pair within the bounds",
+    "shown",
+    "undecided",
+)
+
+
+class Results:
+    """What is known of a module."""
+
+    def __init__(self, context: Context, requirements: tuple[Requirement, ...]) -> None:
+        self.context, self.requirements = context, requirements
+        self.graph, self.entries = context.graph, context.settings.entries
+        self.faces = Faces(self.graph, context.unit.sources, context.unit.place)
+        self._tests: dict[str, dict[tuple[tuple[int, ...], tuple[int, ...]], Test]] = {}
+        for entry in self.entries:
+            own = self._tests.setdefault(entry.function, {})
+            for count, one in enumerate(context.given[entry.function], 1):
+                name = one.id or f"{entry.function}-{count}"
+                own.setdefault(
+                    one.numbers,
+                    Test(name, entry.function, *one.numbers, one.requirements, True),
+                )
+        self.tasks: list[Task] = tasks_of(context.settings, requirements)
+        self.goals = [goal for task in self.tasks if isinstance(task, Campaign) for goal in self._goals(task)]
+        self.conditions = list(self._conditions())
+
+    # ---- tests
+
+    def test(self, entry: str, value: dict[str, Any]) -> Test:
+        """The test of an input's numbers; a new one where it was made."""
+        numbers = tuple(value["args"]), tuple(value.get("answers", ()))
+        own = self._tests[entry]
+        if numbers not in own:
+            made = sum(not one.is_given for one in own.values()) + 1
+            own[numbers] = Test(f"{entry}-made-{made}", entry, *numbers, (), False)
+        return own[numbers]
+
+    def tests(self, entry: str) -> list[Test]:
+        return list(self._tests[entry].values())
+
+    @cached_property
+    def all_tests(self) -> list[Test]:
+        return [test for entry in self.entries for test in self.tests(entry.function)]
+
+    # ---- goals
+
+    def _goals(self, task: Campaign) -> Iterator[Goal]:
+        """The goals of a campaign's report."""
+        place = task.place(self.context)
+        value, made = place.value("report.json"), place.value("inputs.json") or []
+        for number, one in enumerate(value["goals"], 1):
+            test = self.test(task.entry.function, made[one["input"] - 1]) if one.get("input") else None
+            certificate = os.path.join("tasks", task.entry.function, task.name, one.get("certificate", ""))
+            yield Goal(
+                task.entry.function,
+                task.name,
+                number,
+                one["text"],
+                Verdict(one["answer"]),
+                test,
+                certificate if one.get("certificate") else "",
+            )
+
+    @cached_property
+    def rows(self) -> list[Row]:
+        """The goals of the criteria and queries over all entries; requirements have their own."""
+        found: dict[tuple[str, str], list[Goal]] = {}
+        for goal in self.goals:
+            if not goal.task.startswith("requirement-"):
+                found.setdefault((self.criterion(goal), goal.text), []).append(goal)
+        return [self._row(name, goals) for (name, _), goals in found.items()]
+
+    def criterion(self, goal: Goal) -> str:
+        """The criterion's name, or of a query the entry's with the query."""
+        if goal.task in criteria.COVER:
+            return goal.task
+        task = next(one for one in self.tasks if (one.entry.function, one.name) == (goal.entry, goal.task))
+        return f"{goal.entry}: {task.text}" if isinstance(task, Campaign) else goal.task
+
+    def _row(self, name: str, goals: list[Goal]) -> Row:
+        function, place = self.where(goals[0].text, goals[0].entry)
+        verdict = min((goal.verdict for goal in goals), key=ORDER.index)
+        return Row(name, goals[0].text, function, *place, verdict, goals)
+
+    def where(self, text: str, entry: str) -> tuple[str, tuple[str, int, int]]:
+        """The function and the place of a goal: those of its first letter that has some."""
+        for letter in graphs.letters(self.graph, text):
+            if letter.edge:
+                return self.graph.owner(letter.edge), (
+                    letter.edge.file,
+                    letter.edge.line,
+                    letter.edge.column,
+                )
+            if letter.node:
+                return letter.node.function, (letter.node.file, letter.node.line, 1)
+        node = self.graph.nodes[self.graph.function(entry).entry]
+        return entry, (node.file, node.line, 1)
+
+    def told(self, text: str) -> str:
+        """What a goal asks for, in one line."""
+        return "; then ".join(letter_line(self.faces, one) for one in graphs.letters(self.graph, text))
+
+    @cached_property
+    def criteria(self) -> list[str]:
+        """The criteria and queries that are asked for, also those without goals."""
+        found: dict[str, None] = {}
+        for task in self.tasks:
+            if isinstance(task, Campaign) and not task.name.startswith("requirement-"):
+                name = task.name if task.name in criteria.COVER else f"{task.entry.function}: {task.text}"
+                found.setdefault(name)
+        return list(found)
+
+    def tally(self, criterion: str, function: str | None = None) -> Tally:
+        """How many goals of a criterion have which verdict, of a function or of all."""
+        return tally(
+            row.verdict for row in self.rows if row.criterion == criterion and function in (None, row.function)
+        )
+
+    # ---- functions
+
+    @cached_property
+    def own_files(self) -> dict[str, str]:
+        """The module's own file, from the settings' folder, for each file of the unit: headers too, drivers and stubs not."""
+        module, unit = self.context.settings.module, self.context.unit
+        drivers = {os.path.normpath(name) for name in module.drivers}
+        return {
+            name: os.path.normpath(file) for name, file in unit.own.items() if os.path.normpath(file) not in drivers
+        }
+
+    def own(self, file: str) -> str:
+        """The user's own file for one of the unit."""
+        return os.path.normpath(self.context.unit.own.get(file, file))
+
+    @cached_property
+    def files(self) -> dict[str, str]:
+        """The file of each function."""
+        return {one.name: self.graph.nodes[one.entry].file for one in self.graph.functions}
+
+    @cached_property
+    def functions(self) -> list[str]:
+        """The module's own functions, in the order of the sources: those of drivers and stubs aren't."""
+        return [name for name, file in self.files.items() if file in self.own_files]
+
+    @cached_property
+    def unreached(self) -> list[str]:
+        """The module's functions that no entry reaches and that the file doesn't leave out."""
+        reached = {name for entry in self.entries for name in criteria.reached(self.graph, entry.function)}
+        left_out = self.context.settings.module.left_out
+        return [name for name in self.functions if name not in reached and name not in left_out]
+
+    # ---- bounds, errors, MC/DC
+
+    def place(self, entry: str, task: str) -> Place:
+        return self.context.work.task(entry, task)
+
+    def bounds(self, entry: str) -> dict[str, Any]:
+        found = self.place(entry, "bounds").value("bounds.json")
+        return found if isinstance(found, dict) else {}
+
+    def suffice(self, entry: str) -> bool:
+        return bool(self.bounds(entry).get("suffice"))
+
+    def errors(self, entry: str) -> list[tuple[str, Verdict, str]]:
+        """The places at which a trap may end runs of an entry, with a verdict, and of a covered one its input."""
+        ordinals = Ordinals(self.graph)
+        found = []
+        for function, at, verdict, line in self.place(entry, "errors").value("errors.json") or []:
+            node = self.graph.nodes[ordinals.node((function, at))]
+            one = Verdict(verdict) if verdict != "refuted" else Verdict.REFUTED
+            one = Verdict.UNREACHABLE if one is Verdict.REFUTED and self.suffice(entry) else one
+            edges = self.graph.leaving[node.number]
+            place = edges[0].place if edges else f"{node.place}:1"
+            found.append((place, one, line))
+        return found
+
+    @cached_property
+    def decisions(self) -> dict[str, list[Decision]]:
+        """The decisions of each function."""
+        found: dict[str, list[Decision]] = {}
+        for one in Decisions(self.graph, self.faces).found:
+            found.setdefault(one.function, []).append(one)
+        return found
+
+    def _conditions(self) -> Iterator[Condition]:
+        """The conditions of all decisions, with what the entries together show of them."""
+        found: dict[tuple[str, int, int], list[tuple[str, str, list[Test]]]] = {}
+        for entry in self.entries:
+            value = self.place(entry.function, "mcdc").value("mcdc.json") or {
+                "decisions": [],
+                "inputs": [],
+            }
+            counts: dict[str, int] = {}
+            for one in value["decisions"]:
+                at = counts[one["function"]] = counts.get(one["function"], -1) + 1
+                for number, part in enumerate(one["conditions"]):
+                    pair = [self.test(entry.function, value["inputs"][name - 1]) for name in part.get("inputs", ())]
+                    state = self._state(entry.function, part["state"])
+                    found.setdefault((one["function"], at, number), []).append((state, part["text"], pair))
+        order = (SHOWN, OPEN, NONE_WITHIN, NO_PAIR)
+        for (function, at, _), told in sorted(found.items(), key=lambda one: (self._rank(one[0][0]), one[0])):
+            state, text, pair = min(told, key=lambda one: order.index(one[0]))
+            decision = self.decisions[function][at]
+            yield Condition(
+                function,
+                at,
+                decision.first.place,
+                decision.statement,
+                text,
+                state,
+                pair,
+            )
+
+    def _rank(self, function: str) -> int:
+        return list(self.files).index(function)
+
+    def _state(self, entry: str, word: str) -> str:
+        """What a word of MC/DC's report means: no pair at all where the bounds suffice."""
+        return {
+            SHOWN: SHOWN,
+            "none": NO_PAIR if self.suffice(entry) else NONE_WITHIN,
+        }.get(word, OPEN)
+
+    def mcdc(self, function: str | None = None) -> tuple[int, int]:
+        """How many conditions are shown, and of how many: all but those without a pair at all."""
+        told = [one.state for one in self.conditions if function in (None, one.function)]
+        return told.count(SHOWN), len(told) - told.count(NO_PAIR)
+
+    # ---- runs
+
+    def run(self) -> None:
+        """Notes how the run of each test ends, and its object with names."""
+        for entry in self.entries:
+            tests = self.tests(entry.function)
+            if not tests:
+                continue
+            unit = self.context.unit
+            reader = Reader(unit.place, unit.sources, self.graph, entry.function)
+            own = [named.Named(one.args, one.answers, one.id, one.requirements) for one in tests]
+            asked, runs = reader.runs([one.numbers for one in own])
+            for test, run, value in zip(tests, runs, reader.with_names(own, asked)):
+                test.end = run.end if run.value is None else f"{run.end} {run.value}"
+                test.value = value
+
+
+def state_of(requirement: Requirement, results: Results) -> tuple[str, list[Goal], list[Test]]:
+    """What is known of a requirement, its goals, and its tests: those that name it and those that cover its goals."""
+    name = task_name(requirement)
+    goals = [goal for goal in results.goals if goal.task == name]
+    tests = [test for test in results.all_tests if requirement.id in test.requirements]
+    tests += [goal.test for goal in goals if goal.test and goal.test not in tests]
+    return _state_of(requirement, goals, tests), goals, tests
+
+
+def _state_of(requirement: Requirement, goals: list[Goal], tests: list[Test]) -> str:
+    found = {goal.verdict for goal in goals}
+    if not requirement.query:
+        return "tested" if tests else "untested"
+    if not goals:
+        return "has no goal"
+    if Verdict.UNDECIDED in found or Verdict.MISSED in found:
+        return "open"
+    if requirement.is_never:
+        if Verdict.COVERED in found:
+            return "violated"
+        return "holds within the bounds" if Verdict.REFUTED in found else "holds"
+    return "shown" if found == {Verdict.COVERED} else "not shown"
+
+
+GOOD = ("tested", "shown", "holds")
+
+
+def bounds_line(results: Results, entry: str) -> str:
+    """What is known of an entry's bounds, in words."""
+    value = results.bounds(entry)
+    if value.get("suffice"):
+        return "no run leaves the bounds"
+    if not value.get("left"):
+        return "whether a run leaves the bounds is open"
+    tried = value.get("next") or {}
+    hint = " ".join(f"{name} {number}" for name, number in tried.items())
+    told = f"{value.get('where') or 'a run leaves the bounds'}, by {value['left']}"
+    return f"runs leave the bounds: {told}" + (f"; to try next: {hint}" if hint else "")

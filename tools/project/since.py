@@ -1,0 +1,67 @@
+"""The difference of two reports: goals that are new, that are gone, that are newly covered, and that were covered and aren't."""
+
+import json
+import os
+from dataclasses import dataclass, field
+from typing import Any
+
+from tools import graph as graphs
+from tools import program
+from tools.program import Failure
+from tools.project.carry import Mapping
+from tools.project.results import Results
+from tools.verdicts import Verdict
+
+
+@dataclass
+class Difference:
+    """The goals of two reports by what became of them, each as its criterion and its text. What `kept` names was covered before
+    and is so still."""
+
+    folder: str
+    new: list[str] = field(default_factory=list)
+    gone: list[str] = field(default_factory=list)
+    covered: list[str] = field(default_factory=list)
+    lost: list[str] = field(default_factory=list)
+    kept: list[str] = field(default_factory=list)
+
+    def lines(self) -> list[str]:
+        """What is told."""
+        parts = (("new", self.new), ("gone", self.gone), ("newly covered", self.covered), ("lost", self.lost))
+        head = ", ".join(f"{len(goals)} {name}" for name, goals in parts)
+        return [f"since {self.folder}: {head}", *(f"{name}: {goal}" for name, goals in parts for goal in goals)]
+
+
+def earlier(folder: str) -> tuple[dict[str, Any], graphs.Graph]:
+    """The report that stands in a folder, with its automaton; a failure where none does."""
+    path = os.path.join(folder, "report.json")
+    try:
+        value = json.loads(program.read(path))
+        rows = [(one["criterion"], one["text"], one["verdict"]) for one in value["goals"]]
+        graph = graphs.of_text(program.read(os.path.join(folder, "graph.txt")).decode())
+    except (ValueError, KeyError, TypeError, RecursionError):
+        raise Failure(f"{path} is no report of bin/project") from None
+    return {"rows": rows}, graph
+
+
+def difference(folder: str, results: Results) -> Difference:
+    """What became of the goals of an earlier report."""
+    value, graph = earlier(folder)
+    found = Difference(folder)
+    mapping = Mapping(graph, results.graph)
+    now = {(row.criterion, row.text): row.verdict for row in results.rows}
+    matched = set()
+    for criterion, text, verdict in value["rows"]:
+        key = criterion, mapping.text(text)
+        if key not in now:
+            found.gone.append(f"{criterion}: {text}")
+            continue
+        matched.add(key)
+        was, is_covered = verdict == Verdict.COVERED, now[key] is Verdict.COVERED
+        rows = {(True, False): found.lost, (False, True): found.covered, (True, True): found.kept}.get(
+            (was, is_covered)
+        )
+        if rows is not None:
+            rows.append(f"{criterion}: {key[1]}")
+    found.new = [f"{criterion}: {text}" for criterion, text in now if (criterion, text) not in matched]
+    return found

@@ -1,0 +1,48 @@
+"""What of a unit the runs of an entry depend on: the tokens outside of functions, and those of the functions that it reaches.
+
+A change of a comment, of a layout or of another function leaves it as it is.
+"""
+
+from collections.abc import Iterator, Sequence
+
+from tools import program
+from tools.items import Item, function_name, is_name
+from tools.project.unit import Unit, sum_of_text
+from tools.sources import CLOSING, OPENING, Source
+
+
+def parts(source: Source) -> Iterator[tuple[str, str]]:
+    """The tokens of a source in parts, each with the name of the function that it defines, or with none."""
+    kept: list[str] = []
+    depth, name = 0, ""
+    for token in source.tokens:
+        if depth == 0 and token.text == "{" and "=" not in kept and "enum" not in kept:
+            name = function_name(Item(tuple(kept), True))
+        kept.append(token.text)
+        depth += (token.text in OPENING) - (token.text in CLOSING)
+        if depth == 0 and (token.text == ";" or (name and token.text == "}")):
+            yield name, " ".join(kept)
+            kept, name = [], ""
+    if kept:
+        yield "", " ".join(kept)
+
+
+class Slices:
+    """The parts of a unit's sources, each as one text."""
+
+    def __init__(self, unit: Unit) -> None:
+        self.outside: list[str] = []
+        self.functions: dict[str, str] = {}
+        for name in unit.sources:
+            source = Source(name, program.read(unit.at(name)))
+            self.outside += [directive.text for directive in source.directives]
+            for function, text in parts(source):
+                if function and is_name(function):
+                    self.functions[function] = text
+                else:
+                    self.outside.append(text)
+
+    def sum(self, functions: Sequence[str]) -> str:
+        """One sum of what runs through these functions depend on."""
+        bodies = [self.functions.get(name, "") for name in functions]
+        return sum_of_text("\n".join([*self.outside, *bodies]))

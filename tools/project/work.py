@@ -1,0 +1,92 @@
+"""The work folder: the sources that are read, a folder for each task, and the report.
+
+  unit/            the sources that the program reads
+  tasks/ENTRY/TASK what a task found, with done.json once it is whole
+  report/          the pages and files for people and for other tools
+
+Each file is moved into its place whole, so that a run that was stopped at any moment goes on from what stands there.
+"""
+
+import fcntl
+import json
+import os
+from typing import IO, Any
+
+from tools import program
+from tools.program import Failure
+from tools.project.unit import sum_of_file
+
+NAME = "fshell.out"
+
+
+class Work:
+    """A work folder."""
+
+    def __init__(self, path: str) -> None:
+        self.path = os.path.abspath(path)
+
+    def at(self, *names: str) -> str:
+        return os.path.join(self.path, *names)
+
+    def task(self, entry: str, name: str) -> "Place":
+        return Place(self.at("tasks", entry, name))
+
+    def lock(self) -> IO[str]:
+        """The folder's lock, which is held as long as this file is open; a failure where another process has it."""
+        try:
+            os.makedirs(self.path, exist_ok=True)
+        except OSError as fault:
+            raise Failure(f"{self.path}: {fault.strerror}") from None
+        file = open(self.at("lock"), "w", encoding="ascii")
+        try:
+            fcntl.flock(file, fcntl.LOCK_EX | fcntl.LOCK_NB)
+        except OSError:
+            file.close()
+            raise Failure(f"{self.path}: another process works in it") from None
+        return file
+
+
+class Place:
+    """The folder of a task."""
+
+    def __init__(self, path: str) -> None:
+        self.path = path
+
+    def at(self, *names: str) -> str:
+        return os.path.join(self.path, *names)
+
+    def value(self, name: str) -> Any:
+        """What a file of it says, or nothing where there is none, or it isn't whole."""
+        try:
+            return json.loads(program.read(self.at(name)))
+        except (Failure, ValueError, RecursionError):
+            return None
+
+    def keep(self, name: str, value: object) -> None:
+        """Keeps what a file is to say."""
+        os.makedirs(self.path, exist_ok=True)
+        program.write_whole(self.at(name), json.dumps(value, indent=1) + "\n")
+
+    def files(self) -> dict[str, str]:
+        """The sum of each file that a task's answer is made of."""
+        found = {}
+        for folder, folders, names in os.walk(self.path):
+            folders[:] = [name for name in folders if name != "machine"]
+            for name in names:
+                path = os.path.relpath(os.path.join(folder, name), self.path)
+                if not name.startswith(".new.") and path not in (
+                    "done.json",
+                    "lock",
+                    "joblog",
+                ):
+                    found[path] = sum_of_file(self.at(path))
+        return dict(sorted(found.items()))
+
+    def is_done(self, key: str) -> bool:
+        """Whether its task was done for this key, and what it found stands there unchanged."""
+        done = self.value("done.json")
+        return isinstance(done, dict) and done.get("key") == key and done.get("files") == self.files()
+
+    def finish(self, key: str) -> None:
+        """Notes that its task is done."""
+        self.keep("done.json", {"key": key, "files": self.files()})
