@@ -58,7 +58,7 @@ def wrong() -> list[str]:
     with open(HOME, encoding="utf-8") as file:
         found = TABLE.search(file.read())
     is_due = found is not None and found[0] == table()
-    return [] if is_due else ["acceptance/README.md: its counts are others; acceptance/counts.py --write puts them right"]
+    return [] if is_due else ["acceptance/README.md: its counts are others; bin/test --write puts them right"]
 
 
 def write() -> None:

@@ -119,7 +119,7 @@ def wrong() -> Iterator[str]:
     if [name for name, _ in sections(text_of(PROVED))] != libraries:
         yield "docs/PROVED.md: the sections aren't the crates of crates.txt in their order"
     if text_of(ARCHITECTURE) != made(given, text_of(ARCHITECTURE)):
-        yield "docs/ARCHITECTURE.md: its tables are others; acceptance/crates.py --write makes them anew"
+        yield "docs/ARCHITECTURE.md: its tables are others; bin/test --write makes them anew"
 
 
 def tried() -> tuple[int, list[str]]:
@@ -142,5 +142,6 @@ def write() -> None:
 if __name__ == "__main__":
     if sys.argv[1:] == ["--write"]:
         write()
-    for line in wrong():
-        print(line)
+    found = list(wrong())
+    print(*found, sep="\n", end="\n" if found else "")
+    sys.exit(1 if found else 0)

@@ -11,7 +11,7 @@ out.
 
 A path is a text between backquotes that begins as one from the top of the repository does, or the target of a link. In
 docs/PROVED.md those that begin with specs/ or src/ are of the crate whose section it is. The counts in acceptance/README.md must be
-those that counts.py makes.
+those that counts.py makes, and those in docs/THEOREM.md those of tools/believed.py.
 """
 
 import functools
@@ -21,6 +21,7 @@ import re
 import shlex
 import shutil
 import subprocess
+import sys
 import tempfile
 
 import crates
@@ -157,7 +158,11 @@ def wrong_paths(document, text):
 def of_counts():
     import counts  # which reads this module
 
-    return 1, counts.wrong()
+    sys.path.insert(0, programs.ROOT)
+    from tools import believed
+
+    wrong = counts.wrong() + believed.wrong()
+    return max(1, len(wrong)), wrong
 
 
 def of_tools(document, text):

@@ -120,7 +120,7 @@ def install(prefix: str) -> int:
     """Installs all, and gives the number of manual pages."""
     found = built()
     commands = text_of("docs", "COMMANDS.md")
-    pages = manual.command_pages(commands, text_of("README.md")) | manual.tool_pages(text_of("docs", "TOOLS.md"))
+    pages = manual.command_pages(commands) | manual.tool_pages(text_of("docs", "TOOLS.md"))
     at = folders(prefix)
     copy(found, os.path.join(at["lib"], "program"))
     put(PROGRAM, os.path.join(at["scripts"], "program"), True)

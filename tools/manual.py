@@ -1,4 +1,4 @@
-"""Manual pages and completion, made of docs/COMMANDS.md, docs/TOOLS.md and README.md."""
+"""Manual pages and completion, made of docs/COMMANDS.md and docs/TOOLS.md."""
 
 import re
 from collections.abc import Iterator
@@ -87,12 +87,12 @@ def page(name: str, what: str, synopsis: list[str], parts: dict[str, str]) -> st
 # ---- the pages
 
 
-def command_pages(commands: str, readme: str) -> dict[str, str]:
+def command_pages(commands: str) -> dict[str, str]:
     """The pages of the program and of each of its commands, by their names."""
     table = [cells for cells in rows(commands) if len(cells) == 3 and re.fullmatch(r"`[a-z-]+`", cells[0])]
     options = [cells for cells in rows(commands) if len(cells) == 4]
     about = commands.split("## ", 1)[0].split("\n\n", 1)[1]
-    statuses = "".join(f"| {cells[0]} | {cells[1]} |\n" for cells in rows(readme) if re.fullmatch(r"\d+", cells[0]))
+    statuses = "".join(f"| {cells[0]} | {cells[1]} |\n" for cells in rows(commands) if re.fullmatch(r"\d+", cells[0]))
     statuses = "| Status | Meaning |\n|---|---|\n" + statuses
     found = {
         "fshell": page("fshell", "measures and makes test inputs for C by coverage queries", ["COMMAND WORD.."],
