@@ -14,6 +14,7 @@ import os
 import sys
 
 from tools import program
+from tools.program import Failure
 from tools.project import criteria, gate, runner, settings
 from tools.project import init as initial
 from tools.project import report as reports
@@ -69,6 +70,7 @@ def words() -> argparse.Namespace:
                 metavar="N",
                 help="jobs side by side",
             )
+            one.add_argument("--entry", metavar="FUNCTION", help="does the tasks of this entry alone, without a report")
             one.add_argument(
                 "--sshloginfile",
                 metavar="FILE",
@@ -140,6 +142,8 @@ def run(given: argparse.Namespace) -> int:
         program.read(given.sshloginfile)
     work = work_of(given)
     settings.of_file(given.file)
+    if given.entry:
+        return run_entry(given, work)
     with work.lock():
         context = context_of(given, work)
         count = runner.run(context)
@@ -150,6 +154,17 @@ def run(given: argparse.Namespace) -> int:
         results = Results(context, context.requirements)
         print("\n".join(reports.write(results, given.since)), file=sys.stderr)
         return judged(results)
+
+
+def run_entry(given: argparse.Namespace, work: Work) -> int:
+    """Does the tasks of one entry, beside other processes that do those of others."""
+    with work.lock(waits=True):
+        context = context_of(given, work)
+    if given.entry not in context.given:
+        raise Failure(f"{given.file} has no entry {given.entry}; it has {', '.join(context.given)}")
+    count = runner.run(context, given.entry)
+    print(f"{count} tasks of {given.entry} were done")
+    return program.DONE
 
 
 def report(given: argparse.Namespace) -> int:

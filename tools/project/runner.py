@@ -137,10 +137,11 @@ def tell(text: str) -> None:
     print(text, file=sys.stderr, flush=True)
 
 
-def run(context: Context) -> int:
-    """Does what isn't done; gives the number of tasks that were."""
-    _forget(context)
-    tasks = left(context)
+def run(context: Context, entry: str | None = None) -> int:
+    """Does what isn't done, of all entries or of one; gives the number of tasks that were."""
+    if entry is None:
+        _forget(context)
+    tasks = [task for task in left(context) if entry in (None, task.entry.function)]
     os.environ["FSHELL"] = program.program()
     first: list[Task] = [task for task in tasks if isinstance(task, Bounds)]
     parts = [first, [task for task in tasks if task not in first]]
