@@ -6,6 +6,7 @@ import re
 import shutil
 import subprocess
 import tempfile
+import time
 
 HERE = os.path.dirname(os.path.abspath(__file__))
 SCRIPTS = os.path.join(HERE, "..", "bin")
@@ -156,6 +157,34 @@ def answers_of_the_launcher_on_a_full_device(tree):
     for words in (["--help"], ["--explain", "66"]):
         with open("/dev/full", "wb") as full:
             yield subprocess.run([tree.path("bin/fshell"), *words], stdout=full, stderr=subprocess.DEVNULL).returncode == 8
+
+
+def nothing_is_looked_at_twice(tree):
+    """Once bin/program has looked, bin/fshell sees by itself that nothing has changed; a change in place is seen, whatever time the
+    file says, and so are a new folder of proofs and a source that is gone."""
+    tree.run()
+    time.sleep(1.1)
+    tree.run()
+    asks = tree.text("bin/program")
+    tree.write("bin/program", "#!/bin/sh\necho asked >&2\nexit 70\n")
+    for _ in range(2):
+        yield tree.run().stdout == "one a b c\n"
+    for name, text in (("crates/low/src/lib.rt", "other\n"), ("crates/low/specs/Low.antt", "other\n"), ("HANDLES", "other\n"),
+                       ("crates.txt", "fshell:\n"), ("crates/fshell/out/fshell", "other\n"), ("crates/low/proofs/New.antt", "new\n"),
+                       ("crates/fshell/src/main.rt", None)):
+        before = tree.text(name) if os.path.exists(tree.path(name)) else ""
+        tree.write(name, text) if text else os.remove(tree.path(name))
+        if text:
+            tree.set_time(name, -1000)
+        ran = tree.run()
+        yield (ran.returncode, ran.stdout, ran.stderr) == (70, "", "asked\n")
+        tree.write(name, before)
+        tree.write("bin/program", asks)
+        tree.run()
+        time.sleep(1.1)
+        tree.run()
+        tree.write("bin/program", "#!/bin/sh\necho asked >&2\nexit 70\n")
+    yield os.path.exists(tree.path("crates/fshell/out/looked-at"))
 
 
 def newer_source_is_built(tree):
@@ -405,7 +434,7 @@ def all_edits_are_tried(tree):
     yield ended.returncode == 1 and "two edits have one name" in ended.stderr and tree.calls() == []
 
 
-CASES = [first_run_builds, second_run_builds_nothing, newer_source_is_built, other_crates_are_left_alone,
+CASES = [first_run_builds, second_run_builds_nothing, nothing_is_looked_at_twice, newer_source_is_built, other_crates_are_left_alone,
          old_program_is_not_run, links_are_followed, unwritable_tree_is_told, released_program_needs_no_kit,
          released_program_runs_in_unwritable_tree, released_program_is_taken_for_newer_sources,
          changed_sources_are_never_answered_by_the_release, what_is_no_source_leaves_the_release,

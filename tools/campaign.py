@@ -27,13 +27,13 @@ from tools.told import Told
 
 DEFAULTS = {"turns": 4, "frames": 8, "answers": 16}
 # the goals of a round, which don't hang on the number of jobs, so that each finds the same inputs
-FIRST_ROUND, LARGEST_ROUND, MOST_IN_A_JOB = 32, 1024, 64
+FIRST_ROUND, LARGEST_ROUND, MOST_IN_A_JOB = 32, 1024, 256
 
 
-def batches(goals: list[int], jobs: int) -> list[list[int]]:
-    """The goals in parts, each for one process: two parts at least for each job, so that all jobs end about then."""
-    size = max(1, min(MOST_IN_A_JOB, len(goals) // (2 * jobs)))
-    return [goals[at : at + size] for at in range(0, len(goals), size)]
+def batches(easy: list[int], hard: list[int], jobs: int) -> list[list[int]]:
+    """The goals in parts, each for one process: each hard one alone, and then the easy ones in a part for each job."""
+    size = max(1, min(MOST_IN_A_JOB, -(-len(easy) // jobs)))
+    return [[goal] for goal in hard] + [easy[at : at + size] for at in range(0, len(easy), size)]
 
 
 def measured(asked: Asked, given: list[Input]) -> Report:
@@ -75,14 +75,11 @@ class Campaign:
         known = set(self.folder.refuted(self.asked)) | set(self.folder.open(self.asked.budget)) | self.tried
         return [goal for goal in missed if goal not in known]
 
-    def round(self, left: list[int], size: int) -> list[int]:
-        """The goals to be decided next: all that `generate` refuted, which want their certificates, and some of the others."""
+    def search(self, left: list[int], size: int) -> None:
+        """Has goals decided under GNU parallel: all that `generate` refuted, which want their certificates, and some others."""
         refuted = self.folder.known_refuted()
-        others = [goal for goal in left if goal not in refuted]
-        return sorted([goal for goal in left if goal in refuted] + others[:size])
-
-    def search(self, goals: list[int]) -> None:
-        """Has goals decided under GNU parallel."""
+        easy = [goal for goal in left if goal in refuted]
+        hard = [goal for goal in left if goal not in refuted]
         script = os.path.join(program.ROOT, "bin", "campaign")
         me = [sys.executable, script, "-o", os.path.abspath(self.folder.path), "--one", "{}"]
         words = [
@@ -96,10 +93,10 @@ class Campaign:
         words += ["--sshloginfile", self.logins] if self.logins else []
         words += ["--bar"] if sys.stderr.isatty() else []
         words += ["-q", "env", f"FSHELL={program.program()}", *me]
-        text = "".join(",".join(map(str, batch)) + "\n" for batch in batches(goals, self.jobs))
+        text = "".join(",".join(map(str, batch)) + "\n" for batch in batches(easy, hard[:size], self.jobs))
         caught = None if sys.stderr.isatty() else subprocess.PIPE
         ended = subprocess.run(words, input=text, text=True, stdout=subprocess.DEVNULL, stderr=caught, check=False)
-        self.tried.update(goals)
+        self.tried.update(easy + hard[:size])
         if ended.returncode:
             lines = (ended.stderr or "").strip().splitlines()
             print(lines[-1] if lines else "some goals weren't decided", file=sys.stderr)
@@ -113,7 +110,7 @@ class Campaign:
             print(f"{report.count('covered')} of {len(report.goals)} goals covered, {len(left)} left", file=sys.stderr)
             if not left:
                 break
-            self.search(self.round(left, size))
+            self.search(left, size)
         return report
 
 
@@ -157,6 +154,8 @@ def parser_of_words() -> argparse.ArgumentParser:
     parser.add_argument("--sshloginfile", metavar="FILE", help="the machines, as GNU parallel reads them")
     gate = "the status is 1 where less than P percent are covered"
     parser.add_argument("--at-least", type=verdicts.percent, metavar="P", help=gate)
+    counted = "a report of mcdc as JSON, whose conditions are counted too, and must pass the gate"
+    parser.add_argument("--mcdc", metavar="FILE", help=counted)
     parser.add_argument("--left", action="store_true", help="only prints the goals that are left, a line each")
     parser.add_argument("--one", type=numbers, metavar="N[,N..]", help="only decides goal N, or several")
     return parser
@@ -249,6 +248,8 @@ def main() -> int:
     begun(given, folder)
     with locked(folder):
         folder.clean()
+        if given.mcdc:
+            folder.take_conditions(folder.asked(), given.mcdc)
         campaign = Campaign(folder, folder.jobs(given.jobs), given.sshloginfile)
         if given.left:
             campaign.generate()

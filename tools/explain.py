@@ -4,6 +4,7 @@ WHAT is a query, or a file with a report of `measure`, `generate`, `goals`, `run
 input. SOURCE.. are the sources that the report is about. Each goal is told with what its letters are: the place as
 FILE:LINE:COLUMN, the function, the condition with its outcome or what else is done, and the statement; of a covered goal also
 its input. A report of `measure` or `trees` has no inputs and no paths of runs in it: with --entry and --inputs they are told too.
+With --entry, `bounds` is asked of a report with refuted goals, so that they are told as unreachable, or which bound is left.
 """
 
 import argparse
@@ -13,11 +14,12 @@ import sys
 from collections.abc import Iterator
 
 from tools import graph as graphs
-from tools import inputs, program
+from tools import inputs, leaving, program, verdicts
 from tools.graph import Graph, Letter, Node
 from tools.program import Failure
 from tools.reports import Goal, Input, Report, Run, report_of_json, report_of_text
 from tools.sources import Faces
+from tools.verdicts import Limits, Verdict
 
 OPENED = {"trapped", "blocked", "too-deep"}
 
@@ -31,9 +33,18 @@ def report_of(word: str) -> Report:
     """The report in a file or on standard input; one that isn't read is a failure."""
     try:
         text = (sys.stdin.buffer.read() if word == "-" else program.read(word)).decode()
+        if text.startswith("fshell traces 1"):
+            raise ValueError(of_traces(text))
         return report_of_json(json.loads(text)) if text.startswith("{") else report_of_text(text)
     except (ValueError, KeyError, TypeError, RecursionError) as fault:
-        raise Failure(f"{word}: it is no report: {str(fault)[:80]}") from None
+        raise Failure(f"{word}: it is no report: {str(fault)[:110]}") from None
+
+
+def of_traces(text: str) -> str:
+    """What is said of a trace file."""
+    if "\r\n" in text:
+        return "it is a trace file that came through another system: its lines end with carriage return and line feed"
+    return "it is a trace file; replay measures it"
 
 
 def letter_line(faces: Faces, letter: Letter) -> str:
@@ -65,20 +76,23 @@ def end_line(faces: Faces, run: Run, entry: str) -> str:
         return node_line(faces, faces.graph.nodes[last])
     edge = leaving[0]
     test = f"{faces.condition(edge)}, in " if edge.is_guard else ""
-    return f"{edge.place} {faces.graph.owner(edge)}: {test}{faces.statement(edge)}"
+    return f"{faces.place(edge)} {faces.graph.owner(edge)}: {test}{faces.statement(edge)}"
 
 
 class Explained:
     """The lines of an explanation."""
 
-    def __init__(self, faces: Faces, entry: str, report: Report, given: list[Input], runs: list[Run]) -> None:
-        self.faces, self.entry, self.report = faces, entry, report
+    def __init__(
+        self, faces: Faces, entry: str, report: Report, given: list[Input], runs: list[Run], limits: Limits
+    ) -> None:
+        self.faces, self.entry, self.report, self.limits = faces, entry, report, limits
         self.inputs = report.inputs or given
         self.runs = runs
 
     def goal(self, goal: Goal) -> Iterator[str]:
         """The lines of a goal."""
-        verdict = f"covered by input {goal.input}" if goal.input else goal.verdict
+        verdict = verdicts.of_word(goal.verdict, self.limits) if goal.verdict else ""
+        verdict += f" by input {goal.input}" if goal.input else ""
         yield f"goal {goal.number}: {verdict}" if verdict else f"goal {goal.number}:"
         try:
             letters = graphs.letters(self.faces.graph, goal.text)
@@ -109,15 +123,31 @@ class Explained:
             yield f"{len(lost)} runs were trapped, blocked or too deep; --entry and --inputs tell where"
 
 
-# what is said where a goal is refuted
-WITHIN = "refuted goals have no run within the bounds; bounds says whether a run leaves them"
+# what is said where a goal is refuted, and the entry isn't known
+WITHIN = "refuted goals have no run within the bounds; with --entry, bounds is asked whether a run leaves them"
 
 
-def counts(report: Report) -> str:
+def counts(report: Report, limits: Limits) -> str:
     """How many goals have which verdict, in one line."""
-    verdicts = [name for name in ("covered", "missed", "refuted", "undecided") if report.count(name)]
-    told = ", ".join(f"{report.count(name)} {name}" for name in verdicts)
+    found = verdicts.tally(verdicts.of_word(goal.verdict, limits) for goal in report.goals if goal.verdict)
+    told = ", ".join(f"{found.counts[one]} {one}" for one in Verdict if found.counts[one])
     return f"{len(report.goals)} goals" + (f": {told}" if told else "")
+
+
+def bounds_of(given: argparse.Namespace, graph: Graph, report: Report) -> tuple[Limits, list[str]]:
+    """What is known of the bounds of a report with refuted goals, and what is said of them."""
+    if not report.count("refuted"):
+        return verdicts.UNKNOWN, []
+    if not given.entry:
+        return verdicts.UNKNOWN, [WITHIN]
+    budget = report.bounds.get("budget", 5_000_000)
+    left = leaving.asked(graph, given.entry, given.sources, report.bounds, budget)
+    return left.limits, list(left.lines())
+
+
+def is_of(goal: Goal, limits: Limits, mark: str) -> bool:
+    """Whether a goal has the verdict that a word of --only means."""
+    return bool(goal.verdict) and verdicts.of_word(goal.verdict, limits).mark == mark
 
 
 def words() -> argparse.Namespace:
@@ -127,7 +157,9 @@ def words() -> argparse.Namespace:
     parser.add_argument("--entry", default="", help="the function in which runs begin")
     parser.add_argument("--inputs", metavar="FILE", help="the inputs of the runs")
     parser.add_argument(
-        "--only", choices=("covered", "missed", "refuted", "undecided"), help="goals of this verdict alone"
+        "--only",
+        choices=[one.mark for one in Verdict],
+        help="goals of this verdict alone; of refuted ones those that aren't unreachable",
     )
     parser.add_argument("--steps", type=program.in_range("steps"), metavar="N", help="as for runs")
     given = parser.parse_intermixed_args()
@@ -145,13 +177,13 @@ def main() -> int:
     if given.inputs:
         steps = ["--steps", str(given.steps)] if given.steps else []
         read, runs = inputs.runs_of(given.entry, given.inputs, given.sources, steps)
+    limits, said = bounds_of(given, automaton, report)
     if given.only:
-        report.goals = [goal for goal in report.goals if goal.verdict == given.only]
-    explained = Explained(Faces(automaton, given.sources), given.entry, report, read, runs)
-    text = "".join(line + "\n" for line in explained.lines())
-    print(text, end="")
+        report.goals = [goal for goal in report.goals if is_of(goal, limits, given.only)]
+    explained = Explained(Faces(automaton, given.sources), given.entry, report, read, runs, limits)
+    print("".join(line + "\n" for line in explained.lines()), end="")
     if report.goals:
-        print(counts(report))
+        print(counts(report, limits))
     if report.count("refuted"):
-        print(WITHIN)
+        print("".join(line + "\n" for line in said), end="")
     return program.DONE

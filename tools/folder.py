@@ -9,6 +9,7 @@ stands there:
   found/N                prove's line for goal N, with an input
   certificates/N.cert    prove's certificate for goal N, and N.sum, its sum, once `check` accepted it
   open/N                 the budget that goal N was tried with, and what prove said
+  mcdc.json              the report of bin/mcdc that was given
   machine/               the lock, the number of jobs and the log of GNU parallel: what differs from machine to machine
 """
 
@@ -17,8 +18,9 @@ import json
 import os
 import sys
 
-from tools import inputs, program
+from tools import conditions_read, inputs, program
 from tools.asked import Asked, sum_of
+from tools.conditions_read import Conditions
 from tools.program import Failure
 from tools.reports import Input, Report, report_of_json
 
@@ -189,22 +191,40 @@ class Folder:
         program.write_whole(self.at("certificates", f"{goal}.sum"), sum_of(path) + "\n")
         return ""
 
+    def take_conditions(self, asked: Asked, path: str) -> None:
+        """Keeps a report of bin/mcdc; one of another entry or of other sources is a failure."""
+        found = conditions_read.of_file(path)
+        if not found:
+            raise Failure(f"{path}: it is no report of mcdc as JSON")
+        if (found.entry, found.sums) != (asked.entry, asked.sums):
+            raise Failure(f"{path}: it is of another entry or of other sources than the campaign")
+        program.write_whole(self.at("mcdc.json"), program.read(path).decode())
+
+    def conditions(self, asked: Asked) -> Conditions | None:
+        """The report of bin/mcdc that was kept, where it is of the sources as they are."""
+        path = self.at("mcdc.json")
+        found = conditions_read.of_file(path) if os.path.exists(path) else None
+        return found if found and found.sums == asked.sums else None
+
     # ---- one goal
 
     def decide_all(self, goals: list[int]) -> None:
         """Has goals decided one after the other; where some aren't, that is told behind the last."""
         failures = []
+        refuted = self.known_refuted()
         for goal in goals:
             try:
-                self.decide(goal)
+                self.decide(goal, goal in refuted)
             except Failure as failure:
                 failures.append(failure)
         if failures:
             raise failures[0]
 
-    def decide(self, goal: int) -> None:
-        """Has a goal decided by `prove`, and keeps what it says; a certificate is kept where `check` accepts it."""
+    def decide(self, goal: int, is_refuted: bool) -> None:
+        """Has a goal decided by `prove`, and keeps what it says; a certificate is kept where `check` accepts it. One that the
+        `generate` at the begin refuted has its budget, which is enough, and with which fewer inputs are tried first."""
         asked = self.asked()
+        budget = min(asked.budget, FIRST_BUDGET) if is_refuted else asked.budget
         path = self.at("certificates", f".new.{goal}.{os.getpid()}")
         words = [
             "prove",
@@ -214,11 +234,14 @@ class Folder:
             *asked.sources,
             *asked.words(),
             "--budget",
-            str(asked.budget),
+            str(budget),
         ]
         try:
             with open(path, "wb") as file:
                 ended = program.started(words, asked.place, file)
+            if is_refuted and ended.returncode == program.OPEN:
+                self.decide(goal, False)
+                return
             self.keep(asked, goal, path, ended.returncode, ended.stderr.decode().strip())
         finally:
             if os.path.exists(path):

@@ -53,9 +53,10 @@ class Coverage:
         passed: dict[int, Counter[int]] = {}
         reached = set()
         for edge in self.steps(file):
-            passed.setdefault(edge.line, Counter())[edge.source] += self.taken[edge.number]
+            line = self.faces.shown(edge).line
+            passed.setdefault(line, Counter())[edge.source] += self.taken[edge.number]
             if edge.number not in self.refuted:
-                reached.add(edge.line)
+                reached.add(line)
         self.excluded += [f"{file}:{line}" for line in sorted(passed) if line not in reached]
         return {line: max(passed[line].values()) for line in sorted(passed) if line in reached}
 

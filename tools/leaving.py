@@ -6,6 +6,7 @@ its head, a frame stands from a call to its return, and each answer counts.
 
 from collections.abc import Iterator, Sequence
 from dataclasses import dataclass, field
+from typing import Any
 
 from tools import inputs, program
 from tools.graph import Edge, Graph
@@ -95,6 +96,12 @@ class Left:
             yield f"bounds to try next: {self.options}" if self.options else "a greater bound can't be asked for"
         else:
             yield "whether a run leaves the bounds is open: the budget of `bounds` was spent"
+
+
+def of_value(value: dict[str, Any]) -> Left:
+    """What a campaign's report has as `limits`."""
+    left = inputs.of_object(value["left"]) if value["left"] else None
+    return Left(Limits(value["suffice"], left, value["where"], value["restriction"]), value["next"])
 
 
 def options_of(bounds: dict[str, int]) -> list[str]:

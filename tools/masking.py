@@ -15,7 +15,8 @@ MOST_ARROWS = 3
 
 @dataclass
 class Asked:
-    """What is known of a decision: its query and the report on it, and for each path an input or the goals that refute it."""
+    """What is known of a decision: its query and the report on it, for each path an input or the goals that refute it, and why it
+    can't be asked for, if so."""
 
     decision: Decision
     query: str
@@ -23,6 +24,7 @@ class Asked:
     inputs: dict[int, int] = field(default_factory=dict)
     goals: dict[int, list[int]] = field(default_factory=dict)
     told: dict[int, "Shown"] = field(default_factory=dict)
+    why: str = ""
 
     def state(self, path: int) -> str:
         """Whether inputs take a path."""
@@ -53,7 +55,7 @@ def query_of(graph: Graph, decision: Decision, arrows: int = MOST_ARROWS) -> str
         kept = f"UNION({kept},@LINE({line}))"
     calls = sum(edge.operation == "call" for edge in edges)
     # (what @FUNC keeps has no node of a function that is called, so no path could end at a call, or begin behind one)
-    if not calls and not begins_behind_call(graph, edges[0]):
+    if not calls and not begins_behind_call(graph, edges[0]) and not has_call_beside(graph, decision, lines):
         kept = f"INTERSECT(@FUNC({decision.function}),{kept})"
     part = f"PATHS(INTERSECT(@CONDITIONGRAPH,{kept}),1)"
     return "cover " + " + ".join(" -> ".join([part] * (count + 1)) for count in range(min(calls, arrows) + 1))
@@ -63,6 +65,12 @@ def region(graph: Graph, decision: Decision) -> list[Edge]:
     """The edges that a decision's condition makes, from its first guard to its last."""
     numbers = decision.guards()
     return graph.edges[min(numbers) : max(numbers) + 1]
+
+
+def has_call_beside(graph: Graph, decision: Decision, lines: list[int]) -> bool:
+    """Whether a function is called in a condition on these lines, such as the one in which the decision stands."""
+    return any(edge.operation == "call" and edge.decision and edge.line in lines and graph.owner(edge) == decision.function
+               for edge in graph.edges)  # fmt: skip
 
 
 def begins_behind_call(graph: Graph, first: Edge) -> bool:

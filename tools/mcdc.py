@@ -3,110 +3,32 @@
 For each decision it takes the paths through its conditions as goals, has inputs made for them, and says of each condition by
 which two inputs it decides on its own: its value and the outcome differ, and in both the other conditions, as far as they are
 evaluated, leave the outcome to it. Where no such pair is among the paths that inputs take, and each that would do has a path
-which is refuted, there is none within the bounds; the goals that say so are named, and --certificates DIR has their
-certificates written and checked. Only runs that returned count. The status is 1 where something is undecided.
+which is refuted, there is none within the bounds, and none at all where `bounds` says that they suffice; the goals that say so
+are named, and --certificates DIR has their certificates written and checked. A decision that can't be asked for is told with the
+reason. Asserts and assumes are listed apart. Only runs that returned count. The status is 1 where something is undecided; with
+--at-least P it is 1 where less than P percent of the decisions' conditions that aren't unreachable are covered.
 """
 
 import argparse
-import json
 import os
 import sys
-from collections.abc import Iterator
 
 from tools import graph as graphs
-from tools import inputs, program
-from tools.decisions import Decision, Decisions, Path
+from tools import inputs, leaving, program, verdicts
+from tools.conditions import Found, Text, json_text
+from tools.decisions import Decision, Decisions
 from tools.folder import STEPS
 from tools.graph import Graph
-from tools.masking import MOST_ARROWS, NONE, REFUTED, SHOWN, TAKEN, UNDECIDED, Asked, goals_of, query_of, shown, take
+from tools.leaving import Left
+from tools.masking import MOST_ARROWS, NONE, Asked, goals_of, query_of, shown, take
 from tools.program import Failure
-from tools.reports import Input
+from tools.reports import Report
 from tools.sources import Faces
+from tools.verdicts import Limits
 
 BOUNDS = {"turns": 4, "frames": 8, "answers": 16}
-
-
-class Text:
-    """The report as text."""
-
-    def __init__(self, graph: Graph, faces: Faces, given: list[Input]) -> None:
-        self.graph, self.faces, self.given = graph, faces, given
-
-    def path(self, asked: Asked, number: int, path: Path) -> str:
-        """The line of a path: a value for each condition, the outcome, and an input."""
-        values = path.values()
-        row = " ".join({True: "T", False: "F", None: "-"}[values.get(test.node)] for test in asked.decision.tests)
-        state = asked.state(number)
-        goals = ", ".join(map(str, asked.goals.get(number, [])))
-        behind = (
-            f"input {asked.inputs[number]}: {self.given[asked.inputs[number] - 1].told()}" if state == TAKEN else state
-        )
-        behind += f", goal {goals}" if state == REFUTED else ""
-        return f"  path {number + 1}: {row} is {'true' if path.outcome else 'false'}, {behind}"
-
-    def condition(self, asked: Asked, number: int) -> str:
-        """The line of a condition."""
-        test = asked.decision.tests[number]
-        found = shown(asked, test.node)
-        text = f"  condition {number + 1}: {self.faces.condition(test.guards[0])}: "
-        if found.pair:
-            first, second = (path + 1 for path in found.pair)
-            one, other = (asked.inputs[path] for path in found.pair)
-            return text + f"inputs {one} and {other}, by paths {first} and {second}"
-        if found.state == NONE:
-            paths = " ".join(str(path + 1) for path in found.needed)
-            return text + (f"no pair within the bounds, by refuted paths {paths}" if paths else "no two paths show it")
-        return text + "undecided"
-
-    def decision(self, asked: Asked) -> Iterator[str]:
-        """The lines of a decision."""
-        one = asked.decision
-        yield f"decision {one.number}: {one.first.place} {one.function}: {one.statement}"
-        yield from (self.path(asked, number, path) for number, path in enumerate(one.paths))
-        yield from (self.condition(asked, number) for number in range(len(one.tests)))
-        if any(asked.state(path) == REFUTED for path in range(len(one.paths))):
-            yield f"  goals of: {asked.query}"
-
-
-def states(all_asked: list[Asked]) -> list[str]:
-    return [shown(asked, test.node).state for asked in all_asked for test in asked.decision.tests]
-
-
-def total(all_asked: list[Asked]) -> str:
-    found = states(all_asked)
-    return (
-        f"conditions {len(found)} of {len(all_asked)} decisions: {found.count(SHOWN)} shown, "
-        f"{found.count(NONE)} without a pair, {found.count(UNDECIDED)} undecided"
-    )
-
-
-def path_value(asked: Asked, number: int, path: Path) -> dict[str, object]:
-    """A path as JSON."""
-    values = [path.values().get(test.node) for test in asked.decision.tests]
-    value: dict[str, object] = {"values": values, "outcome": path.outcome, "state": asked.state(number)}
-    if number in asked.inputs:
-        return value | {"input": asked.inputs[number]}
-    return value | {"goals": asked.goals.get(number, [])}
-
-
-def value_of(faces: Faces, asked: Asked, given: list[Input]) -> dict[str, object]:
-    """A decision as JSON."""
-    conditions = []
-    for test in asked.decision.tests:
-        found = shown(asked, test.node)
-        part: dict[str, object] = {"text": faces.condition(test.guards[0]), "state": found.state}
-        if found.pair:
-            part["inputs"] = [asked.inputs[path] for path in found.pair]
-        conditions.append(part | {"refuted": [path + 1 for path in found.needed]})
-    paths = [path_value(asked, number, path) for number, path in enumerate(asked.decision.paths)]
-    one = asked.decision
-    return {
-        "place": one.first.place,
-        "function": one.function,
-        "query": asked.query,
-        "conditions": conditions,
-        "paths": paths,
-    }
+# what is refused of one decision alone: its query is too long, its goals are none or too many, or one is too large
+OF_ONE = tuple(f"error {code} " for code in (63, 71, 72, 73, 82))
 
 
 # ---- the whole
@@ -127,6 +49,8 @@ def ask(given: argparse.Namespace, graph: Graph, decision: Decision, count: int)
         # (many calls make too many goals; with fewer arrows the paths behind them may stay undecided)
         if not ended.stderr.startswith("error 71 "):
             break
+    if ended.stderr.startswith(OF_ONE):
+        return Asked(decision, query, Report("generate"), why=f"it can't be asked for, {ended.stderr.strip()}")
     asked = Asked(decision, query, program.report_of(words, ended))
     asked.goals = goals_of(graph, asked)
     return asked
@@ -164,15 +88,27 @@ def words() -> argparse.Namespace:
     parser.add_argument("--suite", metavar="FILE", help="writes all inputs to this file")
     parser.add_argument("--certificates", metavar="DIR", help="has certificates written there, and checked")
     parser.add_argument("--json", action="store_true", help="the report is one line of JSON")
+    gate = "the status is 1 where less than P percent of the conditions are covered"
+    parser.add_argument("--at-least", type=verdicts.percent, metavar="P", help=gate)
     return parser.parse_intermixed_args()
+
+
+def bounds_of(given: argparse.Namespace, graph: Graph, all_asked: list[Asked]) -> Left:
+    """What is known of the bounds, once a condition without a pair asks for it."""
+    needs = any(shown(asked, test.node).needed for asked in all_asked for test in asked.decision.tests
+                if shown(asked, test.node).state == NONE)  # fmt: skip
+    if not needs:
+        return Left(Limits())
+    bounds = {name: getattr(given, name) for name in BOUNDS}
+    return leaving.asked(graph, given.entry, given.sources, bounds, given.budget)
 
 
 def main() -> int:
     given = words()
     graph = graphs.of_sources(given.sources)
     faces = Faces(graph, given.sources)
-    found = Decisions(graph, faces).found
-    all_asked = [ask(given, graph, decision, len(found)) for decision in found]
+    decisions = Decisions(graph, faces).found
+    all_asked = [ask(given, graph, decision, len(decisions)) for decision in decisions]
     if not all_asked:
         raise Failure("there is no decision")
     made = inputs.of_entry(given.inputs, given.entry, given.sources) if given.inputs else []
@@ -182,11 +118,21 @@ def main() -> int:
     count = certify(given, all_asked) if given.certificates else 0
     if given.suite:
         program.write_whole(given.suite, inputs.best_text(made))
+    found = Found(faces, all_asked, made, bounds_of(given, graph, all_asked))
     if given.json:
-        told = [value_of(faces, asked, made) for asked in all_asked]
-        print(json.dumps({"inputs": json.loads(inputs.json_text(made)), "decisions": told}))
+        bounds = {name: getattr(given, name) for name in BOUNDS}
+        print(json_text(found, given.entry, given.sources, bounds))
     else:
-        text = Text(graph, faces, made)
-        print("\n".join(line for asked in all_asked for line in text.decision(asked)))
-        print(total(all_asked) + (f"; {count} certificates are checked" if given.certificates else ""))
-    return program.OPEN if UNDECIDED in states(all_asked) else program.DONE
+        checked = f"; {count} certificates are checked" if given.certificates else ""
+        print("".join(line + "\n" for line in Text(found).lines(checked)), end="")
+    return judged(found, given.at_least, given.json)
+
+
+def judged(found: Found, at_least: float | None, is_json: bool) -> int:
+    """The status, and the line of the gate, on standard error where JSON is written."""
+    tally = found.tally(found.decisions)
+    if at_least is None:
+        return program.OPEN if found.is_open else program.DONE
+    why = verdicts.failures(tally, at_least, len(found.given))
+    print(verdicts.gate_line(at_least, why), file=sys.stderr if is_json else sys.stdout)
+    return program.OPEN if why else program.DONE

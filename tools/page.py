@@ -1,8 +1,9 @@
 """bin/page: shows reports as one HTML file: the sources with a mark at each goal, and what each goal is.
 
-A REPORT is a report of `measure` or `generate` (text or JSON), or the folder of a campaign, which has all that is needed. For a
-report the sources are named by --source; with --entry the page also has the paths of its inputs (--inputs for a report of
-`measure`), and with --query the commands that write and check the certificate of a refuted goal.
+A REPORT is a report of `measure` or `generate` (text or JSON), one of `mcdc` as JSON, of which each condition is a goal, or the
+folder of a campaign; the last two have all that is needed. For a report the sources are named by --source; with --entry the page also has the paths of its inputs (--inputs for a report of
+`measure`), and says whether a refuted goal is unreachable, by `bounds`; with --query it has the commands that write and check the
+certificate of a refuted goal.
 """
 
 import argparse
@@ -10,105 +11,38 @@ import html
 import json
 import os
 import re
-import shlex
 import shutil
 import subprocess
 from collections import Counter
 from collections.abc import Iterator
-from dataclasses import dataclass
 from typing import Any
 
 from tools import graph as graphs
-from tools import inputs, program
-from tools.explain import letter_line, report_of
-from tools.folder import STEPS, Folder
+from tools import program
+from tools.explain import letter_line
 from tools.graph import Edge, Graph, Letter
 from tools.program import Failure
-from tools.reports import BOUNDS, Goal, Input, Report
+from tools.reports import Goal
+from tools.shown import Shown, commands, paths, shown
 from tools.sources import Faces
+from tools.verdicts import Verdict
 
-VERDICTS = ("covered", "missed", "undecided", "refuted")
-LONGEST_PATH, LARGEST_PICTURE = 5_000, 400
-KNOWN = {"refuted within the bounds": "refuted", "unreachable": "refuted"}
-
-
-@dataclass
-class Shown:
-    """A report that is shown, with what is known beside it; the entry and the query are empty where they aren't."""
-
-    name: str
-    report: Report
-    sources: list[str]
-    entry: str
-    query: str
-    given: list[Input]
-    place: str
-    folder: str = ""
+LARGEST_PICTURE = 400
+COLOURS = {
+    Verdict.COVERED: "#1a7f37",
+    Verdict.MISSED: "#cf222e",
+    Verdict.UNDECIDED: "#bf8700",
+    Verdict.REFUTED: "#6e7781",
+    Verdict.UNREACHABLE: "#24292f",
+}
 
 
-def of_campaign(path: str) -> Shown:
-    """The report in a campaign's folder."""
-    folder = Folder(path)
-    asked = folder.asked()
-    try:
-        value = json.loads(program.read(folder.at("report.json")))
-        report = Report("generate", suite=value["suite"], bounds=value["bounds"], ends=value["ends"])
-        for number, goal in enumerate(value["goals"], 1):
-            report.goals.append(
-                Goal(number, KNOWN.get(goal["answer"], goal["answer"]), goal.get("input"), goal["text"])
-            )
-    except (ValueError, KeyError, TypeError):
-        raise Failure(f"{path} has no whole report.json") from None
-    given = inputs.of_file(folder.at("inputs.json"))
-    return Shown(path, report, list(asked.sources), asked.entry, asked.query, given, asked.place, path)
-
-
-def shown(name: str, query: str, given: argparse.Namespace) -> Shown:
-    """A report that is named, with what the words say of it."""
-    if os.path.isdir(name):
-        return of_campaign(name)
-    report = report_of(name)
-    if report.command not in ("measure", "generate"):
-        raise Failure(f"{name}: it is an answer of {report.command}; the page shows those of measure and generate")
-    if not given.source:
-        raise Failure("the sources of a report are named by --source")
-    read = report.inputs or (inputs.of_file(given.inputs) if given.inputs else [])
-    return Shown(name, report, given.source, given.entry, query, read, ".")
-
-
-# ---- what the page has
-
-
-def commands(one: Shown, goal: Goal) -> list[str]:
-    """The commands that write and check the certificate of a refuted goal."""
-    if not one.query:
-        return []
-    bounds = [word for name in BOUNDS for word in (f"--{name}", str(one.report.bounds[name]))]
-    ends = [] if one.report.ends == "returned" else ["--ends", one.report.ends]
-    kept = os.path.join(one.folder, "certificates", f"{goal.number}.cert") if one.folder else f"{goal.number}.cert"
-    asked = [one.entry or "ENTRY", one.query, str(goal.number)]
-    check = shlex.join(
-        ["fshell", "check", *asked, os.path.abspath(kept) if one.folder else kept, *one.sources, *bounds, *ends]
-    )
-    prove = shlex.join(["fshell", "prove", *asked, *one.sources, *bounds, *ends]) + f" > {shlex.quote(kept)}"
-    return [check] if one.folder else [prove, check]
-
-
-def paths(one: Shown) -> dict[int, list[int]]:
-    """The edges of the run of each input that covers a goal."""
-    if not one.entry or not one.given:
-        return {}
-    with program.as_file(inputs.json_text(one.given)) as file:
-        runs = program.report(["runs", one.entry, file, *one.sources, "--steps", STEPS], one.place).runs
-    used = {goal.input for goal in one.report.goals}
-    return {run.number: list(run.edges[:LONGEST_PATH]) for run in runs if run.number in used}
-
-
-def first_place(letters: list[Letter]) -> tuple[str, int, int] | None:
+def first_place(faces: Faces, letters: list[Letter]) -> tuple[str, int, int] | None:
     """The place of the first letter that has one; a node has no column."""
     for letter in letters:
         if letter.edge:
-            return letter.edge.file, letter.edge.line, letter.edge.column
+            edge = faces.shown(letter.edge)
+            return edge.file, edge.line, edge.column
         if letter.node:
             return letter.node.file, letter.node.line, 0
     return None
@@ -132,29 +66,30 @@ class Page:
         self.functions: dict[str, Counter[str]] = {}
         self.letters: dict[str, str] = {}
         for number, one in enumerate(reports):
-            for goal in one.report.goals:
-                self.add(number, one, goal)
+            for goal, verdict in zip(one.report.goals, one.verdicts):
+                self.add(number, one, goal, verdict)
 
-    def add(self, number: int, one: Shown, goal: Goal) -> None:
+    def add(self, number: int, one: Shown, goal: Goal, verdict: Verdict) -> None:
         """Adds a goal of a report."""
         try:
             letters = graphs.letters(self.graph, goal.text)
         except (ValueError, IndexError):
             raise Failure(f"{one.name}: goal {goal.number} isn't one of these sources: {goal.text[:80]}") from None
-        place = first_place(letters)
+        place = first_place(self.faces, letters)
         if place:
             self.places.setdefault(place, []).append(len(self.goals))
         owners = [owner for letter in letters if (owner := self.owner(letter))]
-        self.functions.setdefault(owners[0] if owners else "(no place)", Counter())[goal.verdict] += 1
+        self.functions.setdefault(owners[0] if owners else "(no place)", Counter())[verdict] += 1
         found = {
             "r": number,
             "n": goal.number,
-            "v": goal.verdict,
+            "v": verdict.mark,
+            "t": verdict,
             "k": kind_of(letters),
             "l": [self.key(letter) for letter in letters],
         }
         found |= {"i": goal.input} if goal.input else {}
-        found |= {"c": commands(one, goal)} if goal.verdict == "refuted" else {}
+        found |= {"c": commands(one, goal)} if verdict in (Verdict.REFUTED, Verdict.UNREACHABLE) else {}
         self.goals.append(found)
 
     def owner(self, letter: Letter) -> str:
@@ -177,7 +112,7 @@ class Page:
         value = {
             "goals": self.goals,
             "letters": self.letters,
-            "lines": [f"{names[edge.file]}:{edge.line}" for edge in self.graph.edges],
+            "lines": [f"{names[edge.file]}:{self.faces.shown(edge).line}" for edge in self.graph.edges],
             "reports": [one.name for one in self.reports],
             "inputs": [[given.told() for given in one.given] for one in self.reports],
             "paths": taken,
@@ -214,8 +149,7 @@ class Page:
 
     def dot(self, edges: list[Edge]) -> str:
         """The text of graphviz for edges; those that are goals have their verdict's colour."""
-        colours = {"covered": "#1a7f37", "missed": "#cf222e", "refuted": "#6e7781", "undecided": "#bf8700"}
-        verdict = {goal["l"][0]: goal["v"] for goal in self.goals if len(goal["l"]) == 1}
+        verdict = {goal["l"][0]: goal["t"] for goal in self.goals if len(goal["l"]) == 1}
         rows = [
             'digraph { node [shape=circle fontsize=10 width=0.3 fixedsize=true]; edge [fontsize=9 fontname="monospace"];'
         ]
@@ -225,7 +159,8 @@ class Page:
                 .replace("\\", "\\\\")
                 .replace('"', '\\"')
             )
-            colour = colours.get(verdict.get(f"e{edge.number}", ""), "#000000")
+            known = verdict.get(f"e{edge.number}")
+            colour = COLOURS[known] if known else "#000000"
             rows.append(f'{edge.source} -> {edge.target} [label="{text}" color="{colour}" fontcolor="{colour}"];')
         return "\n".join(rows + ["}"])
 
@@ -240,10 +175,10 @@ def page_text(page: Page) -> str:
     template = jinja2.Environment(loader=loader, autoescape=True, trim_blocks=True, lstrip_blocks=True).get_template(
         "page.html"
     )
-    totals = Counter(goal["v"] for goal in page.goals)
+    totals = Counter(goal["t"] for goal in page.goals)
     used = [function for function in page.functions if function != "(no place)"]
     return template.render(
-        page=page, verdicts=VERDICTS, totals=totals, kinds=sorted({goal["k"] for goal in page.goals}),
+        page=page, verdicts=list(Verdict), totals=totals, kinds=sorted({goal["k"] for goal in page.goals}),
         pictures={function: page.picture(function) for function in used}, data=page.data(),
     )  # fmt: skip
 
@@ -277,8 +212,11 @@ def main() -> int:
     if any(one.sources != sources or one.place != place for one in reports):
         raise Failure("the reports are of different sources")
     graph = graphs.of_sources(sources, place)
+    for one in reports:
+        if not one.verdicts:
+            one.judge(graph)
     page = Page(reports, graph, Faces(graph, sources, place))
     program.write_whole(given.out, page_text(page))
-    totals = Counter(goal["v"] for goal in page.goals)
-    print(f"{given.out}: {len(page.goals)} goals, " + ", ".join(f"{totals[name]} {name}" for name in VERDICTS))
+    totals = Counter(goal["t"] for goal in page.goals)
+    print(f"{given.out}: {len(page.goals)} goals, " + ", ".join(f"{totals[one]} {one}" for one in Verdict))
     return program.DONE

@@ -139,8 +139,35 @@ class Faces:
                 return at
             at += 1
 
+    def shown(self, edge: Edge) -> Edge:
+        """The edge whose place says where an edge stands: itself, but for what the condition of an `else if` makes, which has the
+        place of the first `if`; of that it is the guard which comes next."""
+        if edge.is_guard or not edge.decision or edge.kind != "IF":
+            return edge
+        at: Edge | None = edge
+        seen: set[int] = set()
+        while at and not at.is_guard and at.number not in seen:
+            seen.add(at.number)
+            at = self.after(at)
+        if not at or at.kind != "IF" or at.file != edge.file:
+            return edge
+        source = self.sources[edge.file]
+        return edge if self.statement_start(at) == source.index(edge.line, edge.column) else at
+
+    def after(self, edge: Edge) -> Edge | None:
+        """The step of the same function that comes next: behind a call it is its return."""
+        if edge.operation == "call":
+            return self.graph.edges[edge.number + 1]
+        leaving = self.graph.leaving[edge.target]
+        return leaving[0] if leaving else None
+
+    def place(self, edge: Edge) -> str:
+        """Where an edge stands, as FILE:LINE:COLUMN."""
+        return self.shown(edge).place
+
     def statement(self, edge: Edge) -> str:
         """The text of the innermost statement of an edge: of `if`, loops and `switch` the head alone."""
+        edge = self.shown(edge)
         source = self.sources[edge.file]
         first = self.statement_start(edge)
         if first is None:
@@ -183,4 +210,4 @@ class Faces:
         deed, statement = self.deed(edge), self.statement(edge)
         label = f", label {edge.label}" if edge.label else ""
         what = f"{deed}, in {statement}" if deed else statement
-        return f"{edge.place} {self.graph.owner(edge)}: {what}{label}"
+        return f"{self.place(edge)} {self.graph.owner(edge)}: {what}{label}"

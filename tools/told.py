@@ -23,6 +23,7 @@ class Told:
         self.left = self.bounds() if self.refuted else None
         self.verdicts = [self.verdict(goal) for goal in report.goals]
         self.tally = verdicts.tally(self.verdicts)
+        self.conditions = folder.conditions(asked)
 
     def bounds(self) -> Left:
         """What the program says of the bounds."""
@@ -70,6 +71,9 @@ class Told:
         yield self.tally.line()
         if self.left:
             yield from self.left.lines()
+        if self.conditions:
+            yield f"MC/DC: {self.conditions.tally.text('conditions')}"
+            yield f"MC/DC: {self.conditions.tally.line('conditions')}"
 
     def text(self) -> str:
         return "".join(line + "\n" for line in self.lines())
@@ -97,7 +101,9 @@ class Told:
         asked = self.asked
         named = {name: getattr(asked, name) for name in ("entry", "query", "sources", "bounds", "ends", "budget")}
         goals = list(map(self.goal_value, self.report.goals, self.verdicts))
-        counts = {one: self.tally.counts[one] for one in Verdict}
+        counts: dict[str, object] = {one: self.tally.counts[one] for one in Verdict}
+        if self.conditions:
+            counts["mcdc"] = {one: self.conditions.tally.counts[one] for one in Verdict}
         return (
             json.dumps(named | self.limits_value() | {"goals": goals, "counts": counts, "suite": self.report.suite})
             + "\n"
@@ -117,6 +123,10 @@ class Told:
     def judged(self, at_least: float | None) -> tuple[str, int]:
         """The line of the gate, if there is one, and the status."""
         if at_least is None:
-            return "", program.OPEN if self.tally.is_open else program.DONE
-        fails = verdicts.failures(self.tally, at_least, len(self.made))
-        return verdicts.gate_line(self.tally, at_least, len(self.made)) + "\n", program.OPEN if fails else program.DONE
+            is_open = self.tally.is_open or (self.conditions is not None and self.conditions.tally.is_open)
+            return "", program.OPEN if is_open else program.DONE
+        why = verdicts.failures(self.tally, at_least, len(self.made))
+        if self.conditions:
+            made = len(self.conditions.given)
+            why += [f"MC/DC: {one}" for one in verdicts.failures(self.conditions.tally, at_least, made)]
+        return verdicts.gate_line(at_least, why) + "\n", program.OPEN if why else program.DONE

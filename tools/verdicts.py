@@ -79,17 +79,17 @@ class Tally:
     def is_open(self) -> bool:
         return self.counts[Verdict.UNDECIDED] > 0
 
-    def line(self) -> str:
+    def line(self, what: str = "goals") -> str:
         """The percentage in words."""
         covered, of_all = self.counts[Verdict.COVERED], self.reachable
         part = f", {percentage(covered, of_all)}" if of_all else ""
-        return f"covered {covered} of {of_all} goals that aren't unreachable{part}"
+        return f"covered {covered} of {of_all} {what} that aren't unreachable{part}"
 
-    def text(self) -> str:
+    def text(self, what: str = "goals") -> str:
         """The number of goals of each verdict that there is, and of those that are covered or undecided in any case."""
         always = (Verdict.COVERED, Verdict.UNDECIDED)
         told = [f"{self.counts[one]} {one}" for one in Verdict if self.counts[one] or one in always]
-        return f"goals {self.goals}: {', '.join(told)}"
+        return f"{what} {self.goals}: {', '.join(told)}"
 
 
 def tally(verdicts: Iterable[Verdict]) -> Tally:
@@ -128,7 +128,6 @@ def failures(found: Tally, at_least: float, made: int) -> list[str]:
     return why
 
 
-def gate_line(found: Tally, at_least: float, made: int) -> str:
-    """The gate's judgement in one line."""
-    why = failures(found, at_least, made)
+def gate_line(at_least: float, why: list[str]) -> str:
+    """The gate's judgement in one line, by why it fails."""
     return f"the gate of {at_least:g}% fails: {'; '.join(why)}" if why else f"the gate of {at_least:g}% passes"

@@ -79,7 +79,8 @@ covered 3 refuted 1 undecided 0 of 4
 AS_JSON = ('{"bounds":{"answers":16,"budget":5000000,"frames":8,"turns":4},"covered":1,"goals":[{"answer":"covered","input":1,'
            '"text":"e8@count.c:7"}],"inputs":[{"answers":[],"args":[3]}],"refuted":0,"suite":[1],"undecided":0}\n')
 GRAPH = ("graph",)
-WITHIN = "refuted goals have no run within the bounds; bounds says whether a run leaves them\n"
+WITHIN = "refuted goals have no run within the bounds; with --entry, bounds is asked whether a run leaves them\n"
+SUFFICE = "the bounds suffice: no run at all leaves them\n"
 RETURN = "  e5 never.c:5:3 f: return 0\n"
 LETTERS = f"""goal 1:
   n1 never.c:6 f: the exit
@@ -117,8 +118,8 @@ def said(number, verdict, faces, line):
 
 
 OF_MADE = (said(1, "covered by input 1", CONDITIONS, "  input 1: args 1073741824\n")
-           + said(2, "covered by input 2", CONDITIONS, "  input 2: args 0\n") + said(3, "refuted", CONDITIONS, "")
-           + said(4, "covered by input 1", CONDITIONS, "  input 1: args 1073741824\n") + "4 goals: 3 covered, 1 refuted\n" + WITHIN)
+           + said(2, "covered by input 2", CONDITIONS, "  input 2: args 0\n") + said(3, "refuted within the bounds", CONDITIONS, "")
+           + said(4, "covered by input 1", CONDITIONS, "  input 1: args 1073741824\n") + "4 goals: 3 covered, 1 refuted within the bounds\n" + WITHIN)
 LOST = "goals 1 inputs 2\ninput 1 trapped assert\ninput 2 returned\ngoal 1 covered 2 e15@two.c:9\nsuite 2\ncovered 1 of 1\n"
 TRAPS = "int f(int x) {\n  if (x > 10 && x < 5) {\n    return 1;\n  }\n  return 0;\n}\n"
 
@@ -135,7 +136,11 @@ CASES = [
          {"count.c": example("counting/count.c"), "made": AS_JSON}, needs=GRAPH,
          stdout="goal 1: covered by input 1\n  e8 count.c:7:5 count: return 1\n  input 1: args 3\n1 goals: 1 covered\n"),
     Case("explain: refuted goals alone", ["explain", "made", "never.c", "--only", "refuted"], {"never.c": NEVER, "made": MADE},
-         stdout=said(3, "refuted", CONDITIONS, "") + "1 goals: 1 refuted\n" + WITHIN, needs=GRAPH),
+         stdout=said(3, "refuted within the bounds", CONDITIONS, "") + "1 goals: 1 refuted within the bounds\n" + WITHIN, needs=GRAPH),
+    Case("explain: an unreachable goal", ["explain", "made", "never.c", "--only", "unreachable", "--entry", "f"],
+         {"never.c": NEVER, "made": MADE}, stdout=said(3, "unreachable", CONDITIONS, "") + "1 goals: 1 unreachable\n" + SUFFICE, needs=GRAPH),
+    Case("explain: no goal is refuted within the bounds alone", ["explain", "made", "never.c", "--only", "refuted", "--entry", "f"],
+         {"never.c": NEVER, "made": MADE}, needs=GRAPH),
     Case("explain: a path has a line a step", ["explain", "cover PATHS(ID,1)", "never.c"], {"never.c": NEVER}, needs=GRAPH,
          stdout="""goal 1:
   e0 never.c:2:7 f: x > 10 is true, in if (x > 10 && x < 5)
@@ -211,4 +216,14 @@ def conditions_are_cut_out(folder):
         yield f" {' '.join(condition.replace('/* x */', '').split())} is true, in " in faces
 
 
-TRIED = [(GRAPH, conditions_are_cut_out)]
+def a_bound_that_is_left_is_told(folder):
+    """Three turns make line 7, and two are the bound."""
+    put(folder, {"count.c": example("counting/count.c")})
+    put(folder, {"made": run(folder, ["fshell", "generate", "count", "cover @LINE(7)", "count.c", "--turns", "2"]).stdout})
+    said = run(folder, ["explain", "made", "count.c", "--entry", "count"]).stdout.splitlines()
+    yield said[0] == "goal 1: refuted within the bounds" and said[2] == "1 goals: 1 refuted within the bounds"
+    yield said[3].startswith("the bounds don't suffice: turn 3 of the loop at count.c:3, by the input args ")
+    yield said[4].startswith("bounds to try next: --turns ")
+
+
+TRIED = [(GRAPH, conditions_are_cut_out), (GRAPH, a_bound_that_is_left_is_told)]

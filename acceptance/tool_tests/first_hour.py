@@ -1,15 +1,15 @@
-"""The table of docs/FIRST_HOUR.md: each row's C is refused as it says, and what stands beside it is accepted."""
+"""The table of docs/ADAPT.md: each row's C is refused as it says, and what stands beside it is accepted."""
 
 import os
 import re
 
 import programs
-from tool_tests import put, run
+from tool_tests import hints, put, run
 
 
 def rows():
     """The rows of the table: the C, the refusal, and what to write instead."""
-    with open(os.path.join(programs.ROOT, "docs", "FIRST_HOUR.md"), encoding="utf-8") as file:
+    with open(os.path.join(programs.ROOT, "docs", "ADAPT.md"), encoding="utf-8") as file:
         table = file.read().split("| C that you have |")[1].split("\n\n")[0]
     for line in table.splitlines()[2:]:
         yield [cell.strip() for cell in line.strip("|").split(" | ")]
@@ -28,4 +28,4 @@ def each_row_is_as_it_says(folder):
         yield not code or answer(folder, code[1]) == ""
 
 
-TRIED = [((), each_row_is_as_it_says)]
+TRIED = [((), each_row_is_as_it_says)] + hints.TRIED

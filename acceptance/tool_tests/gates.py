@@ -3,6 +3,7 @@ changed in comments. The numbers of turns, frames and answers are counted by han
 
 import json
 import os
+import resource
 
 from tool_tests import example, put, run
 
@@ -152,6 +153,19 @@ def line_breaks_of_a_query_make_no_lines(folder):
     yield run(folder, ["inputs", "json"]).stdout == "0\n1\n"
 
 
+def many_easy_goals_take_few_seconds(folder):
+    """400 pairs of condition edges: 160 in the order of the branches, of which each has an input, and 240 that can't be."""
+    branches = "".join(f"  if (x{'' if one % 2 else ' + y'} > {7 * one % 31}) {{\n    s += {one};\n  }}\n" for one in range(10))
+    put(folder, {"ten.c": f"int f(int x, int y) {{\n  int s = 0;\n{branches}  return s;\n}}\n"})
+    before = resource.getrusage(resource.RUSAGE_CHILDREN)
+    ended = campaign(folder, "f", "cover @CONDITIONEDGE -> @CONDITIONEDGE", "ten.c", "--jobs", "2")
+    after = resource.getrusage(resource.RUSAGE_CHILDREN)
+    yield ended.returncode == 0 and " 0 undecided, 240 unreachable\n" in ended.stdout
+    yield sum(name.endswith(".cert") for name in held(folder, "new")) == 240
+    # (three on a quiet machine)
+    yield after.ru_utime + after.ru_stime - before.ru_utime - before.ru_stime < 10
+
+
 TRIED = [(("parallel",), function) for function in (
     a_gate_without_a_test_fails, bounds_that_are_left_are_named, a_folder_is_the_same_with_any_jobs, comments_may_change,
-    line_breaks_of_a_query_make_no_lines)]
+    line_breaks_of_a_query_make_no_lines, many_easy_goals_take_few_seconds)]

@@ -1,10 +1,11 @@
 """The cases of bin/inputs, by hand from docs/FORMATS.md."""
 
+import json
 import os
 import subprocess
 
 import programs
-from tool_tests import SECONDS, Case, example, run, put
+from tool_tests import SECONDS, Case, example, is_there, put, run
 
 MADE = """goals 3 turns 4 frames 8 answers 16 budget 5000000
 input 1 args 1 answers 5 9
@@ -38,13 +39,19 @@ CASES = [
          stdout='[{"args": [5]},\n {"args": [1], "answers": [2]}]\n'),
     Case("several files become one, each input once", ["inputs", "a", "b", "-o", "new"],
          {"a": "1 2\n\n3\t4\r\n", "b": '[{"args": [3, 4], "note": "x"}, {"args": [5, 6]}]'},
-         stderr="new: 3 inputs of 4 that were read\n", written={"new": "1 2\n3 4\n5 6\n"}),
+         stderr="new: 3 inputs of 4 that were read\n",
+         written={"new": '[{"args": [1, 2]},\n {"args": [3, 4], "note": "x"},\n {"args": [5, 6]}]\n'}),
+    Case("two of a user's own names are two inputs", ["inputs", "a"],
+         {"a": '[{"args": [1], "req": "TP-1"}, {"args": [1], "req": "TP-2"}, {"args": [1]}, {"args": [1], "req": "TP-1"}]'},
+         stdout='[{"args": [1], "req": "TP-1"},\n {"args": [1], "req": "TP-2"}]\n'),
+    Case("a user's own names are no line", ["inputs", "a", "--to", "lines"], {"a": '[{"args": [1], "req": "TP-1"}]'}, 2, "",
+         "inputs: an input with answers, without arguments or with other keys is no line; --to json writes it\n"),
     Case("the greatest and the least number", ["inputs", "a"], {"a": "18446744073709551615 -9223372036854775808\n"},
          stdout="18446744073709551615 -9223372036854775808\n"),
     Case("an empty file has no inputs", ["inputs", "a", "--to", "json"], {"a": ""}, stdout="[]\n"),
     Case("an input without arguments is JSON", ["inputs", "a"], {"a": '[{"args": []}]'}, stdout='[{"args": []}]\n'),
     Case("answers aren't written as lines", ["inputs", "made", "--to", "lines", "-o", "new"], {"made": MADE}, 2, "",
-         "inputs: an input with answers or without arguments isn't written as a line; --to json writes it\n"),
+         "inputs: an input with answers, without arguments or with other keys is no line; --to json writes it\n"),
     Case("traces of counted runs", ["inputs", "in.txt", "--to", "traces", "--entry", "f", "--source", "a.c"],
          {"in.txt": example("first/in.txt"), "a.c": example("first/a.c")},
          stdout="fshell traces 1\nargs 5 edges 1 3\nargs 11 edges 0 2\nargs 12 edges 0 2\n"),
@@ -101,6 +108,25 @@ def made_inputs_are_measured(folder):
         line for line in made.splitlines() if line.startswith("goal ")]
 
 
+def keys_of_a_user_are_kept(folder):
+    """What a user wrote beside the numbers goes through each tool that takes inputs and tells of them."""
+    given = [{"args": [11], "req": "TP-1", "by": ["a", 2]}, {"args": [5], "req": "TP-2"}]
+    put(folder, {"a.c": example("first/a.c"), "in": json.dumps(given)})
+    query = "cover @CONDITIONEDGE"
+    ended = run(folder, ["mcdc", "f", "a.c", "--inputs", "in", "--suite", "suite"])
+    yield ended.returncode == 0 and 'input 1: args 11 {"req": "TP-1", "by": ["a", 2]}\n' in ended.stdout
+    with open(os.path.join(folder, "suite"), encoding="ascii") as file:
+        yield json.loads(file.read())[:2] == given
+    put(folder, {"out": run(folder, ["fshell", "measure", "f", query, "in", "a.c"]).stdout})
+    yield '  input 2: args 5 {"req": "TP-2"}\n' in run(folder, ["explain", "out", "a.c", "--entry", "f", "--inputs", "in"]).stdout
+    yield '"f(5) returns 0 {\\"req\\": \\"TP-2\\"}"' in run(folder, ["harness", "f", "in", "a.c"]).stdout
+    if is_there("parallel"):
+        yield run(folder, ["campaign", "f", query, "a.c", "--inputs", "in", "-o", "new"]).returncode == 0
+        for name in ("inputs", "given", "suite"):
+            with open(os.path.join(folder, "new", f"{name}.json"), encoding="ascii") as file:
+                yield json.loads(file.read()) == given
+
+
 def a_link_stays_a_link(folder):
     """What is written goes where a link leads to."""
     put(folder, {"a": "1\n", "to": "old\n"})
@@ -123,4 +149,4 @@ def what_is_no_file_is_written_into(folder):
     yield sorted(os.listdir(folder)) == ["a", "pipe"] and not os.path.isfile(pipe)
 
 
-TRIED = [((), a_link_stays_a_link), ((), what_is_no_file_is_written_into), ((), made_inputs_are_measured), ((), least_inputs_are_measured)]
+TRIED = [(("graph",), keys_of_a_user_are_kept), ((), a_link_stays_a_link), ((), what_is_no_file_is_written_into), ((), made_inputs_are_measured), ((), least_inputs_are_measured)]

@@ -2,7 +2,9 @@
 
 import itertools
 import json
+import os
 import random
+import re
 
 from tool_tests import Case, put, run
 
@@ -17,6 +19,9 @@ def worked(name, condition, given, lines, total, **more):
     """A decision with its inputs, and what is said of it."""
     text = f"decision 1: a.c:2:{more.pop('column', 7)} f: if ({condition})\n"
     text += "".join(f"  {line}\n" for line in lines) + f"conditions {total}\n"
+    shown, none = (int(re.search(rf"(\d+) {word}", total)[1]) for word in ("shown", "without"))
+    text += f"covered {shown} of {shown} conditions that aren't unreachable, 100%\n"
+    text += "the bounds suffice: no run at all leaves them\n" if none else ""
     return Case(f"mcdc: {name}", ["mcdc", "f", "a.c", "--inputs", "in"], {"a.c": source(condition), "in": given}, stdout=text, needs=GRAPH)
 
 
@@ -64,8 +69,8 @@ CASES = [
         "path 3: F T F is false, refuted, goal 3",
         "path 4: F T T is true, refuted, goal 2",
         "condition 1: a: inputs 1 and 2, by paths 1 and 2",
-        "condition 2: a: no pair within the bounds, by refuted paths 4",
-        "condition 3: b: no pair within the bounds, by refuted paths 3 4",
+        "condition 2: a: no pair at all, by refuted paths 4",
+        "condition 3: b: no pair at all, by refuted paths 3 4",
         goals_of(2),
     ], "3 of 1 decisions: 1 shown, 2 without a pair, 0 undecided"),
     worked("a negation", "!(a && !b)", "0 0 0\n1 0 0\n1 1 0\n", [
@@ -142,7 +147,7 @@ def calls_before_the_first_guard(folder):
     put(folder, {"a.c": text.format("if (g(5)) {\n    return 1;\n  }\n  return a + b;")})
     ended = run(folder, ["mcdc", "f", "a.c", "--certificates", "certs"])
     yield ended.returncode == 0 and "  path 1: F is false, refuted, goal " in ended.stdout
-    yield ended.stdout.endswith("conditions 1 of 1 decisions: 0 shown, 1 without a pair, 0 undecided; 1 certificates are checked\n")
+    yield "\nconditions 1 of 1 decisions: 0 shown, 1 without a pair, 0 undecided; 1 certificates are checked\n" in ended.stdout
 
 
 def many_calls(folder):
@@ -157,7 +162,7 @@ def many_calls(folder):
 def certificates_and_the_suite_are_written(folder):
     put(folder, {"a.c": source("a || (a && b)")})
     ended = run(folder, ["mcdc", "f", "a.c", "--certificates", "certs", "--suite", "suite"])
-    yield ended.returncode == 0 and ended.stdout.endswith("; 2 certificates are checked\n")
+    yield ended.returncode == 0 and "; 2 certificates are checked\n" in ended.stdout
     query = goals_of(2).removeprefix("goals of: ")
     for goal in ("2", "3"):
         checked = run(folder, ["fshell", "check", "f", query, goal, f"certs/decision1-goal{goal}.cert", "a.c"])
@@ -173,6 +178,89 @@ def sixteen_conditions(folder):
     value, status = told(folder, text)
     paths, states = of(value["decisions"][0])
     yield status == 0 and len(paths) == 511 and states == ["shown"] * 16
+
+
+CALLS = """int g(int x) { return x > 3; }
+int f(int a, int b) {
+  if (a == 7) {
+    return 7;
+  } else if (g(a) && (b < 0 ? -b : b) > 1) {
+    return 1;
+  }
+  assert(a != 5 || b != 5);
+  if (g(a) && (b < 0 ? -b : b) > 1) {
+    return 2;
+  }
+  return 0;
+}
+"""
+
+
+def a_call_and_a_choice_in_one_decision(folder):
+    """Five decisions, by hand: line 9 is never true, since line 5 was; the assert's conditions are listed apart."""
+    value, status = told(folder, CALLS)
+    yield status == 0 and [decision["place"] for decision in value["decisions"]] == [
+        "a.c:3:7", "a.c:5:14", "a.c:5:23", "a.c:9:7", "a.c:9:16"]
+    yield [of(decision)[1] for decision in value["decisions"]] == [["shown"], ["shown"] * 2, ["shown"], ["none"] * 2, ["shown"]]
+    yield [decision["place"] for decision in value["asserts"]] == ["a.c:8:10"]
+    yield value["counts"] == {"covered": 5, "missed": 0, "undecided": 0, "refuted within the bounds": 0, "unreachable": 2}
+    text = run(folder, ["mcdc", "f", "a.c"]).stdout.splitlines()
+    yield text[-4:] == ["conditions 2 of 1 asserts and assumes: 0 shown, 2 without a pair, 0 undecided",
+                        "conditions 7 of 5 decisions: 5 shown, 2 without a pair, 0 undecided",
+                        "covered 5 of 5 conditions that aren't unreachable, 100%", "the bounds suffice: no run at all leaves them"]
+    # what the condition of the else if makes is shown where it stands
+    faces = run(folder, ["explain", "in @FUNC(f) cover @CONDITIONGRAPH", "a.c"]).stdout
+    yield "  e10 a.c:5:22 f: if (g(a) && (b < 0 ? -b : b) > 1)\n" in faces and "  e4 a.c:5:14 f: calls g, in if (g(a) &&" in faces
+
+
+def one_decision_that_cant_be_asked_for(folder):
+    """Its 2^15 - 1 paths are more than a query may have goals; the other decision has its verdict."""
+    many = " && ".join(f"(a != {number} || b != {number})" for number in range(14))
+    put(folder, {"a.c": source("", f"if ({many}) {{{{\n    return 1;\n  }}}}\n  if (b) {{{{\n    return c;\n  }}}}\n  return 0;")})
+    ended = run(folder, ["mcdc", "f", "a.c"])
+    yield ended.returncode == 1 and "\n  it can't be asked for, error 71 TooManyGoals limit 10000\n" in ended.stdout
+    yield "\nconditions 29 of 2 decisions: " in ended.stdout and "  condition 1: b: inputs " in ended.stdout
+    value, status = told(folder, source("", "return a && b;"))
+    yield status == 0 and "why" not in value["decisions"][0]
+
+
+def a_gate_of_conditions(folder):
+    """`a || (a && b)` has one condition that can be shown, and two that can't at all."""
+    put(folder, {"a.c": source("a || (a && b)")})
+    ended = run(folder, ["mcdc", "f", "a.c", "--at-least", "100"])
+    yield ended.returncode == 0 and ended.stdout.endswith("\nthe gate of 100% passes\n")
+    # a loop of ten turns: within four no run returns, and nothing is shown
+    loop = "int f(int a) {\n  int s = 0;\n  for (int i = 0; i < 10; i++) {\n    s += a;\n  }\n  return s > 4 && a < 9;\n}\n"
+    put(folder, {"b.c": loop})
+    ended = run(folder, ["mcdc", "f", "b.c", "--at-least", "1"])
+    yield ended.returncode == 1 and "covered 0 of 3 conditions that aren't unreachable, 0%\nthe bounds don't suffice: turn 5 of" in ended.stdout
+    yield ended.stdout.endswith("fails: 0% is less than 1%: 0 of 3; there is no input, so nothing was run\n")
+    ended = run(folder, ["mcdc", "f", "b.c", "--at-least", "100", "--turns", "10"])
+    yield ended.returncode == 0 and "covered 3 of 3 conditions" in ended.stdout
+
+
+def conditions_are_shown_and_counted(folder):
+    """The JSON is a page's report, and a campaign counts it; one of other sources is refused."""
+    put(folder, {"a.c": source("a || (a && b)"), "never.c": "int f(int a, int b, int c) {\n  return a;\n}\n"})
+    put(folder, {"mcdc.json": run(folder, ["mcdc", "f", "a.c", "--json"]).stdout})
+    ended = run(folder, ["campaign", "f", "cover @STMTTYPE(RETURN)", "a.c", "-o", "new", "--mcdc", "mcdc.json", "--at-least", "100"])
+    yield ended.returncode == 0 and "\nMC/DC: conditions 3: 1 covered, 0 undecided, 2 unreachable\n" in ended.stdout
+    yield json.loads(open(os.path.join(folder, "new", "report.json"), encoding="utf-8").read())["counts"]["mcdc"]["unreachable"] == 2
+    # (that `b` can't decide is seen without a search)
+    put(folder, {"open.json": run(folder, ["mcdc", "f", "a.c", "--json", "--budget", "1"]).stdout})
+    ended = run(folder, ["campaign", "-o", "new", "--mcdc", "open.json", "--at-least", "100"])
+    yield ended.returncode == 1 and "the gate of 100% fails: MC/DC: 0% is less than 100%: 0 of 1; MC/DC: there is no input" in ended.stdout
+    ended = run(folder, ["campaign", "f", "cover @STMTTYPE(RETURN)", "never.c", "-o", "other", "--mcdc", "mcdc.json"])
+    yield (ended.returncode, ended.stderr) == (2, "campaign: mcdc.json: it is of another entry or of other sources than the campaign\n")
+    ended = run(folder, ["campaign", "-o", "new", "--mcdc", "a.c"])
+    yield (ended.returncode, ended.stderr) == (2, "campaign: a.c: it is no report of mcdc as JSON\n")
+
+
+def conditions_are_a_page(folder):
+    put(folder, {"a.c": source("a || (a && b)")})
+    put(folder, {"mcdc.json": run(folder, ["mcdc", "f", "a.c", "--json"]).stdout})
+    ended = run(folder, ["page", "mcdc.json", "-o", "page.html"])
+    yield ended.stdout == "page.html: 3 goals, 1 covered, 0 missed, 0 undecided, 0 refuted within the bounds, 2 unreachable\n"
 
 
 def small_budgets_leave_it_open(folder):
@@ -253,4 +341,5 @@ def random_decisions_agree_with_all_inputs(folder):
 
 TRIED = [(GRAPH, function) for function in (
     decisions_of_each_statement, calls_within_conditions, calls_before_the_first_guard, many_calls, certificates_and_the_suite_are_written, sixteen_conditions, small_budgets_leave_it_open,
-    random_decisions_agree_with_all_inputs)]
+    random_decisions_agree_with_all_inputs, a_call_and_a_choice_in_one_decision, one_decision_that_cant_be_asked_for,
+    a_gate_of_conditions)] + [((*GRAPH, "parallel"), conditions_are_shown_and_counted), ((*GRAPH, "jinja2"), conditions_are_a_page)]

@@ -4,9 +4,10 @@ import html
 import json
 import os
 import re
+import shlex
 import subprocess
 
-from tool_tests import Case, put, run
+from tool_tests import Case, example, put, run
 from tool_tests.explain import MADE, NEVER
 
 PAGE, BROWSER = ("graph", "jinja2"), ("graph", "jinja2", "chromium")
@@ -62,9 +63,9 @@ def each_report_has_its_query(folder):
 
 def page_has_each_goal(folder):
     text, said = made(folder, {"never.c": HOSTILE, "made": MADE}, "--entry", "f", "--query", QUERY)
-    yield said == "page.html: 4 goals, 3 covered, 0 missed, 0 undecided, 1 refuted\n"
+    yield said == "page.html: 4 goals, 3 covered, 0 missed, 0 undecided, 0 refuted within the bounds, 1 unreachable\n"
     data = json.loads(re.search(r'id="data">(.*?)</script>', text, re.DOTALL)[1])
-    yield [goal["v"] for goal in data["goals"]] == ["covered", "covered", "refuted", "covered"]
+    yield [goal["v"] for goal in data["goals"]] == ["covered", "covered", "unreachable", "covered"]
     yield data["goals"][2]["c"][1] == CHECK
     yield data["paths"] == [{"1": [0, 3, 5], "2": [1, 5]}]
     # text of the sources is escaped wherever it stands
@@ -98,9 +99,34 @@ def a_browser_shows_clicked_goals(folder):
 def several_reports_are_one_page(folder):
     put(folder, {"by_hand": MEASURED, "in": "0\n"})
     text, said = made(folder, {"never.c": NEVER, "made": MADE}, "by_hand", "--entry", "f", "--inputs", "in")
-    yield said == "page.html: 8 goals, 4 covered, 3 missed, 0 undecided, 1 refuted\n"
+    yield said == "page.html: 8 goals, 4 covered, 3 missed, 0 undecided, 0 refuted within the bounds, 1 unreachable\n"
     data = json.loads(re.search(r'id="data">(.*?)</script>', text, re.DOTALL)[1])
     yield data["reports"] == ["made", "by_hand"] and data["inputs"][1] == ["args 0"]
 
 
-TRIED = [(PAGE, page_has_each_goal), (PAGE, each_report_has_its_query), (PAGE, several_reports_are_one_page), (BROWSER, a_browser_shows_clicked_goals)]
+def what_isnt_known_isnt_said(folder):
+    """Without the entry a refuted goal isn't called unreachable; where a run leaves the bounds it isn't either."""
+    text, said = made(folder, {"never.c": NEVER, "made": MADE})
+    yield said == "page.html: 4 goals, 3 covered, 0 missed, 0 undecided, 1 refuted within the bounds, 0 unreachable\n"
+    put(folder, {"count.c": example("counting/count.c")})
+    put(folder, {"made": run(folder, ["fshell", "generate", "count", "cover @LINE(7)", "count.c", "--turns", "2"]).stdout})
+    ended = run(folder, ["page", "made", "-o", "two.html", "--source", "count.c", "--entry", "count"])
+    yield ended.stdout == "two.html: 1 goals, 0 covered, 0 missed, 0 undecided, 1 refuted within the bounds, 0 unreachable\n"
+    with open(os.path.join(folder, "two.html"), encoding="utf-8") as file:
+        yield "the bounds don&#39;t suffice: turn 3 of the loop at count.c:3, by the input args" in file.read()
+
+
+def a_campaign_is_shown_as_it_says(folder):
+    """The verdicts are the campaign's own, and the command for a certificate runs where the folder stands now."""
+    put(folder, {"never.c": NEVER})
+    yield run(folder, ["campaign", "f", QUERY, "never.c", "-o", "new"]).returncode == 0
+    ended = run(folder, ["page", "new", "-o", "page.html"])
+    yield ended.stdout == "page.html: 4 goals, 3 covered, 0 missed, 0 undecided, 0 refuted within the bounds, 1 unreachable\n"
+    with open(os.path.join(folder, "page.html"), encoding="utf-8") as file:
+        data = json.loads(re.search(r'id="data">(.*?)</script>', file.read(), re.DOTALL)[1])
+    (command,) = data["goals"][2]["c"]
+    yield command == CHECK.replace("3.cert", "new/certificates/3.cert")
+    yield run(folder, shlex.split(command)).stdout == "goal 3 refuted turns 4 frames 8 answers 16\n"
+
+
+TRIED = [(PAGE, what_isnt_known_isnt_said), ((*PAGE, "parallel"), a_campaign_is_shown_as_it_says), (PAGE, page_has_each_goal), (PAGE, each_report_has_its_query), (PAGE, several_reports_are_one_page), (BROWSER, a_browser_shows_clicked_goals)]
