@@ -43,6 +43,13 @@ class Ordinals:
         function = self.graph.nodes[number].function
         return function, self.nodes[function].index(number)
 
+    def of_edge(self, number: int) -> Key:
+        function = self.graph.owner(self.graph.edges[number])
+        return function, self.edges[function].index(number)
+
+    def edge(self, key: Sequence[Any]) -> int:
+        return int(self.edges[key[0]][key[1]])
+
     def node(self, key: Sequence[Any]) -> int:
         return int(self.nodes[key[0]][key[1]])
 

@@ -8,7 +8,7 @@ from typing import Any
 
 from tools import graph as graphs
 from tools import named
-from tools.decisions import Decision, Decisions
+from tools.decisions import Decisions
 from tools.explain import letter_line
 from tools.naming import Reader
 from tools.project import criteria
@@ -87,7 +87,6 @@ class Condition:
     """A condition of a decision: `state` is shown, no pair, no pair within the bounds, or undecided."""
 
     function: str
-    decision: int
     place: str
     statement: str
     text: str
@@ -273,44 +272,24 @@ class Results:
         return found
 
     @cached_property
-    def decisions(self) -> dict[str, list[Decision]]:
-        """The decisions of each function."""
-        found: dict[str, list[Decision]] = {}
-        for one in Decisions(self.graph, self.faces).found:
-            found.setdefault(one.function, []).append(one)
-        return found
+    def statements(self) -> dict[int, str]:
+        """The statement of the decision of each guard, by the guard's number."""
+        return {number: one.statement for one in Decisions(self.graph, self.faces).found for number in one.guards()}
 
     def _conditions(self) -> Iterator[Condition]:
         """The conditions of all decisions, with what the entries together show of them."""
-        found: dict[tuple[str, int, int], list[tuple[str, str, list[Test]]]] = {}
+        found: dict[int, list[tuple[str, str, list[Test]]]] = {}
+        ordinals = Ordinals(self.graph)
         for entry in self.entries:
-            value = self.place(entry.function, "mcdc").value("mcdc.json") or {
-                "decisions": [],
-                "inputs": [],
-            }
-            counts: dict[str, int] = {}
-            for one in value["decisions"]:
-                at = counts[one["function"]] = counts.get(one["function"], -1) + 1
-                for number, part in enumerate(one["conditions"]):
-                    pair = [self.test(entry.function, value["inputs"][name - 1]) for name in part.get("inputs", ())]
-                    state = self._state(entry.function, part["state"])
-                    found.setdefault((one["function"], at, number), []).append((state, part["text"], pair))
+            for one in self.place(entry.function, "mcdc").value("mcdc.json") or []:
+                pair = [self.test(entry.function, value) for value in one["pair"]]
+                told = self._state(entry.function, one["state"]), one["text"], pair
+                found.setdefault(ordinals.edge(one["edge"]), []).append(told)
         order = (SHOWN, OPEN, NONE_WITHIN, NO_PAIR)
-        for (function, at, _), told in sorted(found.items(), key=lambda one: (self._rank(one[0][0]), one[0])):
-            state, text, pair = min(told, key=lambda one: order.index(one[0]))
-            decision = self.decisions[function][at]
-            yield Condition(
-                function,
-                at,
-                decision.first.place,
-                decision.statement,
-                text,
-                state,
-                pair,
-            )
-
-    def _rank(self, function: str) -> int:
-        return list(self.files).index(function)
+        for number in sorted(found):
+            state, text, pair = min(found[number], key=lambda one: order.index(one[0]))
+            edge = self.graph.edges[number]
+            yield Condition(self.graph.owner(edge), edge.place, self.statements.get(number, ""), text, state, pair)
 
     def _state(self, entry: str, word: str) -> str:
         """What a word of MC/DC's report means: no pair at all where the bounds suffice."""

@@ -245,8 +245,13 @@ class Mcdc(Task):
                 raise
             value = {"inputs": [], "decisions": []}
         reached = context.reached(entry)
-        value["decisions"] = [one for one in value["decisions"] if one["function"] in reached]
-        place.keep("mcdc.json", value)
+        numbers, kept = carry.ordinals(context.graph), []
+        for decision in value["decisions"]:
+            for one in decision["conditions"] if decision["function"] in reached else ():
+                edge = int(one["edge"].partition("@")[0].removeprefix("e"))
+                pair = [value["inputs"][number - 1] for number in one.get("inputs", ())]
+                kept.append({"edge": numbers.of_edge(edge), "text": one["text"], "state": one["state"], "pair": pair})
+        place.keep("mcdc.json", kept)
 
 
 def tool(name: str, words: list[str], folder: str) -> str:
