@@ -2,7 +2,6 @@
 
 import os
 from collections.abc import Iterator
-from dataclasses import dataclass, field
 from functools import cached_property
 from typing import Any
 
@@ -13,93 +12,12 @@ from tools.explain import letter_line
 from tools.naming import Reader
 from tools.project import criteria
 from tools.project.carry import Ordinals
+from tools.project.facts import NO_PAIR, NONE_WITHIN, OPEN, ORDER, SHOWN, Condition, Goal, Row, Test
 from tools.project.requirements import Requirement, task_name
 from tools.project.tasks import Campaign, Context, Task, tasks_of
 from tools.project.work import Place
 from tools.sources import Faces
 from tools.verdicts import Tally, Verdict, tally
-
-# of several entries' verdicts on a goal, the first in this order is the module's
-ORDER = (
-    Verdict.COVERED,
-    Verdict.UNDECIDED,
-    Verdict.MISSED,
-    Verdict.REFUTED,
-    Verdict.UNREACHABLE,
-)
-
-
-@dataclass
-class Test:
-    """An input of an entry, with how its run ends; `file` is the one that gives it, or empty where it was made."""
-
-    id: str
-    entry: str
-    args: tuple[int, ...]
-    answers: tuple[int, ...]
-    requirements: tuple[str, ...]
-    is_given: bool
-    end: str = ""
-    value: dict[str, Any] = field(default_factory=dict)
-
-    @property
-    def numbers(self) -> tuple[tuple[int, ...], tuple[int, ...]]:
-        return self.args, self.answers
-
-
-@dataclass
-class Goal:
-    """A goal of an entry's query."""
-
-    entry: str
-    task: str
-    number: int
-    text: str
-    verdict: Verdict
-    test: Test | None = None
-    certificate: str = ""
-
-
-@dataclass
-class Row:
-    """A goal of a criterion over all entries that ask for it."""
-
-    criterion: str
-    text: str
-    function: str
-    file: str
-    line: int
-    column: int
-    verdict: Verdict
-    goals: list[Goal]
-
-    @property
-    def place(self) -> str:
-        return f"{self.file}:{self.line}"
-
-    @property
-    def test(self) -> Test | None:
-        return next((goal.test for goal in self.goals if goal.test), None)
-
-
-@dataclass
-class Condition:
-    """A condition of a decision: `state` is shown, no pair, no pair within the bounds, or undecided."""
-
-    function: str
-    place: str
-    statement: str
-    text: str
-    state: str
-    pair: list[Test]
-
-
-NO_PAIR, NONE_WITHIN, SHOWN, OPEN = (
-    "no pair",
-    "no pair within the bounds",
-    "shown",
-    "undecided",
-)
 
 
 class Results:
@@ -114,10 +32,7 @@ class Results:
             own = self._tests.setdefault(entry.function, {})
             for count, one in enumerate(context.given[entry.function], 1):
                 name = one.id or f"{entry.function}-{count}"
-                own.setdefault(
-                    one.numbers,
-                    Test(name, entry.function, *one.numbers, one.requirements, True),
-                )
+                own.setdefault(one.numbers, Test(name, entry.function, *one.numbers, one.requirements, True))
         self.tasks: list[Task] = tasks_of(context.settings, requirements)
         self.goals = [goal for task in self.tasks if isinstance(task, Campaign) for goal in self._goals(task)]
         self.conditions = list(self._conditions())
@@ -184,11 +99,7 @@ class Results:
         """The function and the place of a goal: those of its first letter that has some."""
         for letter in graphs.letters(self.graph, text):
             if letter.edge:
-                return self.graph.owner(letter.edge), (
-                    letter.edge.file,
-                    letter.edge.line,
-                    letter.edge.column,
-                )
+                return self.graph.owner(letter.edge), (letter.edge.file, letter.edge.line, letter.edge.column)
             if letter.node:
                 return letter.node.function, (letter.node.file, letter.node.line, 1)
         node = self.graph.nodes[self.graph.function(entry).entry]
@@ -293,10 +204,7 @@ class Results:
 
     def _state(self, entry: str, word: str) -> str:
         """What a word of MC/DC's report means: no pair at all where the bounds suffice."""
-        return {
-            SHOWN: SHOWN,
-            "none": NO_PAIR if self.suffice(entry) else NONE_WITHIN,
-        }.get(word, OPEN)
+        return {SHOWN: SHOWN, "none": NO_PAIR if self.suffice(entry) else NONE_WITHIN}.get(word, OPEN)
 
     def mcdc(self, function: str | None = None) -> tuple[int, int]:
         """How many conditions are shown, and of how many: all but those without a pair at all."""

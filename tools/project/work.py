@@ -75,11 +75,7 @@ class Place:
             folders[:] = [name for name in folders if name != "machine"]
             for name in names:
                 path = os.path.relpath(os.path.join(folder, name), self.path)
-                if not name.startswith(".new.") and path not in (
-                    "done.json",
-                    "lock",
-                    "joblog",
-                ):
+                if not name.startswith(".new.") and path not in ("done.json", "lock", "joblog"):
                     found[path] = sum_of_file(self.at(path))
         return dict(sorted(found.items()))
 
