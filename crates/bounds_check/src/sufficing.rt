@@ -17,7 +17,7 @@ use containers::Vector;
 use fq_core::{Fault, Memory};
 use goal_formula::GoalFormula;
 use reached::Bounds;
-use search::{Found, search};
+use search::{Found, search_both};
 use std::alloc::Global;
 use unwinder::unwind;
 
@@ -35,7 +35,7 @@ fn searched(
     requires small { formula.formula.variables ≤ 2 ^ 30 }
     ensures { IfOk result (λ suffice. (f : OneFunction) → slice_get graph.now.functions entry ≡ Some f → IsSuffice graph.now f bounds budget suffice) }
 {
-    match search(alloc, &formula.formula, budget)? {
+    match search_both(alloc, &formula.formula, budget)? {
         Found::Model(model) => {
             graph.well_formed();
             let function = &graph.functions()[entry as usize];

@@ -15,8 +15,8 @@ use Rattle.bounds_check.proofs.Reading.{own_function, own_same, there_within}
 use Rattle.bounds_check.proofs.Short.{none_leaves, own_bits}
 use Rattle.bounds_check.proofs.sufficing.searched.Goals as goal
 
-pub search-requires-clause-formula : goal.search-requires-clause-formula
-search-requires-clause-formula c =
+pub search_both-requires-clause-formula : goal.search_both-requires-clause-formula
+search_both-requires-clause-formula c =
     let it = taken (λ (f : Function). f.arrays ≡ []) (slice_get c.args.graph.now.functions c.args.entry) c.requires.entry in
     (c.requires.exact it.0 it.1).over
 
