@@ -12,7 +12,7 @@ use cnf::{Clause, Derivation, Formula, negation};
 use confirmation::confirm;
 use containers::Vector;
 use fq_core::Memory;
-use search::{Found, History, search};
+use search::{Found, History, search_both};
 use std::alloc::{AllocError, Global};
 
 /// How far the bits are set: the formula with unit clauses at its end, their literals, a model of it, and what shows of each
@@ -87,7 +87,7 @@ pub(crate) fn lower(
     if !is_one {
         return Ok(None);
     }
-    match search(alloc, &descent.formula, budget)? {
+    match search_both(alloc, &descent.formula, budget)? {
         Found::Model(model) => {
             descent.model = model;
             Ok(None)

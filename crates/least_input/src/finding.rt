@@ -24,7 +24,7 @@ use containers::Vector;
 use fq_core::{Fault, Memory};
 use goal_formula::{GoalFormula, formula};
 use goals::Plan;
-use search::{Found, search};
+use search::{Found, search_both};
 use std::alloc::Global;
 use unwinder::Unwound;
 
@@ -71,7 +71,7 @@ fn searched(
     requires whole { IsSomeAnd (slice_get graph.now.functions entry) (λ f. IsFor f whole) }
     ensures { IfOk result (λ least. (f : OneFunction) (p : SomePredicates) (plan : OnePlan) (bounds : SomeBounds) (ends : SomeEnds) (g : GoalForm) → slice_get graph.now.functions entry ≡ Some f → IsExact graph.now p f bounds ends plan g whole → IsAnswered graph.now f p plan bounds ends g budget least) }
 {
-    match search(alloc, &whole.formula, budget)? {
+    match search_both(alloc, &whole.formula, budget)? {
         Found::Model(model) => descended(alloc, graph, entry, whole, model, budget),
         Found::NoModel(derivation) => {
             confirm(alloc, &whole.formula, &derivation)?;
