@@ -228,6 +228,7 @@ def old_program_is_not_run(tree):
     for _ in range(2):
         ran = tree.run()
         yield ran.returncode == 70 and ran.stdout == "" and "a proof is missing" in ran.stderr
+        yield os.listdir(tree.path("crates/fshell/out")) == []
 
 
 def links_are_followed(tree):

@@ -52,6 +52,10 @@ put_note() {
       printf '%s\0' crates.txt HANDLES crates/fshell/out/fshell
     } >"$noted") 2>/dev/null && touch -r "$noted.time" -- "$noted" && mv -f -- "$noted" "$out/looked-at"
   fi
+  drop_note
+}
+
+drop_note() {
   rm -f -- "$noted" "$noted.time" 2>/dev/null
 }
 

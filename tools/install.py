@@ -15,7 +15,7 @@ from tools import manual, program
 from tools.campaign import has_parallel
 from tools.program import ROOT, Failure
 
-NAMES = ("inputs", "explain", "lcov", "harness", "campaign", "page", "mcdc", "order", "adapt")
+NAMES = ("inputs", "explain", "lcov", "harness", "campaign", "page", "mcdc", "order", "adapt", "driver", "project")
 # what fshell --help and fshell --explain answer from, beside the documents
 ANSWERED_FROM = ("bin/help.awk", "bin/refusal.awk", "crates/fq_core/specs/Code.antt", "README.md")
 PROGRAM = """#!/bin/sh
@@ -132,7 +132,7 @@ def install(prefix: str) -> int:
     for name in ("fshell", *NAMES):
         copy(os.path.join(ROOT, "bin", name), os.path.join(at["scripts"], name))
         link(f"../lib/fshell/bin/{name}", os.path.join(at["bin"], name if name == "fshell" else f"fshell-{name}"))
-    for folder, kept, endings in (("tools", "tools", (".py", ".html", ".h")), ("docs", "doc", (".md",))):
+    for folder, kept, endings in (("tools", "tools", (".py", ".html", ".css", ".h")), ("docs", "doc", (".md",))):
         copy_tree(os.path.join(ROOT, folder), at[kept], endings)
     for name, page in pages.items():
         put(page, os.path.join(at["man"], f"{name}.1"))

@@ -85,6 +85,8 @@ def words() -> argparse.Namespace:
         "--budget", type=program.in_range("budget"), default=5_000_000, metavar="N", help="as for generate (5000000)"
     )
     parser.add_argument("--inputs", metavar="FILE", help="inputs that are taken first")
+    only = "only the decisions of this function; again for others"
+    parser.add_argument("--function", action="append", metavar="NAME", help=only)
     parser.add_argument("--suite", metavar="FILE", help="writes all inputs to this file")
     parser.add_argument("--certificates", metavar="DIR", help="has certificates written there, and checked")
     parser.add_argument("--json", action="store_true", help="the report is one line of JSON")
@@ -107,7 +109,7 @@ def main() -> int:
     given = words()
     graph = graphs.of_sources(given.sources)
     faces = Faces(graph, given.sources)
-    decisions = Decisions(graph, faces).found
+    decisions = [one for one in Decisions(graph, faces).found if not given.function or one.function in given.function]
     all_asked = [ask(given, graph, decision, len(decisions)) for decision in decisions]
     if not all_asked:
         raise Failure("there is no decision")

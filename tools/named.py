@@ -117,11 +117,7 @@ def keys_of(value: dict[str, Any], taken: tuple[str, ...]) -> dict[str, Any]:
     if not isinstance(needed, list) or not all(isinstance(one, str) for one in needed):
         raise ValueError("requirements is no list of texts")
     own = {key: part for key, part in value.items() if key not in ("id", "requirements", *taken)}
-    return {
-        "id": name,
-        "requirements": tuple(needed),
-        "own": json.dumps(own) if own else "",
-    }
+    return {"id": name, "requirements": tuple(needed), "own": json.dumps(own) if own else ""}
 
 
 def plain(value: dict[str, Any]) -> Named:

@@ -94,13 +94,7 @@ class Reader:
                         f"asks for {asked.count(name)}; the entry is {self.signature}"
                     )
         return [
-            Named(
-                one.args,
-                rows[at] if given[at][1] else one.answers,
-                one.id,
-                one.requirements,
-                one.own,
-            )
+            Named(one.args, rows[at] if given[at][1] else one.answers, one.id, one.requirements, one.own)
             for at, one in enumerate(found)
         ]
 

@@ -163,7 +163,7 @@ def inputs_that_were_cut_are_found_anew(folder):
     yield campaign(folder, "--budget", "100000").returncode == 0
     found = os.path.join(folder, "new", "found")
     one = sorted(os.listdir(found))[0]
-    for text in ("", "goal 1 cov", f"goal {one} covered args 0", f"goal {one} covered args 0 0 0\n"):
+    for text in ("", "goal 1 cov", f"goal {one} covered args 0", f"goal {one} covered args 0 0\n"):
         put(found, {one: text})
         yield campaign(folder).returncode == 0 and report(folder)["counts"] == {**NONE, "covered": 6}
 

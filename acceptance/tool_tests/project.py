@@ -223,8 +223,9 @@ def only_what_is_touched_is_done_again(folder):
         of_entries.setdefault(word, []).append(entry)
     touched = {"burner_level", "drive_boiler_step"}
     yield all(set(of_entries.get(word, [])) <= touched for word in ("generate", "prove", "bounds"))
-    # each of the two: one search for the bounds, one for the errors, and one for each decision that it may reach
-    yield sorted(of_entries["bounds"]) == sorted(touched)
+    yield set(of_entries["bounds"]) == touched
+    # the inputs that burner_level had still cover its goals, so that it is searched for its errors and its three decisions alone
+    yield "burner_level" not in of_entries.get("prove", []) and of_entries["generate"].count("burner_level") == 4
 
 
 def the_example_goes_to_its_gate(folder):
@@ -242,7 +243,7 @@ def the_example_goes_to_its_gate(folder):
     yield cobertura.get("lines-valid") == str(found) == str(len(list(cobertura.iter("line"))))
     page = report(module, "index.html")
     yield page.count("<h2 id=") == 8 and "http" not in page and "TC-1" in page
-    made = project(module, "init", "sensors.c", "control.c", "alarm.c", "-o", "made.toml")
+    made = project(module, "init", "sensors.c", "control.c", "alarm.c", "--driver", "drivers/stubs.c", "-o", "made.toml")
     yield (made.returncode, made.stdout) == (0, "made.toml: 7 entries for 8 functions\n")
     with open(os.path.join(module, "made.toml"), encoding="utf-8") as file:
         yield "# count_hot: zones is an array, which no input has; bin/driver count_hot alarm.c -o drive_count_hot.c writes a caller\n" in file.read()

@@ -40,53 +40,18 @@ def length(word: str) -> tuple[str, int]:
 
 
 def words() -> argparse.Namespace:
-    parser = argparse.ArgumentParser(
-        prog="driver",
-        description=__doc__,
-        formatter_class=argparse.RawTextHelpFormatter,
-    )
+    parser = argparse.ArgumentParser(prog="driver", description=__doc__, formatter_class=argparse.RawTextHelpFormatter)
     parser.add_argument(
-        "function",
-        metavar="FUNCTION",
-        help="the function that is called; - where stubs alone are written",
+        "function", metavar="FUNCTION", help="the function that is called; - where stubs alone are written"
     )
     parser.add_argument("sources", nargs="+", metavar="SOURCE")
-    parser.add_argument(
-        "-o",
-        metavar="FILE",
-        dest="out",
-        help="the file that is written; else standard output",
-    )
-    parser.add_argument(
-        "-I",
-        action="append",
-        default=[],
-        metavar="DIR",
-        dest="folders",
-        help="a folder with headers",
-    )
-    parser.add_argument(
-        "-D",
-        action="append",
-        default=[],
-        metavar="NAME=VALUE",
-        dest="macros",
-        help="a macro",
-    )
-    parser.add_argument(
-        "--steps",
-        type=number,
-        default=1,
-        metavar="N",
-        help="calls it N times in a row (1)",
-    )
+    parser.add_argument("-o", metavar="FILE", dest="out", help="the file that is written; else standard output")
+    parser.add_argument("-I", action="append", default=[], metavar="DIR", dest="folders", help="a folder with headers")
+    parser.add_argument("-D", action="append", default=[], metavar="NAME=VALUE", dest="macros", help="a macro")
+    parser.add_argument("--steps", type=number, default=1, metavar="N", help="calls it N times in a row (1)")
     parser.add_argument("--init", default="", metavar="FUNCTION", help="is called first")
     parser.add_argument(
-        "--state",
-        action="append",
-        default=[],
-        metavar="NAME",
-        help="a variable of a header that is set before",
+        "--state", action="append", default=[], metavar="NAME", help="a variable of a header that is set before"
     )
     parser.add_argument(
         "--length",
@@ -167,13 +132,7 @@ def driver(given: argparse.Namespace, read: Read) -> str:
     heads = [line for name in (given.init, given.function) if name for line in prototype(read, given.sources, name)]
     own_types(read, given.sources, heads + body)
     what = f"for {given.function} of {' '.join(map(os.path.basename, given.sources))}"
-    lines = [
-        HEAD.format(what=what),
-        *includes(read, given.out),
-        *([""] if heads else []),
-        *heads,
-        *body,
-    ]
+    lines = [HEAD.format(what=what), *includes(read, given.out), *([""] if heads else []), *heads, *body]
     return "\n".join(lines) + "\n"
 
 

@@ -39,25 +39,9 @@ def preprocessed(path: str, flags: list[str]) -> str:
             "neither gcc nor clang is there, whose preprocessor reads the sources (Debian: apt-get install gcc)"
         )
     program.read(path)
-    words = [
-        compiler,
-        "-std=gnu11",
-        "-nostdinc",
-        "-E",
-        *flags,
-        "-isystem",
-        HEADERS,
-        "-x",
-        "c",
-        path,
-    ]
+    words = [compiler, "-std=gnu11", "-nostdinc", "-E", *flags, "-isystem", HEADERS, "-x", "c", path]
     ended = subprocess.run(
-        words,
-        capture_output=True,
-        text=True,
-        errors="replace",
-        check=False,
-        env={**os.environ, "LC_ALL": "C"},
+        words, capture_output=True, text=True, errors="replace", check=False, env={**os.environ, "LC_ALL": "C"}
     )
     if ended.returncode:
         lines = [line for line in ended.stderr.splitlines() if "error" in line] or ended.stderr.splitlines()

@@ -68,14 +68,7 @@ class Stub:
             self.body.append(f"return stub_{self.name}_result;")
         elif not isinstance(self.result, Void):
             raise Unfit("it gives a pointer")
-        return [
-            "",
-            *self.variables,
-            head,
-            "{",
-            *(f"  {line}" for line in self.body),
-            "}",
-        ]
+        return ["", *self.variables, head, "{", *(f"  {line}" for line in self.body), "}"]
 
 
 def lines_of(types: Types, read: Read, names: list[str]) -> list[str]:

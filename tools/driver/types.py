@@ -6,10 +6,7 @@ from typing import Any
 from tools.driver.reading import Read, constant, kind
 
 INTEGERS = {"char", "short", "int", "long", "signed", "unsigned", "_Bool", "bool"}
-FIXED = {f"{sign}int{width}_t" for sign in ("", "u") for width in (8, 16, 32, 64)} | {
-    "size_t",
-    "bool",
-}
+FIXED = {f"{sign}int{width}_t" for sign in ("", "u") for width in (8, 16, 32, 64)} | {"size_t", "bool"}
 MOST_PARTS = 256
 
 

@@ -3,18 +3,7 @@
 from dataclasses import dataclass, field
 from typing import Any
 
-from tools.driver.types import (
-    Array,
-    Int,
-    Pointer,
-    Struct,
-    Type,
-    Types,
-    Unfit,
-    Void,
-    declared,
-    parts,
-)
+from tools.driver.types import Array, Int, Pointer, Struct, Type, Types, Unfit, Void, declared, parts
 
 LENGTHS = ("n", "len", "length", "size", "count", "num")
 
@@ -80,14 +69,7 @@ def is_length(one: Parameter) -> bool:
 class Caller:
     """Writes the caller of a function."""
 
-    def __init__(
-        self,
-        types: Types,
-        wanted: Wanted,
-        step: Any,
-        init: Any,
-        variables: dict[str, Any],
-    ) -> None:
+    def __init__(self, types: Types, wanted: Wanted, step: Any, init: Any, variables: dict[str, Any]) -> None:
         self.wanted, self.text = wanted, Text()
         self.step = parameters(types, step)
         self.result = types.of(step.type.type)
@@ -180,11 +162,7 @@ class Caller:
         if isinstance(self.result, Int):
             if is_one:
                 return [*before, f"return {call};"]
-            head, kept, tail = (
-                [f"{self.result.text} result = 0;"],
-                f"result = {call};",
-                ["return result;"],
-            )
+            head, kept, tail = ([f"{self.result.text} result = 0;"], f"result = {call};", ["return result;"])
         elif isinstance(self.result, Struct):
             head, kept, tail = [], f"{self.object('result', self.result)} = {call};", []
         elif isinstance(self.result, Void):
@@ -202,9 +180,5 @@ class Caller:
         result = self.result.text if isinstance(self.result, Int) else "void"
         head = f"{result} drive_{self.wanted.function}({', '.join(self.text.parameters) or 'void'})"
         answers = [f"{found} {name}(void);" for name, found in self.text.answers.items()]
-        blocks = [
-            answers,
-            self.text.objects,
-            [head, "{", *(f"  {line}" if line else "" for line in body), "}"],
-        ]
+        blocks = [answers, self.text.objects, [head, "{", *(f"  {line}" if line else "" for line in body), "}"]]
         return [line for block in blocks if block for line in ("", *block)]

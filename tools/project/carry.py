@@ -43,6 +43,13 @@ class Ordinals:
         function = self.graph.nodes[number].function
         return function, self.nodes[function].index(number)
 
+    def of_edge(self, number: int) -> Key:
+        function = self.graph.owner(self.graph.edges[number])
+        return function, self.edges[function].index(number)
+
+    def edge(self, key: Sequence[Any]) -> int:
+        return int(self.edges[key[0]][key[1]])
+
     def node(self, key: Sequence[Any]) -> int:
         return int(self.nodes[key[0]][key[1]])
 
@@ -53,16 +60,7 @@ def ordinals(graph: Graph) -> Ordinals:
 
 def _face(edge: Edge) -> tuple[object, ...]:
     """What stays of an edge where other code around it changes."""
-    return (
-        edge.kind,
-        edge.operation,
-        edge.name,
-        edge.decision,
-        edge.outcome,
-        edge.label,
-        edge.writes,
-        edge.reads,
-    )
+    return (edge.kind, edge.operation, edge.name, edge.decision, edge.outcome, edge.label, edge.writes, edge.reads)
 
 
 def _matched(old: Sequence[object], new: Sequence[object]) -> list[tuple[int, int]]:
@@ -131,15 +129,7 @@ def _is_same(place: Place, context: "Context", entry: Entry, query: str) -> bool
         return False
     unit = context.unit
     sums = [sum_of_file(unit.at(name)) for name in unit.sources]
-    asked = (
-        entry.function,
-        query,
-        list(unit.sources),
-        unit.place,
-        sums,
-        entry.bounds,
-        entry.ends,
-    )
+    asked = (entry.function, query, list(unit.sources), unit.place, sums, entry.bounds, entry.ends)
     return tuple(value.get(name) for name in ("entry", "query", "sources", "place", "sums", "bounds", "ends")) == asked
 
 
@@ -147,10 +137,7 @@ def _settled(path: str, last: str) -> None:
     """Ends a change of a folder that was stopped: a new one that is whole, or else the old one, takes the place; `last` is the
     file that is put into a new one at its end."""
     if not os.path.exists(path):
-        kept = next(
-            (one for one in (path + ".new", path + ".old") if os.path.exists(os.path.join(one, last))),
-            "",
-        )
+        kept = next((one for one in (path + ".new", path + ".old") if os.path.exists(os.path.join(one, last))), "")
         if kept:
             os.rename(kept, path)
     shutil.rmtree(path + ".old", ignore_errors=True)
@@ -197,10 +184,7 @@ def _inputs(old: Place, arity: int) -> list[dict[str, Any]]:
     found = {}
     for one in values:
         if isinstance(one, dict) and len(one.get("args", ())) == arity:
-            numbers = {
-                "args": list(one["args"]),
-                "answers": list(one.get("answers", ())),
-            }
+            numbers = {"args": list(one["args"]), "answers": list(one.get("answers", ()))}
             found[json.dumps(numbers)] = numbers
     return list(found.values())
 

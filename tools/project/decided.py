@@ -21,14 +21,16 @@ from tools.told import Told
 class Here(Campaign):
     """A campaign whose goals are decided by threads of this process."""
 
-    def search(self, goals: list[int]) -> None:
+    def search(self, left: list[int], size: int) -> None:
         if self.logins:
             if not has_parallel():
                 raise Failure("GNU parallel isn't there (Debian: apt-get install parallel), which asks other machines")
-            super().search(goals)
+            super().search(left, size)
             return
+        refuted = self.folder.known_refuted()
+        goals = [goal for goal in left if goal in refuted] + [goal for goal in left if goal not in refuted][:size]
         with concurrent.futures.ThreadPoolExecutor(self.jobs) as pool:
-            list(pool.map(self.folder.decide, goals))
+            list(pool.map(lambda goal: self.folder.decide(goal, goal in refuted), goals))
         self.tried.update(goals)
 
     def decide(self, is_carried: bool) -> Report:
@@ -41,7 +43,7 @@ class Here(Campaign):
             left = self.left(report)
             if not left:
                 break
-            self.search(self.round(left, size))
+            self.search(left, size)
         return report
 
 

@@ -8,7 +8,8 @@ from collections.abc import Sequence
 from typing import Any
 
 from tools.project.findings import RULES, Finding
-from tools.project.results import Results, Test
+from tools.project.facts import Test
+from tools.project.results import Results
 from tools.project.since import Difference
 
 _NO_XML = re.compile(r"[^\t\n\r\x20-\ud7ff\ue000-\ufffd\U00010000-\U0010ffff]")

@@ -8,7 +8,8 @@ from collections.abc import Iterator
 from dataclasses import dataclass
 
 from tools import program
-from tools.project.results import GOOD, NONE_WITHIN, OPEN, Results, state_of
+from tools.project.facts import NONE_WITHIN, OPEN
+from tools.project.results import GOOD, Results, state_of
 from tools.verdicts import Verdict
 
 RULES = {

@@ -3,7 +3,8 @@
 from collections.abc import Iterator
 
 from tools.project import criteria
-from tools.project.results import GOOD, NO_PAIR, Results, state_of
+from tools.project.facts import NO_PAIR
+from tools.project.results import GOOD, Results, state_of
 from tools.verdicts import Verdict, failures, percentage
 
 
@@ -52,10 +53,7 @@ def _errors(results: Results) -> Iterator[str]:
         for place, verdict, line in told:
             if verdict is Verdict.COVERED:
                 yield f"run-time error: a run of {entry.function} is ended at {place}, by {line}"
-        for word, verdict in (
-            ("undecided", Verdict.UNDECIDED),
-            ("refuted within the bounds alone", Verdict.REFUTED),
-        ):
+        for word, verdict in (("undecided", Verdict.UNDECIDED), ("refuted within the bounds alone", Verdict.REFUTED)):
             count = sum(one is verdict for _, one, _ in told)
             if count:
                 yield f"run-time errors of {entry.function}: {count} places are {word}"

@@ -89,6 +89,8 @@ def text_of(draft: Draft, module: Module, queries: Sequence[str]) -> str:
     lines = [HEAD, *_module(module)]
     left_out = []
     for one in draft.graph.functions:
+        if one.name in draft.of_drivers and not one.name.startswith("drive_"):
+            continue
         driver = draft.driver_of(one.name)
         arrays = draft.arrays(one.name)
         if driver:
@@ -117,6 +119,6 @@ def write(path: str, module: Module, queries: Sequence[str]) -> tuple[int, int]:
         unit = units.made(Settings(path, folder, module, (), Gate()), os.path.join(made, "unit"))
         draft = Draft(unit, module.drivers)
         text = text_of(draft, module, queries)
-        count = len(draft.graph.functions)
+        count = len(draft.graph.functions) - len(draft.of_drivers)
     program.write_whole(path, text)
     return text.count("\n[[entry]]\n"), count

@@ -14,6 +14,7 @@ import os
 import sys
 
 from tools import program
+from tools.program import Failure
 from tools.project import criteria, gate, runner, settings
 from tools.project import init as initial
 from tools.project import report as reports
@@ -33,11 +34,7 @@ def jobs(word: str) -> int:
 
 
 def words() -> argparse.Namespace:
-    parser = argparse.ArgumentParser(
-        prog="project",
-        description=__doc__,
-        formatter_class=argparse.RawTextHelpFormatter,
-    )
+    parser = argparse.ArgumentParser(prog="project", description=__doc__, formatter_class=argparse.RawTextHelpFormatter)
     commands = parser.add_subparsers(dest="command", metavar="COMMAND", required=True)
     _init_words(commands.add_parser("init", help="writes a fshell.toml for sources"))
     for name, told in (
@@ -46,34 +43,14 @@ def words() -> argparse.Namespace:
         ("check", "judges the gate by what is done"),
     ):
         one = commands.add_parser(name, help=told, description=told)
-        one.add_argument(
-            "file",
-            nargs="?",
-            default=FILE,
-            metavar="FILE",
-            help=f"the settings ({FILE})",
-        )
-        one.add_argument(
-            "-o",
-            metavar="DIR",
-            dest="work",
-            help=f"the work folder ({NAME} beside the settings)",
-        )
+        one.add_argument("file", nargs="?", default=FILE, metavar="FILE", help=f"the settings ({FILE})")
+        one.add_argument("-o", metavar="DIR", dest="work", help=f"the work folder ({NAME} beside the settings)")
         if name != "check":
             one.add_argument("--since", metavar="FOLDER", help="tells the difference to the report in this folder")
         if name == "run":
-            one.add_argument(
-                "--jobs",
-                type=jobs,
-                default=os.cpu_count() or 1,
-                metavar="N",
-                help="jobs side by side",
-            )
-            one.add_argument(
-                "--sshloginfile",
-                metavar="FILE",
-                help="the machines, as GNU parallel reads them",
-            )
+            one.add_argument("--jobs", type=jobs, default=os.cpu_count() or 1, metavar="N", help="jobs side by side")
+            one.add_argument("--entry", metavar="FUNCTION", help="does the tasks of this entry alone, without a report")
+            one.add_argument("--sshloginfile", metavar="FILE", help="the machines, as GNU parallel reads them")
     return parser.parse_args()
 
 
@@ -140,16 +117,26 @@ def run(given: argparse.Namespace) -> int:
         program.read(given.sshloginfile)
     work = work_of(given)
     settings.of_file(given.file)
+    if given.entry:
+        return run_entry(given, work)
     with work.lock():
         context = context_of(given, work)
         count = runner.run(context)
-        print(
-            f"{count} tasks were done" if count else "nothing was left to be done",
-            file=sys.stderr,
-        )
+        print(f"{count} tasks were done" if count else "nothing was left to be done", file=sys.stderr)
         results = Results(context, context.requirements)
         print("\n".join(reports.write(results, given.since)), file=sys.stderr)
         return judged(results)
+
+
+def run_entry(given: argparse.Namespace, work: Work) -> int:
+    """Does the tasks of one entry, beside other processes that do those of others."""
+    with work.lock(waits=True):
+        context = context_of(given, work)
+    if given.entry not in context.given:
+        raise Failure(f"{given.file} has no entry {given.entry}; it has {', '.join(context.given)}")
+    count = runner.run(context, given.entry)
+    print(f"{count} tasks of {given.entry} were done")
+    return program.DONE
 
 
 def report(given: argparse.Namespace) -> int:

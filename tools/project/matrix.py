@@ -5,7 +5,8 @@ import io
 import json
 from typing import Any
 
-from tools.project.results import Goal, Results, state_of
+from tools.project.facts import Goal
+from tools.project.results import Results, state_of
 
 
 def _goal(goal: Goal) -> dict[str, Any]:

@@ -64,10 +64,7 @@ class Places:
 
     def _header(self) -> Path:
         """Goes over the head of a table, and gives its path."""
-        is_list = [part.text for part in self._parts[self._at : self._at + 2]] == [
-            "[",
-            "[",
-        ]
+        is_list = [part.text for part in self._parts[self._at : self._at + 2]] == ["[", "["]
         self._at += 1 + is_list
         words, line = self._key()
         self._at += 1 + is_list

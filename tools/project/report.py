@@ -9,7 +9,8 @@ from typing import Any
 from tools import program
 from tools.project import coverage, exchange, gate, matrix, since
 from tools.project.findings import Finder, Finding
-from tools.project.results import Results, Row, bounds_line
+from tools.project.facts import Row
+from tools.project.results import Results, bounds_line
 from tools.project.since import Difference
 from tools.project.unit import sum_of_file, sum_of_text
 from tools.project.work import Place

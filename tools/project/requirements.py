@@ -64,10 +64,7 @@ def of_settings(settings: Settings) -> tuple[Requirement, ...]:
     for table in top.tables("requirement"):
         one = _requirement(table, entries)
         if one.id in found:
-            table.fault(
-                "id",
-                f"the requirement {one.id} stands at line {found[one.id].line} already",
-            )
+            table.fault("id", f"the requirement {one.id} stands at line {found[one.id].line} already")
         found.setdefault(one.id, one)
     top.end()
     file.end()

@@ -2,105 +2,22 @@
 
 import os
 from collections.abc import Iterator
-from dataclasses import dataclass, field
 from functools import cached_property
 from typing import Any
 
 from tools import graph as graphs
 from tools import named
-from tools.decisions import Decision, Decisions
+from tools.decisions import Decisions
 from tools.explain import letter_line
 from tools.naming import Reader
 from tools.project import criteria
 from tools.project.carry import Ordinals
+from tools.project.facts import NO_PAIR, NONE_WITHIN, OPEN, ORDER, SHOWN, Condition, Goal, Row, Test
 from tools.project.requirements import Requirement, task_name
 from tools.project.tasks import Campaign, Context, Task, tasks_of
 from tools.project.work import Place
 from tools.sources import Faces
 from tools.verdicts import Tally, Verdict, tally
-
-# of several entries' verdicts on a goal, the first in this order is the module's
-ORDER = (
-    Verdict.COVERED,
-    Verdict.UNDECIDED,
-    Verdict.MISSED,
-    Verdict.REFUTED,
-    Verdict.UNREACHABLE,
-)
-
-
-@dataclass
-class Test:
-    """An input of an entry, with how its run ends; `file` is the one that gives it, or empty where it was made."""
-
-    id: str
-    entry: str
-    args: tuple[int, ...]
-    answers: tuple[int, ...]
-    requirements: tuple[str, ...]
-    is_given: bool
-    end: str = ""
-    value: dict[str, Any] = field(default_factory=dict)
-
-    @property
-    def numbers(self) -> tuple[tuple[int, ...], tuple[int, ...]]:
-        return self.args, self.answers
-
-
-@dataclass
-class Goal:
-    """A goal of an entry's query."""
-
-    entry: str
-    task: str
-    number: int
-    text: str
-    verdict: Verdict
-    test: Test | None = None
-    certificate: str = ""
-
-
-@dataclass
-class Row:
-    """A goal of a criterion over all entries that ask for it."""
-
-    criterion: str
-    text: str
-    function: str
-    file: str
-    line: int
-    column: int
-    verdict: Verdict
-    goals: list[Goal]
-
-    @property
-    def place(self) -> str:
-        return f"{self.file}:{self.line}"
-
-    @property
-    def test(self) -> Test | None:
-        return next((goal.test for goal in self.goals if goal.test), None)
-
-
-@dataclass
-class Condition:
-    """A condition of a decision: `state` is shown, no pair, no pair within the bounds, or undecided."""
-
-    function: str
-    decision: int
-    place: str
-    statement: str
-    text: str
-    state: str
-    pair: list[Test]
-
-
-NO_PAIR, NONE_WITHIN, SHOWN, OPEN = (
-    "no pair",
-    "no pair within the bounds",
-    "shown",
-    "undecided",
-)
 
 
 class Results:
@@ -115,10 +32,7 @@ class Results:
             own = self._tests.setdefault(entry.function, {})
             for count, one in enumerate(context.given[entry.function], 1):
                 name = one.id or f"{entry.function}-{count}"
-                own.setdefault(
-                    one.numbers,
-                    Test(name, entry.function, *one.numbers, one.requirements, True),
-                )
+                own.setdefault(one.numbers, Test(name, entry.function, *one.numbers, one.requirements, True))
         self.tasks: list[Task] = tasks_of(context.settings, requirements)
         self.goals = [goal for task in self.tasks if isinstance(task, Campaign) for goal in self._goals(task)]
         self.conditions = list(self._conditions())
@@ -185,11 +99,7 @@ class Results:
         """The function and the place of a goal: those of its first letter that has some."""
         for letter in graphs.letters(self.graph, text):
             if letter.edge:
-                return self.graph.owner(letter.edge), (
-                    letter.edge.file,
-                    letter.edge.line,
-                    letter.edge.column,
-                )
+                return self.graph.owner(letter.edge), (letter.edge.file, letter.edge.line, letter.edge.column)
             if letter.node:
                 return letter.node.function, (letter.node.file, letter.node.line, 1)
         node = self.graph.nodes[self.graph.function(entry).entry]
@@ -273,51 +183,28 @@ class Results:
         return found
 
     @cached_property
-    def decisions(self) -> dict[str, list[Decision]]:
-        """The decisions of each function."""
-        found: dict[str, list[Decision]] = {}
-        for one in Decisions(self.graph, self.faces).found:
-            found.setdefault(one.function, []).append(one)
-        return found
+    def statements(self) -> dict[int, str]:
+        """The statement of the decision of each guard, by the guard's number."""
+        return {number: one.statement for one in Decisions(self.graph, self.faces).found for number in one.guards()}
 
     def _conditions(self) -> Iterator[Condition]:
         """The conditions of all decisions, with what the entries together show of them."""
-        found: dict[tuple[str, int, int], list[tuple[str, str, list[Test]]]] = {}
+        found: dict[int, list[tuple[str, str, list[Test]]]] = {}
+        ordinals = Ordinals(self.graph)
         for entry in self.entries:
-            value = self.place(entry.function, "mcdc").value("mcdc.json") or {
-                "decisions": [],
-                "inputs": [],
-            }
-            counts: dict[str, int] = {}
-            for one in value["decisions"]:
-                at = counts[one["function"]] = counts.get(one["function"], -1) + 1
-                for number, part in enumerate(one["conditions"]):
-                    pair = [self.test(entry.function, value["inputs"][name - 1]) for name in part.get("inputs", ())]
-                    state = self._state(entry.function, part["state"])
-                    found.setdefault((one["function"], at, number), []).append((state, part["text"], pair))
+            for one in self.place(entry.function, "mcdc").value("mcdc.json") or []:
+                pair = [self.test(entry.function, value) for value in one["pair"]]
+                told = self._state(entry.function, one["state"]), one["text"], pair
+                found.setdefault(ordinals.edge(one["edge"]), []).append(told)
         order = (SHOWN, OPEN, NONE_WITHIN, NO_PAIR)
-        for (function, at, _), told in sorted(found.items(), key=lambda one: (self._rank(one[0][0]), one[0])):
-            state, text, pair = min(told, key=lambda one: order.index(one[0]))
-            decision = self.decisions[function][at]
-            yield Condition(
-                function,
-                at,
-                decision.first.place,
-                decision.statement,
-                text,
-                state,
-                pair,
-            )
-
-    def _rank(self, function: str) -> int:
-        return list(self.files).index(function)
+        for number in sorted(found):
+            state, text, pair = min(found[number], key=lambda one: order.index(one[0]))
+            edge = self.graph.edges[number]
+            yield Condition(self.graph.owner(edge), edge.place, self.statements.get(number, ""), text, state, pair)
 
     def _state(self, entry: str, word: str) -> str:
         """What a word of MC/DC's report means: no pair at all where the bounds suffice."""
-        return {
-            SHOWN: SHOWN,
-            "none": NO_PAIR if self.suffice(entry) else NONE_WITHIN,
-        }.get(word, OPEN)
+        return {SHOWN: SHOWN, "none": NO_PAIR if self.suffice(entry) else NONE_WITHIN}.get(word, OPEN)
 
     def mcdc(self, function: str | None = None) -> tuple[int, int]:
         """How many conditions are shown, and of how many: all but those without a pair at all."""

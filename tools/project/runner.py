@@ -28,10 +28,7 @@ def _given(settings: Settings, work: Work, unit: Unit, graph: Graph, entry: Entr
     sums = [(name, sum_of_file(settings.at(name))) for name in entry.inputs]
     key = sum_of_text(repr((unit.sum(), sums, entry.function)))
     if entry.inputs and place.is_done(key):
-        return (
-            reader.of_values(place.value("inputs.json"), "inputs.json"),
-            reader.signature,
-        )
+        return (reader.of_values(place.value("inputs.json"), "inputs.json"), reader.signature)
     found = [one for name in entry.inputs for one in _of_file(reader, settings.at(name), name)]
     if entry.inputs:
         place.keep("inputs.json", [one.value() for one in found])
@@ -70,24 +67,11 @@ def context_of(settings: Settings, work: Work, jobs: int, logins: str | None) ->
     signatures = {name: pair[1] for name, pair in pairs.items()}
     required = requirements.of_settings(settings)
     _check_requirements(settings, required, given)
-    return Context(
-        settings,
-        unit,
-        graph,
-        Slices(unit),
-        work,
-        given,
-        signatures,
-        required,
-        jobs,
-        logins,
-    )
+    return Context(settings, unit, graph, Slices(unit), work, given, signatures, required, jobs, logins)
 
 
 def _check_requirements(
-    settings: Settings,
-    required: tuple[requirements.Requirement, ...],
-    given: dict[str, list[Named]],
+    settings: Settings, required: tuple[requirements.Requirement, ...], given: dict[str, list[Named]]
 ) -> None:
     """A failure where an input names a requirement that there isn't."""
     known = {one.id for one in required}
@@ -137,10 +121,11 @@ def tell(text: str) -> None:
     print(text, file=sys.stderr, flush=True)
 
 
-def run(context: Context) -> int:
-    """Does what isn't done; gives the number of tasks that were."""
-    _forget(context)
-    tasks = left(context)
+def run(context: Context, entry: str | None = None) -> int:
+    """Does what isn't done, of all entries or of one; gives the number of tasks that were."""
+    if entry is None:
+        _forget(context)
+    tasks = [task for task in left(context) if entry in (None, task.entry.function)]
     os.environ["FSHELL"] = program.program()
     first: list[Task] = [task for task in tasks if isinstance(task, Bounds)]
     parts = [first, [task for task in tasks if task not in first]]

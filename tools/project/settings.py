@@ -132,10 +132,7 @@ def _gate(table: Table | None) -> Gate:
     if table is None:
         return Gate()
     found = Gate(
-        table.percent("at-least"),
-        table.percent("mcdc"),
-        table.flag("no-run-time-errors"),
-        table.flag("requirements"),
+        table.percent("at-least"), table.percent("mcdc"), table.flag("no-run-time-errors"), table.flag("requirements")
     )
     table.end()
     return found
@@ -147,10 +144,7 @@ def _entries(file: File, tables: list[Table]) -> tuple[Entry, ...]:
     for table in tables:
         one = _entry(table)
         if one.function in found:
-            table.fault(
-                "function",
-                f"the entry {one.function} stands at line {found[one.function].line} already",
-            )
+            table.fault("function", f"the entry {one.function} stands at line {found[one.function].line} already")
         found.setdefault(one.function, one)
     if not tables:
         file.fault((), "it has no [[entry]]")

@@ -100,10 +100,7 @@ class Table:
             if isinstance(one, str):
                 kept.append(one)
             else:
-                self.file.fault(
-                    (*self.path, key, number),
-                    f"an element of {key} of {self.name} is no text",
-                )
+                self.file.fault((*self.path, key, number), f"an element of {key} of {self.name} is no text")
         return tuple(kept)
 
     def files(self, key: str, need: bool = False, is_folder: bool = False) -> tuple[str, ...]:

@@ -100,23 +100,11 @@ class Bounds(Task):
         of_slice = context.key("bounds", context.slice(entry), entry.bounds, entry.budget)
         known = place.value("said.json") or {}
         if known.get("key") != of_slice:
-            words = [
-                "bounds",
-                entry.function,
-                *unit.sources,
-                *entry.options(),
-                "--budget",
-                str(entry.budget),
-            ]
+            words = ["bounds", entry.function, *unit.sources, *entry.options(), "--budget", str(entry.budget)]
             known = {"key": of_slice, "said": program.answer(words, unit.place).strip()}
             place.keep("said.json", known)
         said: str = known["said"]
-        found: dict[str, object] = {
-            "suffice": said.startswith("bounds suffice"),
-            "left": "",
-            "where": "",
-            "next": "",
-        }
+        found: dict[str, object] = {"suffice": said.startswith("bounds suffice"), "left": "", "where": "", "next": ""}
         if said.startswith("bounds left "):
             one = input_of(said.removeprefix("bounds left "))
             run = leaving.run_of(entry.function, unit.sources, one, unit.place)
@@ -139,13 +127,7 @@ class Errors(Task):
         entry, unit, graph = self.entry, context.unit, context.graph
         reached = context.reached(entry)
         scope = "" if len(reached) == len(graph.functions) else f"in {criteria.union(reached)} "
-        words = [
-            "generate",
-            entry.function,
-            f"{scope}cover NODES(ID)$",
-            *unit.sources,
-            *entry.options(),
-        ]
+        words = ["generate", entry.function, f"{scope}cover NODES(ID)$", *unit.sources, *entry.options()]
         words += ["--budget", str(entry.budget), "--ends", "trapped"]
         report = program.report(words, unit.place)
         numbers = carry.ordinals(graph)
@@ -169,13 +151,7 @@ class Campaign(Task):
 
     def key(self, context: Context) -> str:
         entry = self.entry
-        asked = (
-            self.query(context),
-            context.unit.sum(),
-            entry.bounds,
-            entry.ends,
-            entry.budget,
-        )
+        asked = (self.query(context), context.unit.sum(), entry.bounds, entry.ends, entry.budget)
         return context.key("campaign", *asked, sum_of_text(context.first_inputs(entry)))
 
     def do(self, context: Context) -> None:
@@ -186,10 +162,7 @@ class Campaign(Task):
         goals = "" if ended.stderr.startswith("error 72 ") else program.text_of(words, ended)
         carry.prepare(place, goals, context, entry, query)
         if not goals:
-            place.keep(
-                "report.json",
-                {"query": query, "goals": [], "suite": [], "bounds": entry.bounds},
-            )
+            place.keep("report.json", {"query": query, "goals": [], "suite": [], "bounds": entry.bounds})
             program.write_whole(place.at("inputs.json"), "[]\n")
             return
         left = carry.carried(place)
@@ -213,40 +186,29 @@ class Mcdc(Task):
 
     def key(self, context: Context) -> str:
         entry = self.entry
-        asked = (
-            context.slice(entry),
-            entry.bounds,
-            entry.budget,
-            sum_of_text(context.first_inputs(entry)),
-        )
+        asked = (context.slice(entry), entry.bounds, entry.budget, sum_of_text(context.first_inputs(entry)))
         return context.key("mcdc", *asked)
 
     def do(self, context: Context) -> None:
         place, entry, unit = self.place(context), self.entry, context.unit
         place.keep("first.json", [one.value() for one in context.given[entry.function]])
-        words = [
-            entry.function,
-            *unit.sources,
-            *entry.options(),
-            "--budget",
-            str(entry.budget),
-            "--json",
-        ]
-        words += [
-            "--inputs",
-            place.at("first.json"),
-            "--certificates",
-            place.at("certificates"),
-        ]
+        words = [entry.function, *unit.sources, *entry.options(), "--budget", str(entry.budget), "--json"]
+        words += ["--inputs", place.at("first.json"), "--certificates", place.at("certificates")]
+        reached = context.reached(entry)
+        words += [word for name in reached for word in ("--function", name)]
         try:
             value = json.loads(tool("mcdc", words, unit.place))
         except Failure as failure:
             if "there is no decision" not in str(failure):
                 raise
             value = {"inputs": [], "decisions": []}
-        reached = context.reached(entry)
-        value["decisions"] = [one for one in value["decisions"] if one["function"] in reached]
-        place.keep("mcdc.json", value)
+        numbers, kept = carry.ordinals(context.graph), []
+        for decision in value["decisions"]:
+            for one in decision["conditions"] if decision["function"] in reached else ():
+                edge = int(one["edge"].partition("@")[0].removeprefix("e"))
+                pair = [value["inputs"][number - 1] for number in one.get("inputs", ())]
+                kept.append({"edge": numbers.of_edge(edge), "text": one["text"], "state": one["state"], "pair": pair})
+        place.keep("mcdc.json", kept)
 
 
 def tool(name: str, words: list[str], folder: str) -> str:

@@ -69,14 +69,7 @@ def kept(settings: Settings, place: str) -> Unit | None:
     """The unit that stands in a folder, where nothing that it was made of has changed."""
     try:
         value = json.loads(program.read(os.path.join(place, "unit.json")))
-        found = Unit(
-            place,
-            tuple(value["sources"]),
-            value["own"],
-            value["read"],
-            value["refusal"],
-            value["key"],
-        )
+        found = Unit(place, tuple(value["sources"]), value["own"], value["read"], value["refusal"], value["key"])
     except (Failure, ValueError, KeyError, TypeError):
         return None
     if found.key != _key(settings.module):
@@ -146,13 +139,7 @@ def _adapted(settings: Settings, place: str, refusal: str) -> Unit:
     flags = [word for name in module.include for word in ("-I", name)]
     flags += [word for one in module.defines for word in ("-D", one)]
     answered = [word for name in module.answered for word in ("--input", name)]
-    words = [
-        sys.executable,
-        os.path.join(program.ROOT, "bin", "adapt"),
-        *module.all_sources,
-        *flags,
-        *answered,
-    ]
+    words = [sys.executable, os.path.join(program.ROOT, "bin", "adapt"), *module.all_sources, *flags, *answered]
     ended = subprocess.run(
         [*words, "-o", os.path.abspath(place)],
         cwd=settings.folder,
@@ -164,12 +151,7 @@ def _adapted(settings: Settings, place: str, refusal: str) -> Unit:
     )
     if ended.returncode:
         told = [line for line in ended.stderr.splitlines() if line] or [f"adapt: status {ended.returncode}"]
-        raise Faults(
-            [
-                f"the program doesn't read the sources ({refusal}), and bin/adapt refuses them:",
-                *told,
-            ]
-        )
+        raise Faults([f"the program doesn't read the sources ({refusal}), and bin/adapt refuses them:", *told])
     line = next((one for one in ended.stdout.splitlines() if one.startswith("wrote ")), "wrote ")
     paths = line.removeprefix("wrote ").replace(os.path.abspath(place) + os.sep, "\0").split("\0")
     names = tuple(name.strip() for name in paths[1:])
@@ -183,15 +165,7 @@ def _read_by_compiler(settings: Settings) -> list[str]:
     found = dict.fromkeys(settings.module.all_sources)
     compiler = shutil.which("gcc") or shutil.which("clang")
     for source in settings.module.all_sources if compiler else ():
-        words = [
-            str(compiler),
-            "-MM",
-            "-MG",
-            "-MT",
-            "x",
-            *_flags(settings.module),
-            source,
-        ]
+        words = [str(compiler), "-MM", "-MG", "-MT", "x", *_flags(settings.module), source]
         told = subprocess.run(words, cwd=settings.folder, capture_output=True, text=True, check=False).stdout
         names = told.replace("\\\n", " ").partition(":")[2].split()
         found |= dict.fromkeys(name for name in names if os.path.isfile(settings.at(name)))

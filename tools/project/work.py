@@ -31,15 +31,16 @@ class Work:
     def task(self, entry: str, name: str) -> "Place":
         return Place(self.at("tasks", entry, name))
 
-    def lock(self) -> IO[str]:
-        """The folder's lock, which is held as long as this file is open; a failure where another process has it."""
+    def lock(self, waits: bool = False) -> IO[str]:
+        """The folder's lock, which is held as long as this file is open. Where another process has it, that is waited for, or it
+        is a failure."""
         try:
             os.makedirs(self.path, exist_ok=True)
         except OSError as fault:
             raise Failure(f"{self.path}: {fault.strerror}") from None
         file = open(self.at("lock"), "w", encoding="ascii")
         try:
-            fcntl.flock(file, fcntl.LOCK_EX | fcntl.LOCK_NB)
+            fcntl.flock(file, fcntl.LOCK_EX if waits else fcntl.LOCK_EX | fcntl.LOCK_NB)
         except OSError:
             file.close()
             raise Failure(f"{self.path}: another process works in it") from None
@@ -74,11 +75,7 @@ class Place:
             folders[:] = [name for name in folders if name != "machine"]
             for name in names:
                 path = os.path.relpath(os.path.join(folder, name), self.path)
-                if not name.startswith(".new.") and path not in (
-                    "done.json",
-                    "lock",
-                    "joblog",
-                ):
+                if not name.startswith(".new.") and path not in ("done.json", "lock", "joblog"):
                     found[path] = sum_of_file(self.at(path))
         return dict(sorted(found.items()))
 
