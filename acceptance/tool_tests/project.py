@@ -6,11 +6,10 @@ import resource
 import shutil
 import signal
 import subprocess
-import time
 import xml.etree.ElementTree as ET
 
 import programs
-from tool_tests import SECONDS, Case, example, put, run
+from tool_tests import Case, example, put, run
 from tool_tests.project_files import DIRECTORY, LAMP, RUN, TESTS, TOML
 
 ADAPTED = ("gcc", "pycparser", "jinja2")
