@@ -6,21 +6,20 @@ from pycparser import c_ast
 
 from . import kinds
 from .effects import Effects, Object, may_be, objects, pointee
-from .initialisers import filled
+from .initialisers import filled, none_of
 from .kinds import Array, Int, Leaf, Pointer, Struct
 from .declarators import Function, Variable
 from .output import unmarked
 from .places import Place, arguments
 from .refusals import Refused
 from .values import PRIMARY, Value
-from .writer import Writer
+from .pointers import Pointers
 
 MOST_COPIED, MOST_ELEMENTS = 256, 1024
 
 
-class Calls(Writer):
+class Calls(Pointers):
     inputs: set[str] = set()
-    special: dict[Any, Variable] = {}
 
     def effect(self, node: Any) -> None:
         raise NotImplementedError
@@ -80,6 +79,9 @@ class Calls(Writer):
         """What stands for an argument, and what follows the call for it."""
         if isinstance(parameter.type, Int):
             texts.append(self.converted(self.value(argument), parameter.type).text)
+        elif isinstance(parameter.type, Pointer) and not parameter.is_bound:
+            parts = self.pointer(argument)
+            texts.extend(parts[name].text for name in parameter.type.region.parts())
         elif isinstance(parameter.binding, Place):
             return
         elif isinstance(parameter.type, Struct) and not isinstance(
@@ -118,7 +120,7 @@ class Calls(Writer):
         summary = self.effected.of_function[function]
         seen: list[tuple[Object, bool, bool]] = []
         for argument, parameter in zip(arguments(node), function.parameters):
-            if isinstance(parameter.type, Int) or isinstance(parameter.binding, Place):
+            if isinstance(parameter.type, Int) or isinstance(parameter.binding, Place) or parameter.binding == "pointer":
                 continue
             by_value = isinstance(parameter.type, Struct)
             try:
@@ -245,7 +247,14 @@ class Calls(Writer):
                 )
 
     def declared(self, variable: Variable) -> None:
-        """Writes a local's declaration without values."""
+        """Writes a local's declaration without values; pointers are null, so that their use is seen."""
+        if self.places.columns.in_column(variable):
+            return
+        region = self.places.columns.home(variable)
         for leaf in kinds.leaves(variable.type):
+            if self.places.columns.is_apart(region, leaf.path):
+                continue
             length = f"[{leaf.count}]" if leaf.dims else ""
-            self.emit(f"{leaf.kind.text} {self.spelling.leaf(variable, leaf.path)}{length};")
+            null = none_of(leaf)
+            value = "" if null == "0" else f" = {{{', '.join([null] * leaf.count)}}}" if leaf.dims else f" = {null}"
+            self.emit(f"{leaf.kind.text} {self.spelling.leaf(variable, leaf.path)}{length}{value};")

@@ -13,8 +13,7 @@ from .kinds import Array, Int, Path, Struct, Type
 from .declarators import Function, Variable
 from .reading import compiler
 from .refusals import Stop
-from .initialisers import flat
-from .output import FELL
+from .output import FELL, unmarked
 from .units import Units
 
 CALLS, ANSWERS, SECONDS = 6, 40, 5
@@ -85,7 +84,7 @@ def undefined(writer: Units) -> list[Function]:
 
 def answering(writer: Units, function: Function, answer: str) -> str:
     """The definition of an input function, as the original declares it."""
-    node: Any = next(item for _, item in writer.names.items if writer.names.meaning.get(id(item)) is function)
+    node: Any = function.declaration
     result = f"return ({kinds.c_words(function.result)}) {answer};" if isinstance(function.result, Int) else ""
     node.storage, node.funcspec = [], []
     return f"{c_generator.CGenerator().visit(node)} {{ {result} }}\n"
@@ -129,10 +128,8 @@ class Comparison:
         """Prints each integer of the variables."""
         lines = []
         for variable in variables:
-            leaves = {leaf.path: leaf for leaf in kinds.leaves(variable.type)}
             for text, path, index in parts(variable.type):
-                name = self.writer.spelling.leaf(variable, path)
-                own = name + (f"[{flat(index, leaves[path].dims)}]" if leaves[path].dims else "")
+                own = unmarked(self.writer.leaf(self.writer.placed(variable, path, index))[0])
                 lines.append(f'  printf(" %lld", (long long) {own if ours else variable.name + text});')
         return "\n".join(lines)
 

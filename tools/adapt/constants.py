@@ -108,6 +108,8 @@ class Constants:
             if node.op in COMPARED or node.op in LOGICAL:
                 return kinds.INT
             left, right = self.type_of(node.left), self.type_of(node.right)
+            if not isinstance(left, Int) and not isinstance(right, Int):
+                return kinds.LONG  # (6.5.6p9)
             if not isinstance(left, Int) or not isinstance(right, Int):
                 return left if not isinstance(left, Int) else right
             return kinds.promoted(left) if node.op in SHIFTS else kinds.common(left, right)

@@ -15,8 +15,9 @@ from .refusals import Refusals, Refused
 
 @dataclass(eq=False)
 class Variable:
-    """An object. `home` is file, static (within a function), local or parameter; `binding` is how a parameter that is a
-    pointer is written: the variable and the members of the one object that it points to, "copy", or "lent"."""
+    """An object. `home` is file, static (within a function), local, parameter or column; `binding` is how a parameter that
+    is a pointer is written: the variable and the members of the one object that it points to, "copy", "lent", or "pointer"
+    where it is one as any other."""
 
     name: str
     type: Type
@@ -33,7 +34,12 @@ class Variable:
 
     @property
     def shared(self) -> bool:
-        return self.home in ("file", "static")
+        return self.home in ("file", "static", "column")
+
+    @property
+    def is_bound(self) -> bool:
+        """Whether it is a parameter that stands for an object."""
+        return self.home == "parameter" and self.binding != "pointer"
 
 
 @dataclass(eq=False)
@@ -45,6 +51,7 @@ class Function:
     variadic: bool = False
     static: bool = False
     definition: Any = None
+    declaration: Any = None  # the first one
     out: str = ""
     calls: list[tuple[Optional["Function"], Any]] = field(default_factory=list)
     number: int = 0  # of the item that defines it
@@ -122,7 +129,7 @@ class Declarators:
     def named(self, node: Any) -> Type:
         found = self.scope.get(node.names[0]) if len(node.names) == 1 else None
         if isinstance(found, (Int, Array, Struct, Pointer, Other)):
-            return found
+            return kinds.renewed(found)
         if {"float", "double", "_Complex"} & set(node.names):
             return kinds.FLOAT
         return kinds.plain(list(node.names)) or (

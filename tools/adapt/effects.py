@@ -78,12 +78,21 @@ class Effected:
         for ours, theirs in ((made.reads, whole.reads), (made.writes, whole.writes)):
             for one, _ in theirs.items():
                 if one[0] is None or one[0].shared or (one[0].home == "parameter" and self.outlives(one)):
-                    ours[one] = True
+                    if not self.is_own(one, function):
+                        ours[one] = True
         return made
+
+    def is_own(self, one: Object, function: Function) -> bool:
+        """Whether a column has objects of this function alone, which end with its call."""
+        region = self.places.columns.of_column.get(one[0]) if one[0] and one[0].home == "column" else None
+        objects_of = region.objects if region else []
+        return bool(objects_of) and all(v.function is function and v.home in ("local", "parameter") for v in objects_of)
 
     @staticmethod
     def outlives(one: Object) -> bool:
         of = one[0].type if one[0] else None
+        if one[0] is not None and not one[0].is_bound:
+            return False
         return isinstance(of, (Pointer, Array)) or (isinstance(of, Struct) and one[2])
 
     def of(self, node: Any) -> Effects:
@@ -144,7 +153,7 @@ class Effected:
         )
         found.add(shared)
         for argument, parameter in zip(arguments(node), function.parameters):
-            if isinstance(parameter.type, Int):
+            if isinstance(parameter.type, Int) or parameter.binding == "pointer":
                 found.add(self.of(argument))
             elif not isinstance(parameter.binding, Place):
                 self.handed(argument, parameter, summary, found)
@@ -175,4 +184,5 @@ class Effected:
 
 
 def pointee(parameter: Variable) -> Any:
-    return parameter.type.to if isinstance(parameter.type, Pointer) else parameter.type
+    """The type of what a parameter stands for."""
+    return parameter.type.to if isinstance(parameter.type, Pointer) and parameter.is_bound else parameter.type

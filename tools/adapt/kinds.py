@@ -3,6 +3,8 @@
 from dataclasses import dataclass, field
 from typing import Any, Iterator, Optional, Union
 
+from .regions import Region
+
 
 @dataclass(frozen=True)
 class Int:
@@ -29,9 +31,16 @@ class Struct:
     fault: Optional[tuple[Any, str, str]] = None
 
 
-@dataclass(frozen=True)
+@dataclass(eq=False)
 class Pointer:
+    """A pointer type, each with a region of its own."""
+
     to: "Type"
+    region: Region = field(default_factory=Region)
+
+    def __post_init__(self) -> None:
+        if self.region.elem is None and self.to not in (VOID, FUNCTION):
+            self.region.elem = element(self.to)
 
 
 @dataclass(frozen=True)
@@ -59,6 +68,28 @@ INT, UINT = Int(32, True, "int"), Int(32, False, "unsigned int")
 LONG, SIZE = Int(64, True, "long"), Int(64, False, "size_t")
 BOOL = Int(8, False, "uint8_t", True)
 FIXED = {f"{u}int{n}_t": Int(n, not u, f"{u}int{n}_t") for n in (8, 16, 32, 64) for u in ("", "u")} | {"size_t": SIZE}
+
+
+def element(of: Type) -> Type:
+    """The type of an array's elements, through all its lengths; of what is no array the type itself."""
+    while isinstance(of, Array):
+        of = of.of
+    return of
+
+
+def elements(of: Type) -> int:
+    """How many elements an array has, through all its lengths; 1 of what is no array."""
+    count = 1
+    while isinstance(of, Array):
+        count, of = count * (of.length or 0), of.of
+    return count
+
+
+def renewed(of: Type) -> Type:
+    """The same type, in which pointers have regions of their own."""
+    if isinstance(of, Array):
+        return Array(renewed(of.of), of.length)
+    return Pointer(renewed(of.to)) if isinstance(of, Pointer) else of
 
 
 def plain(words: list[str]) -> Optional[Int]:
@@ -138,6 +169,9 @@ def leaves(of: Type, path: Path = (), dims: tuple[int, ...] = ()) -> Iterator[Le
     """The leaves of an object of the type, in order; none for what has no integers."""
     if isinstance(of, Int):
         yield Leaf(path, dims, of)
+    elif isinstance(of, Pointer):
+        for part in of.region.parts():
+            yield Leaf(path + (part,), dims, INT)
     elif isinstance(of, Array) and of.length is not None:
         yield from leaves(of.of, path, dims + (of.length,))
     elif isinstance(of, Struct):
@@ -154,7 +188,8 @@ def fault_of(of: Type) -> Optional[tuple[str, str]]:
     if isinstance(of, Pointer) and of.to == FUNCTION:
         return "a pointer to a function", "call functions by their names, in a switch over a number"
     if isinstance(of, Pointer):
-        return "a pointer", "name the object itself, or hand its address over as a parameter"
+        fault = of.region.root().fault
+        return (fault[1], fault[2]) if fault else None
     if isinstance(of, Struct):
         if of.fault:
             return of.fault[1], of.fault[2]

@@ -121,7 +121,7 @@ class Names(Declarators):
         made = old if isinstance(old, Function) else self.linked.get(key)
         parameters = self.parameters(node)
         if not isinstance(made, Function):
-            made = Function(node.name, self.usable(result), parameters, node.coord, static=static)
+            made = Function(node.name, self.usable(result), parameters, node.coord, static=static, declaration=node)
             self.linked[key] = made
             self.functions.append(made)
         elif made.definition is None and (parameters or not made.parameters):

@@ -1,20 +1,30 @@
 """Writes the items of the units: constants, variables, functions, each into the file that it stands in."""
 
+import re
 from typing import Any
 
 from pycparser import c_ast
 
 from . import kinds
+from .calls import MOST_ELEMENTS
 from .effects import pointee
-from .initialisers import filled
+from .initialisers import Part, filled, none_of
 from .jumps import walk
-from .kinds import Array, Int, Pointer, Struct, Type
+from .kinds import Array, Int, Path, Pointer, Struct, Type
 from .declarators import Function, Variable
 from .output import FELL, File, unmarked
 from .places import Place
 from .reading import is_system
 from .refusals import Refused
+from .regions import INDEX, Region
 from .statements import Statements
+
+
+def product(lengths: tuple[int, ...]) -> int:
+    made = 1
+    for one in lengths:
+        made *= one
+    return made
 
 
 def within(of: Type, part: Type) -> bool:
@@ -33,6 +43,7 @@ class Units(Statements):
         self.files: dict[str, File] = {}
         self.done: set[Any] = set()
         self.uses = self.first_uses()
+        self.write_columns()
         for number, (unit, item) in enumerate(self.names.items):
             source = str(item.coord.file) if item.coord else unit.path
             if is_system(source):
@@ -44,6 +55,75 @@ class Units(Statements):
             with self.names.refusals.gathered():
                 self.item(item, number)
         return self.files
+
+    def write_columns(self) -> None:
+        """Writes the columns, before all else; those that have the name of a file's object with its own words."""
+        columns = self.places.columns
+        columns.named(self.spelling)
+        given = self.column_values()
+        path = next((unit.files[0] for unit, _ in self.names.items if unit.files), "")
+        if not columns.made:
+            return
+        self.file = self.files.setdefault(path, File(path))
+        self.original, self.closings = path, {}
+        self.line = min((item.coord.line for _, item in self.names.items if str(item.coord.file) == path), default=1)
+        for region in columns.made:
+            self.names.refusals.go(region.column.coord)
+            with self.names.refusals.gathered():
+                self.write_column(region, given)
+
+    def write_column(self, region: Region, given: dict[tuple[Variable, Path], dict[int, str]]) -> None:
+        column = region.column
+        self.check_type(column)
+        for leaf in kinds.leaves(column.type):
+            if self.places.columns.is_apart(region, leaf.path):
+                continue
+            if leaf.count > MOST_ELEMENTS:
+                advice = f"the profile takes {MOST_ELEMENTS} at most, also of all objects together that one pointer meets"
+                raise Refused(column.coord, f"{column.out} has {leaf.count} elements", advice)
+            values = [none_of(leaf)] * leaf.count
+            for at, text in given.get((column, leaf.path), {}).items():
+                values[at] = text
+            while len(values) > 1 and values[-1] == "0":
+                values.pop()
+            first = "" if values == ["0"] else f" = {{{', '.join(values)}}}"
+            words = "static const " if column.const else "static "
+            self.emit(f"{words}{leaf.kind.text} {self.spelling.leaf(column, leaf.path)}[{leaf.count}]{first};")
+
+    def column_values(self) -> dict[tuple[Variable, Path], dict[int, str]]:
+        """The first values that lie in columns, by the column, the members and the number of the element."""
+        found: dict[tuple[Variable, Path], dict[int, str]] = {}
+        texts = [variable for _, variable in self.places.columns.points.texts.values()]
+        for variable in [*self.names.variables, *texts]:
+            if variable.init is None or variable.home in ("local", "parameter"):
+                continue
+            region = self.places.columns.home(variable)
+            if not self.places.columns.in_column(variable) and not self.places.columns.any_apart(region, variable.type):
+                continue
+            self.names.refusals.go(variable.coord)
+            with self.names.refusals.gathered():
+                made = filled(self.constants, variable.type, variable.init)
+                for leaf in kinds.leaves(variable.type):
+                    for at, node in made.of(leaf).items():
+                        spot = [at // product(leaf.dims[n + 1 :]) % length for n, length in enumerate(leaf.dims)]
+                        place = self.placed(variable, leaf.path, tuple(spot))
+                        index = self.index(place, False)
+                        if place.variable.home == "column" and index is not None:
+                            text = self.first_number(node, leaf.kind)
+                            found.setdefault((place.variable, place.path), {})[int(index.text)] = text
+        return found
+
+    def first_number(self, node: Any, kind: Int) -> str:
+        """A first value as a number."""
+        if isinstance(node, Part):
+            text = unmarked(self.value(node).text)
+            if not re.fullmatch(r"-?\d+", text):
+                raise Refused(node.coord, "a first value that is no constant", "assign it")
+            return text
+        known = self.constants.value(node)
+        if known is None:
+            raise Refused(node.coord, "a first value that is no constant", "give a number")
+        return str(kinds.fit(known, kind))
 
     def first_uses(self) -> dict[Variable, int]:
         """For each variable the number of the first function that names it."""
@@ -116,6 +196,8 @@ class Units(Statements):
     def variable(self, variable: Variable, static: bool = False, here: bool = False) -> None:
         """Writes an object of the file with its first values, on their lines where they stand here."""
         self.check_type(variable)
+        if self.places.columns.in_column(variable):
+            return
         made = filled(self.constants, variable.type, variable.init)
         for _, _, source in made.wholes:
             raise Refused(source.coord, "a struct as the first value of a part", "give its members one by one")
@@ -125,10 +207,12 @@ class Units(Statements):
         self.check_lengths(variable)
         leaves = list(kinds.leaves(variable.type))
         for leaf in leaves:
+            if self.places.columns.is_apart(self.places.columns.home(variable), leaf.path):
+                continue
             texts = made.texts(leaf, lambda one: self.first(one, leaf.kind, here and len(leaves) == 1))
             name = self.spelling.leaf(variable, leaf.path)
             whole = f"{{{', '.join(texts)}}}" if leaf.dims else texts[0]
-            value = "" if variable.init is None else f" = {whole}"
+            value = "" if variable.init is None and none_of(leaf) == "0" else f" = {whole}"
             self.emit(f"{words}{leaf.kind.text} {name}{f'[{leaf.count}]' if leaf.dims else ''}{value};")
 
     def is_static(self, variable: Variable) -> bool:
@@ -136,6 +220,8 @@ class Units(Statements):
 
     def first(self, node: Any, kind: Int, marked: bool) -> str:
         """A first value of an object of the file, which is a constant."""
+        if isinstance(node, Part):
+            return self.first_number(node, kind)
         known = self.constants.value(node)
         if known is None:
             raise Refused(node.coord, "a first value that is no constant", "give a number")
@@ -157,11 +243,11 @@ class Units(Statements):
             if isinstance(one.binding, Place):
                 continue
             fault = kinds.fault_of(pointee(one))
-            if fault or one.binding is None and isinstance(one.type, Pointer):
+            if fault:
                 raise Refused(
                     one.coord,
-                    f"{one.name} of {function.name}: {fault[0] if fault else 'a pointer'}",
-                    fault[1] if fault else "hand over an object",
+                    f"{one.name} of {function.name}: {fault[0]}",
+                    fault[1],
                 )
             if not isinstance(one.type, Pointer):
                 self.check_lengths(one)
@@ -177,11 +263,12 @@ class Units(Statements):
             raise Refused(
                 function.coord, f"{function.name} takes any number of arguments", "give it a fixed number of parameters"
             )
-        if not isinstance(result, (Int, Struct)) and result != kinds.VOID:
-            cause, advice = kinds.fault_of(result) or ("a pointer", "")
+        fault = kinds.fault_of(result) if isinstance(result, Pointer) else None
+        if not isinstance(result, (Int, Struct, Pointer)) and result != kinds.VOID or fault:
+            cause, advice = fault or kinds.fault_of(result) or ("what is no integer", "")
             raise Refused(function.coord, f"{function.name} gives {cause}", advice)
         static = "static " if function.static and function.definition is not None else ""
-        text = result.text if isinstance(result, Int) else "void"
+        text = result.text if isinstance(result, Int) else "int" if isinstance(result, Pointer) else "void"
         listed = "void" if function.definition is None else self.parameters(function)
         return f"{static}{text} {function.out}({listed})"
 
@@ -189,6 +276,9 @@ class Units(Statements):
         """Writes what a function hands back, and its own static objects, before its first declaration."""
         if not self.once((function, "before")) or function.definition is None:
             return
+        if isinstance(function.result, Pointer):
+            for part in function.result.region.parts()[1:]:
+                self.emit(f"static int {self.result_part(function, part)};")
         if isinstance(function.result, Struct):
             self.variable(self.spelling.special(function, "result", function.result, self.special), True)
         for parameter in dict.fromkeys(parameter for parameter, _ in self.outs(function)):
@@ -243,6 +333,7 @@ class Units(Statements):
         with self.names.refusals.gathered():
             self.emit(self.heading(function) + " {")
         self.normal(function)
+        self.into_columns(function)
         items = node.body.block_items or []
         for one in items:
             self.statement(one)
@@ -251,6 +342,24 @@ class Units(Statements):
             self.hand_back()
         self.emit("}" if function.result == kinds.VOID else FELL + "}")
         self.function = None
+
+    def into_columns(self, function: Function) -> None:
+        """Writes that what parameters have goes into the columns in which they lie."""
+        for one in function.parameters:
+            if isinstance(one.binding, Place) or one.binding == "lent":
+                continue
+            region, of = self.places.columns.home(one), pointee(one)
+            place = self.places.of_variable(one)
+            if place.variable.home != "column" and not self.places.columns.any_apart(region, of):
+                continue
+            with self.names.refusals.gathered():
+                if one.is_bound and isinstance(one.type, Pointer):
+                    raise Refused(one.coord, f"the address of what {one.name} points to", "hand over the object itself")
+                for leaf, texts in self.each_integer(place, self.index(place, True) if place.shifted() else None):
+                    if place.variable.home == "column" or self.places.columns.is_apart(region, leaf.path):
+                        name = self.spelling.leaf(one, leaf.path)
+                        for at, text in enumerate(texts):
+                            self.emit(f"{text} = {name}{f'[{at}]' if leaf.dims else ''};")
 
     def normal(self, function: Function) -> None:
         """Writes that parameters of type bool are 0 or 1, where the function may be an entry: it has no arrays."""
