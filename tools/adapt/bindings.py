@@ -45,7 +45,11 @@ class Bindings:
         """Binds each parameter that stands for an object, and leaves the others."""
         standing = {one for one in self.types if self.of[one][0].definition is not None and key(one) not in self.apart}
         standing = {one for one in standing if not self.of[one][0].taken}
-        uses = {function: list(with_parents(function.definition)) for function in self.names.functions if function.definition}
+        uses = {
+            function: list(with_parents(function.definition))
+            for function in self.names.functions
+            if function.definition
+        }
         while True:
             before = len(standing)
             standing = {one for one in standing if self.is_plain(one, standing, uses) and self.is_given(one, standing)}
@@ -62,7 +66,8 @@ class Bindings:
             one.type, one.binding = of, None if one in standing else "pointer"
             if pointer and isinstance(of, Array):
                 one.type = Pointer(of.of)
-        waiting, failed = list(standing), set()
+        waiting = list(standing)
+        failed: set[Variable] = set()
         lent = self.lent(standing)
         while waiting and not failed:
             left = []
@@ -130,7 +135,11 @@ class Bindings:
 
     def argument(self, node: Any, parents: tuple[Any, ...]) -> Optional[Variable]:
         """The parameter to which an expression is handed, where it is an argument of a call of a function that is known."""
-        if len(parents) < 2 or not isinstance(parents[-1], c_ast.ExprList) or not isinstance(parents[-2], c_ast.FuncCall):
+        if (
+            len(parents) < 2
+            or not isinstance(parents[-1], c_ast.ExprList)
+            or not isinstance(parents[-2], c_ast.FuncCall)
+        ):
             return None
         called = self.names.meaning.get(id(parents[-2]))
         at = next(number for number, one in enumerate(parents[-1].exprs) if one is node)

@@ -1,11 +1,10 @@
 """The columns: for each region to which a pointer may point an array that has all of its objects, one behind the other."""
 
-from typing import Any, Callable, Optional, Union
+from typing import Any, Optional, Union
 
 from . import kinds
 from .declarators import Variable
-from .initialisers import filled
-from .kinds import Array, Leaf, Path, Pointer, Struct, Type
+from .kinds import Array, Path, Pointer, Type
 from .names import Names
 from .points_to import PointsTo
 from .refusals import Refused
@@ -46,7 +45,7 @@ class Columns:
 
     @staticmethod
     def is_function(region: Region) -> bool:
-        return region.elem == kinds.FUNCTION
+        return bool(region.elem == kinds.FUNCTION)
 
     # ---- layout
 
@@ -138,18 +137,38 @@ class Columns:
                 return True
         return False
 
+    def leaf_at(self, region: Region, path: Path) -> tuple[Variable, Path, int, int]:
+        """Where a leaf of a region's elements lies: the column, the members there, and by what an element's number is multiplied
+        and what is added for the leaf's first one."""
+        inside: Path = ()
+        variable, factor, add = region.column, 1, 0
+        at: Optional[Region] = region
+        for name in path:
+            of = dict(at.root().elem.members or [])[name] if at is not None and not name.startswith("@") else None
+            inner = at.root().members.get(name) if at is not None else None
+            count = kinds.elements(of) if of is not None else 1
+            factor, add = factor * count, add * count
+            if inner is not None and inner.root().column is not None and at is not None:
+                variable, inside = inner.root().column, ()
+                add += self.begin(inner.root(), (at.root(), name))
+            else:
+                inside = inside + (name,)
+            at = inner.root() if inner is not None else Region(kinds.element(of)) if of is not None else None
+        return variable, inside, factor, add
+
     def any_apart(self, region: Optional[Region], of: Type) -> bool:
         return any(self.is_apart(region, leaf.path) for leaf in kinds.leaves(of))
 
     def named(self, spelling: Spelling) -> None:
         """Gives each column its name: that of its object where there is one alone, which is no local one."""
+        hidden = {one.name for one in self.names.variables if not one.shared}
+        hidden |= {one.name for function in self.names.functions for one in function.parameters}
         for region in self.made:
             alone = region.objects[0] if len(region.objects) == 1 and not self.inner.get(region) else None
-            if alone is not None and alone.shared and alone.out:
+            if alone is not None and alone.shared and alone.out and alone.out not in hidden:
                 region.column.out = alone.out
             elif alone is not None and alone.home != "text":
                 stem = f"{alone.function.name}_{alone.name}" if alone.function else alone.name
                 region.column.out = spelling.fresh(stem, True)
             else:
                 region.column.out = spelling.fresh("text" if alone is not None else "r")
-

@@ -13,6 +13,7 @@ from .kinds import Array, Int, Path, Struct, Type
 from .declarators import Function, Variable
 from .reading import compiler
 from .refusals import Stop
+from .models import model_of
 from .output import FELL, unmarked
 from .units import Units
 
@@ -79,7 +80,8 @@ def plain(function: Function) -> bool:
 def undefined(writer: Units) -> list[Function]:
     """The functions that are called and that no source defines."""
     known = ("assert", "assume", "__assert_fail")
-    return [one for one in writer.names.functions if one.definition is None and one.calls and one.name not in known]
+    found = [one for one in writer.names.functions if one.definition is None and one.calls and one.name not in known]
+    return [one for one in found if model_of(one) is None]
 
 
 def answering(writer: Units, function: Function, answer: str) -> str:

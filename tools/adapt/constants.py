@@ -121,7 +121,8 @@ class Constants:
         if isinstance(node, c_ast.ExprList):
             return self.type_of(node.exprs[-1])
         if isinstance(node, (c_ast.Cast, c_ast.CompoundLiteral)):
-            return self.names.types.get(id(node.to_type if isinstance(node, c_ast.Cast) else node.type), kinds.VOID)
+            to: Type = self.names.types.get(id(node.to_type if isinstance(node, c_ast.Cast) else node.type), kinds.VOID)
+            return to
         called = self.names.meaning.get(id(node)) if isinstance(node, c_ast.FuncCall) else None
         result: Type = called.result if called is not None else kinds.VOID
         return result

@@ -114,7 +114,7 @@ class Declarators:
         if isinstance(node, c_ast.Enum):
             return self.enum(node)
         if isinstance(node, c_ast.Union):
-            return kinds.UNION
+            return self.union(node)
         if isinstance(node, c_ast.FuncDecl):
             return kinds.FUNCTION
         raise Refused(node.coord, f"a type ({type(node).__name__})", "use an integer, an array or a struct")
@@ -131,7 +131,7 @@ class Declarators:
         if isinstance(found, (Int, Array, Struct, Pointer, Other)):
             return kinds.renewed(found)
         if {"float", "double", "_Complex"} & set(node.names):
-            return kinds.FLOAT
+            return kinds.FLOATS[16 if "long" in node.names else 8 if "double" in node.names else 4]
         return kinds.plain(list(node.names)) or (
             kinds.VOID if node.names == ["void"] else Other(f"the type {' '.join(node.names)}")
         )
@@ -151,11 +151,20 @@ class Declarators:
                 what = "a bit-field" if getattr(one, "bitsize", None) is not None else "a member without a name"
                 made.fault = made.fault or (one.coord or node.coord, what, "use a member of its own")
                 continue
-            try:
-                members.append((one.name, self.type_of(one.type)))
-            except Refused as refused:
-                made.fault = made.fault or (refused.coord, refused.cause, refused.advice)
+            members.append((one.name, self.usable(one.type)))
         made.members = members
+        return made
+
+    def union(self, node: Any) -> Type:
+        """A union, which is refused where it is used; its size is known where those of its members are."""
+        if node.decls is None:
+            return self.tags.get(f"union {node.name}", Other(*kinds.UNION))
+        members = [self.usable(one.type) for one in node.decls if isinstance(one, c_ast.Decl)]
+        sizes, align = [kinds.size(one) for one in members], max(kinds.alignment(one) for one in members)
+        whole = max((one for one in sizes if one is not None), default=0)
+        made = Other(*kinds.UNION, None if None in sizes else -(-whole // align) * align, align)
+        if node.name:
+            self.tags[f"union {node.name}"] = made
         return made
 
     def enum(self, node: Any) -> Type:

@@ -7,6 +7,7 @@ from pycparser import c_ast
 
 from .kinds import Array, Int, Pointer, Struct, leaves
 from .declarators import Function, Variable
+from .models import Model, model_of
 from .names import Names
 from .places import Place, Places, arguments
 from .refusals import Refused
@@ -49,7 +50,7 @@ def may_be(one: Object, two: Object) -> bool:
 
 
 def objects(place: Place) -> list[Object]:
-    inner = bool(place.indexes)
+    inner = bool(place.indexes) or place.variable.home == "column"
     return [(place.variable, place.path + leaf.path, inner or bool(leaf.dims)) for leaf in leaves(place.type)]
 
 
@@ -138,9 +139,13 @@ class Effected:
 
     def called(self, node: Any, found: Effects) -> None:
         function = self.names.meaning.get(id(node))
+        model = model_of(function)
         if not isinstance(function, Function) or function.definition is None:
             for argument in arguments(node):
                 found.add(self.of(argument))
+            if model is not None:
+                self.modelled(node, model, found)
+                return
             if not isinstance(function, Function) or function.name not in ("assert", "assume"):
                 found.writes[OUTSIDE] = True
             return
@@ -157,6 +162,21 @@ class Effected:
                 found.add(self.of(argument))
             elif not isinstance(parameter.binding, Place):
                 self.handed(argument, parameter, summary, found)
+
+    def modelled(self, node: Any, model: Model, found: Effects) -> None:
+        """What a library's function reads and writes: the objects of its pointers, the first written where it isn't const."""
+        for argument, parameter in zip(arguments(node), model.parameters):
+            if "*" not in parameter:
+                continue
+            try:
+                region = self.places.columns.pointer(argument).region.root()
+            except Refused:
+                continue
+            if region.column is None:
+                continue
+            at = [self.places.columns.leaf_at(region, leaf.path) for leaf in leaves(region.elem)]
+            whole: dict[Object, bool] = {(variable, path, True): True for variable, path, _, _ in at}
+            found.add(Effects(whole, {} if "const" in parameter else whole))
 
     def handed(self, argument: Any, parameter: Variable, summary: Effects, found: Effects) -> None:
         """What a call does to the object that an argument hands over."""

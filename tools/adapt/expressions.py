@@ -38,6 +38,12 @@ class Expressions(Assignments):
         if isinstance(node, At):
             return self.element_at(node)
         if isinstance(node, Part):
+            null = self.is_null(node.pointer)
+            several = not null and len(self.places.columns.pointer(node.pointer).region.parts()) > 1
+            if several and (self.has_calls(node) or self.effected.of(node).writes):
+                raise Refused(
+                    node.coord, "an effect in a list of pointers", "assign the pointer in a statement of its own"
+                )
             return self.pointer(node.pointer)[node.part]
         if isinstance(node, c_ast.Constant):
             return self.constant(node)

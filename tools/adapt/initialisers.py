@@ -6,7 +6,7 @@ from typing import Any, Callable, Iterator
 from pycparser import c_ast
 
 from .constants import Constants, codes
-from .kinds import Array, Int, Leaf, Path, Pointer, Struct, Type
+from .kinds import Array, Int, Leaf, Other, Path, Pointer, Struct, Type
 from .refusals import Refused
 from .regions import BEGIN, END, INDEX, NIL
 
@@ -63,6 +63,8 @@ class Filled:
         return found
 
     def fill(self, of: Type, spot: Spot, init: Any) -> None:
+        if isinstance(of, Other):
+            return  # (what has no integers gets no value)
         if isinstance(init, c_ast.InitList) and isinstance(of, (Int, Pointer)):
             if len(init.exprs or []) != 1:
                 raise Refused(init.coord, "a list of values for an integer or a pointer", "give one value")
@@ -116,7 +118,7 @@ class Filled:
         """Fills a part by the next items, of which it takes several where it has no braces of its own."""
         item = items[taken]
         string = isinstance(item, c_ast.Constant) and item.type == "string"
-        one = string or isinstance(part, (Int, Pointer)) or isinstance(item, c_ast.InitList)
+        one = string or isinstance(part, (Int, Other, Pointer)) or isinstance(item, c_ast.InitList)
         if one or isinstance(self.constants.type_of(item), Struct):
             self.fill(part, spot, item)
             return taken + 1

@@ -49,6 +49,8 @@ class Other:
 
     name: str
     advice: str = "use an integer, an array or a struct"
+    bytes: Optional[int] = None  # its size, where it is known
+    align: int = 1
 
 
 WORDS = {8: "char", 16: "short", 32: "int", 64: "long"}
@@ -61,8 +63,9 @@ def c_words(kind: Int) -> str:
 
 Type = Union[Int, Array, Struct, Pointer, Other]
 VOID = Other("void")
-FLOAT = Other("a floating point number", "use integers in fixed point")
-UNION = Other("a union", "use a struct, or one object for each member")
+FLOATING = ("a floating point number", "use integers in fixed point")
+FLOATS = {size: Other(*FLOATING, size, size) for size in (4, 8, 16)}
+UNION = ("a union", "use a struct, or one object for each member")
 FUNCTION = Other("a function as an object", "call it by its name")
 INT, UINT = Int(32, True, "int"), Int(32, False, "unsigned int")
 LONG, SIZE = Int(64, True, "long"), Int(64, False, "size_t")
@@ -125,6 +128,8 @@ def fit(value: int, kind: Int) -> int:
 def alignment(of: Type) -> int:
     if isinstance(of, Struct):
         return max((alignment(member) for _, member in of.members or []), default=1)
+    if isinstance(of, Other):
+        return of.align
     return alignment(of.of) if isinstance(of, Array) else of.bits // 8 if isinstance(of, Int) else 8
 
 
@@ -143,7 +148,7 @@ def size(of: Type) -> Optional[int]:
                 return None
             end = -(-end // step) * step + one
         return -(-end // alignment(of)) * alignment(of)
-    return 8 if isinstance(of, Pointer) else None
+    return 8 if isinstance(of, Pointer) else of.bytes if isinstance(of, Other) else None
 
 
 Path = tuple[str, ...]
@@ -169,7 +174,7 @@ def leaves(of: Type, path: Path = (), dims: tuple[int, ...] = ()) -> Iterator[Le
     """The leaves of an object of the type, in order; none for what has no integers."""
     if isinstance(of, Int):
         yield Leaf(path, dims, of)
-    elif isinstance(of, Pointer):
+    elif isinstance(of, Pointer) and of.to != FUNCTION:
         for part in of.region.parts():
             yield Leaf(path + (part,), dims, INT)
     elif isinstance(of, Array) and of.length is not None:
@@ -195,8 +200,5 @@ def fault_of(of: Type) -> Optional[tuple[str, str]]:
             return of.fault[1], of.fault[2]
         if of.members is None:
             return f"struct {of.tag} isn't complete", "give its members before its use"
-        faults = [(name, fault_of(member)) for name, member in of.members]
-        return next(
-            ((f"member {name} of struct {of.tag}: {fault[0]}", fault[1]) for name, fault in faults if fault), None
-        )
+        return None  # (members that can't be written are left out, and refused where they are used)
     return (of.name, of.advice) if isinstance(of, Other) else None

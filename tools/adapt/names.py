@@ -68,8 +68,7 @@ class Names(Declarators):
         old = self.scope.maps[-1].get(node.name) if home == "file" else None
         key = self.key(node, static or (isinstance(old, Variable) and (node.name, node.coord.file) in self.linked))
         if home == "file" and isinstance(self.linked.get(key), Variable):
-            made = self.linked[key]
-            assert isinstance(made, Variable)
+            made: Variable = self.linked[key]
             if static and made.unit is not self.current and not made.const:
                 raise Refused(
                     node.coord,

@@ -77,6 +77,10 @@ class Places:
         of = dict(base.type.members or []).get(name) if isinstance(base.type, Struct) else None
         if of is None:
             raise Refused(node.coord if node else None, f"the member {name}", "use a struct")
+        fault = fault_of(of)
+        if fault:
+            tag = base.type.tag if isinstance(base.type, Struct) else ""
+            raise Refused(node.coord if node else None, f"member {name} of struct {tag}: {fault[0]}", fault[1])
         inner = base.region.root().members.get(name) if base.region else None
         inner = inner.root() if inner else None
         if inner is not None and inner.column is not None and base.region is not None:
@@ -152,7 +156,9 @@ class Places:
         if region.fault:
             raise Refused(node.coord, region.fault[1], region.fault[2])
         if region.column is None or not isinstance(kinds.element(of.to), (Int, Struct, Pointer)):
-            raise Refused(node.coord, "an access by a pointer whose objects have no type", "name the type of the object")
+            raise Refused(
+                node.coord, "an access by a pointer whose objects have no type", "name the type of the object"
+            )
         fault = fault_of(of.to)
         if fault:
             raise Refused(node.coord, f"what is pointed to: {fault[0]}", fault[1])

@@ -1,7 +1,6 @@
 """Writes the values of pointers: the index of what is pointed to in its column, and where they matter the end and the begin of
 its object. An access outside of the object becomes the index -1, which ends a run, and never reads a neighbour."""
 
-from dataclasses import replace
 from typing import Any, Optional
 
 from pycparser import c_ast
@@ -9,16 +8,21 @@ from pycparser import c_ast
 from . import kinds
 from .declarators import Function, Variable
 from .effects import STEPS, objects
-from .kinds import Array, Int, Pointer
+from .kinds import Array, Pointer
+from .models import Model, model_of
 from .places import At, Place
 from .output import unmarked
 from .refusals import Refused
 from .regions import BEGIN, END, INDEX, NIL
-from .values import PRIMARY, UNARY, Known, Value, number, plus, times
+from .values import PRIMARY, UNARY, Value, number, plus, times
 from .writer import Writer
 
 MOST = 16383  # no index of a column is greater
-NONE = {INDEX: Value(str(NIL), kinds.INT, UNARY), END: Value("0", kinds.INT, PRIMARY), BEGIN: Value("0", kinds.INT, PRIMARY)}
+NONE = {
+    INDEX: Value(str(NIL), kinds.INT, UNARY),
+    END: Value("0", kinds.INT, PRIMARY),
+    BEGIN: Value("0", kinds.INT, PRIMARY),
+}
 Parts = dict[str, Value]
 
 
@@ -35,6 +39,9 @@ class Pointers(Writer):
         raise NotImplementedError
 
     def either(self, node: Any, do: Any) -> None:
+        raise NotImplementedError
+
+    def model_parts(self, node: Any, model: Model) -> Parts:
         raise NotImplementedError
 
     def test(self, node: Any) -> Value:
@@ -153,7 +160,12 @@ class Pointers(Writer):
         else:
             bad = f"({value.within(8)} > {MOST})"
         cast = text if kind.bits < 32 or (kind.bits == 32 and kind.signed) else f"(int) {text}"
-        return Value(f"(({unmarked(cast)} & ({unmarked(bad)} - 1)) + ({unmarked(bad)} << 15))", kinds.INT, PRIMARY, calls=value.calls)
+        return Value(
+            f"(({unmarked(cast)} & ({unmarked(bad)} - 1)) + ({unmarked(bad)} << 15))",
+            kinds.INT,
+            PRIMARY,
+            calls=value.calls,
+        )
 
     def stride(self, node: Any) -> int:
         return kinds.elements(self.places.columns.pointer(node).to)
@@ -211,15 +223,26 @@ class Pointers(Writer):
     def given_back(self, node: Any, of: Pointer) -> Parts:
         """What a call gives."""
         function = self.called(node)
+        model = model_of(function)
+        if model is not None:
+            parts = self.model_parts(node, model)
+            several = len(of.region.parts()) > 1
+            return {**parts, INDEX: self.steady_value(parts[INDEX])} if several else parts
         if function.definition is None:
-            raise Refused(node.coord, f"no source defines {function.name}, which gives a pointer", "give the source that defines it")
+            raise Refused(
+                node.coord,
+                f"no source defines {function.name}, which gives a pointer",
+                "give the source that defines it",
+            )
         text, after = self.call(node)
         names = of.region.parts()
         if len(names) == 1 and not after:
             return {INDEX: Value(text, kinds.INT, PRIMARY, calls=True)}
         found = {INDEX: Value(self.temporary(kinds.INT, text, "pointer"), kinds.INT, PRIMARY)}
         for name in names[1:]:
-            found[name] = Value(self.temporary(kinds.INT, self.result_part(function, name), "pointer"), kinds.INT, PRIMARY)
+            found[name] = Value(
+                self.temporary(kinds.INT, self.result_part(function, name), "pointer"), kinds.INT, PRIMARY
+            )
         for one in after:
             self.emit(one)
         return found
@@ -239,7 +262,11 @@ class Pointers(Writer):
         if node.index is not None and self.constants.value(node.index) != 0:
             by = self.steady_value(self.value(node.index))
             if number(by) is None and by.kind.bits > 8 and by.kind != kinds.Int(16, True, ""):
-                bad = f"(unsigned long) {by.within(UNARY)} + 16384 > 32767" if by.kind.signed and by.kind.bits == 64 else f"{by.within(8)} > {MOST}"
+                bad = (
+                    f"(unsigned long) {by.within(UNARY)} + 16384 > 32767"
+                    if by.kind.signed and by.kind.bits == 64
+                    else f"{by.within(8)} > {MOST}"
+                )
                 tests.append(bad)
             if by.kind.bits == 64:
                 by = Value(f"(int) {by.within(UNARY)}", kinds.INT, UNARY)
@@ -252,97 +279,6 @@ class Pointers(Writer):
             return index
         text = " | ".join([index.within(4), *(f"-({unmarked(one)})" for one in tests)])
         return Value(text, index.kind if index.kind.bits == 32 else kinds.INT, 3)
-
-    # ---- comparisons and differences
-
-    def compared(self, node: Any) -> Value:
-        """A comparison of pointers."""
-        self.unsequenced(node, [node.left, node.right])
-        left, right = self.pointer(node.left)[INDEX], self.pointer(node.right)[INDEX]
-        text = f"{left.within(7 if node.op in ('==', '!=') else 8)} {node.op} {right.within(8)}"
-        level = 6 if node.op in ("==", "!=") else 7
-        return Value(text, kinds.INT, level, truth=True, calls=left.calls or right.calls)
-
-    def difference(self, node: Any) -> Value:
-        self.unsequenced(node, [node.left, node.right])
-        left, right = self.pointer(node.left)[INDEX], self.pointer(node.right)[INDEX]
-        stride = self.stride(node.left)
-        text = f"{left.within(9)} - {right.within(10)}"
-        text = f"({text})" if stride == 1 else f"(({text}) / {stride})"
-        return Value(f"(long) {text}", kinds.LONG, UNARY, calls=left.calls or right.calls)
-
-    # ---- assignments
-
-    def assign_pointer(self, node: Any) -> None:
-        place = self.places.place(node.lvalue)
-        if node.op in ("+=", "-="):
-            parts = self.moved_in_place(node, place)
-            return
-        if node.op != "=":
-            raise Refused(node.coord, "arithmetic with a pointer", "use + and -")
-        self.unsequenced(node, [c_ast.ExprList([one for one, _ in place.indexes]), node.rvalue])
-        self.not_twice(node, place, node.rvalue)
-        target = self.parts_at(place, self.index(place, True))
-        parts = self.pointer(node.rvalue)
-        self.set_parts(target, parts, self.reads(node.rvalue, place))
-
-    def moved_in_place(self, node: Any, place: Place) -> Parts:
-        self.unsequenced(node, [node.lvalue, node.rvalue])
-        target = self.parts_at(place, self.index(place, True))
-        step = times(self.wide(self.steady_value(self.value(node.rvalue))), self.stride(node.lvalue))
-        self.emit(f"{target[INDEX].text} {node.op} {step.text};")
-        return target
-
-    def not_twice(self, node: Any, place: Place, value: Any) -> None:
-        raise NotImplementedError
-
-    def reads(self, node: Any, place: Place) -> bool:
-        """Whether an expression reads an object."""
-        reads = self.effected.of(node).reads
-        return any(one in reads for one in objects(place))
-
-    def set_parts(self, target: Parts, parts: Parts, read: bool) -> None:
-        """Writes a pointer's integers; kept first where what is read may be what is written."""
-        changed = [name for name in reversed(list(target)) if unmarked(target[name].text) != unmarked(parts[name].text)]
-        texts = {name: parts[name].text for name in changed}
-        if read and len(changed) > 1:
-            texts = {name: self.temporary(kinds.INT, texts[name], "pointer") for name in changed}
-        for name in changed:
-            self.emit(f"{target[name].text} = {texts[name]};")
-
-    # ---- objects
-
-    def placed(self, variable: Variable, path: tuple[str, ...], spot: tuple[int, ...]) -> Place:
-        """The place of a part of a variable, by its members and the numbers of its elements."""
-        place, names, numbers = self.places.of_variable(variable), list(path), list(spot)
-        return self.stepped_into(place, names, numbers)
-
-    def stepped_into(self, place: Place, names: list[str], numbers: list[int]) -> Place:
-        while names or numbers:
-            if isinstance(place.type, Array) and numbers:
-                place = self.places.element(place, c_ast.Constant("int", str(numbers.pop(0))))
-            elif names and names[0].startswith("@"):
-                return replace(place, path=place.path + (names.pop(0),), type=kinds.INT)
-            else:
-                place = self.places.member(place, names.pop(0), None)
-        return place
-
-    def each_integer(self, place: Place, index: Optional[Value]) -> list[tuple[Any, list[str]]]:
-        """The integers of an object of which some lie in columns of their own."""
-        base = place
-        if index is not None:
-            base = replace(place, indexes=((Known(index, None), 1),), shift=0)
-        found = []
-        for leaf in kinds.leaves(place.type):
-            texts = []
-            for at in range(leaf.count):
-                spot: list[int] = []
-                for length in reversed(leaf.dims):
-                    spot.insert(0, at % length)
-                    at //= length
-                texts.append(unmarked(self.leaf(self.stepped_into(base, list(leaf.path), spot))[0]))
-            found.append((leaf, texts))
-        return found
 
 
 def minus(known: int) -> Value:

@@ -9,25 +9,18 @@ from .bindings import with_parents
 from .declarators import Function, Variable
 from .initialisers import filled
 from .kinds import Array, Int, Pointer, Struct, Type
+from .models import model_of
 from .names import Names
 from .places import Place, arguments
 from .refusals import Refused
 from .regions import Region
-
-ADVICE = "let one pointer point to objects of one type"
-
-
-def words(of: Type) -> str:
-    """What a type is called."""
-    if isinstance(of, Struct):
-        return f"struct {of.tag}"
-    return of.text if isinstance(of, Int) else "pointer" if isinstance(of, Pointer) else getattr(of, "name", "array")
+from .unification import Unification
 
 
-class PointsTo:
+class PointsTo(Unification):
     def __init__(self, names: Names) -> None:
         self.names, self.constants = names, names.constants
-        self.homes: dict[Variable, Region] = {}
+        super().__init__()
         self.texts: dict[int, tuple[Any, Variable]] = {}
         self.values: dict[int, tuple[Any, Type]] = {}
         self.function: Optional[Function] = None
@@ -39,61 +32,6 @@ class PointsTo:
                 self.function = function
                 for node, _ in with_parents(function.definition.body):
                     self.visit(node)
-
-    # ---- regions
-
-    def home(self, variable: Variable) -> Region:
-        """The region in which a variable's elements lie; of a parameter that stands for an object, those of that object."""
-        if variable not in self.homes:
-            of = variable.type
-            if variable.is_bound and isinstance(of, Pointer):
-                of = of.to
-            self.homes[variable] = Region(kinds.element(of), [variable])
-        return self.homes[variable].root()
-
-    def unify(self, one: Region, other: Region, at: Any) -> None:
-        a, b = one.root(), other.root()
-        if a is b:
-            return
-        b.into = a
-        a.objects += [variable for variable in b.objects if variable not in a.objects]
-        a.pointed, a.moved, a.down = a.pointed or b.pointed, a.moved or b.moved, a.down or b.down
-        a.fault = a.fault or b.fault
-        left, right = a.elem, b.elem
-        a.elem = right if left is None else left
-        if left is not None and right is not None:
-            self.same_type(left, right, at, a)
-        for name, inner in list(b.members.items()):
-            mine = a.root().members.get(name)
-            if mine is None:
-                a.root().members[name] = inner
-            else:
-                self.unify(mine, inner, at)
-
-    def same_type(self, one: Type, other: Type, at: Any, region: Region) -> None:
-        """Brings the pointers within two types together; types that can't be one are a fault of the region."""
-        one, other = kinds.element(one), kinds.element(other)
-        if isinstance(one, Pointer) and isinstance(other, Pointer):
-            self.unify(one.region, other.region, at)
-        elif isinstance(one, Struct) and isinstance(other, Struct):
-            if one is other:
-                return
-            names = [[name for name, _ in of.members or []] for of in (one, other)]
-            if one.tag != other.tag or names[0] != names[1]:
-                self.fault(region, one, other, at)
-                return
-            for (_, mine), (_, theirs) in zip(one.members or [], other.members or []):
-                if isinstance(kinds.element(mine), Pointer):
-                    self.same_type(mine, theirs, at, region)
-        elif not (isinstance(one, Int) and isinstance(other, Int) and one.bits == other.bits):
-            self.fault(region, one, other, at)
-        elif one.boolean != other.boolean:
-            self.fault(region, one, other, at)
-
-    @staticmethod
-    def fault(region: Region, one: Type, other: Type, at: Any) -> None:
-        root = region.root()
-        root.fault = root.fault or (at, f"a pointer to {words(one)} and to {words(other)}", ADVICE)
 
     # ---- types of expressions, with their regions
 
@@ -180,6 +118,9 @@ class PointsTo:
             return self.value(node.exprs[-1])
         if isinstance(node, c_ast.Assignment):
             return self.value(node.lvalue)
+        model = model_of(self.names.meaning.get(id(node))) if isinstance(node, c_ast.FuncCall) else None
+        if model is not None and model.gives_pointer and arguments(node):
+            return self.value(arguments(node)[0])
         if isinstance(node, c_ast.Cast):
             to = self.names.types.get(id(node.to_type), kinds.VOID)
             self.flow(node.expr, to)
@@ -300,7 +241,9 @@ class PointsTo:
                     root.moved, root.down = True, root.down or "--" in node.op
             elif isinstance(node, c_ast.BinaryOp):
                 self.compared(node)
-            elif isinstance(node, (c_ast.ArrayRef, c_ast.StructRef)) or (isinstance(node, c_ast.UnaryOp) and node.op == "*"):
+            elif isinstance(node, (c_ast.ArrayRef, c_ast.StructRef)) or (
+                isinstance(node, c_ast.UnaryOp) and node.op == "*"
+            ):
                 self.place(node)
             elif isinstance(node, (c_ast.Cast, c_ast.TernaryOp)):
                 self.value(node)
@@ -326,6 +269,8 @@ class PointsTo:
 
     def called(self, node: Any) -> None:
         function = self.names.meaning.get(id(node))
+        if model_of(function):
+            self.of_model(node)
         if not isinstance(function, Function) or function.definition is None:
             return
         for argument, parameter in zip(arguments(node), function.parameters):
@@ -335,3 +280,12 @@ class PointsTo:
                 self.same_type(of, mine, node.coord, region)
             else:
                 self.tried(argument, parameter.type)
+
+    def of_model(self, node: Any) -> None:
+        """A call of a library's function goes through the objects of its pointers, and may copy from one to the other."""
+        found = [self.value(one) for one in arguments(node) if not self.is_null(one)]
+        regions = [of.region.root() for of in found if isinstance(of, Pointer)]
+        for region in regions:
+            region.pointed = region.moved = True
+        if len(regions) == 2 and all(region.root().elem is not None for region in regions):
+            self.same_type(regions[0].root().elem, regions[1].root().elem, node.coord, regions[0])

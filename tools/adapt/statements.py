@@ -11,10 +11,9 @@ from .calls import MOST_COPIED
 from .initialisers import filled, none_of
 from .kinds import Int, Pointer, Struct
 from .jumps import LOOPS
-from .declarators import Function, Variable
+from .declarators import Variable
 from .places import Place
 from .refusals import Refused
-from .regions import INDEX
 
 
 def continues(node: Any) -> bool:
@@ -97,19 +96,6 @@ class Statements(Expressions):
             self.initialised_apart(variable, node.init)
         else:
             self.initialised(variable, node.init)
-
-    def lies_apart(self, variable: Variable) -> bool:
-        return bool(self.places.columns.any_apart(self.places.columns.home(variable), variable.type))
-
-    def pointer_begun(self, variable: Variable, node: Any) -> None:
-        """Writes a local pointer with its first value."""
-        parts = self.pointer(node.init)
-        if self.places.columns.in_column(variable):
-            place = self.places.of_variable(variable)
-            self.set_parts(self.parts_at(place, self.index(place, True)), parts, False)
-            return
-        for leaf in kinds.leaves(variable.type):
-            self.emit(f"{leaf.kind.text} {self.spelling.leaf(variable, leaf.path)} = {parts[leaf.path[-1]].text};")
 
     def initialised_apart(self, variable: Variable, init: Any) -> None:
         """Writes the first values of a local of which parts lie in columns, one by one; what has none is 0 or null."""
@@ -296,17 +282,6 @@ class Statements(Expressions):
         text = one.text
         if self.outs(function) and one.calls:
             text = self.temporary(function.result, text)
-        self.hand_back()
-        self.emit(f"return {text};")
-
-    def return_pointer(self, function: Function, of: Pointer, expr: Any) -> None:
-        """Writes the return of a pointer: its index, and what else it has in objects of the file."""
-        parts = self.pointer(expr)
-        text = parts[INDEX].text
-        if parts[INDEX].calls and (self.outs(function) or len(of.region.parts()) > 1):
-            text = self.temporary(kinds.INT, text)
-        for part in of.region.parts()[1:]:
-            self.emit(f"{self.result_part(function, part)} = {parts[part].text};")
         self.hand_back()
         self.emit(f"return {text};")
 

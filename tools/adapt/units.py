@@ -1,42 +1,23 @@
 """Writes the items of the units: constants, variables, functions, each into the file that it stands in."""
 
-import re
 from typing import Any
 
 from pycparser import c_ast
 
 from . import kinds
-from .calls import MOST_ELEMENTS
 from .effects import pointee
 from .initialisers import Part, filled, none_of
 from .jumps import walk
-from .kinds import Array, Int, Path, Pointer, Struct, Type
+from .kinds import Int, Pointer, Struct
 from .declarators import Function, Variable
 from .output import FELL, File, unmarked
-from .places import Place
+from .places import Place, arguments
 from .reading import is_system
 from .refusals import Refused
-from .regions import INDEX, Region
-from .statements import Statements
+from .checks import Checks
 
 
-def product(lengths: tuple[int, ...]) -> int:
-    made = 1
-    for one in lengths:
-        made *= one
-    return made
-
-
-def within(of: Type, part: Type) -> bool:
-    """Whether an object of the type has a part of another one."""
-    if of is part or (isinstance(of, Int) and of == part):
-        return True
-    if isinstance(of, Array):
-        return within(of.of, part)
-    return isinstance(of, Struct) and any(within(member, part) for _, member in of.members or [])
-
-
-class Units(Statements):
+class Units(Checks):
     """Writes all units. `files` are those that are written, by what they are made from."""
 
     def write(self) -> dict[str, File]:
@@ -54,82 +35,21 @@ class Units(Statements):
             self.names.refusals.go(item.coord)
             with self.names.refusals.gathered():
                 self.item(item, number)
+        made = [(self.begin[1], text) for _, text in self.written_models.values()]
+        if made:
+            file = self.files.setdefault(self.begin[0], File(self.begin[0]))
+            file.pieces[self.begin[2] : self.begin[2]] = made
         return self.files
-
-    def write_columns(self) -> None:
-        """Writes the columns, before all else; those that have the name of a file's object with its own words."""
-        columns = self.places.columns
-        columns.named(self.spelling)
-        given = self.column_values()
-        path = next((unit.files[0] for unit, _ in self.names.items if unit.files), "")
-        if not columns.made:
-            return
-        self.file = self.files.setdefault(path, File(path))
-        self.original, self.closings = path, {}
-        self.line = min((item.coord.line for _, item in self.names.items if str(item.coord.file) == path), default=1)
-        for region in columns.made:
-            self.names.refusals.go(region.column.coord)
-            with self.names.refusals.gathered():
-                self.write_column(region, given)
-
-    def write_column(self, region: Region, given: dict[tuple[Variable, Path], dict[int, str]]) -> None:
-        column = region.column
-        self.check_type(column)
-        for leaf in kinds.leaves(column.type):
-            if self.places.columns.is_apart(region, leaf.path):
-                continue
-            if leaf.count > MOST_ELEMENTS:
-                advice = f"the profile takes {MOST_ELEMENTS} at most, also of all objects together that one pointer meets"
-                raise Refused(column.coord, f"{column.out} has {leaf.count} elements", advice)
-            values = [none_of(leaf)] * leaf.count
-            for at, text in given.get((column, leaf.path), {}).items():
-                values[at] = text
-            while len(values) > 1 and values[-1] == "0":
-                values.pop()
-            first = "" if values == ["0"] else f" = {{{', '.join(values)}}}"
-            words = "static const " if column.const else "static "
-            self.emit(f"{words}{leaf.kind.text} {self.spelling.leaf(column, leaf.path)}[{leaf.count}]{first};")
-
-    def column_values(self) -> dict[tuple[Variable, Path], dict[int, str]]:
-        """The first values that lie in columns, by the column, the members and the number of the element."""
-        found: dict[tuple[Variable, Path], dict[int, str]] = {}
-        texts = [variable for _, variable in self.places.columns.points.texts.values()]
-        for variable in [*self.names.variables, *texts]:
-            if variable.init is None or variable.home in ("local", "parameter"):
-                continue
-            region = self.places.columns.home(variable)
-            if not self.places.columns.in_column(variable) and not self.places.columns.any_apart(region, variable.type):
-                continue
-            self.names.refusals.go(variable.coord)
-            with self.names.refusals.gathered():
-                made = filled(self.constants, variable.type, variable.init)
-                for leaf in kinds.leaves(variable.type):
-                    for at, node in made.of(leaf).items():
-                        spot = [at // product(leaf.dims[n + 1 :]) % length for n, length in enumerate(leaf.dims)]
-                        place = self.placed(variable, leaf.path, tuple(spot))
-                        index = self.index(place, False)
-                        if place.variable.home == "column" and index is not None:
-                            text = self.first_number(node, leaf.kind)
-                            found.setdefault((place.variable, place.path), {})[int(index.text)] = text
-        return found
-
-    def first_number(self, node: Any, kind: Int) -> str:
-        """A first value as a number."""
-        if isinstance(node, Part):
-            text = unmarked(self.value(node).text)
-            if not re.fullmatch(r"-?\d+", text):
-                raise Refused(node.coord, "a first value that is no constant", "assign it")
-            return text
-        known = self.constants.value(node)
-        if known is None:
-            raise Refused(node.coord, "a first value that is no constant", "give a number")
-        return str(kinds.fit(known, kind))
 
     def first_uses(self) -> dict[Variable, int]:
         """For each variable the number of the first function that names it."""
         found: dict[Variable, int] = {}
         for number, (_, item) in enumerate(self.names.items):
-            for node in walk(item) if isinstance(item, c_ast.FuncDef) else []:
+            nodes = walk(item) if isinstance(item, c_ast.FuncDef) else []
+            handed = {id(one) for node in nodes for one in self.only_handed(node)}
+            for node in nodes:
+                if id(node) in handed:
+                    continue
                 meaning = self.names.meaning.get(id(node))
                 if isinstance(meaning, Variable):
                     found.setdefault(meaning, number)
@@ -139,6 +59,13 @@ class Units(Statements):
                     variable = parameter.binding.variable
                     found[variable] = min(found.get(variable, function.number), function.number)
         return found
+
+    def only_handed(self, node: Any) -> list[Any]:
+        """What stands alone as an argument of a function that gives an input and whose arguments don't matter."""
+        called = self.names.meaning.get(id(node)) if isinstance(node, c_ast.FuncCall) else None
+        if not isinstance(called, Function) or called.definition is not None or called.name not in self.inputs:
+            return []
+        return [one for one in arguments(node) if isinstance(one, c_ast.ID)]
 
     def once(self, key: Any) -> bool:
         """Whether an item comes for the first time."""
@@ -268,7 +195,8 @@ class Units(Statements):
             cause, advice = fault or kinds.fault_of(result) or ("what is no integer", "")
             raise Refused(function.coord, f"{function.name} gives {cause}", advice)
         static = "static " if function.static and function.definition is not None else ""
-        text = result.text if isinstance(result, Int) else "int" if isinstance(result, Pointer) else "void"
+        index = isinstance(result, Pointer) and bool(function.calls)
+        text = result.text if isinstance(result, Int) else "int" if index else "void"
         listed = "void" if function.definition is None else self.parameters(function)
         return f"{static}{text} {function.out}({listed})"
 
@@ -277,7 +205,7 @@ class Units(Statements):
         if not self.once((function, "before")) or function.definition is None:
             return
         if isinstance(function.result, Pointer):
-            for part in function.result.region.parts()[1:]:
+            for part in function.result.region.parts()[1 if function.calls else 0 :]:
                 self.emit(f"static int {self.result_part(function, part)};")
         if isinstance(function.result, Struct):
             self.variable(self.spelling.special(function, "result", function.result, self.special), True)
@@ -343,24 +271,6 @@ class Units(Statements):
         self.emit("}" if function.result == kinds.VOID else FELL + "}")
         self.function = None
 
-    def into_columns(self, function: Function) -> None:
-        """Writes that what parameters have goes into the columns in which they lie."""
-        for one in function.parameters:
-            if isinstance(one.binding, Place) or one.binding == "lent":
-                continue
-            region, of = self.places.columns.home(one), pointee(one)
-            place = self.places.of_variable(one)
-            if place.variable.home != "column" and not self.places.columns.any_apart(region, of):
-                continue
-            with self.names.refusals.gathered():
-                if one.is_bound and isinstance(one.type, Pointer):
-                    raise Refused(one.coord, f"the address of what {one.name} points to", "hand over the object itself")
-                for leaf, texts in self.each_integer(place, self.index(place, True) if place.shifted() else None):
-                    if place.variable.home == "column" or self.places.columns.is_apart(region, leaf.path):
-                        name = self.spelling.leaf(one, leaf.path)
-                        for at, text in enumerate(texts):
-                            self.emit(f"{text} = {name}{f'[{at}]' if leaf.dims else ''};")
-
     def normal(self, function: Function) -> None:
         """Writes that parameters of type bool are 0 or 1, where the function may be an entry: it has no arrays."""
         given = [
@@ -373,48 +283,3 @@ class Units(Statements):
             if leaf.kind.boolean:
                 name = self.spelling.leaf(one, leaf.path)
                 self.emit(f"{name} = {name} != 0;")
-
-    def check_names(self, function: Function) -> None:
-        """Refuses what would make two names of one object, or one name of two."""
-        locals_of = {
-            variable.name
-            for variable in self.names.variables
-            if variable.function is function and variable.home == "local"
-        }
-        for parameter in function.parameters:
-            if isinstance(parameter.binding, Place) and parameter.binding.variable.out in locals_of | {
-                one.name for one in function.parameters
-            }:
-                raise Refused(
-                    parameter.coord,
-                    f"{parameter.name} stands for {parameter.binding.variable.name}, and {function.name} has another of this name",
-                    "rename that one",
-                )
-        if not function.calls:
-            self.check_uncalled(function)
-
-    def check_uncalled(self, function: Function) -> None:
-        """Refuses a function that nothing calls, where two of its names may be those of one object."""
-        summary = self.effected.of_function[function]
-        copies = [one for one in function.parameters if one.binding == "copy" and isinstance(one.type, Pointer)]
-        for at, one in enumerate(copies):
-            written = any(found[0] is one for found in summary.writes)
-            shared = [
-                (found, found in summary.writes)
-                for found in [*summary.reads, *summary.writes]
-                if found[0] is not None and found[0].shared
-            ]
-            if any((written or too) and within(found[0].type, pointee(one)) for found, too in shared if found[0]):
-                raise Refused(
-                    one.coord,
-                    f"nothing calls {function.name}, and {one.name} may point to an object that it uses",
-                    "call it with a named object",
-                )
-            for two in copies[at + 1 :]:
-                too = any(found[0] is two for found in summary.writes)
-                if (written or too) and (within(pointee(one), pointee(two)) or within(pointee(two), pointee(one))):
-                    raise Refused(
-                        two.coord,
-                        f"nothing calls {function.name}, and {one.name} and {two.name} may point to one object",
-                        "call it with named objects",
-                    )

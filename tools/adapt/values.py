@@ -71,7 +71,9 @@ def times(one: Value, factor: int) -> Value:
     if factor == 1:
         return one
     if factor & (factor - 1) == 0:
-        return Value(f"({one.within(9)} << {factor.bit_length() - 1})", kinds.promoted(one.kind), PRIMARY, calls=one.calls)
+        return Value(
+            f"({one.within(9)} << {factor.bit_length() - 1})", kinds.promoted(one.kind), PRIMARY, calls=one.calls
+        )
     return Value(f"{one.within(10)} * {factor}", kinds.promoted(one.kind), 10, calls=one.calls)
 
 

@@ -31,6 +31,8 @@ class Writer:
         self.behind: set[int] = set()
         self.after: list[str] = []
         self.within = 0
+        self.written_models: dict[Any, tuple[str, str]] = {}
+        self.model_words: dict[str, str] = {}
         self.needing: dict[int, tuple[Any, bool]] = {}
 
     def value(self, node: Any) -> Value:
