@@ -133,9 +133,17 @@ def run(case: Case) -> tuple[int, bytes | None, bytes | None]:
         streams = Streams(case, kept)
         folder = kept.enter_context(tempfile.TemporaryDirectory())
         make_files(folder, case["files"])
-        words = [os.fsencode(programs.program() if streams.direct else programs.LAUNCHER)] + [text(word) for word in case["words"]]
-        ended = subprocess.run(words, cwd=folder, stdin=subprocess.DEVNULL, timeout=programs.SECONDS, preexec_fn=streams.before,
-                               **streams.targets)
+        words = [os.fsencode(programs.program() if streams.direct else programs.LAUNCHER)] + [
+            text(word) for word in case["words"]
+        ]
+        ended = subprocess.run(
+            words,
+            cwd=folder,
+            stdin=subprocess.DEVNULL,
+            timeout=programs.SECONDS,
+            preexec_fn=streams.before,
+            **streams.targets,
+        )
         return ended.returncode, streams.written(ended.stdout), ended.stderr
 
 

@@ -76,8 +76,12 @@ def out_of_order(given: list[Crate]) -> Iterator[str]:
 def head(name: str) -> str:
     """The first sentence of a crate's head, without its full stop."""
     source = os.path.join(programs.ROOT, "crates", name, "src")
-    path = next(path for path in (os.path.join(source, "lib.rt"), os.path.join(source, "main.rt")) if os.path.exists(path))
-    words = " ".join(line[3:].strip() for line in text_of(path).partition("\n//!\n")[0].splitlines() if line.startswith("//!"))
+    path = next(
+        path for path in (os.path.join(source, "lib.rt"), os.path.join(source, "main.rt")) if os.path.exists(path)
+    )
+    words = " ".join(
+        line[3:].strip() for line in text_of(path).partition("\n//!\n")[0].splitlines() if line.startswith("//!")
+    )
     sentence = re.sub(r"\[(`\w+`)\]", r"\1", re.split(r"\.(?:\s|$)", words)[0])
     sentence = re.sub(rf" \((?:{SOURCES})[^()]*\)", "", sentence)
     return sentence[:1].lower() + sentence[1:] if re.match(r"[A-Z][a-z]*\b", sentence) else sentence

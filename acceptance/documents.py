@@ -11,7 +11,8 @@ out.
 
 A path is a text between backquotes that begins as one from the top of the repository does, or the target of a link. In
 docs/PROVED.md those that begin with specs/ or src/ are of the crate whose section it is. The counts in acceptance/README.md must be
-those that counts.py makes, and those in docs/THEOREM.md those of tools/believed.py.
+those that counts.py makes, and those in docs/THEOREM.md those of tools/believed.py; so must the
+index of docs/DECISIONS.md, by decisions.py.
 """
 
 import functools
@@ -157,11 +158,12 @@ def wrong_paths(document, text):
 
 def of_counts():
     import counts  # which reads this module
+    import decisions
 
     sys.path.insert(0, programs.ROOT)
     from tools import believed
 
-    wrong = counts.wrong() + believed.wrong()
+    wrong = counts.wrong() + decisions.wrong() + believed.wrong()
     return max(1, len(wrong)), wrong
 
 

@@ -116,5 +116,7 @@ def run(groups: list[Group], workers: int) -> Outcome:
             tell(groups[number], results[number])
     passed, failed = sum(result.passed for result in results), [line for result in results for line in result.failed]
     processors = sum(result.times.processors for result in results)
-    print(f"{len(groups)} groups took {time.monotonic() - begun:.0f} s, {workers} parts at a time, {processors:.0f} s of a processor")
+    print(
+        f"{len(groups)} groups took {time.monotonic() - begun:.0f} s, {workers} parts at a time, {processors:.0f} s of a processor"
+    )
     return passed + len(failed), failed

@@ -177,8 +177,8 @@ def in_order(given: list[tuple[tuple[int, ...], dict[str, tuple[int, ...]]]], as
         told = asks([(given[number][0], found[number]) for number in waiting])
         rows = {number: row(given[number][1], asked) for number, asked in zip(waiting, told)}
         waiting = [number for number, one in rows.items() if one != found[number]]
-        for number, one in rows.items():
-            found[number] = one
+        for place, one in rows.items():
+            found[place] = one
     raise Failure("an input has more answers than can be brought into their order")
 
 

@@ -1,6 +1,5 @@
 """What the form of an expression or a loop shows: bounds of its values, and that it ends."""
 
-from collections.abc import Iterator
 from dataclasses import dataclass
 
 from tools.order_tree import (

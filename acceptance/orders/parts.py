@@ -13,40 +13,6 @@ class Jump(Exception):
     pass
 
 
-def fit(value, of):
-    value &= (1 << of[0]) - 1
-    return value - (1 << of[0]) if of[1] and value >> of[0] - 1 else value
-
-
-def promoted(of):
-    return INT if of[0] < 32 else of
-
-
-def common(one, two):
-    one, two = promoted(one), promoted(two)
-    return max(one, two, key=lambda of: (of[0], not of[1]))
-
-
-def binary(op, a, b):
-    """The value with its kind, or None for a trap."""
-    (x, one), (y, two) = a, b
-    of = promoted(one) if op in ("<<", ">>") else common(one, two)
-    if op in ("<<", ">>"):
-        x, y = fit(x, of), fit(y, promoted(two))
-        if not 0 <= y < of[0]:
-            return None
-        return fit(x << y if op == "<<" else x >> y, of), of
-    x, y = fit(x, of), fit(y, of)
-    if op in ("==", "!=", "<", ">", "<=", ">="):
-        return int({"==": x == y, "!=": x != y, "<": x < y, ">": x > y, "<=": x <= y, ">=": x >= y}[op]), INT
-    if op in ("/", "%"):
-        if y == 0 or (of[1] and x == reach(of)[0] and y == -1):
-            return None
-        whole = abs(x) // abs(y) * (1 if (x < 0) == (y < 0) else -1)
-        return fit(whole if op == "/" else x - whole * y, of), of
-    return fit({"+": x + y, "-": x - y, "*": x * y, "&": x & y, "|": x | y, "^": x ^ y}[op], of), of
-
-
 class Cell:
     def __init__(self, of, length=None, values=()):
         self.kind, self.length = of, length

@@ -4,7 +4,6 @@ import os
 import resource
 import subprocess
 
-import programs
 from tool_tests import Case, example, put, run
 
 COMMANDS = ["fshell-" + name for name in ("measure", "goals", "runs", "generate", "prove", "check", "bounds", "prove-bounds", "check-bounds", "least", "traces", "replay", "trees", "graph", "sample")]

@@ -6,11 +6,10 @@ import resource
 import shutil
 import signal
 import subprocess
-import time
 import xml.etree.ElementTree as ET
 
 import programs
-from tool_tests import SECONDS, Case, example, put, run
+from tool_tests import Case, example, put, run
 from tool_tests.project_files import DIRECTORY, LAMP, RUN, TESTS, TOML
 
 ADAPTED = ("gcc", "pycparser", "jinja2")
@@ -140,6 +139,12 @@ def the_gate_fails(folder):
     yield ended.returncode == 1 and lines == [
         "the gate fails: run-time error: a run of f is ended at a.c:2:3", "the gate fails: run-time error: a run of f is ended at a.c:3:3"]
     yield "a.c:2:3: error: a run of f is ended here, by args 7 [run-time-error]\n" in report(folder, "warnings.txt")
+    # C leaves open whether g is read before the call (6.5p2, 6.5.2.2p10), so that the guard isn't called unreachable
+    put(folder, {"o.c": "int g = 1;\nint h(void) { g = 5; return 1; }\nint k(int x) { if (g + h() == 2) { return 1; } return 0; }\n",
+                 "fshell.toml": '[module]\nsources = ["o.c"]\n[[entry]]\nfunction = "k"\nqueries = ["decisions"]\n[gate]\nat-least = 100\n'})
+    ended = project(folder, "run")
+    yield ended.returncode == 1 and ended.stdout.startswith("decisions: covered 1 of 2 goals that aren't unreachable, 50%\n")
+    yield "o.c:3:20: warning: value: one part writes g, and another reads or writes it [order-of-evaluation]\n" in report(folder, "warnings.txt")
 
 
 def names_that_are_wrong_are_told(folder):

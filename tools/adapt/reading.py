@@ -112,10 +112,11 @@ class Places:
     def go(self, marker: "re.Match[str]") -> None:
         """Goes to where a marker of the preprocessor says."""
         number, name, flags = int(marker.group(1)), marker.group(2), marker.group(3).split()
+        # (a header that is named by two ways is one file)
+        name = name if name == self.unit.path else os.path.normpath(name)
         if "1" in flags:
             self.stack.append((self.file, self.alias))
-            # (a header that is named by two ways is one file)
-            self.file, self.line, self.alias = os.path.normpath(name), number, ("", 0)
+            self.file, self.line, self.alias = name, number, ("", 0)
         elif "2" in flags and self.stack:
             if self.file not in self.unit.files and not is_system(self.file):
                 self.unit.files.append(self.file)

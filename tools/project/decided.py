@@ -2,12 +2,13 @@
 module have few goals, which take less time than GNU parallel does to start. Other machines are asked by GNU parallel."""
 
 import concurrent.futures
+import dataclasses
 import fcntl
 import json
 import os
 from typing import Any
 
-from tools import inputs
+from tools import inputs, order
 from tools.asked import Asked
 from tools.campaign import Campaign, has_parallel, sizes
 from tools.folder import Folder
@@ -55,7 +56,11 @@ class Known(Told):
         super().__init__(folder, asked, made, report)
 
     def bounds(self) -> Left:
-        return self.known
+        if not self.known.limits.suffice:
+            return self.known
+        asked = self.asked
+        restriction = order.restriction(asked.entry, asked.sources, asked.query, asked.ends, asked.place)
+        return Left(dataclasses.replace(self.known.limits, restriction=restriction), self.known.options)
 
 
 def decide(

@@ -75,3 +75,5 @@ class Condition:
 
 
 NO_PAIR, NONE_WITHIN, SHOWN, OPEN = ("no pair", "no pair within the bounds", "shown", "undecided")
+# what the verdict of bin/mcdc on a condition means
+STATES = {Verdict.COVERED: SHOWN, Verdict.UNREACHABLE: NO_PAIR, Verdict.REFUTED: NONE_WITHIN}

@@ -1,13 +1,10 @@
 """What is to be looked at in a module, each at its place: for SARIF and as lines that editors know from gcc."""
 
-import os
-import re
-import subprocess
-import sys
 from collections.abc import Iterator
 from dataclasses import dataclass
 
-from tools import program
+from tools import order
+from tools.program import Failure
 from tools.project.facts import NONE_WITHIN, OPEN
 from tools.project.results import GOOD, Results, state_of
 from tools.verdicts import Verdict
@@ -29,7 +26,6 @@ RULES = {
     ),
     "possible-error": ("warning", "A run-time error isn't ruled out at a place."),
 }
-_LINE = re.compile(r"(.+?):(\d+):(\d+): (?:warning|note|error): (.*)")
 OF_VERDICT = {
     Verdict.UNDECIDED: "open-goal",
     Verdict.MISSED: "open-goal",
@@ -116,12 +112,12 @@ class Finder:
                 yield Finding("open-requirement", settings.requirements or settings.path, one.line, 1, text)
 
     def orders(self) -> Iterator[Finding]:
-        """What bin/order says of each entry, where that tool is there."""
-        tool, unit = os.path.join(program.ROOT, "bin", "order"), self.results.context.unit
-        for entry in self.results.entries if os.path.isfile(tool) else ():
-            words = [sys.executable, tool, entry.function, *unit.sources]
-            ended = subprocess.run(words, cwd=unit.place, capture_output=True, text=True, check=False)
-            for line in ended.stdout.splitlines():
-                found = _LINE.fullmatch(line)
-                if found:
-                    yield self.at("order-of-evaluation", found[1], int(found[2]), int(found[3]), found[4])
+        """Where C leaves an order of evaluation open that matters, as bin/order tells of each entry."""
+        unit = self.results.context.unit
+        for entry in self.results.entries:
+            try:
+                found = order.warnings(entry.function, unit.sources, ends=entry.ends, folder=unit.place)
+            except Failure:
+                continue
+            for one in found:
+                yield self.at("order-of-evaluation", one.file, one.line, one.column, f"{one.kind}: {one.why}")

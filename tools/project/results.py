@@ -12,7 +12,7 @@ from tools.explain import letter_line
 from tools.naming import Reader
 from tools.project import criteria
 from tools.project.carry import Ordinals
-from tools.project.facts import NO_PAIR, NONE_WITHIN, OPEN, ORDER, SHOWN, Condition, Goal, Row, Test
+from tools.project.facts import NO_PAIR, NONE_WITHIN, OPEN, ORDER, SHOWN, STATES, Condition, Goal, Row, Test
 from tools.project.requirements import Requirement, task_name
 from tools.project.tasks import Campaign, Context, Task, tasks_of
 from tools.project.work import Place
@@ -173,10 +173,12 @@ class Results:
         """The places at which a trap may end runs of an entry, with a verdict, and of a covered one its input."""
         ordinals = Ordinals(self.graph)
         found = []
-        for function, at, verdict, line in self.place(entry, "errors").value("errors.json") or []:
+        value = self.place(entry, "errors").value("errors.json") or {"rows": [], "restriction": ""}
+        is_never = self.suffice(entry) and not value["restriction"]
+        for function, at, verdict, line in value["rows"]:
             node = self.graph.nodes[ordinals.node((function, at))]
             one = Verdict(verdict) if verdict != "refuted" else Verdict.REFUTED
-            one = Verdict.UNREACHABLE if one is Verdict.REFUTED and self.suffice(entry) else one
+            one = Verdict.UNREACHABLE if one is Verdict.REFUTED and is_never else one
             edges = self.graph.leaving[node.number]
             place = edges[0].place if edges else f"{node.place}:1"
             found.append((place, one, line))
@@ -194,17 +196,13 @@ class Results:
         for entry in self.entries:
             for one in self.place(entry.function, "mcdc").value("mcdc.json") or []:
                 pair = [self.test(entry.function, value) for value in one["pair"]]
-                told = self._state(entry.function, one["state"]), one["text"], pair
+                told = STATES.get(Verdict(one["answer"]), OPEN), one["text"], pair
                 found.setdefault(ordinals.edge(one["edge"]), []).append(told)
         order = (SHOWN, OPEN, NONE_WITHIN, NO_PAIR)
         for number in sorted(found):
             state, text, pair = min(found[number], key=lambda one: order.index(one[0]))
             edge = self.graph.edges[number]
             yield Condition(self.graph.owner(edge), edge.place, self.statements.get(number, ""), text, state, pair)
-
-    def _state(self, entry: str, word: str) -> str:
-        """What a word of MC/DC's report means: no pair at all where the bounds suffice."""
-        return {SHOWN: SHOWN, "none": NO_PAIR if self.suffice(entry) else NONE_WITHIN}.get(word, OPEN)
 
     def mcdc(self, function: str | None = None) -> tuple[int, int]:
         """How many conditions are shown, and of how many: all but those without a pair at all."""

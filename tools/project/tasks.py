@@ -6,7 +6,7 @@ import subprocess
 import sys
 from dataclasses import dataclass, field
 
-from tools import leaving, program
+from tools import leaving, order, program
 from tools.asked import Asked
 from tools.graph import Graph
 from tools.leaving import Left
@@ -20,6 +20,13 @@ from tools.project.unit import Unit, sum_of_file, sum_of_text
 from tools.project.work import Place, Work
 from tools.reports import input_of
 from tools.verdicts import Limits
+
+
+def made_by() -> str:
+    """One sum of the program and of the tools that make answers of what it says: by others all is done again."""
+    folders = [os.path.join(program.ROOT, "tools"), os.path.dirname(__file__)]
+    paths = [os.path.join(at, name) for at in folders for name in sorted(os.listdir(at)) if name.endswith(".py")]
+    return sum_of_text(json.dumps([sum_of_file(path) for path in (program.program(), *paths)]))
 
 
 @dataclass
@@ -36,10 +43,10 @@ class Context:
     requirements: tuple[Requirement, ...] = ()
     jobs: int = 1
     logins: str | None = None
-    program_sum: str = field(default_factory=lambda: sum_of_file(program.program()))
+    made_by: str = field(default_factory=made_by)
 
     def key(self, *parts: object) -> str:
-        return sum_of_text(json.dumps([self.program_sum, *parts]))
+        return sum_of_text(json.dumps([self.made_by, *parts]))
 
     def reached(self, entry: Entry) -> list[str]:
         return criteria.reached(self.graph, entry.function)
@@ -127,7 +134,8 @@ class Errors(Task):
         entry, unit, graph = self.entry, context.unit, context.graph
         reached = context.reached(entry)
         scope = "" if len(reached) == len(graph.functions) else f"in {criteria.union(reached)} "
-        words = ["generate", entry.function, f"{scope}cover NODES(ID)$", *unit.sources, *entry.options()]
+        query = f"{scope}cover NODES(ID)$"
+        words = ["generate", entry.function, query, *unit.sources, *entry.options()]
         words += ["--budget", str(entry.budget), "--ends", "trapped"]
         report = program.report(words, unit.place)
         numbers = carry.ordinals(graph)
@@ -137,7 +145,8 @@ class Errors(Task):
             if node != graph.function(entry.function).exit:
                 line = report.inputs[goal.input - 1].line() if goal.input else ""
                 rows.append([*numbers.of_node(node), goal.verdict, line])
-        self.place(context).keep("errors.json", rows)
+        restriction = order.restriction(entry.function, unit.sources, query, "trapped", unit.place)
+        self.place(context).keep("errors.json", {"rows": rows, "restriction": restriction})
 
 
 @dataclass(frozen=True)
@@ -207,7 +216,7 @@ class Mcdc(Task):
             for one in decision["conditions"] if decision["function"] in reached else ():
                 edge = int(one["edge"].partition("@")[0].removeprefix("e"))
                 pair = [value["inputs"][number - 1] for number in one.get("inputs", ())]
-                kept.append({"edge": numbers.of_edge(edge), "text": one["text"], "state": one["state"], "pair": pair})
+                kept.append({"edge": numbers.of_edge(edge), "text": one["text"], "answer": one["answer"], "pair": pair})
         place.keep("mcdc.json", kept)
 
 

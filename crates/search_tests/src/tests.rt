@@ -105,7 +105,7 @@ fn one_decision(rt: HostRuntime) {
 // The variable that is decided first where both are open and no clause says more.
 fn first_decided(rt: &impl Abort, alloc: Global, first: FirstVariables) -> usize {
     let formula = formula_of(rt, alloc, 2, &[&[1, 2]]);
-    assert!(rt; is_over_variables(&formula));
+    assert!(rt; is_over_variables(&formula) && formula.variables <= 1 << 30);
     let found = search_in_order(alloc, &formula, 1, first).expect(rt, "no memory");
     let Found::Spent(history) = found else {
         return 0;
