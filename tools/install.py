@@ -15,7 +15,20 @@ from tools import manual, program
 from tools.campaign import has_parallel
 from tools.program import ROOT, Failure
 
-NAMES = ("inputs", "explain", "lcov", "harness", "campaign", "page", "mcdc", "order", "adapt", "driver", "project")
+NAMES = (
+    "inputs",
+    "explain",
+    "lcov",
+    "harness",
+    "campaign",
+    "page",
+    "mcdc",
+    "order",
+    "rte",
+    "adapt",
+    "driver",
+    "project",
+)
 # what fshell --help and fshell --explain answer from, beside the documents
 ANSWERED_FROM = ("bin/help.awk", "bin/refusal.awk", "crates/fq_core/specs/Code.antt", "README.md")
 PROGRAM = """#!/bin/sh

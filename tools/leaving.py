@@ -124,7 +124,21 @@ def asked(
     the query refutes over runs with these ends is unreachable, unless C leaves an order of evaluation open that matters.
     Where the query isn't known it is None."""
     words = ["bounds", entry, *sources, *options_of(bounds), "--budget", str(budget)]
-    said = program.answer(words, place).strip()
+    return of_answer(program.answer(words, place).strip(), graph, entry, sources, bounds, place, query=query, ends=ends)
+
+
+def of_answer(
+    said: str,
+    graph: Graph,
+    entry: str,
+    sources: Sequence[str],
+    bounds: dict[str, int],
+    place: str | None = None,
+    *,
+    query: str | None,
+    ends: str,
+) -> Left:
+    """What the line of `bounds` or of `prove-bounds` says."""
     if not said.startswith("bounds left "):
         if not said.startswith("bounds suffice"):
             return Left(Limits())

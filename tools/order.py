@@ -67,12 +67,17 @@ def classes(query: str | None = "", ends: str = "returned", watch: Iterable[str]
     )
 
 
+def deep() -> None:
+    """Lets the reading of deeply nested sources recur."""
+    sys.setrecursionlimit(max(DEEPEST, sys.getrecursionlimit()))
+
+
 def unit_of(sources: Sequence[str], folder: str | None = None) -> tuple[Unit, list[order_tokens.Word]]:
     """The unit of sources that the program accepts, and its tokens."""
     program.check_names(sources)
     program.answer(["graph", *sources], folder)
     words = order_tokens.of_sources(sources, folder or ".")
-    sys.setrecursionlimit(max(DEEPEST, sys.getrecursionlimit()))
+    deep()
     try:
         return order_items.unit_of(words), words
     except (ValueError, IndexError) as fault:

@@ -16,7 +16,7 @@ class Items(Expressions):
         at = self.at
         made = Variable(at, self.word(), kind)
         if self.take("["):
-            made.length = self.expression()
+            made.length = self.constant()
             self.need("]")
         if self.take("="):
             if self.take("{"):
@@ -24,6 +24,12 @@ class Items(Expressions):
             else:
                 made.value = self.expression()
         return made
+
+    def constant(self) -> Expression:
+        """A constant expression, which is computed before all runs."""
+        at, found = self.at, self.expression()
+        self.note("constant", at, at)
+        return found
 
     def declarators(self, kind: Kind) -> list[Variable]:
         found = [self.declarator(kind)]
@@ -39,29 +45,43 @@ class Items(Expressions):
         at = self.at
         while self.take("const"):
             pass
-        return Parts(at, [*self.declarators(self.kind())])
+        made = Parts(at, [*self.declarators(self.kind())])
+        self.note("statement", at, at)
+        return made
 
     def simple(self) -> Statement:
         """An assignment, a step or a call."""
+        at, made = self.at, self.assignment()
+        self.note("statement", at, at)
+        return made
+
+    def assignment(self) -> Assign | Call:
         at, before = self.at, ""
         if self.text in ("++", "--"):
             before, self.at = self.text, self.at + 1
         name_at, name = self.at, self.word()
         if not before and self.take("("):
-            self.calls.add(name)
-            return Call(at, name, self.list_to(")", self.expression))
-        target, behind = self.target(name_at, name), before or self.text
+            return self.call(at, name)
+        target, behind, mark = self.target(name_at, name), before or self.text, self.at
         self.at += not before
         if behind in ("++", "--"):
             return Assign(at, target, behind[0], None)
         if behind[-1:] != "=":
             raise ValueError("an assignment is missing")
-        return Assign(at, target, behind[:-1], self.expression())
+        made = Assign(at, target, behind[:-1], self.expression())
+        self.note(behind[:-1], at, mark)
+        return made
 
     def in_brackets(self) -> Expression:
         self.need("(")
-        found = self.expression()
+        found = self.tested()
         self.need(")")
+        return found
+
+    def tested(self) -> Expression:
+        """What an `if`, a loop, a `switch`, an assert or an assume asks."""
+        at, found = self.at, self.expression()
+        self.note("test", at, at)
         return found
 
     def block(self) -> Parts:
@@ -77,6 +97,11 @@ class Items(Expressions):
         return Parts(self.at, [self.statement()], opens=True)
 
     def statement(self) -> Statement:
+        at, made = self.at, self.any_statement()
+        self.note("statement", at, at)
+        return made
+
+    def any_statement(self) -> Statement:
         at = self.at
         if self.text == "{":
             return self.block()
@@ -91,7 +116,7 @@ class Items(Expressions):
             made: Statement = Check(at, word, self.in_brackets())
         elif self.take("case", "default"):  # (the group's statements follow it)
             if self.text != ":":
-                self.expression()
+                self.constant()
             self.need(":")
             return Parts(at, [])
         elif self.texts[at + 1] == ":":
@@ -135,7 +160,7 @@ class Items(Expressions):
         else:
             first = None if self.text == ";" else self.simple()
             self.need(";")
-        condition = None if self.text == ";" else self.expression()
+        condition = None if self.text == ";" else self.tested()
         self.need(";")
         step = None if self.text == ")" else self.simple()
         self.need(")")
@@ -147,7 +172,7 @@ class Items(Expressions):
         kind, at = self.kind(), self.at
         made = Variable(at, "" if self.text in (",", ")", "[") else self.word(), kind)
         if self.take("["):
-            made.length = self.expression()
+            made.length = self.constant()
             self.need("]")
         return made
 

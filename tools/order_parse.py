@@ -37,6 +37,11 @@ class Expressions:
     def text(self) -> str:
         return self.texts[self.at]
 
+    def note(self, form: str, first: int, mark: int) -> None:
+        """Is told of each form that was just read, with the numbers of its first token and of its mark: operators, `[`, `call`,
+        `condition`, `branch` of a `?:`, `statement` and `constant`. Who wants them overrides it (tools/rte_items.py).
+        """
+
     def take(self, *texts: str) -> bool:
         """Goes behind the next token where it is one of these."""
         found = self.text in texts
@@ -77,12 +82,18 @@ class Expressions:
         return Kind(next((WIDTHS[word] for word in words if word in WIDTHS), 32), "unsigned" not in words)
 
     def expression(self) -> Expression:
-        at = self.at
+        at = start = self.at
         parts = [self.either()]
-        while self.take("?"):
+        while self.text == "?":
+            self.note("condition", start, start)
+            start = self.at = self.at + 1
             parts.append(self.expression())
+            self.note("branch", start, start)
             self.need(":")
+            start = self.at
             parts.append(self.either())
+        if len(parts) > 1:
+            self.note("branch", start, start)
         return Ordered(at, "?:", parts) if len(parts) > 1 else parts[0]
 
     def either(self) -> Expression:
@@ -90,8 +101,12 @@ class Expressions:
 
     def ordered(self, operator: str, read: Callable[[], Expression]) -> Expression:
         at, parts = self.at, [read()]
-        while self.take(operator):
+        while self.text == operator:
+            if len(parts) == 1:
+                self.note("condition", at, at)
+            start = self.at = self.at + 1
             parts.append(read())
+            self.note("condition", start, start)
         return Ordered(at, operator, parts) if len(parts) > 1 else parts[0]
 
     def level(self, level: int) -> Expression:
@@ -101,9 +116,10 @@ class Expressions:
         at, first = self.at, self.level(level + 1)
         rest: list[tuple[str, Expression]] = []
         while self.text in LEVELS[level]:
-            operator = self.text
+            operator, mark = self.text, self.at
             self.at += 1
             rest.append((operator, self.level(level + 1)))
+            self.note(operator, at, mark)
         return Chain(at, first, rest) if rest else first
 
     def signed(self) -> Expression:
@@ -133,14 +149,22 @@ class Expressions:
             return Number(at, number(self.texts[at]))
         name = self.word()
         if self.take("("):
-            self.calls.add(name)
-            return Call(at, name, self.list_to(")", self.expression))
+            return self.call(at, name)
         return self.target(at, name)
+
+    def call(self, at: int, name: str) -> Call:
+        """A call, behind its name and the mark."""
+        self.calls.add(name)
+        made = Call(at, name, self.list_to(")", self.expression))
+        self.note("call", at, at)
+        return made
 
     def target(self, at: int, name: str) -> Name | Element:
         """A variable or an element, behind its name."""
+        mark = self.at
         if not self.take("["):
             return Name(at, name)
         index = self.expression()
         self.need("]")
+        self.note("[", at, mark)
         return Element(at, name, index)

@@ -1,0 +1,126 @@
+"""The rows of bin/rte: what is said of each operation that can end a run wrongly."""
+
+import enum
+from collections import Counter
+from dataclasses import dataclass, field
+
+from tools.graph import Graph
+from tools.reports import Input
+from tools.rte_items import CAUSES, Operation
+from tools.rte_search import Failed, Known
+from tools.verdicts import Limits
+
+
+class Verdict(enum.StrEnum):
+    """What is said of an operation."""
+
+    NEVER = "never"
+    WITHIN = "never within the bounds"
+    FAILS = "fails"
+    NOT_REACHED = "not reached"
+    OPEN = "open"
+
+
+@dataclass(frozen=True)
+class Row:
+    """An operation, or several that can't be told apart, and what is said of them."""
+
+    place: str
+    what: str
+    verdict: Verdict
+    why: str = ""
+    input: Input | None = None
+    end: str = ""
+    operations: tuple[Operation, ...] = ()
+    goals: tuple[int, ...] = field(default=())
+
+    def line(self) -> str:
+        why = f": {self.why}" if self.why else ""
+        return f"{self.place}: {self.verdict}: {self.what}{why}"
+
+    def value(self) -> dict[str, object]:
+        """As JSON."""
+        value: dict[str, object] = {"place": self.place, "what": self.what, "verdict": self.verdict}
+        value["operations"] = [{"kind": one.kind, "place": one.place, "text": one.text} for one in self.operations]
+        value["goals"] = list(self.goals)
+        if self.why:
+            value["why"] = self.why
+        if self.input:
+            value |= {"end": self.end, "input": {"args": list(self.input.args), "answers": list(self.input.answers)}}
+        return value
+
+
+class Rows:
+    """Makes the rows of what is known. `unreached` are the nodes that no run comes to."""
+
+    def __init__(self, graph: Graph, operations: list[Operation], known: Known, limits: Limits) -> None:
+        self.graph, self.operations, self.known, self.limits = graph, operations, known, limits
+        self.unreached: set[int] = set()
+
+    def goals(self, nodes: frozenset[int]) -> tuple[int, ...]:
+        return tuple(sorted(self.known.goals[node] for node in nodes if node in self.known.goals))
+
+    def all_never(self) -> set[int]:
+        """The nodes of operations all of whose nodes are refuted."""
+        return {node for one in self.operations if one.nodes <= self.known.refuted for node in one.nodes}
+
+    def failing(self, node: int, failed: Failed) -> Row:
+        """The row of a node where a run ends: the operations there that can end it so."""
+        there = [one for one in self.operations if node in one.nodes]
+        those = tuple(one for one in there if one.kind in CAUSES.get(failed.end, ())) or tuple(there)
+        told = ", ".join(one.told if number == 0 else f"{one.told} ({one.place})" for number, one in enumerate(those))
+        what = f"one of {told}" if len(those) > 1 else told or "a step without an operation that is known"
+        why = f"{failed.end} by the input {failed.input.line()}"
+        place = those[0].place if those else self.graph.nodes[node].place
+        return Row(place, what, Verdict.FAILS, why, failed.input, failed.end, those, (self.known.goals[node],))
+
+    def single(self, one: Operation) -> Row:
+        """The row of an operation that stands in none of those that fail."""
+        verdict, why = self.said(one)
+        return Row(one.place, one.told, verdict, why, operations=(one,), goals=self.goals(one.nodes))
+
+    def said(self, one: Operation) -> tuple[Verdict, str]:
+        """The verdict of an operation of which no failure is known, and why."""
+        failing = sorted(one.nodes & set(self.known.failed))
+        if failing:
+            return Verdict.OPEN, "another operation of the same step fails"
+        left = sorted(one.nodes - self.known.refuted)
+        if left or not one.nodes:
+            return (
+                Verdict.OPEN,
+                self.known.open.get(left[0], "its node has no goal") if left else "its node isn't known",
+            )
+        if self.limits.restriction and self.limits.suffice:
+            return Verdict.WITHIN, self.limits.restriction
+        if not self.limits.make_unreachable:
+            return Verdict.WITHIN, ""
+        return (Verdict.NOT_REACHED if one.nodes <= self.unreached else Verdict.NEVER), ""
+
+    def nameless(self) -> list[Row]:
+        """A row for each node that is left open though no operation is known there."""
+        named = {node for one in self.operations for node in one.nodes}
+        return [
+            Row(self.graph.nodes[node].place, "a step without an operation that is known", Verdict.OPEN, why,
+                goals=(self.known.goals[node],))
+            for node, why in self.known.open.items() if node not in named
+        ]  # fmt: skip
+
+    def rows(self) -> list[Row]:
+        """All rows, in the order of the sources."""
+        failing = [self.failing(node, failed) for node, failed in self.known.failed.items()]
+        told = {one for row in failing for one in row.operations}
+        made = failing + [self.single(one) for one in self.operations if one not in told] + self.nameless()
+        order = {one.place: number for number, one in enumerate(self.operations)}
+        return sorted(made, key=lambda row: order.get(row.place, len(order)))
+
+
+def tally(rows: list[Row]) -> str:
+    """How many rows have which verdict."""
+    counts = Counter(row.verdict for row in rows)
+    told = [f"{counts[one]} {one}" for one in Verdict if counts[one]]
+    return f"rows {len(rows)}" + (f": {', '.join(told)}" if told else "")
+
+
+def is_clean(rows: list[Row], limits: Limits) -> bool:
+    """Whether it is shown that no run at all ends wrongly."""
+    return limits.make_unreachable and all(row.verdict is Verdict.NEVER for row in rows)
