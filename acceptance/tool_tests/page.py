@@ -129,4 +129,43 @@ def a_campaign_is_shown_as_it_says(folder):
     yield run(folder, shlex.split(command)).stdout == "goal 3 refuted turns 4 frames 8 answers 16\n"
 
 
-TRIED = [(PAGE, what_isnt_known_isnt_said), ((*PAGE, "parallel"), a_campaign_is_shown_as_it_says), (PAGE, page_has_each_goal), (PAGE, each_report_has_its_query), (PAGE, several_reports_are_one_page), (BROWSER, a_browser_shows_clicked_goals)]
+def the_list_says_what_goals_ask_for(folder):
+    """A guard is its line, its condition and its outcome; the functions come before the sources, each with its own counts."""
+    text, _ = made(folder, {"never.c": NEVER, "made": MADE}, "--entry", "f")
+    data = json.loads(re.search(r'id="data">(.*?)</script>', text, re.DOTALL)[1])
+    labels = [data["labels"][goal["l"][0]] for goal in data["goals"]]
+    yield labels == ["2 x > 10: true", "2 x > 10: false", "2 x < 5: true", "2 x < 5: false"]
+    yield {goal["f"] for goal in data["goals"]} == {"f"}
+    yield 'aria-label="3 covered, 1 unreachable"' in text and ">100%<" in text
+    yield text.index('<a href="#l0:1">f</a>') < text.index('id="l0:1"')
+    yield 'id="l0:2" data-state="covered"' in text and 'id="l0:1">' in text
+
+
+def brightness(colour):
+    """The relative luminance of a colour `#rrggbb`, as WCAG 2.1 defines it."""
+    parts = [int(colour[at:at + 2], 16) / 255 for at in (1, 3, 5)]
+    red, green, blue = [part / 12.92 if part <= 0.03928 else ((part + 0.055) / 1.055) ** 2.4 for part in parts]
+    return 0.2126 * red + 0.7152 * green + 0.0722 * blue
+
+
+def contrast(one, other):
+    """The contrast of two colours, as WCAG 2.1 defines it."""
+    low, high = sorted((brightness(one), brightness(other)))
+    return (high + 0.05) / (low + 0.05)
+
+
+def colours_have_contrast(folder):
+    """Texts have 4.5 to 1 on what they stand on, in both themes (WCAG 2.1, 1.4.3), and edges of marks 3 to 1."""
+    text, _ = made(folder, {"never.c": NEVER, "made": MADE})
+    themes = [dict(re.findall(r"--([a-z]+): (#[0-9a-f]{6});", rest)) for rest in re.findall(r"color-scheme: (?:light|dark);(.*?)}", text, re.DOTALL)]
+    yield len(themes) == 3 and themes[1] == themes[2] and themes[0] != themes[1]
+    for theme in themes[:2]:
+        for verdict in ("covered", "missed", "undecided", "refuted", "unreachable"):
+            yield contrast(theme[verdict], theme["on"]) >= 4.5
+            yield contrast(theme[verdict], theme["ground"]) >= 3
+        for ground in ("ground", "panel", "hover", "path"):
+            yield contrast(theme["text"], theme[ground]) >= 4.5 and contrast(theme["quiet"], theme[ground]) >= 4.5
+        yield contrast(theme["link"], theme["ground"]) >= 4.5 and contrast(theme["link"], theme["panel"]) >= 4.5
+
+
+TRIED = [(PAGE, the_list_says_what_goals_ask_for), (PAGE, colours_have_contrast), (PAGE, what_isnt_known_isnt_said), ((*PAGE, "parallel"), a_campaign_is_shown_as_it_says), (PAGE, page_has_each_goal), (PAGE, each_report_has_its_query), (PAGE, several_reports_are_one_page), (BROWSER, a_browser_shows_clicked_goals)]
