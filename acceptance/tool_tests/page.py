@@ -96,6 +96,50 @@ def a_browser_shows_clicked_goals(folder):
     yield shown[shown.index('<div id="list">'):].count("<div><span") == 1 and '<body class="no-covered">' in shown
 
 
+# 123 conditions, three of them at the place of one macro; the input 0 takes the first one's false outcome and that of each `==`
+MANY = "#define ALL x > 1 && x > 2 && x > 3\nint f(int x) {\n  int n = 0;\n  if (ALL) {\n    n++;\n  }\n" + "".join(
+    f"  if (x == {at}) {{\n    n++;\n  }}\n" for at in range(10, 130)) + "  return n;\n}\n"
+CLICKS = """{
+const seen = {}, one = id => document.getElementById(id), rows = () => [...one("list").children], row = at => rows()[at].textContent;
+const press = (key, target) => (target || document.body).dispatchEvent(new KeyboardEvent("keydown", {key, bubbles: true}));
+const choose = (id, value) => { one(id).value = value; one(id).dispatchEvent(new Event(id === "search" ? "input" : "change")); };
+seen.pages = [one("which").textContent, one("before").disabled];
+one("after").click(); seen.pages.push(one("which").textContent, row(0), one("after").disabled);
+one("before").click(); seen.pages.push(one("which").textContent);
+choose("search", "TRUE 42:"); seen.search = rows().map(one => one.textContent);
+choose("search", "no such"); seen.none = [one("which").textContent, rows().length];
+choose("search", "");
+choose("sort", "verdict"); seen.sorted = [row(0), data.goals[kept.at(-1)].v]; choose("sort", "number");
+one("open").click(); seen.open = [location.hash, document.querySelectorAll("#list .chosen").length];
+one("open").click(); seen.open.push(location.hash);
+press("p"); seen.open.push(location.hash);
+document.querySelector("button.several").click();
+seen.several = [document.querySelector("button.several").textContent, document.querySelectorAll("#together a").length, rows().length, location.hash];
+rows()[0].lastChild.focus(); press("ArrowDown", document.activeElement); seen.focus = document.activeElement.getAttribute("href");
+one("theme").click(); one("theme").click();
+seen.dark = [document.documentElement.dataset.theme, getComputedStyle(document.body).backgroundColor];
+document.querySelector("details.file").open = false;
+one("list").querySelector("a[href='#goal-7']").click(); seen.unfolds = [document.querySelector("details.file").open, location.hash];
+location.hash = "#goal-9";
+addEventListener("hashchange", () => { seen.sent = document.querySelector("#goal h1").textContent; document.title = JSON.stringify(seen); });
+}"""
+
+
+def each_control_does_what_it_says(folder):
+    """Search, order, pages, the next open goal, a mark of several goals, keys, colours, folding and links that are sent."""
+    put(folder, {"f.c": MANY, "in": "0\n"})
+    put(folder, {"made": run(folder, ["fshell", "measure", "f", QUERY, "in", "f.c"]).stdout})
+    yield run(folder, ["page", "made", "-o", "page.html", "--source", "f.c", "--entry", "f", "--inputs", "in"]).returncode == 0
+    shown = browsed(folder, CLICKS, ("--dump-dom", "--virtual-time-budget=3000"))
+    seen = json.loads(html.unescape(re.search("<title>(.*?)</title>", shown)[1]))
+    yield seen["pages"] == ["1 to 200 of 246", True, "201 to 246 of 246", "201298 x == 107: true", True, "1 to 200 of 246"]
+    yield seen["search"] == ["71103 x == 42: true"] and seen["none"] == ["none of 246", 0]
+    yield seen["sorted"][1] == "covered" and seen["sorted"][0].startswith("1")
+    yield seen["open"] == ["#goal-1", 1, "#goal-3", "#goal-1"]
+    yield seen["several"] == ["1/6", 6, 200, "#goal-1"] and seen["focus"] == "#goal-2"
+    yield seen["dark"] == ["dark", "rgb(13, 17, 23)"] and seen["unfolds"] == [True, "#goal-7"] and seen["sent"].startswith("goal 9 ")
+
+
 def several_reports_are_one_page(folder):
     put(folder, {"by_hand": MEASURED, "in": "0\n"})
     text, said = made(folder, {"never.c": NEVER, "made": MADE}, "by_hand", "--entry", "f", "--inputs", "in")
@@ -168,4 +212,4 @@ def colours_have_contrast(folder):
         yield contrast(theme["link"], theme["ground"]) >= 4.5 and contrast(theme["link"], theme["panel"]) >= 4.5
 
 
-TRIED = [(PAGE, the_list_says_what_goals_ask_for), (PAGE, colours_have_contrast), (PAGE, what_isnt_known_isnt_said), ((*PAGE, "parallel"), a_campaign_is_shown_as_it_says), (PAGE, page_has_each_goal), (PAGE, each_report_has_its_query), (PAGE, several_reports_are_one_page), (BROWSER, a_browser_shows_clicked_goals)]
+TRIED = [(PAGE, the_list_says_what_goals_ask_for), (PAGE, colours_have_contrast), (PAGE, what_isnt_known_isnt_said), ((*PAGE, "parallel"), a_campaign_is_shown_as_it_says), (PAGE, page_has_each_goal), (PAGE, each_report_has_its_query), (PAGE, several_reports_are_one_page), (BROWSER, a_browser_shows_clicked_goals), (BROWSER, each_control_does_what_it_says)]
