@@ -15,7 +15,7 @@ import subprocess
 from collections import Counter
 
 from tools import graph as graphs
-from tools import program, verdicts
+from tools import page_tabs, program, verdicts
 from tools.graph import Edge
 from tools.page_data import Page, folded, worst
 from tools.program import Failure
@@ -38,6 +38,7 @@ SIGNS = {
     Verdict.REFUTED: "⊘",
     Verdict.UNREACHABLE: "∅",
 }
+TABS = {"mcdc": "MC/DC", "requirements": "Requirements"}
 # the order of a bar's parts
 BARS = (Verdict.COVERED, Verdict.UNREACHABLE, Verdict.REFUTED, Verdict.UNDECIDED, Verdict.MISSED)
 
@@ -84,9 +85,14 @@ def page_text(page: Page) -> str:
     )
     tally = verdicts.tally(goal["t"] for goal in page.goals)
     used = [function for function in page.functions if function != "(no place)"]
+    tables = {"mcdc": page_tabs.decisions(page), "requirements": page_tabs.requirements(page)}
+    errors = page_tabs.errors(page)
+    shown_tabs = {"sources": "Sources"} | {name: TABS[name] for name, rows in tables.items() if rows}
+    shown_tabs |= {"errors": f"Run-time errors ({len(errors)})"} if errors is not None else {}
     return template.render(
         page=page, verdicts=BARS, signs=SIGNS, tally=tally, kinds=sorted({goal["k"] for goal in page.goals}), folded=folded,
         worst=worst, pictures={function: picture(page, function) for function in used}, data=page.data(),
+        tabs=shown_tabs, decisions=tables["mcdc"], requirements=tables["requirements"], errors=errors,
     )  # fmt: skip
 
 

@@ -140,6 +140,60 @@ def each_control_does_what_it_says(folder):
     yield seen["dark"] == ["dark", "rgb(13, 17, 23)"] and seen["unfolds"] == [True, "#goal-7"] and seen["sent"].startswith("goal 9 ")
 
 
+FEE_INPUTS = '[{"args": [1, 2, 3], "answers": [], "req": "TP-1"}, {"args": [2000, 30, 1], "answers": [], "requirements": ["<b>", "TP-1"]}]'
+
+
+def made_of_fee(folder, *more):
+    """The text of a page of two inputs of fee.c; the second one costs (9 + 30) * 2, which the assert on line 20 forbids."""
+    put(folder, {"fee.c": example("criteria/fee.c"), "in": FEE_INPUTS})
+    put(folder, {"made": run(folder, ["fshell", "measure", "fee", QUERY, "in", "fee.c"]).stdout})
+    put(folder, {"mcdc.json": run(folder, ["mcdc", "fee", "fee.c", "--json"]).stdout})
+    run(folder, ["page", "made", *more, "-o", "page.html", "--source", "fee.c", "--entry", "fee", "--inputs", "in"])
+    with open(os.path.join(folder, "page.html"), encoding="utf-8") as file:
+        return file.read()
+
+
+def cells(text):
+    """The texts of a table's rows, cell by cell, without marks."""
+    rows = [re.findall("<t[hd].*?</t[hd]>", row, re.DOTALL) for row in re.findall("<tr>.*?</tr>", text, re.DOTALL)]
+    return [[" ".join(html.unescape(re.sub("<.*?>", " ", cell)).split()) for cell in row] for row in rows]
+
+
+def tabs_are_there_where_the_data_has_them(folder):
+    text = made_of_fee(folder)
+    needs = cells(text[text.index('id="requirements"'):text.index('id="errors"')])
+    # `<b>` is of an input whose run doesn't count
+    yield needs[1] == ["<b>", "input 2: args 2000 30 1", "none"]
+    yield needs[2] == ["TP-1", "input 1: args 1 2 3 input 2: args 2000 30 1", "2 4 6 7 8 9"]
+    ends = cells(text[text.index('id="errors"'):text.index("<aside>")])
+    yield ends[1] == ['made, input 2: args 2000 30 1 {"requirements": ["<b>", "TP-1"]}', "trapped assert", "fee.c:20:3 fee: assert(sum <= 40)"]
+    yield len(ends) == 2 and 'id="mcdc"' not in text and "<b>" not in text
+    text = made_of_fee(folder, "mcdc.json")
+    table = cells(text[text.index("fee.c:10:7 fee"):])
+    yield table[0] == ["grams <= 0", "days < 0", "outcome", "taken by"]
+    yield sorted(row[:3] for row in table[1:4]) == [["F", "F", "false"], ["F", "T", "true"], ["T", "-", "true"]]
+    yield made(folder, {"never.c": NEVER, "made": MADE})[0].count('role="tab') == 1
+
+
+TABS = """{
+const seen = [], one = id => document.getElementById(id), hidden = () => ["sources", "mcdc", "errors"].map(id => one(id).hidden);
+seen.push(hidden());
+one("tab-mcdc").click(); seen.push(hidden(), one("tab-mcdc").getAttribute("aria-selected"));
+one("tab-mcdc").dispatchEvent(new KeyboardEvent("keydown", {key: "ArrowLeft"})); seen.push(hidden());
+one("tab-errors").click();
+document.querySelector("#mcdc th a").click();
+addEventListener("hashchange", () => { seen.push(hidden(), document.querySelector("#goal h1").textContent); document.title = JSON.stringify(seen); });
+}"""
+
+
+def tabs_are_chosen_by_click_and_key(folder):
+    made_of_fee(folder, "mcdc.json")
+    shown = browsed(folder, TABS, ("--dump-dom", "--virtual-time-budget=3000"))
+    seen = json.loads(html.unescape(re.search("<title>(.*?)</title>", shown)[1]))
+    first = [False, True, True]
+    yield seen == [first, [True, False, True], "true", first, first, "goal 1 covered"]
+
+
 def several_reports_are_one_page(folder):
     put(folder, {"by_hand": MEASURED, "in": "0\n"})
     text, said = made(folder, {"never.c": NEVER, "made": MADE}, "by_hand", "--entry", "f", "--inputs", "in")
@@ -212,4 +266,4 @@ def colours_have_contrast(folder):
         yield contrast(theme["link"], theme["ground"]) >= 4.5 and contrast(theme["link"], theme["panel"]) >= 4.5
 
 
-TRIED = [(PAGE, the_list_says_what_goals_ask_for), (PAGE, colours_have_contrast), (PAGE, what_isnt_known_isnt_said), ((*PAGE, "parallel"), a_campaign_is_shown_as_it_says), (PAGE, page_has_each_goal), (PAGE, each_report_has_its_query), (PAGE, several_reports_are_one_page), (BROWSER, a_browser_shows_clicked_goals), (BROWSER, each_control_does_what_it_says)]
+TRIED = [(PAGE, the_list_says_what_goals_ask_for), (PAGE, colours_have_contrast), (PAGE, what_isnt_known_isnt_said), ((*PAGE, "parallel"), a_campaign_is_shown_as_it_says), (PAGE, page_has_each_goal), (PAGE, each_report_has_its_query), (PAGE, several_reports_are_one_page), (BROWSER, a_browser_shows_clicked_goals), (BROWSER, each_control_does_what_it_says), (PAGE, tabs_are_there_where_the_data_has_them), (BROWSER, tabs_are_chosen_by_click_and_key)]
