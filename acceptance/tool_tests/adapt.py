@@ -2,8 +2,8 @@
 each row of docs/ADAPT.md; the command itself; and the modules of examples/modules, all the way.
 
 A case of a table begins with `== NAME`, behind which words for adapt may stand after a `|`. Its source follows, or several, each
-behind `-- file NAME`; then `-- becomes [NAME]` with what is written, or `-- refused` with the lines that are told. What is
-written must be accepted by the program; acceptance/with_gcc/adapted_programs also compares its runs with those of the original.
+behind `-- file NAME`; then `-- becomes [NAME]` with what is written, `-- refused` with the lines that are told, or `-- agrees`, where what is written
+isn't looked at, but runs as the original on 12 random inputs under gcc. What is written must be accepted by the program; acceptance/with_gcc/adapted_programs also compares its runs with those of the original.
 """
 
 import contextlib
@@ -30,11 +30,10 @@ CASES = [
     Case("adapt: a source that isn't there", ["adapt", "none.c"], {}, 2, FIRST, "adapt: none.c can't be read\n", needs=NEEDS),
     Case("adapt: the original itself", ["adapt", "a.c", "-o", "."], SOURCE, 2, FIRST,
          "adapt: ./a.c is the original itself; name another folder (-o)\n", needs=NEEDS),
-    Case("adapt: all refusals at once, and nothing is written", ["adapt", "a.c"], {"a.c": "float f;\nint g(int x) {\n  int *p = &x;\n  return *p;\n}\n"},
+    Case("adapt: all refusals at once, and nothing is written", ["adapt", "a.c"], {"a.c": "float f;\nint g(int x) {\n  double p = x;\n  return 0;\n}\n"},
          3, FIRST, "a.c:1: f: a floating point number; use integers in fixed point\n"
-         "a.c:3: p: a pointer; name the object itself, or hand its address over as a parameter\n"
-         "a.c:4: the pointer p; name the object itself, or hand its address over as a parameter that is only dereferenced\n"
-         "3 refused, nothing is written\n", needs=NEEDS),
+         "a.c:3: p: a floating point number; use integers in fixed point\n"
+         "2 refused, nothing is written\n", needs=NEEDS),
     Case("adapt: runs that are compared", ["adapt", "a.c", "-o", "new", "--compare", "3"], SOURCE, 0,
          FIRST + "wrote new/a.c\ncompared 3 runs, 0 differ\n", "", None, NEEDS),
     Case("adapt: sources without code", ["adapt", "a.c", "b.c", "-o", "new"], {"a.c": "/* nothing */\n", "b.c": ""}, 0,
@@ -119,7 +118,7 @@ def cases(text):
     for part in re.split(r"^== ", text, flags=re.MULTILINE)[1:]:
         head, rest = part.split("\n", 1)
         name, _, words = head.partition(" | ")
-        pieces = re.split(r"^-- (file|becomes|refused) ?(\S*)\n", rest, flags=re.MULTILINE)
+        pieces = re.split(r"^-- (file|becomes|refused|agrees) ?(\S*)\n", rest, flags=re.MULTILINE)
         files = {"a.c": pieces[0]} if pieces[0].strip() else {}
         expected = {}
         for kind, file, body in zip(pieces[1::3], pieces[2::3], pieces[3::3]):
@@ -166,7 +165,9 @@ def table(path, folder, runs=0):
         os.makedirs(own)
         os.chdir(own)
         try:
-            made = outcome(words, files, own, runs)
+            made = outcome(words, files, own, 12 if "agrees" in expected else runs)
+            if "agrees" in expected and "refused" not in made:
+                made = {**{kind: text for kind, text in made.items() if kind not in files}, "agrees": "\n"}
         finally:
             os.chdir(here)
         if made != expected:

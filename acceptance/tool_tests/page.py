@@ -96,6 +96,104 @@ def a_browser_shows_clicked_goals(folder):
     yield shown[shown.index('<div id="list">'):].count("<div><span") == 1 and '<body class="no-covered">' in shown
 
 
+# 123 conditions, three of them at the place of one macro; the input 0 takes the first one's false outcome and that of each `==`
+MANY = "#define ALL x > 1 && x > 2 && x > 3\nint f(int x) {\n  int n = 0;\n  if (ALL) {\n    n++;\n  }\n" + "".join(
+    f"  if (x == {at}) {{\n    n++;\n  }}\n" for at in range(10, 130)) + "  return n;\n}\n"
+CLICKS = """{
+const seen = {}, one = id => document.getElementById(id), rows = () => [...one("list").children], row = at => rows()[at].textContent;
+const press = (key, target) => (target || document.body).dispatchEvent(new KeyboardEvent("keydown", {key, bubbles: true}));
+const choose = (id, value) => { one(id).value = value; one(id).dispatchEvent(new Event(id === "search" ? "input" : "change")); };
+seen.pages = [one("which").textContent, one("before").disabled];
+one("after").click(); seen.pages.push(one("which").textContent, row(0), one("after").disabled);
+one("before").click(); seen.pages.push(one("which").textContent);
+choose("search", "TRUE 42:"); seen.search = rows().map(one => one.textContent);
+choose("search", "no such"); seen.none = [one("which").textContent, rows().length];
+choose("search", "");
+choose("sort", "verdict"); seen.sorted = [row(0), data.goals[kept.at(-1)].v]; choose("sort", "number");
+one("open").click(); seen.open = [location.hash, document.querySelectorAll("#list .chosen").length];
+one("open").click(); seen.open.push(location.hash);
+press("p"); seen.open.push(location.hash);
+document.querySelector("button.several").click();
+seen.several = [document.querySelector("button.several").textContent, document.querySelectorAll("#together a").length, rows().length, location.hash];
+rows()[0].lastChild.focus(); press("ArrowDown", document.activeElement); seen.focus = document.activeElement.getAttribute("href");
+one("theme").click(); one("theme").click();
+seen.dark = [document.documentElement.dataset.theme, getComputedStyle(document.body).backgroundColor];
+document.querySelector("details.file").open = false;
+one("list").querySelector("a[href='#goal-7']").click(); seen.unfolds = [document.querySelector("details.file").open, location.hash];
+location.hash = "#goal-9";
+addEventListener("hashchange", () => { seen.sent = document.querySelector("#goal h1").textContent; document.title = JSON.stringify(seen); });
+}"""
+
+
+def each_control_does_what_it_says(folder):
+    """Search, order, pages, the next open goal, a mark of several goals, keys, colours, folding and links that are sent."""
+    put(folder, {"f.c": MANY, "in": "0\n"})
+    put(folder, {"made": run(folder, ["fshell", "measure", "f", QUERY, "in", "f.c"]).stdout})
+    yield run(folder, ["page", "made", "-o", "page.html", "--source", "f.c", "--entry", "f", "--inputs", "in"]).returncode == 0
+    shown = browsed(folder, CLICKS, ("--dump-dom", "--virtual-time-budget=3000"))
+    seen = json.loads(html.unescape(re.search("<title>(.*?)</title>", shown)[1]))
+    yield seen["pages"] == ["1 to 200 of 246", True, "201 to 246 of 246", "201298 x == 107: true", True, "1 to 200 of 246"]
+    yield seen["search"] == ["71103 x == 42: true"] and seen["none"] == ["none of 246", 0]
+    yield seen["sorted"][1] == "covered" and seen["sorted"][0].startswith("1")
+    yield seen["open"] == ["#goal-1", 1, "#goal-3", "#goal-1"]
+    yield seen["several"] == ["1/6", 6, 200, "#goal-1"] and seen["focus"] == "#goal-2"
+    yield seen["dark"] == ["dark", "rgb(13, 17, 23)"] and seen["unfolds"] == [True, "#goal-7"] and seen["sent"].startswith("goal 9 ")
+
+
+FEE_INPUTS = '[{"args": [1, 2, 3], "answers": [], "req": "TP-1"}, {"args": [2000, 30, 1], "answers": [], "requirements": ["<b>", "TP-1"]}]'
+
+
+def made_of_fee(folder, *more):
+    """The text of a page of two inputs of fee.c; the second one costs (9 + 30) * 2, which the assert on line 20 forbids."""
+    put(folder, {"fee.c": example("criteria/fee.c"), "in": FEE_INPUTS})
+    put(folder, {"made": run(folder, ["fshell", "measure", "fee", QUERY, "in", "fee.c"]).stdout})
+    put(folder, {"mcdc.json": run(folder, ["mcdc", "fee", "fee.c", "--json"]).stdout})
+    run(folder, ["page", "made", *more, "-o", "page.html", "--source", "fee.c", "--entry", "fee", "--inputs", "in"])
+    with open(os.path.join(folder, "page.html"), encoding="utf-8") as file:
+        return file.read()
+
+
+def cells(text):
+    """The texts of a table's rows, cell by cell, without marks."""
+    rows = [re.findall("<t[hd].*?</t[hd]>", row, re.DOTALL) for row in re.findall("<tr>.*?</tr>", text, re.DOTALL)]
+    return [[" ".join(html.unescape(re.sub("<.*?>", " ", cell)).split()) for cell in row] for row in rows]
+
+
+def tabs_are_there_where_the_data_has_them(folder):
+    text = made_of_fee(folder)
+    needs = cells(text[text.index('id="requirements"'):text.index('id="errors"')])
+    # `<b>` is of an input whose run doesn't count
+    yield needs[1] == ["<b>", "input 2: args 2000 30 1", "none"]
+    yield needs[2] == ["TP-1", "input 1: args 1 2 3 input 2: args 2000 30 1", "2 4 6 7 8 9"]
+    ends = cells(text[text.index('id="errors"'):text.index("<aside>")])
+    yield ends[1] == ['made, input 2: args 2000 30 1 {"requirements": ["<b>", "TP-1"]}', "trapped assert", "fee.c:20:3 fee: assert(sum <= 40)"]
+    yield len(ends) == 2 and 'id="mcdc"' not in text and "<b>" not in text
+    text = made_of_fee(folder, "mcdc.json")
+    table = cells(text[text.index("fee.c:10:7 fee"):])
+    yield table[0] == ["grams <= 0", "days < 0", "outcome", "taken by"]
+    yield sorted(row[:3] for row in table[1:4]) == [["F", "F", "false"], ["F", "T", "true"], ["T", "-", "true"]]
+    yield made(folder, {"never.c": NEVER, "made": MADE})[0].count('role="tab') == 1
+
+
+TABS = """{
+const seen = [], one = id => document.getElementById(id), hidden = () => ["sources", "mcdc", "errors"].map(id => one(id).hidden);
+seen.push(hidden());
+one("tab-mcdc").click(); seen.push(hidden(), one("tab-mcdc").getAttribute("aria-selected"));
+one("tab-mcdc").dispatchEvent(new KeyboardEvent("keydown", {key: "ArrowLeft"})); seen.push(hidden());
+one("tab-errors").click();
+document.querySelector("#mcdc th a").click();
+addEventListener("hashchange", () => { seen.push(hidden(), document.querySelector("#goal h1").textContent); document.title = JSON.stringify(seen); });
+}"""
+
+
+def tabs_are_chosen_by_click_and_key(folder):
+    made_of_fee(folder, "mcdc.json")
+    shown = browsed(folder, TABS, ("--dump-dom", "--virtual-time-budget=3000"))
+    seen = json.loads(html.unescape(re.search("<title>(.*?)</title>", shown)[1]))
+    first = [False, True, True]
+    yield seen == [first, [True, False, True], "true", first, first, "goal 1 covered"]
+
+
 def several_reports_are_one_page(folder):
     put(folder, {"by_hand": MEASURED, "in": "0\n"})
     text, said = made(folder, {"never.c": NEVER, "made": MADE}, "by_hand", "--entry", "f", "--inputs", "in")
@@ -129,4 +227,43 @@ def a_campaign_is_shown_as_it_says(folder):
     yield run(folder, shlex.split(command)).stdout == "goal 3 refuted turns 4 frames 8 answers 16\n"
 
 
-TRIED = [(PAGE, what_isnt_known_isnt_said), ((*PAGE, "parallel"), a_campaign_is_shown_as_it_says), (PAGE, page_has_each_goal), (PAGE, each_report_has_its_query), (PAGE, several_reports_are_one_page), (BROWSER, a_browser_shows_clicked_goals)]
+def the_list_says_what_goals_ask_for(folder):
+    """A guard is its line, its condition and its outcome; the functions come before the sources, each with its own counts."""
+    text, _ = made(folder, {"never.c": NEVER, "made": MADE}, "--entry", "f")
+    data = json.loads(re.search(r'id="data">(.*?)</script>', text, re.DOTALL)[1])
+    labels = [data["labels"][goal["l"][0]] for goal in data["goals"]]
+    yield labels == ["2 x > 10: true", "2 x > 10: false", "2 x < 5: true", "2 x < 5: false"]
+    yield {goal["f"] for goal in data["goals"]} == {"f"}
+    yield 'aria-label="3 covered, 1 unreachable"' in text and ">100%<" in text
+    yield text.index('<a href="#l0:1">f</a>') < text.index('id="l0:1"')
+    yield 'id="l0:2" data-state="covered"' in text and 'id="l0:1">' in text
+
+
+def brightness(colour):
+    """The relative luminance of a colour `#rrggbb`, as WCAG 2.1 defines it."""
+    parts = [int(colour[at:at + 2], 16) / 255 for at in (1, 3, 5)]
+    red, green, blue = [part / 12.92 if part <= 0.03928 else ((part + 0.055) / 1.055) ** 2.4 for part in parts]
+    return 0.2126 * red + 0.7152 * green + 0.0722 * blue
+
+
+def contrast(one, other):
+    """The contrast of two colours, as WCAG 2.1 defines it."""
+    low, high = sorted((brightness(one), brightness(other)))
+    return (high + 0.05) / (low + 0.05)
+
+
+def colours_have_contrast(folder):
+    """Texts have 4.5 to 1 on what they stand on, in both themes (WCAG 2.1, 1.4.3), and edges of marks 3 to 1."""
+    text, _ = made(folder, {"never.c": NEVER, "made": MADE})
+    themes = [dict(re.findall(r"--([a-z]+): (#[0-9a-f]{6});", rest)) for rest in re.findall(r"color-scheme: (?:light|dark);(.*?)}", text, re.DOTALL)]
+    yield len(themes) == 3 and themes[1] == themes[2] and themes[0] != themes[1]
+    for theme in themes[:2]:
+        for verdict in ("covered", "missed", "undecided", "refuted", "unreachable"):
+            yield contrast(theme[verdict], theme["on"]) >= 4.5
+            yield contrast(theme[verdict], theme["ground"]) >= 3
+        for ground in ("ground", "panel", "hover", "path"):
+            yield contrast(theme["text"], theme[ground]) >= 4.5 and contrast(theme["quiet"], theme[ground]) >= 4.5
+        yield contrast(theme["link"], theme["ground"]) >= 4.5 and contrast(theme["link"], theme["panel"]) >= 4.5
+
+
+TRIED = [(PAGE, the_list_says_what_goals_ask_for), (PAGE, colours_have_contrast), (PAGE, what_isnt_known_isnt_said), ((*PAGE, "parallel"), a_campaign_is_shown_as_it_says), (PAGE, page_has_each_goal), (PAGE, each_report_has_its_query), (PAGE, several_reports_are_one_page), (BROWSER, a_browser_shows_clicked_goals), (BROWSER, each_control_does_what_it_says), (PAGE, tabs_are_there_where_the_data_has_them), (BROWSER, tabs_are_chosen_by_click_and_key)]

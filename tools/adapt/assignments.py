@@ -9,10 +9,11 @@ from .calls import Calls
 from .constants import LOGICAL
 from .effects import STEPS
 from .jumps import walk
-from .kinds import Int, Struct
+from .kinds import Int, Pointer, Struct
 from .places import Place
 from .refusals import Refused
-from .values import LEVELS, PRIMARY, Value
+from .regions import INDEX
+from .values import LEVELS, PRIMARY, UNARY, Value
 
 
 class Assignments(Calls):
@@ -29,6 +30,8 @@ class Assignments(Calls):
                 node.coord, "a struct is assigned within an expression", "assign it in a statement of its own"
             )
         text, kind = self.assign(node, True)
+        if self.kind_at(self.places.place(node.lvalue)) != kind:
+            return Value(f"({kind.text}) {text}", kind, UNARY)
         return Value(text, kind, PRIMARY, truth=kind.boolean)
 
     def assign(self, node: Any, stable: bool = False) -> tuple[str, Int]:
@@ -40,13 +43,15 @@ class Assignments(Calls):
         self.unsequenced(node, [index, node.rvalue])
         self.not_twice(node, place, node.rvalue)
         kind = place.type
-        twice = kind.boolean and node.op != "="
+        other = self.kind_at(place) != kind and node.op in ("/=", "%=", ">>=")
+        twice = (kind.boolean or other) and node.op != "="
         target, _ = self.leaf(place, stable or twice)
         given = self.value(node.rvalue)
         if twice:
             level = LEVELS[node.op[:-1]]
-            whole = Value(f"{target} {node.op[:-1]} {given.within(level + 1)}", kinds.INT, level)
-            self.emit(f"{target} = {self.truth(whole).text};")
+            own = f"({kind.text}) {target}" if other else target
+            whole = Value(f"{own} {node.op[:-1]} {given.within(level + 1)}", kinds.INT, level)
+            self.emit(f"{target} = {whole.text if other else self.truth(whole).text};")
         else:
             self.emit(f"{target} {node.op} {self.converted(given, kind).text};")
         return target, kind
@@ -75,6 +80,8 @@ class Assignments(Calls):
         step, before = f"{target}{node.op[-2:]};", not node.op.startswith("p")
         if before or id(node) in self.behind:
             self.emit(step) if before else self.after.append(step)
+            if self.kind_at(self.places.place(node.expr)) != kind:
+                return Value(f"({kind.text}) {target}", kind, UNARY)
             return Value(self.at(node) + target, kind, PRIMARY)
         old = self.temporary(kind, target)
         self.emit(step)
@@ -86,10 +93,15 @@ class Assignments(Calls):
             for one in node.exprs:
                 self.effect(one)
         elif isinstance(node, c_ast.Assignment):
-            if isinstance(self.constants.type_of(node.lvalue), Struct):
+            if isinstance(self.constants.type_of(node.lvalue), Pointer):
+                self.plain_effect(node, lambda: self.assign_pointer(node))
+            elif isinstance(self.constants.type_of(node.lvalue), Struct):
                 self.assign_whole(self.places.place(node.lvalue), node.rvalue, node)
             else:
                 self.plain_effect(node, lambda: self.assign(node))
+        elif isinstance(node, c_ast.UnaryOp) and node.op in STEPS and self.is_pointer(node.expr):
+            place = self.places.place(node.expr)
+            self.emit(self.step_text(node, self.parts_at(place, self.index(place, False))[INDEX].text))
         elif isinstance(node, c_ast.UnaryOp) and node.op in STEPS:
             self.emit(f"{self.step(node)[0]}{node.op[-2:]};")
         elif isinstance(node, c_ast.FuncCall):
@@ -101,7 +113,7 @@ class Assignments(Calls):
         elif isinstance(node, c_ast.Cast) and self.names.types.get(id(node.to_type)) == kinds.VOID:
             self.effect(node.expr)
         elif self.effected.of(node).writes or self.has_calls(node):
-            left = self.value(node)
+            left = self.pointer(node)[INDEX] if self.is_pointer(node) else self.value(node)
             if left.calls:
                 self.temporary(left.kind, left.text)
 
@@ -132,4 +144,5 @@ class Assignments(Calls):
             place = self.places.place(node)
         except Refused:
             return None
-        return (place.variable, place.path) if isinstance(place.type, Int) and not place.indexes else None
+        simple = isinstance(place.type, (Int, Pointer)) and not place.indexes and place.variable.home != "column"
+        return (place.variable, place.path) if simple else None

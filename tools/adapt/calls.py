@@ -1,27 +1,28 @@
 """Writes calls: what they hand over, what they hand back, and that no two names of one object meet; and whole structs."""
 
-from typing import Any, Optional
+from contextlib import contextmanager
+from typing import Any, Iterator, Optional
 
 from pycparser import c_ast
 
 from . import kinds
+from .bindings import key
 from .effects import Effects, Object, may_be, objects, pointee
-from .initialisers import filled
+from .initialisers import filled, none_of
 from .kinds import Array, Int, Leaf, Pointer, Struct
 from .declarators import Function, Variable
 from .output import unmarked
 from .places import Place, arguments
 from .refusals import Refused
+from .regions import INDEX
 from .values import PRIMARY, Value
-from .writer import Writer
+from .models import Model, ModelCalls, model_of
+from .outside import OutsideCalls
 
 MOST_COPIED, MOST_ELEMENTS = 256, 1024
 
 
-class Calls(Writer):
-    inputs: set[str] = set()
-    special: dict[Any, Variable] = {}
-
+class Calls(ModelCalls, OutsideCalls):
     def effect(self, node: Any) -> None:
         raise NotImplementedError
 
@@ -37,6 +38,9 @@ class Calls(Writer):
     def call(self, node: Any) -> tuple[str, list[str]]:
         """A call's text, and the statements that must follow it."""
         function = self.called(node)
+        model = model_of(function)
+        if model is not None and self.takes_model(node, model):
+            return self.model_parts(node, model)[INDEX].text, []
         if function.definition is None:
             return self.outer_call(node, function), []
         given = arguments(node)
@@ -48,31 +52,31 @@ class Calls(Writer):
             )
         own = [not isinstance(one.binding, Place) and one.binding != "lent" for one in function.parameters]
         self.unsequenced(node, [argument for argument, wanted in zip(given, own) if wanted])
-        self.apart(node, function)
+        with self.else_apart(function.parameters):
+            self.apart(node, function)
         texts: list[str] = []
         after: list[str] = []
         for argument, parameter in zip(given, function.parameters):
-            self.argument(argument, parameter, function, texts, after)
+            with self.else_apart([parameter]):
+                self.argument(argument, parameter, function, texts, after)
         return f"{self.at(node)}{function.out}({', '.join(texts)})", after
 
-    def outer_call(self, node: Any, function: Function) -> str:
-        """A call of a function that no source defines: an input function, or one that was named as such."""
-        if function.name in self.inputs:
-            for argument in arguments(node):
-                if isinstance(self.constants.type_of(argument), (Pointer, Array)) and not isinstance(
-                    argument, c_ast.Constant
-                ):
-                    raise Refused(
-                        argument.coord,
-                        f"an object is handed to {function.name}, which no source defines",
-                        "give the source that defines it",
-                    )
-                if not isinstance(argument, c_ast.Constant):
-                    self.effect(argument)
-        elif function.parameters or function.variadic or not isinstance(function.result, Int):
-            advice = f"give the source that defines it, or name it (--input {function.name}) where its arguments don't matter and it changes no object"
-            raise Refused(node.coord, f"no source defines {function.name}", advice)
-        return f"{self.at(node)}{function.out}()"
+    @contextmanager
+    def else_apart(self, parameters: list[Variable]) -> Iterator[None]:
+        """Where this is refused, the parameters that stand for objects are tried as pointers."""
+        try:
+            yield
+        except Refused:
+            bound = [one for one in parameters if one.is_bound and not isinstance(one.type, (Int, Struct))]
+            self.names.refusals.apart.update(key(one) for one in bound)
+            raise
+
+    def takes_model(self, node: Any, model: Model) -> bool:
+        if len(arguments(node)) != len(model.parameters):
+            raise Refused(
+                node.coord, f"{model.name} is declared otherwise than in the library", "declare it as string.h does"
+            )
+        return True
 
     def argument(
         self, argument: Any, parameter: Variable, function: Function, texts: list[str], after: list[str]
@@ -80,6 +84,9 @@ class Calls(Writer):
         """What stands for an argument, and what follows the call for it."""
         if isinstance(parameter.type, Int):
             texts.append(self.converted(self.value(argument), parameter.type).text)
+        elif isinstance(parameter.type, Pointer) and not parameter.is_bound:
+            parts = self.pointer(argument)
+            texts.extend(parts[name].text for name in parameter.type.region.parts())
         elif isinstance(parameter.binding, Place):
             return
         elif isinstance(parameter.type, Struct) and not isinstance(
@@ -118,7 +125,11 @@ class Calls(Writer):
         summary = self.effected.of_function[function]
         seen: list[tuple[Object, bool, bool]] = []
         for argument, parameter in zip(arguments(node), function.parameters):
-            if isinstance(parameter.type, Int) or isinstance(parameter.binding, Place):
+            if (
+                isinstance(parameter.type, Int)
+                or isinstance(parameter.binding, Place)
+                or parameter.binding == "pointer"
+            ):
                 continue
             by_value = isinstance(parameter.type, Struct)
             try:
@@ -170,7 +181,7 @@ class Calls(Writer):
             self.emit(f"{self.at(node)}{function.name}({self.value(arguments(node)[0]).text});")
             return
         text, after = self.call(node)
-        if function.definition is not None or isinstance(function.result, Int):
+        if function.definition is not None or isinstance(function.result, Int) or model_of(function):
             self.emit(text + ";")
         for one in after:
             self.emit(one)
@@ -245,7 +256,14 @@ class Calls(Writer):
                 )
 
     def declared(self, variable: Variable) -> None:
-        """Writes a local's declaration without values."""
+        """Writes a local's declaration without values; pointers are null, so that their use is seen."""
+        if self.places.columns.in_column(variable):
+            return
+        region = self.places.columns.home(variable)
         for leaf in kinds.leaves(variable.type):
+            if self.places.columns.is_apart(region, leaf.path):
+                continue
             length = f"[{leaf.count}]" if leaf.dims else ""
-            self.emit(f"{leaf.kind.text} {self.spelling.leaf(variable, leaf.path)}{length};")
+            null = none_of(leaf)
+            value = "" if null == "0" else f" = {{{', '.join([null] * leaf.count)}}}" if leaf.dims else f" = {null}"
+            self.emit(f"{leaf.kind.text} {self.spelling.leaf(variable, leaf.path)}{length}{value};")

@@ -13,8 +13,8 @@ from .kinds import Array, Int, Path, Struct, Type
 from .declarators import Function, Variable
 from .reading import compiler
 from .refusals import Stop
-from .initialisers import flat
-from .output import FELL
+from .models import model_of
+from .output import FELL, unmarked
 from .units import Units
 
 CALLS, ANSWERS, SECONDS = 6, 40, 5
@@ -80,12 +80,13 @@ def plain(function: Function) -> bool:
 def undefined(writer: Units) -> list[Function]:
     """The functions that are called and that no source defines."""
     known = ("assert", "assume", "__assert_fail")
-    return [one for one in writer.names.functions if one.definition is None and one.calls and one.name not in known]
+    found = [one for one in writer.names.functions if one.definition is None and one.calls and one.name not in known]
+    return [one for one in found if model_of(one) is None]
 
 
 def answering(writer: Units, function: Function, answer: str) -> str:
     """The definition of an input function, as the original declares it."""
-    node: Any = next(item for _, item in writer.names.items if writer.names.meaning.get(id(item)) is function)
+    node: Any = function.declaration
     result = f"return ({kinds.c_words(function.result)}) {answer};" if isinstance(function.result, Int) else ""
     node.storage, node.funcspec = [], []
     return f"{c_generator.CGenerator().visit(node)} {{ {result} }}\n"
@@ -129,10 +130,8 @@ class Comparison:
         """Prints each integer of the variables."""
         lines = []
         for variable in variables:
-            leaves = {leaf.path: leaf for leaf in kinds.leaves(variable.type)}
             for text, path, index in parts(variable.type):
-                name = self.writer.spelling.leaf(variable, path)
-                own = name + (f"[{flat(index, leaves[path].dims)}]" if leaves[path].dims else "")
+                own = unmarked(self.writer.leaf(self.writer.placed(variable, path, index))[0])
                 lines.append(f'  printf(" %lld", (long long) {own if ours else variable.name + text});')
         return "\n".join(lines)
 

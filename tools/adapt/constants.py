@@ -108,6 +108,8 @@ class Constants:
             if node.op in COMPARED or node.op in LOGICAL:
                 return kinds.INT
             left, right = self.type_of(node.left), self.type_of(node.right)
+            if not isinstance(left, Int) and not isinstance(right, Int):
+                return kinds.LONG  # (6.5.6p9)
             if not isinstance(left, Int) or not isinstance(right, Int):
                 return left if not isinstance(left, Int) else right
             return kinds.promoted(left) if node.op in SHIFTS else kinds.common(left, right)
@@ -119,7 +121,8 @@ class Constants:
         if isinstance(node, c_ast.ExprList):
             return self.type_of(node.exprs[-1])
         if isinstance(node, (c_ast.Cast, c_ast.CompoundLiteral)):
-            return self.names.types.get(id(node.to_type if isinstance(node, c_ast.Cast) else node.type), kinds.VOID)
+            to: Type = self.names.types.get(id(node.to_type if isinstance(node, c_ast.Cast) else node.type), kinds.VOID)
+            return to
         called = self.names.meaning.get(id(node)) if isinstance(node, c_ast.FuncCall) else None
         result: Type = called.result if called is not None else kinds.VOID
         return result

@@ -15,8 +15,9 @@ from .refusals import Refusals, Refused
 
 @dataclass(eq=False)
 class Variable:
-    """An object. `home` is file, static (within a function), local or parameter; `binding` is how a parameter that is a
-    pointer is written: the variable and the members of the one object that it points to, "copy", or "lent"."""
+    """An object. `home` is file, static (within a function), local, parameter or column; `binding` is how a parameter that
+    is a pointer is written: the variable and the members of the one object that it points to, "copy", "lent", or "pointer"
+    where it is one as any other."""
 
     name: str
     type: Type
@@ -33,7 +34,12 @@ class Variable:
 
     @property
     def shared(self) -> bool:
-        return self.home in ("file", "static")
+        return self.home in ("file", "static", "column")
+
+    @property
+    def is_bound(self) -> bool:
+        """Whether it is a parameter that stands for an object."""
+        return self.home == "parameter" and self.binding != "pointer"
 
 
 @dataclass(eq=False)
@@ -45,6 +51,7 @@ class Function:
     variadic: bool = False
     static: bool = False
     definition: Any = None
+    declaration: Any = None  # the first one
     out: str = ""
     calls: list[tuple[Optional["Function"], Any]] = field(default_factory=list)
     number: int = 0  # of the item that defines it
@@ -107,7 +114,7 @@ class Declarators:
         if isinstance(node, c_ast.Enum):
             return self.enum(node)
         if isinstance(node, c_ast.Union):
-            return kinds.UNION
+            return self.union(node)
         if isinstance(node, c_ast.FuncDecl):
             return kinds.FUNCTION
         raise Refused(node.coord, f"a type ({type(node).__name__})", "use an integer, an array or a struct")
@@ -122,9 +129,9 @@ class Declarators:
     def named(self, node: Any) -> Type:
         found = self.scope.get(node.names[0]) if len(node.names) == 1 else None
         if isinstance(found, (Int, Array, Struct, Pointer, Other)):
-            return found
+            return kinds.renewed(found)
         if {"float", "double", "_Complex"} & set(node.names):
-            return kinds.FLOAT
+            return kinds.FLOATS[16 if "long" in node.names else 8 if "double" in node.names else 4]
         return kinds.plain(list(node.names)) or (
             kinds.VOID if node.names == ["void"] else Other(f"the type {' '.join(node.names)}")
         )
@@ -144,11 +151,20 @@ class Declarators:
                 what = "a bit-field" if getattr(one, "bitsize", None) is not None else "a member without a name"
                 made.fault = made.fault or (one.coord or node.coord, what, "use a member of its own")
                 continue
-            try:
-                members.append((one.name, self.type_of(one.type)))
-            except Refused as refused:
-                made.fault = made.fault or (refused.coord, refused.cause, refused.advice)
+            members.append((one.name, self.usable(one.type)))
         made.members = members
+        return made
+
+    def union(self, node: Any) -> Type:
+        """A union, which is refused where it is used; its size is known where those of its members are."""
+        if node.decls is None:
+            return self.tags.get(f"union {node.name}", Other(*kinds.UNION))
+        members = [self.usable(one.type) for one in node.decls if isinstance(one, c_ast.Decl)]
+        sizes, align = [kinds.size(one) for one in members], max(kinds.alignment(one) for one in members)
+        whole = max((one for one in sizes if one is not None), default=0)
+        made = Other(*kinds.UNION, None if None in sizes else -(-whole // align) * align, align)
+        if node.name:
+            self.tags[f"union {node.name}"] = made
         return made
 
     def enum(self, node: Any) -> Type:

@@ -7,6 +7,7 @@ from pycparser import c_ast
 
 from .kinds import Array, Int, Pointer, Struct, leaves
 from .declarators import Function, Variable
+from .models import Model, model_of
 from .names import Names
 from .places import Place, Places, arguments
 from .refusals import Refused
@@ -49,7 +50,7 @@ def may_be(one: Object, two: Object) -> bool:
 
 
 def objects(place: Place) -> list[Object]:
-    inner = bool(place.indexes)
+    inner = bool(place.indexes) or place.variable.home == "column"
     return [(place.variable, place.path + leaf.path, inner or bool(leaf.dims)) for leaf in leaves(place.type)]
 
 
@@ -78,12 +79,21 @@ class Effected:
         for ours, theirs in ((made.reads, whole.reads), (made.writes, whole.writes)):
             for one, _ in theirs.items():
                 if one[0] is None or one[0].shared or (one[0].home == "parameter" and self.outlives(one)):
-                    ours[one] = True
+                    if not self.is_own(one, function):
+                        ours[one] = True
         return made
+
+    def is_own(self, one: Object, function: Function) -> bool:
+        """Whether a column has objects of this function alone, which end with its call."""
+        region = self.places.columns.of_column.get(one[0]) if one[0] and one[0].home == "column" else None
+        objects_of = region.objects if region else []
+        return bool(objects_of) and all(v.function is function and v.home in ("local", "parameter") for v in objects_of)
 
     @staticmethod
     def outlives(one: Object) -> bool:
         of = one[0].type if one[0] else None
+        if one[0] is not None and not one[0].is_bound:
+            return False
         return isinstance(of, (Pointer, Array)) or (isinstance(of, Struct) and one[2])
 
     def of(self, node: Any) -> Effects:
@@ -129,9 +139,13 @@ class Effected:
 
     def called(self, node: Any, found: Effects) -> None:
         function = self.names.meaning.get(id(node))
+        model = model_of(function)
         if not isinstance(function, Function) or function.definition is None:
             for argument in arguments(node):
                 found.add(self.of(argument))
+            if model is not None:
+                self.modelled(node, model, found)
+                return
             if not isinstance(function, Function) or function.name not in ("assert", "assume"):
                 found.writes[OUTSIDE] = True
             return
@@ -144,10 +158,25 @@ class Effected:
         )
         found.add(shared)
         for argument, parameter in zip(arguments(node), function.parameters):
-            if isinstance(parameter.type, Int):
+            if isinstance(parameter.type, Int) or parameter.binding == "pointer":
                 found.add(self.of(argument))
             elif not isinstance(parameter.binding, Place):
                 self.handed(argument, parameter, summary, found)
+
+    def modelled(self, node: Any, model: Model, found: Effects) -> None:
+        """What a library's function reads and writes: the objects of its pointers, the first written where it isn't const."""
+        for argument, parameter in zip(arguments(node), model.parameters):
+            if "*" not in parameter:
+                continue
+            try:
+                region = self.places.columns.pointer(argument).region.root()
+            except Refused:
+                continue
+            if region.column is None:
+                continue
+            at = [self.places.columns.leaf_at(region, leaf.path) for leaf in leaves(region.elem)]
+            whole: dict[Object, bool] = {(variable, path, True): True for variable, path, _, _ in at}
+            found.add(Effects(whole, {} if "const" in parameter else whole))
 
     def handed(self, argument: Any, parameter: Variable, summary: Effects, found: Effects) -> None:
         """What a call does to the object that an argument hands over."""
@@ -175,4 +204,5 @@ class Effected:
 
 
 def pointee(parameter: Variable) -> Any:
-    return parameter.type.to if isinstance(parameter.type, Pointer) else parameter.type
+    """The type of what a parameter stands for."""
+    return parameter.type.to if isinstance(parameter.type, Pointer) and parameter.is_bound else parameter.type

@@ -12,7 +12,10 @@ from .kinds import Array, Int, Pointer
 from .declarators import Enumerator, Function, Variable
 from .output import unmarked
 from .refusals import Refused
-from .values import LEVELS, PRIMARY, UNARY, Value
+from .initialisers import Part
+from .places import At
+from .regions import INDEX, NIL
+from .values import LEVELS, PRIMARY, UNARY, Known, Value
 
 
 class Expressions(Assignments):
@@ -30,6 +33,18 @@ class Expressions(Assignments):
             self.within -= 1
 
     def inner_value(self, node: Any) -> Value:
+        if isinstance(node, Known):
+            return node.value
+        if isinstance(node, At):
+            return self.element_at(node)
+        if isinstance(node, Part):
+            null = self.is_null(node.pointer)
+            several = not null and len(self.places.columns.pointer(node.pointer).region.parts()) > 1
+            if several and (self.has_calls(node) or self.effected.of(node).writes):
+                raise Refused(
+                    node.coord, "an effect in a list of pointers", "assign the pointer in a statement of its own"
+                )
+            return self.pointer(node.pointer)[node.part]
         if isinstance(node, c_ast.Constant):
             return self.constant(node)
         if isinstance(node, c_ast.ID):
@@ -82,9 +97,11 @@ class Expressions(Assignments):
     def read(self, node: Any) -> Value:
         place = self.places.place(node)
         if not isinstance(place.type, Int):
-            what = "an array" if isinstance(place.type, Array) else "a struct"
+            what = {Array: "an array", Pointer: "a pointer"}.get(type(place.type), "a struct")
             raise Refused(node.coord, f"{what} stands where an integer is needed", "name an element or a member")
         text, calls = self.leaf(place)
+        if self.kind_at(place) != place.type:  # (as an object of the other sign, 6.5p7)
+            return Value(f"{self.at(node)}({place.type.text}) {text}", place.type, UNARY, calls=calls)
         return Value(self.at(node) + text, place.type, PRIMARY, truth=place.type.boolean, calls=calls)
 
     def unary(self, node: Any) -> Value:
@@ -98,6 +115,9 @@ class Expressions(Assignments):
             null = self.null(node.expr)
             if null is not None:
                 return Value(self.at(node) + null, kinds.INT, PRIMARY, truth=True)
+            if self.is_pointer(node.expr):
+                index = self.pointer(node.expr)[INDEX]
+                return Value(f"{self.at(node)}{index.within(7)} == {NIL}", kinds.INT, 6, True, index.calls)
         if node.op not in ("+", "-", "~", "!"):
             raise Refused(node.coord, "an address", "hand over the address of a named object to a function alone")
         one = self.value(node.expr)
@@ -110,6 +130,9 @@ class Expressions(Assignments):
         """The value of a condition, which may be a pointer."""
         with self.names.refusals.gathered():
             null = self.null(node)
+            if null is None and self.is_pointer(node):
+                index = self.pointer(node)[INDEX]
+                return Value(f"{self.at(node)}{index.within(7)} != {NIL}", kinds.INT, 6, True, index.calls)
             return self.value(node) if null is None else Value(self.at(node) + "1", kinds.INT, PRIMARY, truth=True)
         return Value("0", kinds.INT, PRIMARY)
 
@@ -117,6 +140,8 @@ class Expressions(Assignments):
         """What a test for a null pointer gives of a parameter to which each call hands an object."""
         meaning = self.names.meaning.get(id(node)) if isinstance(node, c_ast.ID) else None
         if not isinstance(meaning, Variable) or not (isinstance(meaning.type, Pointer) or meaning.binding == "lent"):
+            return None
+        if not meaning.is_bound:
             return None
         if meaning.home != "parameter" or not (meaning.function and meaning.function.calls):
             raise Refused(
@@ -133,6 +158,10 @@ class Expressions(Assignments):
             for one, other in ((node.left, node.right), (node.right, node.left)):
                 if isinstance(self.constants.type_of(one), (Pointer, Array)) and self.is_null(other) and self.null(one):
                     return Value(self.at(node) + str(int(node.op == "!=")), kinds.INT, PRIMARY, truth=True)
+        if node.op in COMPARED and (self.is_pointer(node.left) or self.is_pointer(node.right)):
+            return self.compared(node)
+        if node.op == "-" and self.is_pointer(node.left) and self.is_pointer(node.right):
+            return self.difference(node)
         if node.op == "/" and self.is_size(node.left) and self.is_size(node.right):
             return Value(self.at(node) + f"{self.constants.value(node)}ul", kinds.SIZE, PRIMARY)
         self.unsequenced(node, [node.left, node.right])
@@ -147,11 +176,6 @@ class Expressions(Assignments):
         level = LEVELS[node.op]
         text = f"{left.within(level)} {node.op} {right.within(level + 1)}"
         return Value(text, kind, level, truth=node.op in COMPARED, calls=left.calls or right.calls)
-
-    def is_null(self, node: Any) -> bool:
-        while isinstance(node, c_ast.Cast):
-            node = node.expr
-        return self.constants.value(node) == 0
 
     @staticmethod
     def is_size(node: Any) -> bool:

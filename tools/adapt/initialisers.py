@@ -1,15 +1,38 @@
 """Which expression gives each integer of an object its first value (6.7.9)."""
 
 from dataclasses import dataclass, field
-from typing import Any, Callable
+from typing import Any, Callable, Iterator
 
 from pycparser import c_ast
 
 from .constants import Constants, codes
-from .kinds import Array, Int, Leaf, Path, Struct, Type
+from .kinds import Array, Int, Leaf, Other, Path, Pointer, Struct, Type
 from .refusals import Refused
+from .regions import BEGIN, END, INDEX, NIL
 
 Spot = tuple[Path, tuple[int, ...]]
+PARTS = (INDEX, END, BEGIN)
+
+
+class Part(c_ast.Node):  # type: ignore[misc]
+    """One of the integers of a pointer's value."""
+
+    __slots__ = ("pointer", "part", "coord", "__weakref__")
+    attr_names = ()
+
+    def __init__(self, pointer: Any, part: str) -> None:
+        self.pointer, self.part, self.coord = pointer, part, pointer.coord
+
+    def children(self) -> tuple[tuple[str, Any], ...]:
+        return (("pointer", self.pointer),)
+
+    def __iter__(self) -> Iterator[Any]:
+        yield self.pointer
+
+
+def none_of(leaf: Leaf) -> str:
+    """What a leaf has that was given no value: a pointer is null, an integer 0."""
+    return str(NIL) if leaf.path and leaf.path[-1] == INDEX else "0"
 
 
 @dataclass
@@ -22,11 +45,17 @@ class Filled:
 
     def of(self, leaf: Leaf) -> dict[int, Any]:
         """The expressions of a leaf by the numbers of its elements, in the order in which they are given."""
-        return {flat(spot, leaf.dims): one for (path, spot), one in self.given.items() if path == leaf.path}
+        part = leaf.path[-1] if leaf.path and leaf.path[-1] in PARTS else ""
+        found = {
+            flat(spot, leaf.dims): one
+            for (path, spot), one in self.given.items()
+            if path == (leaf.path[:-1] if part else leaf.path)
+        }
+        return {at: Part(one, part) if part else one for at, one in found.items()}
 
     def texts(self, leaf: Leaf, text: Callable[[Any], str]) -> list[str]:
         """What is written of a leaf's first values: 0 where there is none, up to the last that is another text."""
-        found = ["0"] * leaf.count
+        found = [none_of(leaf)] * leaf.count
         for at, one in self.of(leaf).items():
             found[at] = text(one)
         while len(found) > 1 and found[-1] == "0":
@@ -34,9 +63,11 @@ class Filled:
         return found
 
     def fill(self, of: Type, spot: Spot, init: Any) -> None:
-        if isinstance(init, c_ast.InitList) and isinstance(of, Int):
+        if isinstance(of, Other):
+            return  # (what has no integers gets no value)
+        if isinstance(init, c_ast.InitList) and isinstance(of, (Int, Pointer)):
             if len(init.exprs or []) != 1:
-                raise Refused(init.coord, "a list of values for an integer", "give one value")
+                raise Refused(init.coord, "a list of values for an integer or a pointer", "give one value")
             self.fill(of, spot, init.exprs[0])
         elif isinstance(init, c_ast.InitList):
             self.listed(of, spot, init.exprs or [])
@@ -44,7 +75,7 @@ class Filled:
             found = (codes(init.value) + [0])[: of.length]
             for at, code in enumerate(found):
                 self.given[(spot[0], spot[1] + (at,))] = c_ast.Constant("int", str(code), init.coord)
-        elif isinstance(of, Int):
+        elif isinstance(of, (Int, Pointer)):
             self.given[spot] = init
         else:
             self.wholes.append((spot, of, init))
@@ -87,7 +118,7 @@ class Filled:
         """Fills a part by the next items, of which it takes several where it has no braces of its own."""
         item = items[taken]
         string = isinstance(item, c_ast.Constant) and item.type == "string"
-        one = string or isinstance(part, Int) or isinstance(item, c_ast.InitList)
+        one = string or isinstance(part, (Int, Other, Pointer)) or isinstance(item, c_ast.InitList)
         if one or isinstance(self.constants.type_of(item), Struct):
             self.fill(part, spot, item)
             return taken + 1

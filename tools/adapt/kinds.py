@@ -3,6 +3,8 @@
 from dataclasses import dataclass, field
 from typing import Any, Iterator, Optional, Union
 
+from .regions import Region
+
 
 @dataclass(frozen=True)
 class Int:
@@ -29,9 +31,16 @@ class Struct:
     fault: Optional[tuple[Any, str, str]] = None
 
 
-@dataclass(frozen=True)
+@dataclass(eq=False)
 class Pointer:
+    """A pointer type, each with a region of its own."""
+
     to: "Type"
+    region: Region = field(default_factory=Region)
+
+    def __post_init__(self) -> None:
+        if self.region.elem is None and self.to not in (VOID, FUNCTION):
+            self.region.elem = element(self.to)
 
 
 @dataclass(frozen=True)
@@ -40,6 +49,8 @@ class Other:
 
     name: str
     advice: str = "use an integer, an array or a struct"
+    bytes: Optional[int] = None  # its size, where it is known
+    align: int = 1
 
 
 WORDS = {8: "char", 16: "short", 32: "int", 64: "long"}
@@ -52,13 +63,36 @@ def c_words(kind: Int) -> str:
 
 Type = Union[Int, Array, Struct, Pointer, Other]
 VOID = Other("void")
-FLOAT = Other("a floating point number", "use integers in fixed point")
-UNION = Other("a union", "use a struct, or one object for each member")
+FLOATING = ("a floating point number", "use integers in fixed point")
+FLOATS = {size: Other(*FLOATING, size, size) for size in (4, 8, 16)}
+UNION = ("a union", "use a struct, or one object for each member")
 FUNCTION = Other("a function as an object", "call it by its name")
 INT, UINT = Int(32, True, "int"), Int(32, False, "unsigned int")
 LONG, SIZE = Int(64, True, "long"), Int(64, False, "size_t")
 BOOL = Int(8, False, "uint8_t", True)
 FIXED = {f"{u}int{n}_t": Int(n, not u, f"{u}int{n}_t") for n in (8, 16, 32, 64) for u in ("", "u")} | {"size_t": SIZE}
+
+
+def element(of: Type) -> Type:
+    """The type of an array's elements, through all its lengths; of what is no array the type itself."""
+    while isinstance(of, Array):
+        of = of.of
+    return of
+
+
+def elements(of: Type) -> int:
+    """How many elements an array has, through all its lengths; 1 of what is no array."""
+    count = 1
+    while isinstance(of, Array):
+        count, of = count * (of.length or 0), of.of
+    return count
+
+
+def renewed(of: Type) -> Type:
+    """The same type, in which pointers have regions of their own."""
+    if isinstance(of, Array):
+        return Array(renewed(of.of), of.length)
+    return Pointer(renewed(of.to)) if isinstance(of, Pointer) else of
 
 
 def plain(words: list[str]) -> Optional[Int]:
@@ -94,6 +128,8 @@ def fit(value: int, kind: Int) -> int:
 def alignment(of: Type) -> int:
     if isinstance(of, Struct):
         return max((alignment(member) for _, member in of.members or []), default=1)
+    if isinstance(of, Other):
+        return of.align
     return alignment(of.of) if isinstance(of, Array) else of.bits // 8 if isinstance(of, Int) else 8
 
 
@@ -112,7 +148,7 @@ def size(of: Type) -> Optional[int]:
                 return None
             end = -(-end // step) * step + one
         return -(-end // alignment(of)) * alignment(of)
-    return 8 if isinstance(of, Pointer) else None
+    return 8 if isinstance(of, Pointer) else of.bytes if isinstance(of, Other) else None
 
 
 Path = tuple[str, ...]
@@ -138,6 +174,9 @@ def leaves(of: Type, path: Path = (), dims: tuple[int, ...] = ()) -> Iterator[Le
     """The leaves of an object of the type, in order; none for what has no integers."""
     if isinstance(of, Int):
         yield Leaf(path, dims, of)
+    elif isinstance(of, Pointer) and of.to != FUNCTION:
+        for part in of.region.parts():
+            yield Leaf(path + (part,), dims, INT)
     elif isinstance(of, Array) and of.length is not None:
         yield from leaves(of.of, path, dims + (of.length,))
     elif isinstance(of, Struct):
@@ -154,14 +193,12 @@ def fault_of(of: Type) -> Optional[tuple[str, str]]:
     if isinstance(of, Pointer) and of.to == FUNCTION:
         return "a pointer to a function", "call functions by their names, in a switch over a number"
     if isinstance(of, Pointer):
-        return "a pointer", "name the object itself, or hand its address over as a parameter"
+        fault = of.region.root().fault
+        return (fault[1], fault[2]) if fault else None
     if isinstance(of, Struct):
         if of.fault:
             return of.fault[1], of.fault[2]
         if of.members is None:
             return f"struct {of.tag} isn't complete", "give its members before its use"
-        faults = [(name, fault_of(member)) for name, member in of.members]
-        return next(
-            ((f"member {name} of struct {of.tag}: {fault[0]}", fault[1]) for name, fault in faults if fault), None
-        )
+        return None  # (members that can't be written are left out, and refused where they are used)
     return (of.name, of.advice) if isinstance(of, Other) else None

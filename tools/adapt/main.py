@@ -61,7 +61,21 @@ def flags_of(given: argparse.Namespace) -> list[str]:
 
 
 def adapt(given: argparse.Namespace, refusals: Refusals) -> tuple[dict[str, str], Any]:
-    """The text of each file that is written, by its original, and who wrote it."""
+    """The text of each file that is written, by its original, and who wrote it. Parameters that can't stand for objects in
+    what is written, since these have a second name there, are pointers as any other in what is written next."""
+    apart: set[Any] = set()
+    while True:
+        tried = Refusals()
+        texts, writer = written(given, tried, apart)
+        if not tried.apart - apart:
+            refusals.found |= tried.found
+            return texts, writer
+        apart |= tried.apart
+
+
+def written(given: argparse.Namespace, refusals: Refusals, apart: set[Any]) -> tuple[dict[str, str], Any]:
+    from .bindings import Bindings
+    from .columns import Columns
     from .effects import Effected
     from .gate import check
     from .jumps import Jumps, walk
@@ -90,7 +104,8 @@ def adapt(given: argparse.Namespace, refusals: Refusals) -> tuple[dict[str, str]
         taken.update(node.name for node in walk(unit.tree) if isinstance(node, c_ast.ID))
         names.unit(unit)
     places = Places(names)
-    places.bind()
+    Bindings(places, apart).bind()
+    places.columns = Columns(names)
     inputs = set(given.inputs)
     effected = Effected(names, places, inputs)
     writer = Units(names, places, effected, Spelling(names, taken), given.check)

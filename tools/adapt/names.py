@@ -68,8 +68,7 @@ class Names(Declarators):
         old = self.scope.maps[-1].get(node.name) if home == "file" else None
         key = self.key(node, static or (isinstance(old, Variable) and (node.name, node.coord.file) in self.linked))
         if home == "file" and isinstance(self.linked.get(key), Variable):
-            made = self.linked[key]
-            assert isinstance(made, Variable)
+            made: Variable = self.linked[key]
             if static and made.unit is not self.current and not made.const:
                 raise Refused(
                     node.coord,
@@ -121,7 +120,7 @@ class Names(Declarators):
         made = old if isinstance(old, Function) else self.linked.get(key)
         parameters = self.parameters(node)
         if not isinstance(made, Function):
-            made = Function(node.name, self.usable(result), parameters, node.coord, static=static)
+            made = Function(node.name, self.usable(result), parameters, node.coord, static=static, declaration=node)
             self.linked[key] = made
             self.functions.append(made)
         elif made.definition is None and (parameters or not made.parameters):

@@ -1,36 +1,61 @@
-"""Which object an expression names, and how parameters that are pointers are bound to objects.
+"""Which object an expression names. A parameter that is a pointer may stand for one (bindings.py); other pointers are
+indexes into columns (columns.py)."""
 
-A parameter that is a pointer is "lent" where it is indexed or handed an array: it becomes a whole array. Else it is bound
-to the one object of the file that each call hands over, or, where there are several, it is a "copy", in and out.
-"""
-
-from dataclasses import dataclass
-from typing import Any
+from dataclasses import dataclass, field, replace
+from typing import Any, Iterator, Optional
 
 from pycparser import c_ast
 
-from .jumps import walk
-from .kinds import Array, Path, Pointer, Struct, Type, fault_of
-from .declarators import Function, Variable
+from . import kinds
+from .kinds import Array, Int, Other, Path, Pointer, Struct, Type, fault_of
+from .declarators import Variable
 from .names import Names
 from .refusals import Refused
+from .regions import Region
 
 USE = "name the object itself, or hand its address over as a parameter that is only dereferenced"
 
 
+class At(c_ast.Node):  # type: ignore[misc]
+    """The number of the element that a pointer points to, or of one at an index from it; each step is of `stride` elements."""
+
+    __slots__ = ("pointer", "index", "stride", "coord", "__weakref__")
+    attr_names = ()
+
+    def __init__(self, pointer: Any, index: Any, stride: int, coord: Any) -> None:
+        self.pointer, self.index, self.stride, self.coord = pointer, index, stride, coord
+
+    def children(self) -> tuple[tuple[str, Any], ...]:
+        return tuple((name, one) for name, one in (("pointer", self.pointer), ("index", self.index)) if one is not None)
+
+    def __iter__(self) -> Iterator[Any]:
+        yield from (one for _, one in self.children())
+
+
 @dataclass(frozen=True)
 class Place:
-    """An object: a variable, the members that lead to it, and on the way each index with the array's length."""
+    """An object: a variable, the members that lead to it, and on the way each index with the array's length. What is added
+    to a number whole, as where an object begins in its column, has the length 1, and `shift` stands behind all of them.
+    `around` is the outermost array in which the object is an element, and `region` where its elements lie."""
 
     variable: Variable
     path: Path
     indexes: tuple[tuple[Any, int], ...]
     type: Type
+    shift: int = field(default=0, compare=False)
+    region: Optional[Region] = field(default=None, compare=False)
+    around: Optional["Place"] = field(default=None, compare=False)
+    row: bool = field(default=False, compare=False)  # an array at a pointer to it
+
+    def shifted(self) -> tuple[tuple[Any, int], ...]:
+        """The indexes with what is added behind them."""
+        return self.indexes + (((c_ast.Constant("int", str(self.shift)), 1),) if self.shift else ())
 
 
 class Places:
     def __init__(self, names: Names) -> None:
         self.names = names
+        self.columns: Any = None  # set once regions have columns
         names.constants.place_type = self.type_at
         self.zero = c_ast.Constant("int", "0")
 
@@ -40,24 +65,55 @@ class Places:
         except Refused:
             return self.names.constants.simple_place(node)
 
+    def of_variable(self, variable: Variable) -> Place:
+        """The place of a variable, which may lie in a column."""
+        region = self.columns.home(variable) if self.columns else None
+        if region is not None and region.column is not None:
+            return Place(region.column, (), (), variable.type, self.columns.begin(region, variable), region)
+        return Place(variable, (), (), variable.type, 0, region)
+
+    def member(self, base: Place, name: str, node: Any) -> Place:
+        """The place of a member."""
+        of = dict(base.type.members or []).get(name) if isinstance(base.type, Struct) else None
+        if of is None:
+            raise Refused(node.coord if node else None, f"the member {name}", "use a struct")
+        fault = fault_of(of)
+        if fault:
+            tag = base.type.tag if isinstance(base.type, Struct) else ""
+            raise Refused(node.coord if node else None, f"member {name} of struct {tag}: {fault[0]}", fault[1])
+        inner = base.region.root().members.get(name) if base.region else None
+        inner = inner.root() if inner else None
+        if inner is not None and inner.column is not None and base.region is not None:
+            start = self.columns.begin(inner, (base.region.root(), name))
+            return Place(inner.column, (), base.shifted(), of, start, inner)
+        return Place(base.variable, base.path + (name,), base.shifted(), of, 0, inner)
+
+    def element(self, base: Place, index: Any) -> Place:
+        """The place of an array's element."""
+        if not isinstance(base.type, Array) or base.type.length is None:
+            raise Refused(index.coord, "what is no array", USE)
+        if base.row and isinstance(base.type.of, Array):
+            raise Refused(index.coord, "a pointer to an array of arrays", "use indexes")
+        length, around = 1 if base.row else base.type.length, base.around or base
+        return replace(base, indexes=base.indexes + ((index, length),), type=base.type.of, around=around, row=False)
+
     def place(self, node: Any) -> Place:
         if isinstance(node, c_ast.ID):
             meaning = self.names.meaning.get(id(node))
             if not isinstance(meaning, Variable):
                 raise Refused(node.coord, f"{node.name} is no object here", "use a variable")
-            if isinstance(meaning.type, Pointer):
+            if isinstance(meaning.type, Pointer) and meaning.is_bound:
                 raise Refused(node.coord, f"the pointer {node.name}", USE)
             fault = fault_of(meaning.type)
             if fault:
                 raise Refused(node.coord, f"{node.name}: {fault[0]}", fault[1])
-            return Place(meaning, (), (), meaning.type)
+            return self.of_variable(meaning)
         if isinstance(node, c_ast.StructRef):
             base = self.pointed(node.name) if node.type == "->" else self.place(node.name)
-            member = dict(base.type.members or []).get(node.field.name) if isinstance(base.type, Struct) else None
-            if member is None:
-                raise Refused(node.coord, f"the member {node.field.name}", "use a struct")
-            return Place(base.variable, base.path + (node.field.name,), base.indexes, member)
+            return self.member(base, node.field.name, node)
         if isinstance(node, c_ast.ArrayRef):
+            if isinstance(self.names.constants.type_of(node.name), Int):  # (6.5.2.1p2: both orders are the same)
+                return self.pointed(node.subscript, node.name)
             return self.pointed(node.name, node.subscript)
         if isinstance(node, c_ast.UnaryOp) and node.op == "*":
             return self.pointed(node.expr)
@@ -66,109 +122,50 @@ class Places:
     def pointed(self, node: Any, index: Any = None) -> Place:
         """The object at a pointer, or at an index from it."""
         if isinstance(node, c_ast.BinaryOp) and node.op == "+" and index is None:
-            return self.pointed(node.left, node.right)
+            if not isinstance(self.names.constants.type_of(node.left), Int):
+                return self.pointed(node.left, node.right)
         first = index is None or self.names.constants.value(index) == 0
         if isinstance(node, c_ast.UnaryOp) and node.op == "&" and first:
             return self.place(node.expr)
         meaning = self.names.meaning.get(id(node)) if isinstance(node, (c_ast.ID, c_ast.Constant)) else None
         if isinstance(meaning, Variable) and isinstance(meaning.type, Pointer) and first:
             if isinstance(meaning.binding, Place):
-                return meaning.binding
+                made = self.of_variable(meaning.binding.variable)
+                for name in meaning.binding.path:
+                    made = self.member(made, name, node)
+                return made
             if meaning.binding == "copy":
                 fault = fault_of(meaning.type.to)
                 if fault:
                     raise Refused(node.coord, f"{meaning.name} points to {fault[0]}", fault[1])
-                return Place(meaning, (), (), meaning.type.to)
+                region = self.columns.home(meaning) if self.columns else None
+                return Place(meaning, (), (), meaning.type.to, 0, region)
         if isinstance(meaning, Variable) and isinstance(node, c_ast.Constant) and isinstance(meaning.type, Array):
-            return Place(meaning, (), ((index, meaning.type.length or 0),), meaning.type.of)
-        if not isinstance(node, (c_ast.ID, c_ast.StructRef, c_ast.ArrayRef)):
+            return self.element(self.of_variable(meaning), index or self.zero)
+        of = self.names.constants.type_of(node)
+        if self.columns and not isinstance(of, (Array, Other)):
+            return self.at_pointer(node, index)
+        if not isinstance(node, (c_ast.ID, c_ast.StructRef, c_ast.ArrayRef, c_ast.UnaryOp)):
             raise Refused(node.coord, "arithmetic with a pointer", "use an index")
-        base = self.place(node)
-        if not isinstance(base.type, Array) or base.type.length is None:
-            raise Refused(node.coord, "what is no array", USE)
-        return Place(base.variable, base.path, base.indexes + ((index or self.zero, base.type.length),), base.type.of)
+        return self.element(self.place(node), index or self.zero)
 
-    # ---- parameters that are pointers
+    def at_pointer(self, node: Any, index: Any) -> Place:
+        """The object at a pointer that is an index into a column."""
+        of = self.columns.pointer(node)
+        region = of.region.root()
+        if region.fault:
+            raise Refused(node.coord, region.fault[1], region.fault[2])
+        if region.column is None or not isinstance(kinds.element(of.to), (Int, Struct, Pointer)):
+            raise Refused(
+                node.coord, "an access by a pointer whose objects have no type", "name the type of the object"
+            )
+        fault = fault_of(of.to)
+        if fault:
+            raise Refused(node.coord, f"what is pointed to: {fault[0]}", fault[1])
+        at = At(node, index, kinds.elements(of.to), node.coord)
+        return Place(region.column, (), ((at, 1),), of.to, 0, region, row=isinstance(of.to, Array))
 
-    def bind(self) -> None:
-        """Binds each such parameter by the calls of its function. What can't be bound is refused."""
-        waiting = [(function, at) for function in self.names.functions for at, p in enumerate(function.parameters)
-                   if function.definition is not None and isinstance(p.type, (Pointer, Array))]  # fmt: skip
-        lent = self.lent([function.parameters[at] for function, at in waiting])
-        while waiting:
-            left = [one for one in waiting if not self.bound(*one, lent)]
-            if len(left) == len(waiting):
-                function, at = left.pop(0)
-                parameter = function.parameters[at]
-                parameter.binding = "unknown" if parameter in lent else "copy"
-                if parameter in lent:
-                    cause = f"{parameter.name} of {function.name}: the length of the array isn't known"
-                    self.names.refusals.add(parameter.coord, cause, "hand over whole arrays of one length, by name")
-            waiting = left
-
-    def lent(self, parameters: list[Variable]) -> set[Variable]:
-        """The parameters that are arrays: declared so, indexed, or handed on as one."""
-        found = {p for p in parameters if isinstance(p.type, Array)}
-        wanted = set(parameters)
-        for function in self.names.functions:
-            for node in walk(function.definition) if function.definition is not None else []:
-                plus = isinstance(node, c_ast.UnaryOp) and node.op == "*" and isinstance(node.expr, c_ast.BinaryOp)
-                base = node.expr.left if plus else node.name if isinstance(node, c_ast.ArrayRef) else None
-                constant = isinstance(node, c_ast.ArrayRef) and self.names.constants.value(node.subscript) == 0
-                meaning = self.names.meaning.get(id(base)) if base is not None and not constant else None
-                if isinstance(meaning, Variable) and meaning in wanted:
-                    found.add(meaning)
-        handed = [(self.names.meaning.get(id(argument)), parameter) for function in self.names.functions
-                  for _, call in function.calls for argument, parameter in zip(arguments(call), function.parameters)]  # fmt: skip
-        before = -1
-        while before != len(found):
-            before = len(found)
-            found.update(given for given, parameter in handed if parameter in found and given in wanted)  # type: ignore
-        return found
-
-    def bound(self, function: Function, at: int, lent: set[Variable]) -> bool:
-        """Binds a parameter where all that its calls hand over is known."""
-        parameter, targets = function.parameters[at], []
-        for _, call in function.calls:
-            given = arguments(call)[at] if at < len(arguments(call)) else None
-            if given is None or self.names.meaning.get(id(given)) is parameter:
-                continue
-            within = [self.names.meaning.get(id(one)) for one in walk(given)]
-            handed_on = [
-                one.binding
-                for one in within
-                if isinstance(one, Variable) and one.home == "parameter" and isinstance(one.type, (Pointer, Array))
-            ]
-            if None in handed_on:
-                return False
-            if "unknown" in handed_on:
-                continue
-            try:
-                targets.append(self.whole_array(given) if parameter in lent else self.handed(given))
-            except Refused as refused:
-                self.names.refusals.add(refused.coord, refused.cause, refused.advice)
-        if parameter in lent:
-            return self.bound_array(parameter, targets, bool(function.calls))
-        one = targets[0] if targets else None
-        same = one and all((t.variable, t.path) == (one.variable, one.path) and not t.indexes for t in targets)
-        known = one and one.variable.home == "file" and one.variable.number < function.number
-        parameter.binding = one if same and known else "copy"
-        return True
-
-    def bound_array(self, parameter: Variable, targets: list[Place], called: bool) -> bool:
-        lengths = {t.type.length for t in targets if isinstance(t.type, Array)}
-        if not called and isinstance(parameter.type, Array) and parameter.type.length:
-            lengths = {parameter.type.length}
-        if len(lengths) != 1 or not all(isinstance(t.type, Array) for t in targets):
-            if len(targets) > 1 or not called:
-                cause = f"{parameter.name} of {parameter.function.name if parameter.function else ''} is no array of one length"
-                self.names.refusals.add(parameter.coord, cause, "hand over whole arrays of one length, by name")
-                parameter.binding = "unknown"
-                return True
-            return False
-        of = parameter.type.to if isinstance(parameter.type, Pointer) else parameter.type.of  # type: ignore[union-attr]
-        parameter.type, parameter.binding = Array(of, lengths.pop()), "lent"
-        return True
+    # ---- arguments
 
     def whole_array(self, node: Any) -> Place:
         if not isinstance(node, (c_ast.ID, c_ast.StructRef, c_ast.ArrayRef)):

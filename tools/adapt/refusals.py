@@ -25,6 +25,7 @@ class Refusals:
     def __init__(self) -> None:
         self.found: set[tuple[str, int, str]] = set()
         self.at_hand: Any = None
+        self.apart: set[Any] = set()  # parameters that can't stand for objects
 
     def go(self, coord: Any) -> None:
         """What is refused from now on and has no place of its own stands at this one."""

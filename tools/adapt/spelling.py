@@ -6,6 +6,7 @@ from typing import Any
 from .kinds import Path
 from .names import Names
 from .declarators import Function, Variable
+from .regions import INDEX
 
 KEPT = {"assert", "assume"}
 
@@ -40,11 +41,12 @@ class Spelling:
     def leaf(self, variable: Variable, path: Path) -> str:
         """The name of a variable's integer, or of the array of them."""
         base = variable.out or variable.name
-        if not path:
+        if path in ((), (INDEX,)):
             return base
         key = (base, path)
         if key not in self.leaves:
-            self.leaves[key] = self.fresh("_".join(key[1] if not base else (base, *path)), True)
+            words = [one.lstrip("@") for one in path if one != INDEX]
+            self.leaves[key] = self.fresh("_".join(words if not base else (base, *words)), True)
         return self.leaves[key]
 
     def special(self, function: Function, stem: str, of: Any, made: dict[Any, Variable]) -> Variable:

@@ -7,8 +7,9 @@ from pycparser import c_ast
 
 from . import kinds
 from .expressions import Expressions
-from .initialisers import filled
-from .kinds import Int, Struct
+from .calls import MOST_COPIED
+from .initialisers import filled, none_of
+from .kinds import Int, Pointer, Struct
 from .jumps import LOOPS
 from .declarators import Variable
 from .places import Place
@@ -88,9 +89,29 @@ class Statements(Expressions):
             self.declared(variable)
         elif isinstance(variable.type, Struct) and not isinstance(node.init, c_ast.InitList):
             self.declared(variable)
-            self.assign_whole(Place(variable, (), (), variable.type), node.init, node)
+            self.assign_whole(self.places.of_variable(variable), node.init, node)
+        elif isinstance(variable.type, Pointer) and not isinstance(node.init, c_ast.InitList):
+            self.pointer_begun(variable, node)
+        elif self.places.columns.in_column(variable) or self.lies_apart(variable):
+            self.initialised_apart(variable, node.init)
         else:
             self.initialised(variable, node.init)
+
+    def initialised_apart(self, variable: Variable, init: Any) -> None:
+        """Writes the first values of a local of which parts lie in columns, one by one; what has none is 0 or null."""
+        self.declared(variable)
+        made = filled(self.constants, variable.type, init)
+        self.unsequenced(init, list(made.given.values()))
+        place = self.places.of_variable(variable)
+        if sum(leaf.count for leaf in kinds.leaves(variable.type)) > MOST_COPIED:
+            raise Refused(init.coord, f"{variable.name} has more than {MOST_COPIED} first values", "make it static")
+        for leaf, texts in self.each_integer(place, None):
+            given = made.of(leaf)
+            for at, text in enumerate(texts):
+                value = self.converted(self.value(given[at]), leaf.kind).text if at in given else none_of(leaf)
+                self.emit(f"{text} = {value};")
+        for (path, spot), _, source in made.wholes:
+            self.assign_whole(self.placed(variable, path, spot), source, source)
 
     def initialised(self, variable: Variable, init: Any) -> None:
         """Writes a local's declaration with its first values; what has none is 0."""
@@ -250,6 +271,9 @@ class Statements(Expressions):
             return
         if node.expr is not None and function.result == kinds.VOID:
             self.effect(node.expr)
+        if node.expr is not None and isinstance(function.result, Pointer):
+            self.return_pointer(function, function.result, node.expr)
+            return
         if node.expr is None or not isinstance(function.result, Int):
             self.hand_back()
             self.emit("return;")

@@ -6,33 +6,25 @@ from pycparser import c_ast
 
 from . import kinds
 from .effects import pointee
-from .initialisers import filled
+from .initialisers import Part, filled, none_of
 from .jumps import walk
-from .kinds import Array, Int, Pointer, Struct, Type
+from .kinds import Int, Pointer, Struct
 from .declarators import Function, Variable
 from .output import FELL, File, unmarked
-from .places import Place
+from .places import Place, arguments
 from .reading import is_system
 from .refusals import Refused
-from .statements import Statements
+from .checks import Checks
 
 
-def within(of: Type, part: Type) -> bool:
-    """Whether an object of the type has a part of another one."""
-    if of is part or (isinstance(of, Int) and of == part):
-        return True
-    if isinstance(of, Array):
-        return within(of.of, part)
-    return isinstance(of, Struct) and any(within(member, part) for _, member in of.members or [])
-
-
-class Units(Statements):
+class Units(Checks):
     """Writes all units. `files` are those that are written, by what they are made from."""
 
     def write(self) -> dict[str, File]:
         self.files: dict[str, File] = {}
         self.done: set[Any] = set()
         self.uses = self.first_uses()
+        self.write_columns()
         for number, (unit, item) in enumerate(self.names.items):
             source = str(item.coord.file) if item.coord else unit.path
             if is_system(source):
@@ -43,13 +35,21 @@ class Units(Statements):
             self.names.refusals.go(item.coord)
             with self.names.refusals.gathered():
                 self.item(item, number)
+        made = [(self.begin[1], text) for _, text in self.written_models.values()]
+        if made:
+            file = self.files.setdefault(self.begin[0], File(self.begin[0]))
+            file.pieces[self.begin[2] : self.begin[2]] = made
         return self.files
 
     def first_uses(self) -> dict[Variable, int]:
         """For each variable the number of the first function that names it."""
         found: dict[Variable, int] = {}
         for number, (_, item) in enumerate(self.names.items):
-            for node in walk(item) if isinstance(item, c_ast.FuncDef) else []:
+            nodes = walk(item) if isinstance(item, c_ast.FuncDef) else []
+            handed = {id(one) for node in nodes for one in self.only_handed(node)}
+            for node in nodes:
+                if id(node) in handed:
+                    continue
                 meaning = self.names.meaning.get(id(node))
                 if isinstance(meaning, Variable):
                     found.setdefault(meaning, number)
@@ -59,6 +59,13 @@ class Units(Statements):
                     variable = parameter.binding.variable
                     found[variable] = min(found.get(variable, function.number), function.number)
         return found
+
+    def only_handed(self, node: Any) -> list[Any]:
+        """What stands alone as an argument of a function that gives an input and whose arguments don't matter."""
+        called = self.names.meaning.get(id(node)) if isinstance(node, c_ast.FuncCall) else None
+        if not isinstance(called, Function) or called.definition is not None or called.name not in self.inputs:
+            return []
+        return [one for one in arguments(node) if isinstance(one, c_ast.ID)]
 
     def once(self, key: Any) -> bool:
         """Whether an item comes for the first time."""
@@ -116,6 +123,8 @@ class Units(Statements):
     def variable(self, variable: Variable, static: bool = False, here: bool = False) -> None:
         """Writes an object of the file with its first values, on their lines where they stand here."""
         self.check_type(variable)
+        if self.places.columns.in_column(variable):
+            return
         made = filled(self.constants, variable.type, variable.init)
         for _, _, source in made.wholes:
             raise Refused(source.coord, "a struct as the first value of a part", "give its members one by one")
@@ -125,10 +134,12 @@ class Units(Statements):
         self.check_lengths(variable)
         leaves = list(kinds.leaves(variable.type))
         for leaf in leaves:
+            if self.places.columns.is_apart(self.places.columns.home(variable), leaf.path):
+                continue
             texts = made.texts(leaf, lambda one: self.first(one, leaf.kind, here and len(leaves) == 1))
             name = self.spelling.leaf(variable, leaf.path)
             whole = f"{{{', '.join(texts)}}}" if leaf.dims else texts[0]
-            value = "" if variable.init is None else f" = {whole}"
+            value = "" if variable.init is None and none_of(leaf) == "0" else f" = {whole}"
             self.emit(f"{words}{leaf.kind.text} {name}{f'[{leaf.count}]' if leaf.dims else ''}{value};")
 
     def is_static(self, variable: Variable) -> bool:
@@ -136,6 +147,8 @@ class Units(Statements):
 
     def first(self, node: Any, kind: Int, marked: bool) -> str:
         """A first value of an object of the file, which is a constant."""
+        if isinstance(node, Part):
+            return self.first_number(node, kind)
         known = self.constants.value(node)
         if known is None:
             raise Refused(node.coord, "a first value that is no constant", "give a number")
@@ -157,11 +170,11 @@ class Units(Statements):
             if isinstance(one.binding, Place):
                 continue
             fault = kinds.fault_of(pointee(one))
-            if fault or one.binding is None and isinstance(one.type, Pointer):
+            if fault:
                 raise Refused(
                     one.coord,
-                    f"{one.name} of {function.name}: {fault[0] if fault else 'a pointer'}",
-                    fault[1] if fault else "hand over an object",
+                    f"{one.name} of {function.name}: {fault[0]}",
+                    fault[1],
                 )
             if not isinstance(one.type, Pointer):
                 self.check_lengths(one)
@@ -177,11 +190,13 @@ class Units(Statements):
             raise Refused(
                 function.coord, f"{function.name} takes any number of arguments", "give it a fixed number of parameters"
             )
-        if not isinstance(result, (Int, Struct)) and result != kinds.VOID:
-            cause, advice = kinds.fault_of(result) or ("a pointer", "")
+        fault = kinds.fault_of(result) if isinstance(result, Pointer) else None
+        if not isinstance(result, (Int, Struct, Pointer)) and result != kinds.VOID or fault:
+            cause, advice = fault or kinds.fault_of(result) or ("what is no integer", "")
             raise Refused(function.coord, f"{function.name} gives {cause}", advice)
         static = "static " if function.static and function.definition is not None else ""
-        text = result.text if isinstance(result, Int) else "void"
+        index = isinstance(result, Pointer) and bool(function.calls)
+        text = result.text if isinstance(result, Int) else "int" if index else "void"
         listed = "void" if function.definition is None else self.parameters(function)
         return f"{static}{text} {function.out}({listed})"
 
@@ -189,6 +204,9 @@ class Units(Statements):
         """Writes what a function hands back, and its own static objects, before its first declaration."""
         if not self.once((function, "before")) or function.definition is None:
             return
+        if isinstance(function.result, Pointer):
+            for part in function.result.region.parts()[1 if function.calls else 0 :]:
+                self.emit(f"static int {self.result_part(function, part)};")
         if isinstance(function.result, Struct):
             self.variable(self.spelling.special(function, "result", function.result, self.special), True)
         for parameter in dict.fromkeys(parameter for parameter, _ in self.outs(function)):
@@ -243,6 +261,7 @@ class Units(Statements):
         with self.names.refusals.gathered():
             self.emit(self.heading(function) + " {")
         self.normal(function)
+        self.into_columns(function)
         items = node.body.block_items or []
         for one in items:
             self.statement(one)
@@ -264,48 +283,3 @@ class Units(Statements):
             if leaf.kind.boolean:
                 name = self.spelling.leaf(one, leaf.path)
                 self.emit(f"{name} = {name} != 0;")
-
-    def check_names(self, function: Function) -> None:
-        """Refuses what would make two names of one object, or one name of two."""
-        locals_of = {
-            variable.name
-            for variable in self.names.variables
-            if variable.function is function and variable.home == "local"
-        }
-        for parameter in function.parameters:
-            if isinstance(parameter.binding, Place) and parameter.binding.variable.out in locals_of | {
-                one.name for one in function.parameters
-            }:
-                raise Refused(
-                    parameter.coord,
-                    f"{parameter.name} stands for {parameter.binding.variable.name}, and {function.name} has another of this name",
-                    "rename that one",
-                )
-        if not function.calls:
-            self.check_uncalled(function)
-
-    def check_uncalled(self, function: Function) -> None:
-        """Refuses a function that nothing calls, where two of its names may be those of one object."""
-        summary = self.effected.of_function[function]
-        copies = [one for one in function.parameters if one.binding == "copy" and isinstance(one.type, Pointer)]
-        for at, one in enumerate(copies):
-            written = any(found[0] is one for found in summary.writes)
-            shared = [
-                (found, found in summary.writes)
-                for found in [*summary.reads, *summary.writes]
-                if found[0] is not None and found[0].shared
-            ]
-            if any((written or too) and within(found[0].type, pointee(one)) for found, too in shared if found[0]):
-                raise Refused(
-                    one.coord,
-                    f"nothing calls {function.name}, and {one.name} may point to an object that it uses",
-                    "call it with a named object",
-                )
-            for two in copies[at + 1 :]:
-                too = any(found[0] is two for found in summary.writes)
-                if (written or too) and (within(pointee(one), pointee(two)) or within(pointee(two), pointee(one))):
-                    raise Refused(
-                        two.coord,
-                        f"nothing calls {function.name}, and {one.name} and {two.name} may point to one object",
-                        "call it with named objects",
-                    )

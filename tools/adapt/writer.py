@@ -15,7 +15,7 @@ from .output import File, mark, unmarked
 from .places import Place, Places
 from .refusals import Refused
 from .spelling import Spelling
-from .values import PRIMARY, UNARY, Value
+from .values import PRIMARY, UNARY, Value, plus, times
 
 ORDER = "C leaves open whether {} is read or written first; use two statements"
 
@@ -31,9 +31,14 @@ class Writer:
         self.behind: set[int] = set()
         self.after: list[str] = []
         self.within = 0
+        self.written_models: dict[Any, tuple[str, str]] = {}
+        self.model_words: dict[str, str] = {}
         self.needing: dict[int, tuple[Any, bool]] = {}
 
     def value(self, node: Any) -> Value:
+        raise NotImplementedError
+
+    def each_integer(self, place: Place, index: Optional[Value]) -> list[tuple[Leaf, list[str]]]:
         raise NotImplementedError
 
     # ---- pieces
@@ -86,7 +91,10 @@ class Writer:
             return isinstance(node.name, c_ast.ArrayRef)
         if isinstance(node, c_ast.FuncCall):
             called = self.names.meaning.get(id(node))
-            return isinstance(called, Function) and (bool(self.outs(called)) or isinstance(called.result, Struct))
+            if not isinstance(called, Function):
+                return False
+            several = isinstance(called.result, kinds.Pointer) and len(called.result.region.parts()) > 1
+            return several or bool(self.outs(called)) or isinstance(called.result, Struct)
         stepped = isinstance(node, c_ast.UnaryOp) and node.op in STEPS
         return stepped or isinstance(node, (c_ast.Assignment, c_ast.ExprList, c_ast.CompoundLiteral))
 
@@ -118,21 +126,34 @@ class Writer:
 
     def steady(self, node: Any, value: Value) -> Value:
         """An index that stays the same when it is read again."""
-        plain = not value.calls and not any(isinstance(one, (c_ast.ArrayRef, c_ast.FuncCall)) for one in walk(node))
-        if plain:
+        loads = any(
+            isinstance(one, (c_ast.ArrayRef, c_ast.FuncCall))
+            or (isinstance(one, c_ast.UnaryOp) and one.op == "*")
+            or (isinstance(one, c_ast.StructRef) and one.type == "->" and not self.stands(one.name))
+            for one in walk(node)
+        )
+        if not value.calls and not loads:
             return value
         return Value(self.temporary(value.kind, value.text, "index"), value.kind, PRIMARY)
+
+    def stands(self, node: Any) -> bool:
+        """Whether an expression is a parameter that stands for an object."""
+        meaning = self.names.meaning.get(id(node)) if isinstance(node, c_ast.ID) else None
+        return isinstance(meaning, Variable) and meaning.is_bound
 
     def index(self, place: Place, stable: bool, kept: bool = False) -> Optional[Value]:
         """The number of a place's first element among those of its arrays; None where there are none. With `kept` it is a
         constant or a variable of its own."""
-        whole: Optional[Value] = None
+        whole: Optional[Value] = Value("0", kinds.INT, PRIMARY) if place.variable.home == "column" else None
         self.unsequenced(place.indexes[0][0] if place.indexes else None, [node for node, _ in place.indexes])
-        for node, length in place.indexes:
+        for node, length in place.shifted():
             one = self.value(node)
             if stable or (self.check and len(place.indexes) > 1):
                 one = self.steady(node, one)
             known = self.constants.value(node)
+            if length == 1 or (whole is not None and whole.text.isdecimal()):
+                whole = plus(times(whole, length), one) if whole is not None else one
+                continue
             if self.check and len(place.indexes) > 1 and not (known is not None and 0 <= known < length):
                 below = f"{one.within(8)} >= 0 && " if one.kind.signed else ""
                 self.emit(f"assert({unmarked(below)}{unmarked(one.within(8))} < {length});")
@@ -145,6 +166,13 @@ class Writer:
             whole = Value(self.temporary(kinds.promoted(whole.kind), whole.text, "index"), whole.kind, PRIMARY)
         return whole
 
+    @staticmethod
+    def kind_at(place: Place) -> kinds.Type:
+        """The kind of the integers that a place's column has, which may have another sign than those of the access."""
+        if place.variable.home != "column" or place.path:
+            return place.type
+        return kinds.element(place.variable.type)
+
     def leaf(self, place: Place, stable: bool = False) -> tuple[str, bool]:
         """The text of an integer's place, and whether it calls functions."""
         name, index = self.spelling.leaf(place.variable, place.path), self.index(place, stable)
@@ -152,6 +180,8 @@ class Writer:
 
     def integers(self, place: Place, index: Optional[Value]) -> list[tuple[Leaf, list[str]]]:
         """The integers of an object, with the text of each element."""
+        if self.places.columns.any_apart(place.region, place.type):
+            return self.each_integer(place, index)
         found = []
         for leaf in kinds.leaves(place.type):
             name = self.spelling.leaf(place.variable, place.path + leaf.path)

@@ -5,7 +5,8 @@ use crate::formulas::{
 use cnf::{Formula, literal_key};
 use derivation_check::{Checker, Verdict};
 use search::{
-    FirstVariables, Found, History, KeepWatch, Move, NoWatch, Watch, search, search_in_order,
+    FirstVariables, Found, History, KeepWatch, Move, NoWatch, Watch, search, search_both,
+    search_highest_part, search_in_order, search_lowest_part, search_whole,
 };
 use std::alloc::Global;
 use std::process::Abort;
@@ -126,6 +127,27 @@ fn both_orders(rt: HostRuntime) {
         assert!(rt; is_over_variables(&formula) && formula.variables <= 1 << 30);
         let found = search_in_order(alloc, &formula, 100_000, first).expect(&rt, "no memory");
         assert!(rt; matches!(&found, Found::NoModel(_)));
+    }
+}
+
+#[test]
+fn parts_of_a_budget(rt: HostRuntime) {
+    let alloc = rt.alloc();
+    let formula = formula_of(&rt, alloc, 2, &[&[1, 2]]);
+    assert!(rt; is_over_variables(&formula) && formula.variables <= 1 << 30);
+    let found = search_lowest_part(alloc, &formula, 1000).expect(&rt, "no memory");
+    assert!(rt; matches!(&found, Some(Found::Model(_))));
+    let found = search_highest_part(alloc, &formula, 1000).expect(&rt, "no memory");
+    assert!(rt; matches!(&found, Some(Found::Model(_))));
+    let found = search_lowest_part(alloc, &formula, 999).expect(&rt, "no memory");
+    assert!(rt; found.is_none());
+    let found = search_highest_part(alloc, &formula, 999).expect(&rt, "no memory");
+    assert!(rt; found.is_none());
+    for budget in [2, 1000] {
+        let found = search_whole(alloc, &formula, budget).expect(&rt, "no memory");
+        assert!(rt; matches!(&found, Found::Model(_)));
+        let found = search_both(alloc, &formula, budget).expect(&rt, "no memory");
+        assert!(rt; matches!(&found, Found::Model(_)));
     }
 }
 

@@ -1,0 +1,125 @@
+"""Writes the columns with the first values of what lies in them, and what parameters hand into them."""
+
+import re
+from typing import Any
+
+from . import kinds
+from .calls import MOST_ELEMENTS
+from .declarators import Function, Variable
+from .effects import pointee
+from .initialisers import Part, filled, none_of
+from .kinds import Int, Path, Pointer
+from .output import File, unmarked
+from .places import Place
+from .refusals import Refused
+from .regions import Region
+from .statements import Statements
+
+
+def product(lengths: tuple[int, ...]) -> int:
+    made = 1
+    for one in lengths:
+        made *= one
+    return made
+
+
+class ColumnItems(Statements):
+    files: dict[str, File]
+    begin: tuple[str, int, int]
+
+    @staticmethod
+    def check_type(variable: Variable) -> None:
+        raise NotImplementedError
+
+    def write_columns(self) -> None:
+        """Writes the columns, before all else; those that have the name of a file's object with its own words."""
+        columns = self.places.columns
+        columns.named(self.spelling)
+        given = self.column_values()
+        path = next((unit.files[0] for unit, _ in self.names.items if unit.files), "")
+        self.original, self.closings = path, {}
+        self.line = min((item.coord.line for _, item in self.names.items if str(item.coord.file) == path), default=1)
+        self.begin = (path, self.line, len(columns.made))
+        if not columns.made:
+            return
+        self.file = self.files.setdefault(path, File(path))
+        for region in columns.made:
+            self.names.refusals.go(region.column.coord)
+            with self.names.refusals.gathered():
+                self.write_column(region, given)
+        self.begin = (path, self.line, len(self.file.pieces))
+
+    def write_column(self, region: Region, given: dict[tuple[Variable, Path], dict[int, str]]) -> None:
+        column = region.column
+        if region.fault:
+            raise Refused(*region.fault)
+        self.check_type(column)
+        for leaf in kinds.leaves(column.type):
+            if self.places.columns.is_apart(region, leaf.path):
+                continue
+            if leaf.count > MOST_ELEMENTS:
+                advice = (
+                    f"the profile takes {MOST_ELEMENTS} at most, also of all objects together that one pointer meets"
+                )
+                raise Refused(column.coord, f"{column.out} has {leaf.count} elements", advice)
+            values = [none_of(leaf)] * leaf.count
+            for at, text in given.get((column, leaf.path), {}).items():
+                values[at] = text
+            while len(values) > 1 and values[-1] == "0":
+                values.pop()
+            first = "" if values == ["0"] else f" = {{{', '.join(values)}}}"
+            words = "static const " if column.const else "static "
+            self.emit(f"{words}{leaf.kind.text} {self.spelling.leaf(column, leaf.path)}[{leaf.count}]{first};")
+
+    def column_values(self) -> dict[tuple[Variable, Path], dict[int, str]]:
+        """The first values that lie in columns, by the column, the members and the number of the element."""
+        found: dict[tuple[Variable, Path], dict[int, str]] = {}
+        texts = [variable for _, variable in self.places.columns.points.texts.values()]
+        for variable in [*self.names.variables, *texts]:
+            if variable.init is None or variable.home in ("local", "parameter"):
+                continue
+            region = self.places.columns.home(variable)
+            if not self.places.columns.in_column(variable) and not self.places.columns.any_apart(region, variable.type):
+                continue
+            self.names.refusals.go(variable.coord)
+            with self.names.refusals.gathered():
+                made = filled(self.constants, variable.type, variable.init)
+                for leaf in kinds.leaves(variable.type):
+                    for at, node in made.of(leaf).items():
+                        spot = [at // product(leaf.dims[n + 1 :]) % length for n, length in enumerate(leaf.dims)]
+                        place = self.placed(variable, leaf.path, tuple(spot))
+                        index = self.index(place, False)
+                        if place.variable.home == "column" and index is not None:
+                            text = self.first_number(node, leaf.kind)
+                            found.setdefault((place.variable, place.path), {})[int(index.text)] = text
+        return found
+
+    def first_number(self, node: Any, kind: Int) -> str:
+        """A first value as a number."""
+        if isinstance(node, Part):
+            text = unmarked(self.value(node).text)
+            if not re.fullmatch(r"-?\d+", text):
+                raise Refused(node.coord, "a first value that is no constant", "assign it")
+            return text
+        known = self.constants.value(node)
+        if known is None:
+            raise Refused(node.coord, "a first value that is no constant", "give a number")
+        return str(kinds.fit(known, kind))
+
+    def into_columns(self, function: Function) -> None:
+        """Writes that what parameters have goes into the columns in which they lie."""
+        for one in function.parameters:
+            if isinstance(one.binding, Place) or one.binding == "lent":
+                continue
+            region, of = self.places.columns.home(one), pointee(one)
+            place = self.places.of_variable(one)
+            if place.variable.home != "column" and not self.places.columns.any_apart(region, of):
+                continue
+            with self.names.refusals.gathered():
+                if one.is_bound and isinstance(one.type, Pointer):
+                    raise Refused(one.coord, f"the address of what {one.name} points to", "hand over the object itself")
+                for leaf, texts in self.each_integer(place, self.index(place, True) if place.shifted() else None):
+                    if place.variable.home == "column" or self.places.columns.is_apart(region, leaf.path):
+                        name = self.spelling.leaf(one, leaf.path)
+                        for at, text in enumerate(texts):
+                            self.emit(f"{text} = {name}{f'[{at}]' if leaf.dims else ''};")

@@ -1,0 +1,174 @@
+"""The columns: for each region to which a pointer may point an array that has all of its objects, one behind the other."""
+
+from typing import Any, Optional, Union
+
+from . import kinds
+from .declarators import Variable
+from .kinds import Array, Path, Pointer, Type
+from .names import Names
+from .points_to import PointsTo
+from .refusals import Refused
+from .regions import Region
+from .spelling import Spelling
+
+Owner = Union[Variable, tuple[Region, str]]  # an object, or the member of all elements of another region
+
+
+class Columns:
+    def __init__(self, names: Names) -> None:
+        self.names, self.points = names, PointsTo(names)
+        self.begins: dict[tuple[Region, Owner], int] = {}
+        self.counts: dict[Region, Optional[int]] = {}
+        self.inner: dict[Region, list[tuple[Region, str]]] = {}
+        self.regions = self.known()
+        for region in self.regions:
+            for name, inner in region.members.items():
+                self.inner.setdefault(inner.root(), []).append((region, name))
+        self.made = [region for region in self.regions if region.pointed and not self.is_function(region)]
+        for region in self.made:
+            self.lay_out(region)
+        self.of_column = {region.column: region for region in self.made}
+        self.check_locals()
+
+    def known(self) -> list[Region]:
+        """All regions: those of objects and of the pointers in their types, and of their members."""
+        found: dict[Region, None] = {}
+        rest = [self.points.home(one) for one in list(self.points.homes)]
+        rest += [of.region for _, of in self.points.values.values() if isinstance(of, Pointer)]
+        while rest:
+            one = rest.pop(0).root()
+            if one not in found:
+                found[one] = None
+                rest += one.members.values()
+                rest += [one.elem.region] if isinstance(one.elem, Pointer) else []
+        return list(found)
+
+    @staticmethod
+    def is_function(region: Region) -> bool:
+        return bool(region.elem == kinds.FUNCTION)
+
+    # ---- layout
+
+    def lay_out(self, region: Region) -> int:
+        """Gives each object of a region its begin; how many elements there are."""
+        if region in self.counts:
+            count = self.counts[region]
+            if count is None:
+                raise Refused(None, "an object that lies within itself by a pointer", "use objects apart")
+            return count
+        self.counts[region] = None
+        end, objects = 0, 0
+        owners: list[Owner] = [*region.objects, *self.inner.get(region, [])]
+        for owner in owners:
+            count, each = self.extent(owner)
+            self.begins[(region, owner)] = end
+            end += count + 1
+            objects += each
+        region.single = objects <= 1
+        end = max(end - 1, 1)
+        self.counts[region] = end
+        alone = region.objects[0] if len(owners) == 1 and region.objects else None
+        self.column(region, end, alone)
+        return end
+
+    def extent(self, owner: Owner) -> tuple[int, int]:
+        """How many elements an owner has, and how many objects these are."""
+        if isinstance(owner, Variable):
+            of = owner.type.to if owner.is_bound and isinstance(owner.type, Pointer) else owner.type
+            return kinds.elements(of), 1
+        outer, name = owner
+        of = dict(outer.elem.members or [])[name]
+        count = self.lay_out(outer) if outer.pointed else sum(self.extent(one)[0] for one in outer.objects)
+        return count * kinds.elements(of), count
+
+    def column(self, region: Region, count: int, alone: Optional[Variable]) -> None:
+        if region.elem is None or region.elem == kinds.VOID:
+            region.elem = kinds.Int(8, False, "unsigned char")
+        coord = region.objects[0].coord if region.objects else None
+        made = Variable(alone.name if alone else "r", Array(region.elem, count), coord, "column", defined=True)
+        made.const = bool(region.objects) and all(one.const for one in region.objects) and not self.inner.get(region)
+        region.column = made
+
+    def check_locals(self) -> None:
+        """A local object in a column is there once, so its function may not be called while it runs."""
+        for region in self.made:
+            for one in region.objects:
+                if one.home in ("local", "parameter") and one.function and self.recurs(one.function):
+                    cause = f"the address of {one.name} is taken in {one.function.name}, which calls itself"
+                    self.names.refusals.add(one.coord, cause, "hand over an object of the caller")
+
+    def recurs(self, function: Any) -> bool:
+        seen, rest = set(), [function]
+        while rest:
+            one = rest.pop()
+            for other in self.names.functions:
+                if any(caller is one for caller, _ in other.calls) and other not in seen:
+                    seen.add(other)
+                    rest.append(other)
+        return function in seen
+
+    # ---- what others ask
+
+    def home(self, variable: Variable) -> Optional[Region]:
+        return self.points.home(variable) if variable.home != "column" else None
+
+    def begin(self, region: Region, owner: Owner) -> int:
+        if not isinstance(owner, Variable):
+            owner = next(one for one in self.inner[region] if one[0] is owner[0] and one[1] == owner[1])
+        return self.begins[(region, owner)]
+
+    def pointer(self, node: Any) -> Pointer:
+        """The type of a pointer's value, with its region."""
+        of = self.points.value(node)
+        if not isinstance(of, Pointer):
+            raise Refused(node.coord, "what is no pointer", "use a pointer")
+        return of
+
+    def in_column(self, variable: Variable) -> bool:
+        """Whether the whole of a variable lies in a column."""
+        return self.points.home(variable).column is not None
+
+    def is_apart(self, region: Optional[Region], path: Path) -> bool:
+        """Whether a leaf lies in the column of a member that leads to it."""
+        for name in path:
+            inner = region.root().members.get(name) if region else None
+            region = inner.root() if inner else None
+            if region is not None and region.column is not None:
+                return True
+        return False
+
+    def leaf_at(self, region: Region, path: Path) -> tuple[Variable, Path, int, int]:
+        """Where a leaf of a region's elements lies: the column, the members there, and by what an element's number is multiplied
+        and what is added for the leaf's first one."""
+        inside: Path = ()
+        variable, factor, add = region.column, 1, 0
+        at: Optional[Region] = region
+        for name in path:
+            of = dict(at.root().elem.members or [])[name] if at is not None and not name.startswith("@") else None
+            inner = at.root().members.get(name) if at is not None else None
+            count = kinds.elements(of) if of is not None else 1
+            factor, add = factor * count, add * count
+            if inner is not None and inner.root().column is not None and at is not None:
+                variable, inside = inner.root().column, ()
+                add += self.begin(inner.root(), (at.root(), name))
+            else:
+                inside = inside + (name,)
+            at = inner.root() if inner is not None else Region(kinds.element(of)) if of is not None else None
+        return variable, inside, factor, add
+
+    def any_apart(self, region: Optional[Region], of: Type) -> bool:
+        return any(self.is_apart(region, leaf.path) for leaf in kinds.leaves(of))
+
+    def named(self, spelling: Spelling) -> None:
+        """Gives each column its name: that of its object where there is one alone, which is no local one."""
+        hidden = {one.name for one in self.names.variables if not one.shared}
+        hidden |= {one.name for function in self.names.functions for one in function.parameters}
+        for region in self.made:
+            alone = region.objects[0] if len(region.objects) == 1 and not self.inner.get(region) else None
+            if alone is not None and alone.shared and alone.out and alone.out not in hidden:
+                region.column.out = alone.out
+            elif alone is not None and alone.home != "text":
+                stem = f"{alone.function.name}_{alone.name}" if alone.function else alone.name
+                region.column.out = spelling.fresh(stem, True)
+            else:
+                region.column.out = spelling.fresh("text" if alone is not None else "r")

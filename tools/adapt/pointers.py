@@ -1,0 +1,285 @@
+"""Writes the values of pointers: the index of what is pointed to in its column, and where they matter the end and the begin of
+its object. An access outside of the object becomes the index -1, which ends a run, and never reads a neighbour."""
+
+from typing import Any, Optional
+
+from pycparser import c_ast
+
+from . import kinds
+from .declarators import Function, Variable
+from .effects import STEPS, objects
+from .kinds import Array, Pointer
+from .models import Model, model_of
+from .places import At, Place
+from .output import unmarked
+from .refusals import Refused
+from .regions import BEGIN, END, INDEX, NIL
+from .values import PRIMARY, UNARY, Value, number, plus, times
+from .writer import Writer
+
+MOST = 16383  # no index of a column is greater
+NONE = {
+    INDEX: Value(str(NIL), kinds.INT, UNARY),
+    END: Value("0", kinds.INT, PRIMARY),
+    BEGIN: Value("0", kinds.INT, PRIMARY),
+}
+Parts = dict[str, Value]
+
+
+class Pointers(Writer):
+    special: dict[Any, Variable] = {}
+
+    def call(self, node: Any) -> tuple[str, list[str]]:
+        raise NotImplementedError
+
+    def called(self, node: Any) -> Function:
+        raise NotImplementedError
+
+    def effect(self, node: Any) -> None:
+        raise NotImplementedError
+
+    def either(self, node: Any, do: Any) -> None:
+        raise NotImplementedError
+
+    def model_parts(self, node: Any, model: Model) -> Parts:
+        raise NotImplementedError
+
+    def test(self, node: Any) -> Value:
+        raise NotImplementedError
+
+    def is_null(self, node: Any) -> bool:
+        while isinstance(node, c_ast.Cast):
+            node = node.expr
+        return self.constants.value(node) == 0
+
+    def is_pointer(self, node: Any) -> bool:
+        """Whether an expression is a pointer or an array that is one, but for parameters that stand for objects."""
+        of = self.constants.type_of(node)
+        meaning = self.names.meaning.get(id(node)) if isinstance(node, c_ast.ID) else None
+        return isinstance(of, (Pointer, Array)) and not (isinstance(meaning, Variable) and meaning.is_bound)
+
+    # ---- values
+
+    def pointer(self, node: Any) -> Parts:
+        """The integers of a pointer's value; its effects are written before."""
+        self.within += 1
+        try:
+            return self.parts_of(node)
+        finally:
+            self.within -= 1
+
+    def parts_of(self, node: Any) -> Parts:
+        if self.is_null(node):
+            return NONE
+        of = self.places.columns.pointer(node)
+        fault = of.region.root().fault
+        if fault or of.to == kinds.FUNCTION:
+            cause, advice = fault[1:] if fault else kinds.fault_of(of) or ("", "")
+            raise Refused(node.coord, cause, advice)
+        if isinstance(node, c_ast.Cast):
+            return self.pointer(node.expr)
+        if isinstance(node, c_ast.UnaryOp) and node.op == "&":
+            return self.address(node)
+        if isinstance(node, c_ast.UnaryOp) and node.op in STEPS:
+            return self.stepped_pointer(node)
+        if isinstance(node, c_ast.BinaryOp):
+            left = self.is_pointer(node.left)
+            return self.moved(node, node.left if left else node.right, node.right if left else node.left, node.op)
+        if isinstance(node, c_ast.Assignment):
+            self.effect(node)
+            return self.loaded(node.lvalue)
+        if isinstance(node, c_ast.TernaryOp):
+            return self.chosen_pointer(node, of)
+        if isinstance(node, c_ast.ExprList):
+            for one in node.exprs[:-1]:
+                self.effect(one)
+            return self.pointer(node.exprs[-1])
+        if isinstance(node, c_ast.FuncCall):
+            return self.given_back(node, of)
+        if isinstance(self.constants.type_of(node), Array):
+            return self.pointing_at_first(self.array(node))
+        return self.loaded(node)
+
+    def array(self, node: Any) -> Place:
+        if isinstance(node, c_ast.Constant):
+            return self.places.of_variable(self.places.columns.points.texts[id(node)][1])
+        return self.places.place(node)
+
+    def loaded(self, node: Any) -> Parts:
+        """The value of a pointer that is an object."""
+        place = self.places.place(node)
+        return self.parts_at(place, self.index(place, True))
+
+    def parts_at(self, place: Place, index: Optional[Value]) -> Parts:
+        found = {}
+        for part in place.type.region.parts():  # type: ignore[union-attr]
+            name = self.spelling.leaf(place.variable, place.path + (part,))
+            text = name if index is None else f"{name}[{index.text}]"
+            found[part] = Value(text, kinds.INT, PRIMARY, calls=index is not None and index.calls)
+        return found
+
+    def pointing_at_first(self, place: Place) -> Parts:
+        """A pointer to the first element of an array."""
+        return self.pointing(self.first_element(place), place.around or place)
+
+    def first_element(self, place: Place) -> Place:
+        while isinstance(place.type, Array):
+            place = self.places.element(place, self.places.zero)
+        return place
+
+    def pointing(self, place: Place, around: Place) -> Parts:
+        """A pointer to a place within an object."""
+        if place.variable.home != "column" or place.path:
+            raise Refused(None, f"the address of {place.variable.name}", "name the object itself")
+        index = self.index(place, True)
+        assert index is not None
+        begin = index
+        if isinstance(around.type, Array):
+            begin = self.index(self.first_element(around), True) or index
+        end = plus(begin, Value(str(kinds.elements(around.type)), kinds.INT, PRIMARY))
+        return {INDEX: index, END: end, BEGIN: begin}
+
+    def address(self, node: Any) -> Parts:
+        inner = node.expr
+        if isinstance(inner, c_ast.UnaryOp) and inner.op == "*" and self.is_pointer(inner.expr):
+            return self.pointer(inner.expr)
+        if isinstance(inner, c_ast.ArrayRef) and isinstance(self.constants.type_of(inner.name), Pointer):
+            if self.is_pointer(inner.name):
+                return self.moved(node, inner.name, inner.subscript, "+")
+        place = self.places.place(inner)
+        return self.pointing(self.first_element(place), place.around or place)
+
+    def wide(self, value: Value) -> Value:
+        """A number of elements by which a pointer is moved; one that no array has becomes 32,768, which lies outside of all."""
+        kind = value.kind
+        if number(value) is not None or kind.bits == 8 or (kind.bits == 16 and kind.signed):
+            return value
+        text = value.within(UNARY)
+        if kind.signed and kind.bits == 64:
+            bad = f"((unsigned long) {text} + 16384 > 32767)"
+        else:
+            bad = f"({value.within(8)} > {MOST})"
+        cast = text if kind.bits < 32 or (kind.bits == 32 and kind.signed) else f"(int) {text}"
+        return Value(
+            f"(({unmarked(cast)} & ({unmarked(bad)} - 1)) + ({unmarked(bad)} << 15))",
+            kinds.INT,
+            PRIMARY,
+            calls=value.calls,
+        )
+
+    def stride(self, node: Any) -> int:
+        return kinds.elements(self.places.columns.pointer(node).to)
+
+    def steady_value(self, value: Value) -> Value:
+        return Value(self.temporary(value.kind, value.text), value.kind, PRIMARY) if value.calls else value
+
+    def moved(self, node: Any, base: Any, by: Any, op: str) -> Parts:
+        """A pointer moved by a number of elements."""
+        self.unsequenced(node, [base, by])
+        parts = dict(self.pointer(base))
+        step = times(self.wide(self.steady_value(self.value(by))), self.stride(base))
+        if op == "-":
+            known = number(step)
+            made = f"{parts[INDEX].within(9)} - {step.within(10)}"
+            parts[INDEX] = plus(parts[INDEX], minus(known)) if known is not None else Value(made, kinds.INT, 9)
+        else:
+            parts[INDEX] = plus(parts[INDEX], step)
+        return parts
+
+    def stepped_pointer(self, node: Any) -> Parts:
+        """`++` and `--`: the old value, which is kept, or the new one."""
+        place = self.places.place(node.expr)
+        parts = self.parts_at(place, self.index(place, True))
+        target = parts[INDEX].text
+        step, before = self.step_text(node, target), not node.op.startswith("p")
+        if before or id(node) in self.behind:
+            self.emit(step) if before else self.after.append(step)
+            return parts
+        old = self.temporary(kinds.INT, target)
+        self.emit(step)
+        return {**parts, INDEX: Value(old, kinds.INT, PRIMARY)}
+
+    def step_text(self, node: Any, target: str) -> str:
+        stride = self.stride(node.expr)
+        return f"{target}{node.op[-2:]};" if stride == 1 else f"{target} {node.op[-1]}= {stride};"
+
+    def chosen_pointer(self, node: Any, of: Pointer) -> Parts:
+        names = of.region.parts()
+        if not (self.needs_statements(node.iftrue) or self.needs_statements(node.iffalse)):
+            test, yes, no = self.test(node.cond), self.pointer(node.iftrue), self.pointer(node.iffalse)
+            if not any(one.calls for one in [test, *yes.values(), *no.values()]) or len(names) == 1:
+                texts = {name: f"{test.within(1)} ? {yes[name].text} : {no[name].within(0)}" for name in names}
+                return {name: Value(text, kinds.INT, 0, calls=test.calls) for name, text in texts.items()}
+        made = {name: self.temporary(kinds.INT, "0", "pointer") for name in names}
+
+        def set_all(one: Any) -> None:
+            values = self.pointer(one)
+            for name in names:
+                self.emit(f"{made[name]} = {values[name].text};")
+
+        self.either(node, set_all)
+        return {name: Value(text, kinds.INT, PRIMARY) for name, text in made.items()}
+
+    def given_back(self, node: Any, of: Pointer) -> Parts:
+        """What a call gives."""
+        function = self.called(node)
+        model = model_of(function)
+        if model is not None:
+            parts = self.model_parts(node, model)
+            several = len(of.region.parts()) > 1
+            return {**parts, INDEX: self.steady_value(parts[INDEX])} if several else parts
+        if function.definition is None:
+            raise Refused(
+                node.coord,
+                f"no source defines {function.name}, which gives a pointer",
+                "give the source that defines it",
+            )
+        text, after = self.call(node)
+        names = of.region.parts()
+        if len(names) == 1 and not after:
+            return {INDEX: Value(text, kinds.INT, PRIMARY, calls=True)}
+        found = {INDEX: Value(self.temporary(kinds.INT, text, "pointer"), kinds.INT, PRIMARY)}
+        for name in names[1:]:
+            found[name] = Value(
+                self.temporary(kinds.INT, self.result_part(function, name), "pointer"), kinds.INT, PRIMARY
+            )
+        for one in after:
+            self.emit(one)
+        return found
+
+    def result_part(self, function: Function, part: str) -> str:
+        own = self.spelling.special(function, "result", function.result, self.special)
+        return self.spelling.leaf(own, (part,))
+
+    # ---- accesses
+
+    def element_at(self, node: At) -> Value:
+        """The number of the element at a pointer, or -1 where it is outside of the pointer's object."""
+        if node.index is not None:
+            self.unsequenced(node, [node.pointer, node.index])
+        parts = {name: self.steady_value(one) for name, one in self.pointer(node.pointer).items()}
+        index, tests = parts[INDEX], []
+        if node.index is not None and self.constants.value(node.index) != 0:
+            by = self.steady_value(self.value(node.index))
+            if number(by) is None and by.kind.bits > 8 and by.kind != kinds.Int(16, True, ""):
+                bad = (
+                    f"(unsigned long) {by.within(UNARY)} + 16384 > 32767"
+                    if by.kind.signed and by.kind.bits == 64
+                    else f"{by.within(8)} > {MOST}"
+                )
+                tests.append(bad)
+            if by.kind.bits == 64:
+                by = Value(f"(int) {by.within(UNARY)}", kinds.INT, UNARY)
+            index = plus(index, times(by, node.stride))
+        region = self.places.columns.pointer(node.pointer).region
+        wanted = region.parts()
+        tests += [f"{index.within(8)} >= {parts[END].within(8)}"] if END in wanted else []
+        tests += [f"{index.within(8)} < {parts[BEGIN].within(8)}"] if BEGIN in wanted else []
+        if not tests:
+            return index
+        text = " | ".join([index.within(4), *(f"-({unmarked(one)})" for one in tests)])
+        return Value(text, index.kind if index.kind.bits == 32 else kinds.INT, 3)
+
+
+def minus(known: int) -> Value:
+    return Value(str(-known), kinds.INT, UNARY)

@@ -1,0 +1,291 @@
+"""Which objects pointers may meet: every assignment, argument, result and comparison brings regions together (regions.py)."""
+
+from typing import Any, Optional
+
+from pycparser import c_ast
+
+from . import kinds
+from .bindings import with_parents
+from .declarators import Function, Variable
+from .initialisers import filled
+from .kinds import Array, Int, Pointer, Struct, Type
+from .models import model_of
+from .names import Names
+from .places import Place, arguments
+from .refusals import Refused
+from .regions import Region
+from .unification import Unification
+
+
+class PointsTo(Unification):
+    def __init__(self, names: Names) -> None:
+        self.names, self.constants = names, names.constants
+        super().__init__()
+        self.texts: dict[int, tuple[Any, Variable]] = {}
+        self.values: dict[int, tuple[Any, Type]] = {}
+        self.function: Optional[Function] = None
+        for variable in list(names.variables):
+            if variable.init is not None:
+                self.first_values(variable.type, variable.init)
+        for function in names.functions:
+            if function.definition is not None:
+                self.function = function
+                for node, _ in with_parents(function.definition.body):
+                    self.visit(node)
+
+    # ---- types of expressions, with their regions
+
+    def place(self, node: Any) -> tuple[Type, Region]:
+        """The type of what an expression names, and the region in which it lies."""
+        meaning = self.names.meaning.get(id(node)) if isinstance(node, c_ast.ID) else None
+        if isinstance(meaning, Variable):
+            return meaning.type, self.home(meaning)
+        if isinstance(node, c_ast.StructRef):
+            of, region = self.pointee(node.name) if node.type == "->" else self.place(node.name)
+            inner = dict(of.members or []).get(node.field.name) if isinstance(of, Struct) else None
+            if inner is None:
+                raise Refused(node.coord, f"the member {node.field.name}", "use a struct")
+            return inner, region.member(node.field.name, kinds.element(inner))
+        if isinstance(node, c_ast.ArrayRef):
+            base, index = node.name, node.subscript
+            if isinstance(self.constants.type_of(base), Int):
+                base, index = index, base
+            of, region = self.pointee(base)
+            if not isinstance(self.constants.type_of(base), Array):
+                self.moves(region, index)
+            return of, region
+        if isinstance(node, c_ast.UnaryOp) and node.op == "*":
+            return self.pointee(node.expr)
+        if isinstance(node, c_ast.FuncCall):
+            of = self.constants.type_of(node)
+            return of, Region(of)
+        raise Refused(node.coord, "what is no named object", "use a variable")
+
+    def pointee(self, node: Any) -> tuple[Type, Region]:
+        """What a pointer, or an array, leads to."""
+        meaning = self.names.meaning.get(id(node)) if isinstance(node, c_ast.ID) else None
+        if isinstance(meaning, Variable) and meaning.is_bound and not isinstance(meaning.type, (Int, Struct)):
+            return self.bound(meaning)
+        if isinstance(node, c_ast.UnaryOp) and node.op == "&":
+            return self.place(node.expr)
+        if isinstance(node, c_ast.Constant) and isinstance(self.names.meaning.get(id(node)), Variable):
+            text = self.names.meaning[id(node)]
+            return kinds.element(text.type), self.home(text)
+        if isinstance(node, (c_ast.ID, c_ast.StructRef, c_ast.ArrayRef, c_ast.UnaryOp)):
+            if isinstance(self.constants.type_of(node), Array):
+                of, region = self.place(node)
+                return (of.of if isinstance(of, Array) else of), region
+        made = self.value(node)
+        if not isinstance(made, Pointer):
+            raise Refused(node.coord, "what is no pointer", "use a pointer")
+        if made.to not in (kinds.VOID, kinds.FUNCTION):
+            made.region.root().pointed = True
+        return made.to, made.region.root()
+
+    def bound(self, meaning: Variable) -> tuple[Type, Region]:
+        """What a parameter that stands for an object leads to."""
+        if isinstance(meaning.binding, Place):
+            of, region = meaning.binding.variable.type, self.home(meaning.binding.variable)
+            for name in meaning.binding.path:
+                of = dict(of.members or [])[name]  # type: ignore[union-attr]
+                region = region.member(name, kinds.element(of))
+            return of, region
+        return getattr(meaning.type, "to", getattr(meaning.type, "of", meaning.type)), self.home(meaning)
+
+    def value(self, node: Any) -> Type:
+        """The type of a value; of a pointer with its region."""
+        if id(node) not in self.values:
+            self.values[id(node)] = node, self.made(node)
+        return self.values[id(node)][1]
+
+    def made(self, node: Any) -> Type:
+        if isinstance(node, c_ast.Constant) and node.type == "string":
+            return self.text(node)
+        if isinstance(node, c_ast.UnaryOp) and node.op == "&":
+            return self.address(node)
+        if isinstance(node, c_ast.UnaryOp) and node.op in ("++", "--", "p++", "p--"):
+            return self.value(node.expr)
+        if isinstance(node, c_ast.BinaryOp) and node.op in ("+", "-"):
+            return self.sum(node)
+        if isinstance(node, c_ast.TernaryOp):
+            one, other = self.value(node.iftrue), self.value(node.iffalse)
+            if isinstance(one, Pointer) and isinstance(other, Pointer):
+                self.unify(one.region, other.region, node.coord)
+            if self.is_null(node.iftrue) and isinstance(other, Pointer):
+                return other
+            return one
+        if isinstance(node, c_ast.ExprList):
+            return self.value(node.exprs[-1])
+        if isinstance(node, c_ast.Assignment):
+            return self.value(node.lvalue)
+        model = model_of(self.names.meaning.get(id(node))) if isinstance(node, c_ast.FuncCall) else None
+        if model is not None and model.gives_pointer and arguments(node):
+            return self.value(arguments(node)[0])
+        if isinstance(node, c_ast.Cast):
+            to = self.names.types.get(id(node.to_type), kinds.VOID)
+            self.flow(node.expr, to)
+            return to
+        if isinstance(node, (c_ast.ID, c_ast.StructRef, c_ast.ArrayRef, c_ast.UnaryOp)):
+            return self.decayed(node)
+        return self.constants.type_of(node)
+
+    def decayed(self, node: Any) -> Type:
+        """The type of what names an object; an array is a pointer to its first element."""
+        of = self.constants.type_of(node)
+        if isinstance(of, (Array, Pointer, Struct)):
+            of, region = self.place(node)
+            if isinstance(of, Array):
+                region.root().pointed = True
+                return Pointer(of.of, region)
+        return of
+
+    def address(self, node: Any) -> Type:
+        of, region = self.place(node.expr)
+        region.root().pointed = True
+        inner = node.expr
+        while isinstance(inner, c_ast.ArrayRef):
+            self.moves(region, inner.subscript)
+            inner = inner.name
+        return Pointer(of, region)
+
+    def text(self, node: Any) -> Type:
+        """A string is an object of its own."""
+        if id(node) not in self.texts:
+            of = self.constants.type_of(node)
+            made = Variable("text", of, node.coord, "text", node, self.function, True, True)
+            self.texts[id(node)] = node, made
+        made = self.texts[id(node)][1]
+        region = self.home(made)
+        region.pointed = True
+        return Pointer(kinds.element(made.type), region)
+
+    def sum(self, node: Any) -> Type:
+        left, right = self.value(node.left), self.value(node.right)
+        if isinstance(left, Pointer) and isinstance(right, Pointer):
+            self.unify(left.region, right.region, node.coord)
+            return kinds.LONG
+        if isinstance(right, Pointer):
+            self.moves(right.region, node.left)
+            return right
+        if isinstance(left, Pointer):
+            self.moves(left.region, node.right, node.op == "-")
+            return left
+        return self.constants.type_of(node)
+
+    def moves(self, region: Region, index: Any, back: bool = False) -> None:
+        """A pointer into a region is moved by so many elements."""
+        known, of = self.constants.value(index), self.constants.type_of(index)
+        root = region.root()
+        if known is None:
+            root.moved, root.down = True, root.down or back or not isinstance(of, Int) or of.signed
+        elif known:
+            root.moved, root.down = True, root.down or (known < 0) != back
+
+    def is_null(self, node: Any) -> bool:
+        while isinstance(node, c_ast.Cast):
+            node = node.expr
+        return self.constants.value(node) == 0
+
+    # ---- what brings regions together
+
+    def flow(self, node: Any, to: Type) -> None:
+        """A value becomes one of a type."""
+        if isinstance(node, c_ast.InitList):
+            self.first_values(to, node)
+            return
+        of = self.value(node)
+        if isinstance(to, Pointer) and not self.is_null(node):
+            if isinstance(of, Pointer):
+                if (of.to == kinds.FUNCTION) != (to.to == kinds.FUNCTION):
+                    self.fault(to.region, of.to, to.to, node.coord)
+                self.unify(to.region, of.region, node.coord)
+            else:
+                root = to.region.root()
+                root.fault = root.fault or (node.coord, "a pointer that is made of an integer", "name the object")
+        elif isinstance(to, Struct) and isinstance(of, Struct):
+            self.same_type(to, of, node.coord, Region())
+
+    def first_values(self, of: Type, init: Any) -> None:
+        try:
+            made = filled(self.constants, of, init)
+        except Refused:
+            return  # (told where it is written)
+        for (path, _), node in made.given.items():
+            part = kinds.element(of)
+            for name in path:
+                part = kinds.element(dict(part.members or [])[name])  # type: ignore[union-attr]
+            self.tried(node, part)
+
+    def tried(self, node: Any, to: Type) -> None:
+        try:
+            self.flow(node, to)
+        except Refused:
+            pass  # (told where it is written)
+
+    def visit(self, node: Any) -> None:
+        try:
+            if isinstance(node, c_ast.Decl) and node.init is not None:
+                variable = self.names.meaning.get(id(node))
+                if isinstance(variable, Variable) and not isinstance(node.init, c_ast.InitList):
+                    self.flow(node.init, variable.type)
+            elif isinstance(node, c_ast.Assignment):
+                self.assigned(node)
+            elif isinstance(node, c_ast.FuncCall):
+                self.called(node)
+            elif isinstance(node, c_ast.Return) and node.expr is not None and self.function is not None:
+                self.flow(node.expr, self.function.result)
+            elif isinstance(node, c_ast.UnaryOp) and node.op in ("++", "--", "p++", "p--"):
+                of = self.value(node.expr)
+                if isinstance(of, Pointer):
+                    root = of.region.root()
+                    root.moved, root.down = True, root.down or "--" in node.op
+            elif isinstance(node, c_ast.BinaryOp):
+                self.compared(node)
+            elif isinstance(node, (c_ast.ArrayRef, c_ast.StructRef)) or (
+                isinstance(node, c_ast.UnaryOp) and node.op == "*"
+            ):
+                self.place(node)
+            elif isinstance(node, (c_ast.Cast, c_ast.TernaryOp)):
+                self.value(node)
+        except Refused:
+            pass  # (told where it is written)
+
+    def assigned(self, node: Any) -> None:
+        to = self.value(node.lvalue)
+        if isinstance(to, Pointer) and node.op in ("+=", "-="):
+            self.moves(to.region, node.rvalue, node.op == "-=")
+        elif node.op == "=":
+            self.flow(node.rvalue, to)
+
+    def compared(self, node: Any) -> None:
+        if node.op in ("==", "!=", "<", ">", "<=", ">="):
+            if self.is_null(node.left) or self.is_null(node.right):
+                return
+            left, right = self.value(node.left), self.value(node.right)
+            if isinstance(left, Pointer) and isinstance(right, Pointer):
+                self.unify(left.region, right.region, node.coord)
+        elif node.op in ("+", "-"):
+            self.value(node)
+
+    def called(self, node: Any) -> None:
+        function = self.names.meaning.get(id(node))
+        if model_of(function):
+            self.of_model(node)
+        if not isinstance(function, Function) or function.definition is None:
+            return
+        for argument, parameter in zip(arguments(node), function.parameters):
+            if parameter.is_bound and not isinstance(parameter.type, (Int, Struct)):
+                of, region = self.bound(parameter)
+                mine, _ = self.pointee(argument)
+                self.same_type(of, mine, node.coord, region)
+            else:
+                self.tried(argument, parameter.type)
+
+    def of_model(self, node: Any) -> None:
+        """A call of a library's function goes through the objects of its pointers, and may copy from one to the other."""
+        found = [self.value(one) for one in arguments(node) if not self.is_null(one)]
+        regions = [of.region.root() for of in found if isinstance(of, Pointer)]
+        for region in regions:
+            region.pointed = region.moved = True
+        if len(regions) == 2 and all(region.root().elem is not None for region in regions):
+            self.same_type(regions[0].root().elem, regions[1].root().elem, node.coord, regions[0])

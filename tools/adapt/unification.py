@@ -1,0 +1,75 @@
+"""What brings regions together: two become one, and with them the pointers in their elements, member by member."""
+
+from typing import Any
+
+from . import kinds
+from .declarators import Variable
+from .kinds import Int, Pointer, Struct, Type
+from .regions import Region
+
+ADVICE = "let one pointer point to objects of one type"
+
+
+def words(of: Type) -> str:
+    """What a type is called."""
+    if isinstance(of, Struct):
+        return f"struct {of.tag}"
+    return of.text if isinstance(of, Int) else "pointer" if isinstance(of, Pointer) else getattr(of, "name", "array")
+
+
+class Unification:
+    def __init__(self) -> None:
+        self.homes: dict[Variable, Region] = {}
+
+    def home(self, variable: Variable) -> Region:
+        """The region in which a variable's elements lie; of a parameter that stands for an object, those of that object."""
+        if variable not in self.homes:
+            of = variable.type
+            if variable.is_bound and isinstance(of, Pointer):
+                of = of.to
+            self.homes[variable] = Region(kinds.element(of), [variable])
+        return self.homes[variable].root()
+
+    def unify(self, one: Region, other: Region, at: Any) -> None:
+        a, b = one.root(), other.root()
+        if a is b:
+            return
+        b.into = a
+        a.objects += [variable for variable in b.objects if variable not in a.objects]
+        a.pointed, a.moved, a.down = a.pointed or b.pointed, a.moved or b.moved, a.down or b.down
+        a.fault = a.fault or b.fault
+        left, right = a.elem, b.elem
+        a.elem = right if left is None else left
+        if left is not None and right is not None:
+            self.same_type(left, right, at, a)
+        for name, inner in list(b.members.items()):
+            mine = a.root().members.get(name)
+            if mine is None:
+                a.root().members[name] = inner
+            else:
+                self.unify(mine, inner, at)
+
+    def same_type(self, one: Type, other: Type, at: Any, region: Region) -> None:
+        """Brings the pointers within two types together; types that can't be one are a fault of the region."""
+        one, other = kinds.element(one), kinds.element(other)
+        if isinstance(one, Pointer) and isinstance(other, Pointer):
+            self.unify(one.region, other.region, at)
+        elif isinstance(one, Struct) and isinstance(other, Struct):
+            if one is other:
+                return
+            names = [[name for name, _ in of.members or []] for of in (one, other)]
+            if one.tag != other.tag or names[0] != names[1]:
+                self.fault(region, one, other, at)
+                return
+            for (_, mine), (_, theirs) in zip(one.members or [], other.members or []):
+                if isinstance(kinds.element(mine), Pointer):
+                    self.same_type(mine, theirs, at, region)
+        elif not (isinstance(one, Int) and isinstance(other, Int) and one.bits == other.bits):
+            self.fault(region, one, other, at)
+        elif one.boolean != other.boolean:
+            self.fault(region, one, other, at)
+
+    @staticmethod
+    def fault(region: Region, one: Type, other: Type, at: Any) -> None:
+        root = region.root()
+        root.fault = root.fault or (at, f"a pointer to {words(one)} and to {words(other)}", ADVICE)
