@@ -2,8 +2,8 @@
 
 An operation is done along one edge, and a run that it ends stands at the node from which that edge leads. Which edge it is goes by
 the table of docs/GRAPH.md: what stands in a condition that isn't split further is done at its guards, the arguments of a call at
-the call, and the rest at the other edges of the statement. Where a statement has several of these an operation has all of their
-nodes, and where nothing is found those of the whole statement; so the nodes of an operation may be too many, and none is lacking.
+the call, and the rest at the other edges of the statement. Where a statement has several of these an operation has the
+nodes of all that touch its variables, and where nothing is found those of the whole statement; so the nodes of an operation may be too many, and none is lacking.
 """
 
 from collections.abc import Iterator, Sequence
@@ -158,6 +158,20 @@ class Finder:
             return set()
         return {made[written.index(call)].source}
 
+    def touching(self, form: Form, edges: list[Edge]) -> list[Edge]:
+        """Those of some edges that read or write all variables that a form names, if there are any. A form with parts that are
+        done before it may have their values in place of their names, so it has all edges."""
+        span = self.words[form.first : form.last + 1]
+        if any(word.text in ("&&", "||", "?", ":") for word in span) or self.calls_in(form):
+            return edges
+        known = {name for edge in edges for name in edge.reads + edge.writes}
+        names = known & {word.text for word in span}
+        return [edge for edge in edges if names <= {*edge.reads, *edge.writes}] or edges
+
+    def calls_in(self, form: Form) -> bool:
+        calls = self.calls.get(self.statement_place(form.mark), [])
+        return any(form.first <= one.mark <= form.last for one in calls)
+
     def nodes(self, kind: str, form: Form) -> set[int]:
         """The nodes at which an operation is done."""
         owner = form if form.name == "call" else self.owners.at(form.mark)
@@ -165,7 +179,7 @@ class Finder:
         if kind in ("assert", "assume") or (owner and owner.name in ("branch", "statement")):
             wanted = (kind,) if kind in ("assert", "assume") else ("assign", "assert", "assume")
             edges = self.edges.get(self.statement_place(form.mark), [])
-            found = {edge.source for edge in edges if edge.operation in wanted}
+            found = {edge.source for edge in self.touching(form, [one for one in edges if one.operation in wanted])}
         elif owner and owner.name == "call":
             found = self.of_call(owner)
         elif owner:

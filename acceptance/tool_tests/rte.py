@@ -197,7 +197,19 @@ def any_ends(folder):
     yield ended.returncode == 1 and set(rows) == {"a.c:2:10", "a.c:5:3", "a.c:6:19"}
     yield (rows["a.c:5:3"]["verdict"], rows["a.c:5:3"]["end"], rows["a.c:5:3"]["input"]["args"]) == ("fails", "blocked", [3])
     yield rows["a.c:5:3"]["what"] == "assume(x != 3)"
-    yield rows["a.c:2:10"]["what"] == "call deep(n)" and rows["a.c:6:19"]["what"] == "call deep(x)"
+    yield (rows["a.c:2:10"]["what"], rows["a.c:2:10"]["end"], rows["a.c:2:10"]["input"]["args"]) == ("call deep(n)", "too-deep", [5])
+    yield (rows["a.c:6:19"]["what"], rows["a.c:6:19"]["verdict"]) == ("call deep(x)", "never")
+
+
+def a_budget_that_is_spent(folder):
+    """3 is odd, so 17 alone has 3 * 17 = 51 (in 32 bits); one move of the search doesn't find it, and a greater budget goes on."""
+    put(folder, {"a.c": "int f(int x) {\n  assert(x * 3 != 51);\n  return x;\n}\n"})
+    first = run(folder, ["rte", "f", "a.c", "-o", "d", "--budget", "1"])
+    yield first.returncode == 1 and first.stdout.startswith("a.c:2:3: open: assert(x * 3 != 51): its budget was spent\n")
+    second = run(folder, ["rte", "f", "a.c", "-o", "d"])
+    yield second.returncode == 1 and second.stdout.startswith(
+        "a.c:2:3: fails: assert(x * 3 != 51): trapped assert by the input args 17\n"
+    )
 
 
 def operations_of_one_step(folder):
@@ -231,12 +243,15 @@ int f(int k, int x) {
   if (k == 13) { assert(4 / x != 4); }
   if (k == 14) { int p = id(3), q = 5 / x; }
   if (k == 15) {} else if (k == 16 && id(8 / x) > 1) { v[0] = 1; }
+  if (k == 17) { int p = 7 % x, q = k / x; }
+  if (k == 18) { v[0] = x > 1 ? t[x] : x ? 1 << x : k % x; }
   return v[1];
 }
 """
 AT = [(1, 0, "5:19"), (2, 0, "6:21"), (3, 0, "7:29"), (4, 0, "8:34"), (5, 32, "9:34"), (6, 4, "10:18"), (7, 0, "11:22"),
       (8, 32, "12:39"), (9, 0, "13:27"), (10, 4, "14:26"), (11, 0, "15:44"), (12, 0, "16:37"), (13, 0, "17:27"), (13, 1, "17:18"),
-      (14, 0, "18:39"), (16, 0, "19:44")]  # fmt: skip
+      (14, 0, "18:39"), (16, 0, "19:44"), (17, 0, "20:28"),
+      (18, 4, "21:34"), (18, -1, "21:46"), (18, 0, "21:55")]  # fmt: skip
 
 
 def found_by(folder, text, ends="trapped"):
@@ -273,6 +288,7 @@ def operations_have_their_nodes(folder):
         there = [one for one in operations if node in one.nodes and one.kind in CAUSES.get(end, ())]
         yield f"a.c:{due}" in [one.place for one in there]
         yield len({one.line for one in there}) == 1
+        yield [one.place for one in there] == [f"a.c:{due}"]  # (also where a statement has several steps)
 
 
 def each_trap_has_its_operation(folder):
@@ -280,7 +296,7 @@ def each_trap_has_its_operation(folder):
     operations, graph = found_by(folder, FORMS)
     from tools.rte_items import CAUSES
 
-    inputs = list(itertools.product(range(0, 18), (-2, -1, 0, 1, 2, 4, 31, 32)))
+    inputs = list(itertools.product(range(0, 19), (-2, -1, 0, 1, 2, 4, 31, 32)))
     ends = [(end, node) for end, node in ends_of(folder, graph, inputs) if end.startswith("trapped")]
     yield len(ends) > 20
     yield all(any(node in one.nodes and one.kind in CAUSES[end] for one in operations) for end, node in ends)
@@ -288,5 +304,6 @@ def each_trap_has_its_operation(folder):
 
 TRIED = [(GRAPH, wrong_words), (GRAPH, planted_faults_are_red), (("graph", "gcc"), gcc_says_the_same),
          (GRAPH, certificates_stand_alone), (GRAPH, a_folder_goes_on), (GRAPH, an_input_that_is_wrong_isnt_told),
-         (GRAPH, bounds_that_are_left), (GRAPH, any_ends), (GRAPH, operations_of_one_step), (GRAPH, operations_have_their_nodes),
+         (GRAPH, bounds_that_are_left), (GRAPH, any_ends), (GRAPH, a_budget_that_is_spent),
+         (GRAPH, operations_of_one_step), (GRAPH, operations_have_their_nodes),
          (GRAPH, each_trap_has_its_operation)]  # fmt: skip
