@@ -1,5 +1,5 @@
 -- What is covered isn't refuted, and the counts of answers add up.
-use Rattle.std.proofs.Common.{◌≡◌, ℕ, zero, suc, ◌+◌, ◌<◌, ◌^◌, Bool, true, false, List, [], ◌∷◌, All, length, map, Option, Some, None, refl, ap, subst, ◌∙◌, arith}
+use Rattle.std.proofs.Common.{◌≡◌, ℕ, zero, suc, ◌+◌, ◌<◌, ◌^◌, Bool, true, false, List, [], ◌∷◌, All, length, map, Option, Some, None, refl, sym, ap, subst, ◌∙◌, arith}
 use Rattle.std.specs.Prelude.{◌-◌, ◌==◌, option_and_then, slice_get, if◌then◌else◌}
 use Rattle.std.proofs.lemmas.Bool.{eqb-true}
 use Rattle.std.proofs.lemmas.List.Sums.{sum_by-cons}
@@ -53,6 +53,26 @@ no_arrays graph name entry is = by_name (first_named graph.functions name) is
     by_name : (o : Option ℕ) → option_and_then (startable_at graph) o ≡ Some entry → entry.function.arrays ≡ []
     by_name None some = absurd (cc)
     by_name (Some number) some = by_function number (slice_get graph.functions number) some
+
+-- it is the function of its number
+pub entry_there : (graph : GraphParts) (name : List ℕ) (entry : EntryFunction) → entry_of graph name ≡ Some entry → slice_get graph.functions entry.number ≡ Some entry.function
+entry_there graph name entry is = by_name (first_named graph.functions name) is
+  where
+    by_test : (number : ℕ) (f : Function) (test : Bool) → slice_get graph.functions number ≡ Some f → (if test then Some (record { number = number; function = f }) else None) ≡ Some entry
+        → slice_get graph.functions entry.number ≡ Some entry.function
+    by_test number f true there some =
+        let own : number ≡ entry.number = cc in
+        let same : f ≡ entry.function = cc in
+        ap (slice_get graph.functions) (sym own) ∙ there ∙ ap Some same
+    by_test number f false there some = absurd (cc)
+
+    by_function : (number : ℕ) (o : Option Function) → slice_get graph.functions number ≡ o → option_and_then (if_startable number) o ≡ Some entry → slice_get graph.functions entry.number ≡ Some entry.function
+    by_function number None there some = absurd (cc)
+    by_function number (Some f) there some = by_test number f (length f.arrays == 0) there some
+
+    by_name : (o : Option ℕ) → option_and_then (startable_at graph) o ≡ Some entry → slice_get graph.functions entry.number ≡ Some entry.function
+    by_name None some = absurd (cc)
+    by_name (Some number) some = by_function number (slice_get graph.functions number) refl some
 
 -- ---- an input that covers
 

@@ -30,8 +30,9 @@ use Rattle.suite.specs.declared.generated.Generated.{Generated}
 use Rattle.unwinder.specs.Lists.{IsInputFor}
 use Rattle.command.specs.Measured.{AreAllHits, answer_of}
 use Rattle.command.specs.Runs.{run_of, runs_of}
-use Rattle.due_laws.proofs.Agreement.{given, no_arrays}
-use Rattle.due_laws.specs.Remeasured.{EndWithin, IsMeasuredAlike, MadeInputsAreMeasured}
+use Rattle.made_laws.specs.Laws.{MadeRunsAreShort}
+use Rattle.due_laws.proofs.Agreement.{entry_there, given, no_arrays}
+use Rattle.due_laws.specs.Remeasured.{EndWithin, IsMeasuredAlike, MadeInputsAreMeasured, MadeInputsAreMeasuredWhole}
 
 -- ---- the first list that has a number
 
@@ -202,3 +203,14 @@ made_inputs_are_measured recorded one_list graph name entry p plan bounds ends b
           (slice_get made.answers place) refl in
           subst (λ (lists : List (List ℕ)). IsMeasuredAlike (slice_get made.answers place) (answer_of lists (place + 1))) (sym same) alike,
     )
+
+-- the runs of inputs that were made are short
+pub made_inputs_are_measured_whole : MadeRunsAreShort → RecordedRuns → OneListOfHits → MadeInputsAreMeasuredWhole
+made_inputs_are_measured_whole short recorded one_list graph name entry p plan bounds ends budget made shown steps hits g entry_is generated enough are =
+    let own = entry_there graph name entry entry_is in
+    let arrays = no_arrays graph name entry entry_is in
+    let within : EndWithin graph entry.function ends steps made.inputs =
+    λ place input run there is.
+    let less = short graph entry.number entry.function p plan bounds ends budget made shown g own arrays generated place input run there is in
+    omega (arith, less, enough) in
+    made_inputs_are_measured recorded one_list graph name entry p plan bounds ends budget made shown steps hits entry_is generated within are

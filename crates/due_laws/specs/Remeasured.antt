@@ -3,6 +3,7 @@ use Rattle.std.specs.Prelude.{◌≡◌, ℕ, ◌+◌, ◌≤◌, List, length, 
 use Rattle.c_meaning.specs.Runs.{IsRun, Run}
 use Rattle.c_meaning.specs.declared.ends.Ends.{Ends}
 use Rattle.c_meaning.specs.declared.input.Input.{Input}
+use Rattle.cfa.specs.Graph.{IsGraph}
 use Rattle.cfa.specs.declared.parts.Function.{Function}
 use Rattle.cfa.specs.declared.parts.GraphParts.{GraphParts}
 use Rattle.cfa.specs.declared.state.Predicates.{Predicates}
@@ -38,5 +39,16 @@ MadeInputsAreMeasured =
     (steps : ℕ) (hits : List (List ℕ))
     → entry_of graph name ≡ Some entry → IsGenerated graph entry.function p plan bounds ends budget made shown
     → EndWithin graph entry.function ends steps made.inputs → AreAllHits plan ends (runs_of graph entry.function p steps made.inputs) hits
+    → (hits ≡ made.hits)
+    × ((place : ℕ) (goal : GoalForm) → slice_get plan.goals place ≡ Some goal → IsMeasuredAlike (slice_get made.answers place) (answer_of hits (place + 1)))
+
+-- A run of an input that was made has fewer than 50,000 edges. So with as many steps as that or more, which the default of 100,000
+-- is, nothing need be known of the runs.
+abbrev pub MadeInputsAreMeasuredWhole : Type 0
+MadeInputsAreMeasuredWhole =
+    (graph : GraphParts) (name : Text) (entry : EntryFunction) (p : Predicates) (plan : Plan) (bounds : Bounds) (ends : Ends) (budget : ℕ) (made : Generated) (shown : List Shown)
+    (steps : ℕ) (hits : List (List ℕ))
+    → IsGraph graph → entry_of graph name ≡ Some entry → IsGenerated graph entry.function p plan bounds ends budget made shown
+    → 49999 ≤ steps → AreAllHits plan ends (runs_of graph entry.function p steps made.inputs) hits
     → (hits ≡ made.hits)
     × ((place : ℕ) (goal : GoalForm) → slice_get plan.goals place ≡ Some goal → IsMeasuredAlike (slice_get made.answers place) (answer_of hits (place + 1)))

@@ -3,11 +3,12 @@ ghost use Rattle.due_laws.specs.Accepted.{BoundsCertificatesAreAccepted, Certifi
 ghost use Rattle.due_laws.specs.Agreement.{CountsAddUp, CoveredIsNeverRefuted};
 ghost use Rattle.due_laws.specs.Determined.{AtMostOneIsDue, AtMostOneKindIsDue};
 ghost use Rattle.due_laws.specs.Printed.{PrintedInputsAreRead, PrintedLinesAreRead};
-ghost use Rattle.due_laws.specs.Remeasured.{MadeInputsAreMeasured};
+ghost use Rattle.due_laws.specs.Remeasured.{MadeInputsAreMeasured, MadeInputsAreMeasuredWhole};
 ghost use Rattle.due_laws.specs.Unreachable.{AcceptedMeansUnreachable};
 
 use bounds_check::laws::unhit_is_unreachable;
 use hits::laws::one_list_of_hits;
+use made_laws::made_runs_are_short;
 use path_runner::laws::recorded_runs;
 use reached_laws::laws::{not_too_many, one_count, one_size};
 
@@ -96,6 +97,15 @@ pub fn printed_lines_are_read()
 pub fn made_inputs_are_measured()
     ensures { MadeInputsAreMeasured }
 {
+    recorded_runs();
+    one_list_of_hits();
+}
+
+/// The same with 49,999 steps or more, which are enough for the runs of all inputs that were made.
+pub fn made_inputs_are_measured_whole()
+    ensures { MadeInputsAreMeasuredWhole }
+{
+    made_runs_are_short();
     recorded_runs();
     one_list_of_hits();
 }
