@@ -162,7 +162,7 @@ def many_easy_goals_take_few_seconds(folder):
     after = resource.getrusage(resource.RUSAGE_CHILDREN)
     yield ended.returncode == 0 and " 0 undecided, 240 unreachable\n" in ended.stdout
     yield sum(name.endswith(".cert") for name in held(folder, "new")) == 240
-    # (three on a quiet machine)
+    # (some five on a quiet machine)
     yield after.ru_utime + after.ru_stime - before.ru_utime - before.ru_stime < 10
 
 
