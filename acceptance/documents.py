@@ -11,8 +11,8 @@ out.
 
 A path is a text between backquotes that begins as one from the top of the repository does, or the target of a link. In
 docs/PROVED.md those that begin with specs/ or src/ are of the crate whose section it is. The counts in acceptance/README.md must be
-those that counts.py makes, and those in docs/THEOREM.md those of tools/believed.py; so must the
-index of docs/DECISIONS.md, by decisions.py.
+those that counts.py makes, and those in docs/THEOREM.md those of tools/believed.py; docs/DECISIONS.md
+must have the form and the index of decisions.py, and the sums in bench/RESULTS.md must be right (figures.py).
 """
 
 import functools
@@ -159,11 +159,12 @@ def wrong_paths(document, text):
 def of_counts():
     import counts  # which reads this module
     import decisions
+    import figures
 
     sys.path.insert(0, programs.ROOT)
     from tools import believed
 
-    wrong = counts.wrong() + decisions.wrong() + believed.wrong()
+    wrong = counts.wrong() + decisions.wrong() + figures.wrong() + believed.wrong()
     return max(1, len(wrong)), wrong
 
 
