@@ -13,7 +13,7 @@ A path is a text between backquotes that begins as one from the top of the repos
 docs/PROVED.md those that begin with specs/ or src/ are of the crate whose section it is. The counts in acceptance/README.md must be
 those that counts.py makes, and those in docs/THEOREM.md those of tools/believed.py; docs/DECISIONS.md
 must have the form and the index of decisions.py and docs/PROVED.md the form and the names of proved.py; the sums in
-bench/RESULTS.md must be right (figures.py).
+bench/RESULTS.md must be right (figures.py), and CHANGELOG.md has releases (releases.py).
 """
 
 import functools
@@ -162,11 +162,12 @@ def of_counts():
     import decisions
     import figures
     import proved
+    import releases
 
     sys.path.insert(0, programs.ROOT)
     from tools import believed
 
-    wrong = counts.wrong() + decisions.wrong() + figures.wrong() + proved.wrong() + believed.wrong()
+    wrong = counts.wrong() + decisions.wrong() + figures.wrong() + proved.wrong() + releases.wrong() + believed.wrong()
     return max(1, len(wrong)), wrong
 
 

@@ -10,7 +10,7 @@ import subprocess
 import programs
 
 RULES = os.path.join(programs.ROOT, "tools", "pyproject.toml")
-TYPED = ("side_by_side.py", "cases.py", "counts.py", "crates.py", "decisions.py", "figures.py", "proved.py")
+TYPED = ("side_by_side.py", "cases.py", "counts.py", "crates.py", "decisions.py", "figures.py", "proved.py", "releases.py")
 
 
 def passes(folder, *words):
