@@ -70,11 +70,9 @@ def faults_of(crate: str, section: str) -> list[str]:
 
 
 def known() -> set[str]:
-    """All names that stand in some crate."""
-    names = set[str]()
-    for crate in os.listdir(os.path.join(programs.ROOT, "crates")):
-        names |= set(re.findall(r"\w+", there(crate)))
-    return names
+    """All names that stand in some crate that isn't one of tests."""
+    own = [crate.name for crate in crates.crates() if not crate.is_of_tests]
+    return {name for crate in own for name in re.findall(r"\w+", there(crate))}
 
 
 def unknown(text: str) -> list[str]:

@@ -61,9 +61,13 @@ def refusals() -> dict[str, str]:
 
 
 def of_documents(word: str, wanted: str) -> Iterator[tuple[str, str]]:
-    """Lines of documents that speak of a word alone: a heading, or a row of a table or of a list that begins with it."""
+    """Lines of documents that speak of a word alone: a heading, a row of a table or of a list that begins with names of which it
+    is one, or a line of a grammar in which it stands between quotation marks."""
     quoted = re.escape(word)
-    begins = re.compile(rf"(?:\| |- )(?:\d+ \| )?`?{quoted}(?:`|[({{, ]| \|)|\| {quoted} \||#+ (?:bin/)?{quoted}$")
+    begins = re.compile(
+        rf"(?:\| |- )(?:\d+ \| )?(?:`[^`|]*`, )*`?{quoted}(?:`|[({{, ]| \|)|\| {quoted} \||#+ (?:bin/)?{quoted}$"
+        rf'|\w+ +=.* "{quoted}"'
+    )
     for path in files("README.md", "docs/*.md", "acceptance/README.md"):
         for number, line in enumerate(text_of(path).splitlines(), 1):
             if begins.match(line) or (line.startswith("### ") and folded(line) == wanted):
