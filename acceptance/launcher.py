@@ -16,7 +16,9 @@ NOBODY = 65534
 # It writes down what it was called for, and "builds" a program that names its version and words.
 RT = """#!/bin/sh
 [ "$1" != version ] || exec cat "$TREE/kit"
+[ "$1" != help ] || [ ! -e "$TREE/help-on-output" ] || exec cat "$TREE/help"
 [ "$1" != help ] || { cat "$TREE/help" >&2; exit 2; }
+[ ! -e "$TREE/silent" ] || exec >/dev/null
 [ "$1" != must-fail ] || { echo "$*: $(echo crates/*/*/*.edit)" >>"$TREE/calls"; exit; }
 echo "$*:" crates/* $(ls crates/*/must-fail/*.edit 2>/dev/null) >>"$TREE/calls"
 [ "$#" -eq 1 ] || grep -q "rt ci NAME" "$TREE/help" || { echo "rt ci takes no words"; exit 2; }
@@ -464,11 +466,20 @@ def gate_runs_all(tree):
     yield status == 1 and "one accepted" not in lines and calls == all_crates
 
 
-def prove_by_a_kit_that_keeps_nothing(tree):
+def either_kit_builds_and_proves(tree):
+    """By a kit of either kind, wherever it writes its help, and whatever it says on its way: no word that it doesn't take is given."""
     tree.release()
-    tree.write("help", KEEPS_NOTHING)
-    proved = tree.call(tree.path("bin/prove"))
-    yield proved.returncode == 0 and "byte for byte" in proved.stdout and tree.calls() == PROVED
+    for text, anew in ((KEEPS, ANEW), (KEEPS_NOTHING, PROVED)):
+        tree.write("help", text)
+        for name in ("none", "help-on-output", "silent"):
+            tree.write(name, "")
+            proved = tree.call(tree.path("bin/prove"))
+            yield proved.returncode == 0 and "byte for byte" in proved.stdout and tree.calls() == anew
+            shutil.rmtree(tree.path("crates/fshell/out"))
+            os.rename(tree.path("release"), tree.path("put-by"))
+            yield tree.run().stdout == "one a b c\n" and tree.calls() == PROVED
+            os.rename(tree.path("put-by"), tree.path("release"))
+            os.remove(tree.path(name))
 
 
 class Gate:
@@ -639,7 +650,7 @@ CASES = [first_run_builds, second_run_builds_nothing, nothing_is_looked_at_twice
          changed_sources_are_never_answered_by_the_release, what_is_no_source_leaves_the_release,
          damaged_release_is_never_run, release_that_cannot_start_is_not_run, release_without_its_sum_is_not_run,
          prove_compares_with_the_release, release_is_checked, release_by_another_kit_is_noted, old_program_is_not_released,
-         gate_runs_all, prove_by_a_kit_that_keeps_nothing, gate_is_whole_where_it_can_be, all_edits_are_tried, help_needs_no_program, refusals_are_explained,
+         gate_runs_all, either_kit_builds_and_proves, gate_is_whole_where_it_can_be, all_edits_are_tried, help_needs_no_program, refusals_are_explained,
          answers_of_the_launcher_on_a_full_device]
 if shutil.which("git"):
     CASES += [whole_gate_is_noted, part_of_the_gate, nothing_is_left_out_untold]
