@@ -53,9 +53,10 @@ def letter_line(faces: Faces, letter: Letter) -> str:
         return f"e{letter.edge.number} {faces.face(letter.edge)}"
     if letter.node:
         return f"n{letter.node.number} {node_line(faces, letter.node)}"
-    if letter.text.startswith("!"):
-        return f"{letter.text[1:]} doesn't hold"
-    return f"{letter.text} holds" if letter.text.startswith("{") else f"a row of steps that match {letter.text}"
+    text = " ".join(letter.text.split())  # (a query may have line breaks)
+    if text.startswith("!"):
+        return f"{text[1:]} doesn't hold"
+    return f"{text} holds" if text.startswith("{") else f"a row of steps that match {text}"
 
 
 def node_line(faces: Faces, node: Node) -> str:
