@@ -30,9 +30,10 @@ class Calls(ModelCalls, OutsideCalls):
         raise NotImplementedError
 
     def called(self, node: Any) -> Function:
-        function = self.names.meaning.get(id(node))
+        function = self.places.choosers.called(node)
         if not isinstance(function, Function):
-            raise Refused(node.coord, "a call by a pointer", "call functions by their names, in a switch over a number")
+            self.pointer(node.name)
+            raise Refused(node.coord, "a call of what is no function", "call functions by their names")
         return function
 
     def call(self, node: Any) -> tuple[str, list[str]]:
@@ -54,12 +55,20 @@ class Calls(ModelCalls, OutsideCalls):
         self.unsequenced(node, [argument for argument, wanted in zip(given, own) if wanted])
         with self.else_apart(function.parameters):
             self.apart(node, function)
-        texts: list[str] = []
+        texts = self.chosen_by(node, function)
         after: list[str] = []
         for argument, parameter in zip(given, function.parameters):
             with self.else_apart([parameter]):
                 self.argument(argument, parameter, function, texts, after)
         return f"{self.at(node)}{function.out}({', '.join(texts)})", after
+
+    def chosen_by(self, node: Any, function: Function) -> list[str]:
+        """Of a call by a pointer the number of the function, which is its first argument."""
+        if self.places.choosers.targets(function) is None:
+            return []
+        function.out = function.out or self.spelling.fresh(function.name)
+        self.unsequenced(node, [node.name, *arguments(node)])
+        return [self.pointer(node.name)[INDEX].text]
 
     @contextmanager
     def else_apart(self, parameters: list[Variable]) -> Iterator[None]:
@@ -122,7 +131,7 @@ class Calls(ModelCalls, OutsideCalls):
 
     def apart(self, node: Any, function: Function) -> None:
         """Refuses a call in which a copied object has a second name, and one of both is written."""
-        summary = self.effected.of_function[function]
+        summary = self.effected.summary_of(function)
         seen: list[tuple[Object, bool, bool]] = []
         for argument, parameter in zip(arguments(node), function.parameters):
             if (

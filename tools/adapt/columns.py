@@ -17,6 +17,9 @@ Owner = Union[Variable, tuple[Region, str]]  # an object, or the member of all e
 class Columns:
     def __init__(self, names: Names) -> None:
         self.names, self.points = names, PointsTo(names)
+        for caller, node in self.points.pointer_calls:
+            for target in self.pointer(node.name).region.root().targets:
+                target.calls.append((caller, node))
         self.begins: dict[tuple[Region, Owner], int] = {}
         self.counts: dict[Region, Optional[int]] = {}
         self.inner: dict[Region, list[tuple[Region, str]]] = {}
@@ -45,7 +48,7 @@ class Columns:
 
     @staticmethod
     def is_function(region: Region) -> bool:
-        return bool(region.elem == kinds.FUNCTION)
+        return region.is_code
 
     # ---- layout
 

@@ -115,6 +115,9 @@ class Constants:
             return kinds.promoted(left) if node.op in SHIFTS else kinds.common(left, right)
         if isinstance(node, c_ast.TernaryOp):
             left, right = self.type_of(node.iftrue), self.type_of(node.iffalse)
+            if self.value(node.iftrue) == 0 and not isinstance(right, Int):
+                return kinds.adjusted(right)
+            left = kinds.adjusted(left)
             return kinds.common(left, right) if isinstance(left, Int) and isinstance(right, Int) else left
         if isinstance(node, c_ast.Assignment):
             return self.type_of(node.lvalue)
@@ -123,9 +126,16 @@ class Constants:
         if isinstance(node, (c_ast.Cast, c_ast.CompoundLiteral)):
             to: Type = self.names.types.get(id(node.to_type if isinstance(node, c_ast.Cast) else node.type), kinds.VOID)
             return to
-        called = self.names.meaning.get(id(node)) if isinstance(node, c_ast.FuncCall) else None
-        result: Type = called.result if called is not None else kinds.VOID
-        return result
+        return self.called(node).result if isinstance(node, c_ast.FuncCall) else kinds.VOID
+
+    def called(self, node: Any) -> Any:
+        """The function, or the type of one, that a call calls."""
+        known = self.names.meaning.get(id(node))
+        if known is not None:
+            return known
+        of = self.type_of(node.name)
+        of = of.to if isinstance(of, kinds.Pointer) else of
+        return of if isinstance(of, kinds.Signature) else kinds.Signature(kinds.VOID, [])
 
     def type_of_unary(self, node: Any) -> Type:
         if node.op == "sizeof":
@@ -135,7 +145,8 @@ class Constants:
         if node.op == "&":
             return kinds.Pointer(self.type_of(node.expr))
         if node.op == "*":
-            return self.place_type(node)
+            of = self.type_of(node.expr)
+            return of if isinstance(of, kinds.Signature) else self.place_type(node)
         of = self.type_of(node.expr)
         return kinds.promoted(of) if isinstance(of, Int) and node.op in "+-~" else of
 

@@ -8,7 +8,7 @@ from pycparser import c_ast
 
 from . import kinds
 from .constants import Constants
-from .kinds import Array, Int, Other, Pointer, Struct, Type
+from .kinds import Array, Int, Other, Pointer, Signature, Struct, Type
 from .reading import Unit
 from .refusals import Refusals, Refused
 
@@ -56,6 +56,14 @@ class Function:
     calls: list[tuple[Optional["Function"], Any]] = field(default_factory=list)
     number: int = 0  # of the item that defines it
     taken: bool = False
+    own_type: Optional[Signature] = None
+
+    @property
+    def type(self) -> Signature:
+        """The type of the function, whose pointers have the regions of its parameters and of its result."""
+        if self.own_type is None:
+            self.own_type = Signature(self.result, [one.type for one in self.parameters], self.variadic)
+        return self.own_type
 
 
 @dataclass
@@ -106,8 +114,6 @@ class Declarators:
             return Array(of, length)
         if isinstance(node, c_ast.PtrDecl):
             to = node.type
-            if isinstance(to, c_ast.FuncDecl):
-                return Pointer(kinds.FUNCTION)
             return Pointer(self.type_of(to))
         if isinstance(node, c_ast.Struct):
             return self.struct(node)
@@ -116,8 +122,15 @@ class Declarators:
         if isinstance(node, c_ast.Union):
             return self.union(node)
         if isinstance(node, c_ast.FuncDecl):
-            return kinds.FUNCTION
+            return self.signature(node)
         raise Refused(node.coord, f"a type ({type(node).__name__})", "use an integer, an array or a struct")
+
+    def signature(self, node: Any) -> Signature:
+        """The type of a function (6.7.6.3); its parameters are what they are adjusted to."""
+        listed = list(node.args.params) if node.args else []
+        own = [self.usable(one.type) for one in listed if isinstance(one, (c_ast.Decl, c_ast.Typename))]
+        taken = [kinds.adjusted(one) for one in own if one != kinds.VOID]
+        return Signature(self.usable(node.type), taken, any(isinstance(one, c_ast.EllipsisParam) for one in listed))
 
     def usable(self, node: Any) -> Type:
         """The type, or one that is refused where it is used."""
@@ -128,7 +141,7 @@ class Declarators:
 
     def named(self, node: Any) -> Type:
         found = self.scope.get(node.names[0]) if len(node.names) == 1 else None
-        if isinstance(found, (Int, Array, Struct, Pointer, Other)):
+        if isinstance(found, (Int, Array, Struct, Pointer, Signature, Other)):
             return kinds.renewed(found)
         if {"float", "double", "_Complex"} & set(node.names):
             return kinds.FLOATS[16 if "long" in node.names else 8 if "double" in node.names else 4]

@@ -39,8 +39,17 @@ class Pointer:
     region: Region = field(default_factory=Region)
 
     def __post_init__(self) -> None:
-        if self.region.elem is None and self.to not in (VOID, FUNCTION):
+        if self.region.elem is None and self.to != VOID:
             self.region.elem = element(self.to)
+
+
+@dataclass(eq=False)
+class Signature:
+    """The type of a function: what it gives and takes."""
+
+    result: "Type"
+    parameters: list["Type"]
+    variadic: bool = False
 
 
 @dataclass(frozen=True)
@@ -61,12 +70,11 @@ def c_words(kind: Int) -> str:
     return ("signed " if kind.signed else "unsigned ") + WORDS[kind.bits]
 
 
-Type = Union[Int, Array, Struct, Pointer, Other]
+Type = Union[Int, Array, Struct, Pointer, Signature, Other]
 VOID = Other("void")
 FLOATING = ("a floating point number", "use integers in fixed point")
 FLOATS = {size: Other(*FLOATING, size, size) for size in (4, 8, 16)}
 UNION = ("a union", "use a struct, or one object for each member")
-FUNCTION = Other("a function as an object", "call it by its name")
 INT, UINT = Int(32, True, "int"), Int(32, False, "unsigned int")
 LONG, SIZE = Int(64, True, "long"), Int(64, False, "size_t")
 BOOL = Int(8, False, "uint8_t", True)
@@ -92,7 +100,14 @@ def renewed(of: Type) -> Type:
     """The same type, in which pointers have regions of their own."""
     if isinstance(of, Array):
         return Array(renewed(of.of), of.length)
+    if isinstance(of, Signature):
+        return Signature(renewed(of.result), [renewed(one) for one in of.parameters], of.variadic)
     return Pointer(renewed(of.to)) if isinstance(of, Pointer) else of
+
+
+def adjusted(of: Type) -> Type:
+    """What the type of a parameter is adjusted to (6.7.6.3p7 and p8)."""
+    return Pointer(of.of) if isinstance(of, Array) else Pointer(of) if isinstance(of, Signature) else of
 
 
 def plain(words: list[str]) -> Optional[Int]:
@@ -174,7 +189,7 @@ def leaves(of: Type, path: Path = (), dims: tuple[int, ...] = ()) -> Iterator[Le
     """The leaves of an object of the type, in order; none for what has no integers."""
     if isinstance(of, Int):
         yield Leaf(path, dims, of)
-    elif isinstance(of, Pointer) and of.to != FUNCTION:
+    elif isinstance(of, Pointer):
         for part in of.region.parts():
             yield Leaf(path + (part,), dims, INT)
     elif isinstance(of, Array) and of.length is not None:
@@ -190,8 +205,8 @@ def fault_of(of: Type) -> Optional[tuple[str, str]]:
         if of.length == 0:
             return "an array without elements", "give it one at least"
         return ("an array without a length", "give its length") if of.length is None else fault_of(of.of)
-    if isinstance(of, Pointer) and of.to == FUNCTION:
-        return "a pointer to a function", "call functions by their names, in a switch over a number"
+    if isinstance(of, Signature):
+        return "a function as an object", "call it by its name"
     if isinstance(of, Pointer):
         fault = of.region.root().fault
         return (fault[1], fault[2]) if fault else None

@@ -75,6 +75,7 @@ def adapt(given: argparse.Namespace, refusals: Refusals) -> tuple[dict[str, str]
 
 def written(given: argparse.Namespace, refusals: Refusals, apart: set[Any]) -> tuple[dict[str, str], Any]:
     from .bindings import Bindings
+    from .choosers import Choosers
     from .columns import Columns
     from .effects import Effected
     from .gate import check
@@ -106,6 +107,7 @@ def written(given: argparse.Namespace, refusals: Refusals, apart: set[Any]) -> t
     places = Places(names)
     Bindings(places, apart).bind()
     places.columns = Columns(names)
+    places.choosers = Choosers(names, places.columns)
     inputs = set(given.inputs)
     effected = Effected(names, places, inputs)
     writer = Units(names, places, effected, Spelling(names, taken), given.check)

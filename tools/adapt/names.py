@@ -141,6 +141,7 @@ class Names(Declarators):
             of = self.usable(one.type)
             if of == kinds.VOID:
                 continue
+            of = kinds.Pointer(of) if isinstance(of, kinds.Signature) else of
             variable = Variable(one.name or "", of, one.coord or node.coord, "parameter")
             self.meaning[id(one)] = variable
             made.append(variable)

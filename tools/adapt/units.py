@@ -15,6 +15,7 @@ from .places import Place, arguments
 from .reading import is_system
 from .refusals import Refused
 from .checks import Checks
+from .choosers import written
 
 
 class Units(Checks):
@@ -35,7 +36,11 @@ class Units(Checks):
             self.names.refusals.go(item.coord)
             with self.names.refusals.gathered():
                 self.item(item, number)
-        made = [(self.begin[1], text) for _, text in self.written_models.values()]
+        front, end = written(self, self.places.choosers)
+        made = [(self.begin[1], text) for text in [*front, *(text for _, text in self.written_models.values())]]
+        if end:
+            last = self.files.setdefault(self.names.items[-1][0].path, File(self.names.items[-1][0].path))
+            last.pieces += [(last.pieces[-1][0] if last.pieces else 1, text) for text in end]
         if made:
             file = self.files.setdefault(self.begin[0], File(self.begin[0]))
             file.pieces[self.begin[2] : self.begin[2]] = made

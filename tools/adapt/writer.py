@@ -90,7 +90,7 @@ class Writer:
         if isinstance(node, c_ast.ArrayRef) and self.check:
             return isinstance(node.name, c_ast.ArrayRef)
         if isinstance(node, c_ast.FuncCall):
-            called = self.names.meaning.get(id(node))
+            called = self.places.choosers.called(node)
             if not isinstance(called, Function):
                 return False
             several = isinstance(called.result, kinds.Pointer) and len(called.result.region.parts()) > 1
@@ -100,6 +100,8 @@ class Writer:
 
     def outs(self, function: Function) -> list[tuple[Variable, Leaf]]:
         """What a call gives back by copies: each integer of an object that the function writes, with its parameter."""
+        if self.places.choosers.targets(function) is not None:
+            return []
         writes = self.effected.of_function[function].writes
         found = []
         for parameter in function.parameters if function.definition is not None else []:
