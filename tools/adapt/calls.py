@@ -9,6 +9,7 @@ from . import kinds
 from .bindings import key
 from .effects import Effects, Object, may_be, objects, pointee
 from .initialisers import filled, none_of
+from .heap import heap_call
 from .kinds import Array, Int, Leaf, Pointer, Struct
 from .declarators import Function, Variable
 from .output import unmarked
@@ -42,6 +43,8 @@ class Calls(ModelCalls, OutsideCalls):
         model = model_of(function)
         if model is not None and self.takes_model(node, model):
             return self.model_parts(node, model)[INDEX].text, []
+        if heap_call(function):
+            return self.heap.freed(node) if function.name == "free" else self.pointer(node)[INDEX].text, []
         if function.definition is None:
             return self.outer_call(node, function), []
         given = arguments(node)
@@ -190,7 +193,7 @@ class Calls(ModelCalls, OutsideCalls):
             self.emit(f"{self.at(node)}{function.name}({self.value(arguments(node)[0]).text});")
             return
         text, after = self.call(node)
-        if function.definition is not None or isinstance(function.result, Int) or model_of(function):
+        if function.definition is not None or isinstance(function.result, Int) or model_of(function) or heap_call(function):
             self.emit(text + ";")
         for one in after:
             self.emit(one)

@@ -5,6 +5,7 @@ from typing import Any, Optional
 
 from . import kinds
 from .declarators import Function, Variable
+from .heap import heap_call, known_call
 from .kinds import Pointer, Signature
 from .names import Names
 from .refusals import Refused
@@ -26,6 +27,9 @@ class Choosers:
         known = self.names.meaning.get(id(node))
         if isinstance(known, Function):
             return known
+        heap = known_call(node, self.columns.points.learned)
+        if heap:
+            return next(one for one in self.names.functions if heap_call(one) == heap)
         try:
             of = self.columns.pointer(node.name)
         except Refused:

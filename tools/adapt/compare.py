@@ -9,6 +9,7 @@ from typing import Any, Iterator
 from pycparser import c_generator
 
 from . import kinds
+from .heap import heap_call
 from .kinds import Array, Int, Path, Struct, Type
 from .declarators import Function, Variable
 from .reading import compiler
@@ -50,7 +51,7 @@ WATCHED = [
     "-fsanitize-undefined-trap-on-error",
 ]
 GUARDS = "char adapt_guard_{0}[64] = {{1}}, adapt_other_guard_{0}[64];\n"
-QUIET = "detect_leaks=0:abort_on_error=0:exitcode=70"
+QUIET = "max_malloc_fill_size=65536:malloc_fill_byte=0:detect_leaks=0:abort_on_error=0:exitcode=70"
 ENDED, FAILED, FELL_OFF = 0, -6, 77  # a run to its end, one whose assert failed, one off the end of a function
 TELLING = [0, 1, -1, 2, 3, 4, 5, 7, 8, 10, 16, 31, 64, 100, 127, 128, 200, 255, 256, -128, 32767, 65535]
 TELLING += [2**31 - 1, -(2**31), 2**32 - 1, 2**63 - 1]
@@ -81,7 +82,7 @@ def undefined(writer: Units) -> list[Function]:
     """The functions that are called and that no source defines."""
     known = ("assert", "assume", "__assert_fail")
     found = [one for one in writer.names.functions if one.definition is None and one.calls and one.name not in known]
-    return [one for one in found if model_of(one) is None]
+    return [one for one in found if model_of(one) is None and not heap_call(one)]
 
 
 def answering(writer: Units, function: Function, answer: str) -> str:
@@ -171,6 +172,8 @@ class Comparison:
         for one in outer:
             if isinstance(one.result, Int):
                 text += f"{one.result.text} {one.out}(void) {{ return ({one.result.text}) adapt_answer(); }}\n"
+        if self.writer.heap.asked:
+            text += f"unsigned int {self.writer.heap.asked}(void) {{ return 0; }}\n"
         self.compile("adapted", [text + DRIVER % (self.calls(), self.dump(self.in_order(), True))], [])
 
     def in_order(self) -> list[Variable]:

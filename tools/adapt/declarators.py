@@ -88,6 +88,7 @@ class Declarators:
         self.enumerators: dict[str, Any] = {}
         self.constants = Constants(self)
         self.function: Optional[Function] = None
+        self.pool = (4, 16)  # the slots of a call of malloc, and the elements of one whose number isn't constant
         self.scope: ChainMap[str, Any] = ChainMap()
         self.tags: ChainMap[str, Any] = ChainMap()
         self.items: list[tuple[Unit, Any]] = []

@@ -167,7 +167,7 @@ class Effected:
             if not isinstance(function, Function) or function.name not in ("assert", "assume"):
                 found.writes[OUTSIDE] = True
             return
-        if not isinstance(self.names.meaning.get(id(node)), Function):
+        if self.places.choosers.targets(function) is not None:
             found.add(self.of(node.name))
         summary = self.summary_of(function)
         shared = Effects(

@@ -8,6 +8,7 @@ from pycparser import c_ast
 from . import kinds
 from .declarators import Function, Variable
 from .effects import STEPS, objects
+from .heap import heap_call
 from .kinds import Array, Pointer, Signature
 from .models import Model, model_of
 from .places import At, Place
@@ -233,6 +234,8 @@ class Pointers(Writer):
     def given_back(self, node: Any, of: Pointer) -> Parts:
         """What a call gives."""
         function = self.called(node)
+        if heap_call(function):
+            return self.heap.allocated(node, function.name)
         model = model_of(function)
         if model is not None:
             parts = self.model_parts(node, model)

@@ -7,6 +7,7 @@ from pycparser import c_ast
 from . import kinds
 from .bindings import with_parents
 from .declarators import Function, Variable
+from .heap import GIVES, TAKES, Pool, heap_call, known_call
 from .initialisers import filled
 from .kinds import Array, Int, Pointer, Signature, Struct, Type
 from .models import model_of
@@ -18,8 +19,9 @@ from .unification import Unification
 
 
 class PointsTo(Unification):
-    def __init__(self, names: Names) -> None:
-        self.names, self.constants = names, names.constants
+    def __init__(self, names: Names, learned: set[Any]) -> None:
+        self.names, self.constants, self.learned = names, names.constants, learned
+        self.pools: dict[int, Pool] = {}
         super().__init__()
         self.texts: dict[int, tuple[Any, Variable]] = {}
         self.values: dict[int, tuple[Any, Type]] = {}
@@ -124,6 +126,8 @@ class PointsTo(Unification):
             return self.value(node.exprs[-1])
         if isinstance(node, c_ast.Assignment):
             return self.value(node.lvalue)
+        if isinstance(node, c_ast.FuncCall) and self.of_heap(node) in GIVES:
+            return self.allocated(node)
         model = model_of(self.names.meaning.get(id(node))) if isinstance(node, c_ast.FuncCall) else None
         if model is not None and model.gives_pointer and arguments(node):
             return self.value(arguments(node)[0])
@@ -285,8 +289,35 @@ class PointsTo(Unification):
         elif node.op in ("+", "-"):
             self.value(node)
 
+    def of_heap(self, node: Any) -> str:
+        """The function of the heap that a call calls, if it does."""
+        return heap_call(self.names.meaning.get(id(node))) or known_call(node, self.learned)
+
+    def allocated(self, node: Any) -> Type:
+        """Memory that a call gives: an object of its own."""
+        name = self.of_heap(node)
+        variable = Variable("heap", kinds.VOID, node.coord, "pool", function=self.function, defined=True)
+        self.pools[id(node)] = Pool(node, name, variable, self.names.pool[0])
+        made = Pointer(kinds.VOID)
+        made.region.objects.append(variable)
+        made.region.pointed = True
+        if name == "realloc":
+            self.flow(arguments(node)[0], made)
+            made.region.root().freed = True
+        return made
+
+    def called_heap(self, node: Any, name: str) -> None:
+        if len(arguments(node)) != TAKES[name]:
+            raise Refused(node.coord, f"{name} is declared otherwise than in the library", "declare it as stdlib.h does")
+        of = self.value(arguments(node)[0] if name == "free" else node)
+        if isinstance(of, Pointer):
+            of.region.root().freed = of.region.root().freed or name == "free"
+
     def called(self, node: Any) -> None:
         function = self.names.meaning.get(id(node))
+        if self.of_heap(node):
+            self.called_heap(node, self.of_heap(node))
+            return
         if model_of(function):
             self.of_model(node)
         if not isinstance(function, Function):

@@ -23,6 +23,7 @@ class Region:
     down: bool = False
     fault: Optional[tuple[Any, str, str]] = None
     into: Optional["Region"] = None
+    freed: bool = False
     targets: list[Any] = field(default_factory=list)  # the functions to which a pointer may point
     single: bool = False
     column: Any = None

@@ -39,6 +39,7 @@ class Unification:
         b.into = a
         a.objects += [variable for variable in b.objects if variable not in a.objects]
         a.pointed, a.moved, a.down = a.pointed or b.pointed, a.moved or b.moved, a.down or b.down
+        a.freed = a.freed or b.freed
         a.targets += [function for function in b.targets if function not in a.targets]
         a.fault = a.fault or b.fault
         left, right = a.elem, b.elem

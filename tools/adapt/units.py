@@ -37,7 +37,7 @@ class Units(Checks):
             with self.names.refusals.gathered():
                 self.item(item, number)
         front, end = written(self, self.places.choosers)
-        made = [(self.begin[1], text) for text in [*front, *(text for _, text in self.written_models.values())]]
+        made = [(self.begin[1], text) for text in [*self.heap.front(), *front, *(text for _, text in self.written_models.values())]]
         if end:
             last = self.files.setdefault(self.names.items[-1][0].path, File(self.names.items[-1][0].path))
             last.pieces += [(last.pieces[-1][0] if last.pieces else 1, text) for text in end]

@@ -8,6 +8,7 @@ from pycparser import c_ast
 from . import kinds
 from .effects import STEPS, Effected
 from .jumps import walk
+from .heap import Heap, heap_call
 from .kinds import Int, Leaf, Struct
 from .declarators import Function, Variable
 from .names import Names
@@ -34,6 +35,7 @@ class Writer:
         self.written_models: dict[Any, tuple[str, str]] = {}
         self.model_words: dict[str, str] = {}
         self.needing: dict[int, tuple[Any, bool]] = {}
+        self.heap = Heap(self)
 
     def value(self, node: Any) -> Value:
         raise NotImplementedError
@@ -93,6 +95,8 @@ class Writer:
             called = self.places.choosers.called(node)
             if not isinstance(called, Function):
                 return False
+            if heap_call(called):
+                return True
             several = isinstance(called.result, kinds.Pointer) and len(called.result.region.parts()) > 1
             return several or bool(self.outs(called)) or isinstance(called.result, Struct)
         stepped = isinstance(node, c_ast.UnaryOp) and node.op in STEPS
