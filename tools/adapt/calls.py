@@ -7,10 +7,12 @@ from pycparser import c_ast
 
 from . import kinds
 from .bindings import key
+from .constants import is_offset
 from .effects import Effects, Object, may_be, objects, pointee
 from .initialisers import filled, none_of
 from .heap import heap_call
 from .kinds import Array, Int, Leaf, Pointer, Struct
+from .library import OUTPUT
 from .declarators import Function, Variable
 from .output import unmarked
 from .places import Place, arguments
@@ -174,7 +176,10 @@ class Calls(ModelCalls, OutsideCalls):
                 )
 
     def call_value(self, node: Any) -> Value:
+        if is_offset(node):
+            return Value(self.at(node) + f"{self.constants.value(node)}ul", kinds.SIZE, PRIMARY)
         function = self.called(node)
+        self.outer_used.add(function)
         if not isinstance(function.result, Int):
             raise Refused(
                 node.coord, f"the value of {function.name} is no integer", "assign it whole, in a statement of its own"
@@ -191,6 +196,9 @@ class Calls(ModelCalls, OutsideCalls):
         function = self.called(node)
         if function.name in ("assert", "assume") and function.definition is None:
             self.emit(f"{self.at(node)}{function.name}({self.value(arguments(node)[0]).text});")
+            return
+        if function.definition is None and function.name in OUTPUT:
+            self.outer_call(node, function)
             return
         text, after = self.call(node)
         if function.definition is not None or isinstance(function.result, Int) or model_of(function) or heap_call(function):

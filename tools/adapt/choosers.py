@@ -4,6 +4,7 @@ function that chooses among them (6.5.2.2)."""
 from typing import Any, Optional
 
 from . import kinds
+from .constants import is_offset
 from .declarators import Function, Variable
 from .heap import heap_call, known_call
 from .kinds import Pointer, Signature
@@ -25,8 +26,8 @@ class Choosers:
     def called(self, node: Any) -> Optional[Function]:
         """The function that a call calls: by its name, or by a pointer the one that chooses."""
         known = self.names.meaning.get(id(node))
-        if isinstance(known, Function):
-            return known
+        if isinstance(known, Function) or is_offset(node):
+            return known if isinstance(known, Function) else None
         heap = known_call(node, self.columns.points.learned)
         if heap:
             return next(one for one in self.names.functions if heap_call(one) == heap)

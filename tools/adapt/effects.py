@@ -5,6 +5,7 @@ from typing import Any, Optional
 
 from pycparser import c_ast
 
+from .constants import is_offset
 from .kinds import Array, Int, Pointer, Struct, leaves
 from .declarators import Function, Variable
 from .models import Model, model_of
@@ -122,7 +123,7 @@ class Effected:
 
     def made(self, node: Any) -> Effects:
         found = Effects()
-        if isinstance(node, c_ast.UnaryOp) and node.op == "sizeof":
+        if isinstance(node, c_ast.UnaryOp) and node.op == "sizeof" or is_offset(node):
             return found
         if isinstance(node, c_ast.Assignment):
             self.named(node.lvalue, found, True, node.op != "=")

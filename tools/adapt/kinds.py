@@ -166,6 +166,18 @@ def size(of: Type) -> Optional[int]:
     return 8 if isinstance(of, Pointer) else of.bytes if isinstance(of, Other) else None
 
 
+def offsets(of: Struct) -> dict[str, int]:
+    """Where the members of a struct lie, as gcc lays it out on x86-64; none where that isn't known."""
+    end, found = 0, {}
+    for name, member in of.members or []:
+        one, step = size(member), alignment(member)
+        if one is None:
+            return {}
+        found[name] = -(-end // step) * step
+        end = found[name] + one
+    return found if not of.fault else {}
+
+
 Path = tuple[str, ...]
 
 

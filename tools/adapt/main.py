@@ -95,6 +95,7 @@ def written(given: argparse.Namespace, refusals: Refusals, apart: set[Any]) -> t
     from .effects import Effected
     from .gate import check
     from .jumps import Jumps, walk
+    from .library import OUTPUT, Library
     from .names import Names
     from .output import File
     from .places import Places
@@ -112,6 +113,7 @@ def written(given: argparse.Namespace, refusals: Refusals, apart: set[Any]) -> t
     def flag(stem: str) -> str:
         return next(name for name in (f"{stem}_{n}" for n in numbers) if name not in taken)
 
+    Library(units, taken)
     names = Names(refusals)
     names.pool = given.pool
     for unit in units:
@@ -124,7 +126,7 @@ def written(given: argparse.Namespace, refusals: Refusals, apart: set[Any]) -> t
     Bindings(places, apart).bind()
     places.columns = Columns(names, apart)
     places.choosers = Choosers(names, places.columns)
-    inputs = set(given.inputs)
+    inputs = set(given.inputs) | OUTPUT
     effected = Effected(names, places, inputs)
     writer = Units(names, places, effected, Spelling(names, taken), given.check)
     writer.inputs = inputs

@@ -7,6 +7,7 @@ from pycparser import c_ast
 from . import kinds
 from .bindings import with_parents
 from .declarators import Function, Variable
+from .constants import is_offset
 from .heap import GIVES, TAKES, Pool, heap_call, known_call
 from .initialisers import filled
 from .kinds import Array, Int, Pointer, Signature, Struct, Type
@@ -315,6 +316,8 @@ class PointsTo(Unification):
 
     def called(self, node: Any) -> None:
         function = self.names.meaning.get(id(node))
+        if is_offset(node):
+            return
         if self.of_heap(node):
             self.called_heap(node, self.of_heap(node))
             return

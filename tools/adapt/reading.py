@@ -87,6 +87,7 @@ def without_foreign(text: str, refusals: Refusals, at: Any) -> str:
         if name in FOREIGN:
             cause, advice = FOREIGN[name].split("; ", 1)
             refusals.add(at, cause, advice)
+    text = re.sub(r"\b__builtin_offsetof\b", "offsetof", text)
     return re.sub(
         r"\b(__asm__|__asm|asm|__attribute__)\b\s*(volatile|__volatile__|goto)?\s*\((?:[^()]|\((?:[^()]|\([^()]*\))*\))*\)",
         " ",

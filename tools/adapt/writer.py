@@ -36,6 +36,7 @@ class Writer:
         self.model_words: dict[str, str] = {}
         self.needing: dict[int, tuple[Any, bool]] = {}
         self.heap = Heap(self)
+        self.outer_used: set[Function] = set()  # whose values are used
 
     def value(self, node: Any) -> Value:
         raise NotImplementedError
