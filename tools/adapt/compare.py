@@ -33,8 +33,8 @@ long long adapt_answer(void) { return adapt_answer_taken < adapt_answer_count ? 
 static char **adapt_words;
 static long long adapt_word(void) { return strtoll(*adapt_words++, 0, 10); }
 int main(int adapt_argc, char **adapt_argv) {
-  alarm(2); adapt_told = fdopen(dup(1), "w"); setvbuf(adapt_told, 0, _IOLBF, 0); adapt_words = adapt_argv + 1;
-  if (!freopen("/dev/null", "w", stdout)) return 1;
+  alarm(2); adapt_told = stdout; setvbuf(adapt_told, 0, _IOLBF, 0); adapt_words = adapt_argv + 1;
+  stdout = fopen("/dev/null", "w");
   adapt_answer_count = (int) adapt_word();
   for (int adapt_i = 0; adapt_i < adapt_answer_count; adapt_i++) adapt_answers[adapt_i] = adapt_word();
   while (adapt_words < adapt_argv + adapt_argc) {
