@@ -99,8 +99,6 @@ class Declarators:
     def type_of(self, node: Any) -> Type:
         """The type that a declarator or a Typename gives."""
         if isinstance(node, (c_ast.Typename, c_ast.TypeDecl)):
-            if "volatile" in node.quals:
-                raise Refused(node.coord, "a volatile object", "read it by an input function in its place")
             return self.type_of(node.type)
         if isinstance(node, c_ast.IdentifierType):
             return self.named(node)
@@ -161,13 +159,31 @@ class Declarators:
             return made
         members = []
         for one in node.decls:
-            if not isinstance(one, c_ast.Decl) or one.bitsize is not None or one.name is None:
-                what = "a bit-field" if getattr(one, "bitsize", None) is not None else "a member without a name"
-                made.fault = made.fault or (one.coord or node.coord, what, "use a member of its own")
+            if isinstance(one, c_ast.Decl) and one.bitsize is not None:
+                members += self.bit_field(made, one)
+                continue
+            if not isinstance(one, c_ast.Decl) or one.name is None:
+                cause = (one.coord or node.coord, "a member without a name", "use a member of its own")
+                made.fault = made.fault or cause
                 continue
             members.append((one.name, self.usable(one.type)))
+            made.declared.append((*members[-1], None))
         made.members = members
         return made
+
+    def bit_field(self, made: Struct, node: Any) -> list[tuple[str, Type]]:
+        """A bit-field, which is an integer of its own; one without a name only takes place (6.7.2.1p9 to p12)."""
+        of = self.usable(node.type)
+        self.expression(node.bitsize)
+        width = self.constants.value(node.bitsize)
+        if not isinstance(of, Int) or width is None or 32 < width < of.bits:
+            cause = "a bit-field of more than 32 bits" if isinstance(of, Int) and width else "a bit-field of no known width"
+            made.fault = made.fault or (node.coord, cause, "use a member of its own")
+            return []
+        made.declared.append((node.name or "", of, width))
+        if node.name is None:
+            return []
+        return [(node.name, of if width == of.bits else kinds.bit_field(of, width))]
 
     def union(self, node: Any) -> Type:
         """A union, which is refused where it is used; its size is known where those of its members are."""

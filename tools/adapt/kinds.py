@@ -8,12 +8,15 @@ from .regions import Region
 
 @dataclass(frozen=True)
 class Int:
-    """An integer type: its bits, its sign, and the words of the profile for it."""
+    """An integer type: its bits, its sign, and the words of the profile for it. A bit-field has a `width`, and its bits and
+    its sign are those of the narrowest type that has its values and is promoted as it is (6.3.1.1p2)."""
 
     bits: int
     signed: bool
     text: str = field(compare=False)
     boolean: bool = False
+    width: int = 0
+    below_zero: bool = False  # of a bit-field, whether it has a sign
 
 
 @dataclass(frozen=True)
@@ -29,6 +32,7 @@ class Struct:
     tag: str
     members: Optional[list[tuple[str, "Type"]]] = None
     fault: Optional[tuple[Any, str, str]] = None
+    declared: list[tuple[str, "Type", Optional[int]]] = field(default_factory=list)  # with the widths of bit-fields
 
 
 @dataclass(eq=False)
@@ -136,13 +140,25 @@ def fit(value: int, kind: Int) -> int:
     """The number of the kind that is the value modulo 2^bits, or for `bool` whether it isn't 0."""
     if kind.boolean:
         return int(value != 0)
+    if kind.width:
+        value %= 1 << kind.width
+        return value - (1 << kind.width) if kind.below_zero and value >> (kind.width - 1) else value
     value %= 1 << kind.bits
     return value - (1 << kind.bits) if kind.signed and value >> (kind.bits - 1) else value
 
 
+def bit_field(declared: Int, width: int) -> Int:
+    """The type of a bit-field."""
+    if declared.boolean:
+        return declared
+    bits = 8 if width <= 8 else 16 if width <= 16 else 32
+    signed = declared.signed or 16 < width < 32
+    return Int(bits, signed, f"{'' if signed else 'u'}int{bits}_t", False, width, declared.signed)
+
+
 def alignment(of: Type) -> int:
     if isinstance(of, Struct):
-        return max((alignment(member) for _, member in of.members or []), default=1)
+        return max((alignment(member) for name, member, width in of.declared if name or width is None), default=1)
     if isinstance(of, Other):
         return of.align
     return alignment(of.of) if isinstance(of, Array) else of.bits // 8 if isinstance(of, Int) else 8
@@ -156,26 +172,30 @@ def size(of: Type) -> Optional[int]:
         one = size(of.of)
         return None if one is None or of.length is None else one * of.length
     if isinstance(of, Struct) and of.members is not None and not of.fault:
-        end = 0
-        for _, member in of.members:
-            one, step = size(member), alignment(member)
-            if one is None:
-                return None
-            end = -(-end // step) * step + one
-        return -(-end // alignment(of)) * alignment(of)
+        end = laid_out(of)[1]
+        return None if end is None else -(-end // alignment(of)) * alignment(of)
     return 8 if isinstance(of, Pointer) else of.bytes if isinstance(of, Other) else None
 
 
 def offsets(of: Struct) -> dict[str, int]:
     """Where the members of a struct lie, as gcc lays it out on x86-64; none where that isn't known."""
-    end, found = 0, {}
-    for name, member in of.members or []:
-        one, step = size(member), alignment(member)
+    found, end = laid_out(of)
+    return found if end is not None and not of.fault else {}
+
+
+def laid_out(of: Struct) -> tuple[dict[str, int], Optional[int]]:
+    """Where the members of a struct lie, without bit-fields, and how many bytes they take before what is filled up."""
+    at, found = 0, {}  # (in bits)
+    for name, member, width in of.declared:
+        one, step = size(member), alignment(member) * 8
         if one is None:
-            return {}
-        found[name] = -(-end // step) * step
-        end = found[name] + one
-    return found if not of.fault else {}
+            return {}, None
+        if width is None or width == 0 or at % (one * 8) + width > one * 8:
+            at = -(-at // step) * step
+        if width is None:
+            found[name] = at // 8
+        at += one * 8 if width is None else width
+    return found, -(-at // 8)
 
 
 Path = tuple[str, ...]

@@ -169,8 +169,8 @@ class Units(Checks):
         known = self.constants.value(node)
         if known is None:
             raise Refused(node.coord, "a first value that is no constant", "give a number")
-        if kind.boolean:
-            return str(int(known != 0))
+        if kind.boolean or kind.width:
+            return str(kinds.fit(known, kind))
         text = self.value(node).text
         return text if marked else unmarked(text)
 
