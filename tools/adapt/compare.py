@@ -178,7 +178,7 @@ class Comparison:
         self.compile("original", [*texts, head + DRIVER % (self.calls(), dumps)], flags + WATCHED)
 
     def adapted(self, made: dict[str, str], outer: list[Function]) -> None:
-        own = [one.out for one in self.writer.names.functions if isinstance(one.coord, Spot) and one.out]
+        own = [one.out for one in self.writer.names.functions if isinstance(one.coord, Spot) and one.definition is not None]
         apart, again = ["".join(line.format(one) for one in own) for line in ("#define {0} adapt_own_{0}\n", "#undef {0}\n")]
         text = f"#include <stdint.h>\n#include <stddef.h>\n#include <assert.h>\n{apart}{self.copied(made)}{again}"
         text += "long long adapt_answer(void);\nvoid adapt_tell(long long);\n"

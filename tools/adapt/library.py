@@ -12,9 +12,16 @@ from .jumps import walk
 from .reading import Unit
 
 FOLDER = os.path.join(os.path.dirname(os.path.abspath(__file__)), "models")
-FILES = ("ctype.c", "stdlib.c")
+FILES = ("ctype.c", "stdlib.c", "builtin.c")
 OUTPUT = set("printf fprintf vprintf vfprintf puts fputs putchar putc fputc fflush perror setbuf setvbuf syslog".split())
-KNOWN = "void *malloc(unsigned long); void assert(int); int errno;"  # what models use
+# what models use, and what the compiler's builtin functions are written as
+KNOWN = """void *malloc(unsigned long); void *calloc(unsigned long, unsigned long); void *realloc(void *, unsigned long); void free(void *);
+void assert(int); int errno; int printf(const char *, ...); int puts(const char *); int putchar(int);
+void *memcpy(void *, const void *, unsigned long); void *memmove(void *, const void *, unsigned long);
+void *memset(void *, int, unsigned long); int memcmp(const void *, const void *, unsigned long);
+void *memchr(const void *, int, unsigned long); unsigned long strlen(const char *); char *strcpy(char *, const char *);
+char *strncpy(char *, const char *, unsigned long); char *strcat(char *, const char *); int strcmp(const char *, const char *);
+int strncmp(const char *, const char *, unsigned long); char *strchr(const char *, int); char *strrchr(const char *, int);"""
 
 
 class Spot(NamedTuple):
@@ -62,7 +69,7 @@ class Library:
         nodes = [node for tree in trees for node in walk(tree)]
         own = {node.decl.name for node in nodes if isinstance(node, c_ast.FuncDef)}
         own |= {node.name for node in nodes if isinstance(node, c_ast.Decl) and not self.is_function(node)}
-        self.missing = set(models()) - own
+        self.missing, self.names = set(models()) - own, own | self.declared
         self.added: list[Any] = []
         self.wanted: dict[str, Any] = {}
         self.expand(nodes)
@@ -96,6 +103,9 @@ class Library:
                 elif node.name not in self.wanted:
                     self.wanted[node.name] = model
                     self.add(node.name, model)
+            elif id(node) in called and isinstance(node, c_ast.ID) and node.name in known() and node.name not in self.names:
+                self.names.add(node.name)
+                self.added.insert(0, copy.deepcopy(known()[node.name]))
 
     def anew(self, node: Any, model: Any) -> None:
         """Adds a model for one call."""
