@@ -44,14 +44,15 @@ class Assignments(Calls):
         self.not_twice(node, place, node.rvalue)
         kind = place.type
         other = self.kind_at(place) != kind and node.op in ("/=", "%=", ">>=")
-        twice = (kind.boolean or other) and node.op != "="
+        twice = (kind.boolean or other or kind.width > 0) and node.op != "="
         target, _ = self.leaf(place, stable or twice)
         given = self.value(node.rvalue)
         if twice:
             level = LEVELS[node.op[:-1]]
             own = f"({kind.text}) {target}" if other else target
-            whole = Value(f"{own} {node.op[:-1]} {given.within(level + 1)}", kinds.INT, level)
-            self.emit(f"{target} = {whole.text if other else self.truth(whole).text};")
+            of = kinds.common(kind, given.kind)
+            whole = Value(f"{own} {node.op[:-1]} {given.within(level + 1)}", of, level)
+            self.emit(f"{target} = {whole.text if other else self.converted(whole, kind).text};")
         else:
             self.emit(f"{target} {node.op} {self.converted(given, kind).text};")
         return target, kind
@@ -74,10 +75,16 @@ class Assignments(Calls):
             raise Refused(node.coord, "a step of what is no integer", "assign its value")
         return self.leaf(place, stable)[0], place.type
 
+    def step_text_of(self, op: str, target: str, kind: Int) -> str:
+        """The statement of a step."""
+        if not kind.width:
+            return f"{target}{op[-2:]};"
+        return f"{target} = {self.converted(Value(f'{target} {op[-1]} 1', kinds.INT, 9), kind).text};"
+
     def stepped(self, node: Any) -> Value:
         """`++` and `--` as a value: the old one, which is kept, or the new one, which is read (6.5.2.4, 6.5.3.1)."""
         target, kind = self.step(node, True)
-        step, before = f"{target}{node.op[-2:]};", not node.op.startswith("p")
+        step, before = self.step_text_of(node.op, target, kind), not node.op.startswith("p")
         if before or id(node) in self.behind:
             self.emit(step) if before else self.after.append(step)
             if self.kind_at(self.places.place(node.expr)) != kind:
@@ -103,7 +110,8 @@ class Assignments(Calls):
             place = self.places.place(node.expr)
             self.emit(self.step_text(node, self.parts_at(place, self.index(place, False))[INDEX].text))
         elif isinstance(node, c_ast.UnaryOp) and node.op in STEPS:
-            self.emit(f"{self.step(node)[0]}{node.op[-2:]};")
+            target, kind = self.step(node, self.kind_has_width(node.expr))
+            self.emit(self.step_text_of(node.op, target, kind))
         elif isinstance(node, c_ast.FuncCall):
             self.call_effect(node)
         elif isinstance(node, c_ast.TernaryOp):
@@ -116,6 +124,10 @@ class Assignments(Calls):
             left = self.pointer(node)[INDEX] if self.is_pointer(node) else self.value(node)
             if left.calls:
                 self.temporary(left.kind, left.text)
+
+    def kind_has_width(self, node: Any) -> bool:
+        of = self.constants.type_of(node)
+        return isinstance(of, Int) and of.width > 0
 
     def has_calls(self, node: Any) -> bool:
         return any(isinstance(one, c_ast.FuncCall) for one in walk(node))

@@ -9,7 +9,7 @@ from pycparser import c_ast
 
 from .declarators import Function, Variable
 from .jumps import walk
-from .kinds import VOID, Array, Pointer, Type
+from .kinds import VOID, Array, Pointer, Signature, Type
 from .places import Place, Places, arguments
 from .refusals import Refused
 
@@ -38,7 +38,9 @@ class Bindings:
         self.of: dict[Variable, tuple[Function, int]] = {}
         for function in self.names.functions:
             for at, one in enumerate(function.parameters):
-                if isinstance(one.type, (Pointer, Array)):
+                if isinstance(one.type, Pointer) and isinstance(one.type.to, Signature):
+                    one.binding = "pointer"
+                elif isinstance(one.type, (Pointer, Array)):
                     self.types[one], self.of[one] = one.type, (function, at)
 
     def bind(self) -> None:

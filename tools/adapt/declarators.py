@@ -8,7 +8,7 @@ from pycparser import c_ast
 
 from . import kinds
 from .constants import Constants
-from .kinds import Array, Int, Other, Pointer, Struct, Type
+from .kinds import Array, Int, Other, Pointer, Signature, Struct, Type
 from .reading import Unit
 from .refusals import Refusals, Refused
 
@@ -56,6 +56,14 @@ class Function:
     calls: list[tuple[Optional["Function"], Any]] = field(default_factory=list)
     number: int = 0  # of the item that defines it
     taken: bool = False
+    own_type: Optional[Signature] = None
+
+    @property
+    def type(self) -> Signature:
+        """The type of the function, whose pointers have the regions of its parameters and of its result."""
+        if self.own_type is None:
+            self.own_type = Signature(self.result, [one.type for one in self.parameters], self.variadic)
+        return self.own_type
 
 
 @dataclass
@@ -80,6 +88,7 @@ class Declarators:
         self.enumerators: dict[str, Any] = {}
         self.constants = Constants(self)
         self.function: Optional[Function] = None
+        self.pool = (4, 16)  # the slots of a call of malloc, and the elements of one whose number isn't constant
         self.scope: ChainMap[str, Any] = ChainMap()
         self.tags: ChainMap[str, Any] = ChainMap()
         self.items: list[tuple[Unit, Any]] = []
@@ -90,8 +99,6 @@ class Declarators:
     def type_of(self, node: Any) -> Type:
         """The type that a declarator or a Typename gives."""
         if isinstance(node, (c_ast.Typename, c_ast.TypeDecl)):
-            if "volatile" in node.quals:
-                raise Refused(node.coord, "a volatile object", "read it by an input function in its place")
             return self.type_of(node.type)
         if isinstance(node, c_ast.IdentifierType):
             return self.named(node)
@@ -106,8 +113,6 @@ class Declarators:
             return Array(of, length)
         if isinstance(node, c_ast.PtrDecl):
             to = node.type
-            if isinstance(to, c_ast.FuncDecl):
-                return Pointer(kinds.FUNCTION)
             return Pointer(self.type_of(to))
         if isinstance(node, c_ast.Struct):
             return self.struct(node)
@@ -116,8 +121,15 @@ class Declarators:
         if isinstance(node, c_ast.Union):
             return self.union(node)
         if isinstance(node, c_ast.FuncDecl):
-            return kinds.FUNCTION
+            return self.signature(node)
         raise Refused(node.coord, f"a type ({type(node).__name__})", "use an integer, an array or a struct")
+
+    def signature(self, node: Any) -> Signature:
+        """The type of a function (6.7.6.3); its parameters are what they are adjusted to."""
+        listed = list(node.args.params) if node.args else []
+        own = [self.usable(one.type) for one in listed if isinstance(one, (c_ast.Decl, c_ast.Typename))]
+        taken = [kinds.adjusted(one) for one in own if one != kinds.VOID]
+        return Signature(self.usable(node.type), taken, any(isinstance(one, c_ast.EllipsisParam) for one in listed))
 
     def usable(self, node: Any) -> Type:
         """The type, or one that is refused where it is used."""
@@ -128,7 +140,7 @@ class Declarators:
 
     def named(self, node: Any) -> Type:
         found = self.scope.get(node.names[0]) if len(node.names) == 1 else None
-        if isinstance(found, (Int, Array, Struct, Pointer, Other)):
+        if isinstance(found, (Int, Array, Struct, Pointer, Signature, Other)):
             return kinds.renewed(found)
         if {"float", "double", "_Complex"} & set(node.names):
             return kinds.FLOATS[16 if "long" in node.names else 8 if "double" in node.names else 4]
@@ -147,13 +159,31 @@ class Declarators:
             return made
         members = []
         for one in node.decls:
-            if not isinstance(one, c_ast.Decl) or one.bitsize is not None or one.name is None:
-                what = "a bit-field" if getattr(one, "bitsize", None) is not None else "a member without a name"
-                made.fault = made.fault or (one.coord or node.coord, what, "use a member of its own")
+            if isinstance(one, c_ast.Decl) and one.bitsize is not None:
+                members += self.bit_field(made, one)
+                continue
+            if not isinstance(one, c_ast.Decl) or one.name is None:
+                cause = (one.coord or node.coord, "a member without a name", "use a member of its own")
+                made.fault = made.fault or cause
                 continue
             members.append((one.name, self.usable(one.type)))
+            made.declared.append((*members[-1], None))
         made.members = members
         return made
+
+    def bit_field(self, made: Struct, node: Any) -> list[tuple[str, Type]]:
+        """A bit-field, which is an integer of its own; one without a name only takes place (6.7.2.1p9 to p12)."""
+        of = self.usable(node.type)
+        self.expression(node.bitsize)
+        width = self.constants.value(node.bitsize)
+        if not isinstance(of, Int) or width is None or 32 < width < of.bits:
+            cause = "a bit-field of more than 32 bits" if isinstance(of, Int) and width else "a bit-field of no known width"
+            made.fault = made.fault or (node.coord, cause, "use a member of its own")
+            return []
+        made.declared.append((node.name or "", of, width))
+        if node.name is None:
+            return []
+        return [(node.name, of if width == of.bits else kinds.bit_field(of, width))]
 
     def union(self, node: Any) -> Type:
         """A union, which is refused where it is used; its size is known where those of its members are."""

@@ -42,6 +42,13 @@ def words(given: Optional[list[str]]) -> argparse.Namespace:
         help="a function that no source defines gives an input, or nothing; its arguments don't matter",
     )
     parser.add_argument(
+        "--pool",
+        type=pool,
+        default=(4, 16),
+        metavar="SLOTS[,ELEMENTS]",
+        help="how often each call of malloc gives memory, and how many elements where their number isn't constant (4,16)",
+    )
+    parser.add_argument(
         "--check", action="store_true", help="each index of an array in an array is tested by an assert"
     )
     parser.add_argument(
@@ -54,6 +61,14 @@ def words(given: Optional[list[str]]) -> argparse.Namespace:
         "--compare", type=count, default=0, metavar="N", help="compile both with gcc and run both on N random inputs"
     )
     return parser.parse_args(given)
+
+
+def pool(word: str) -> tuple[int, int]:
+    """How many slots a call of malloc has, and of how many elements."""
+    slots, _, elements = word.partition(",")
+    if not slots.isdecimal() or not (elements or "16").isdecimal() or not 1 <= int(slots) * int(elements or 16) <= 1024:
+        raise argparse.ArgumentTypeError(f"{word} is no SLOTS[,ELEMENTS] of 1 to 1024 elements together")
+    return int(slots), int(elements or 16)
 
 
 def flags_of(given: argparse.Namespace) -> list[str]:
@@ -75,10 +90,12 @@ def adapt(given: argparse.Namespace, refusals: Refusals) -> tuple[dict[str, str]
 
 def written(given: argparse.Namespace, refusals: Refusals, apart: set[Any]) -> tuple[dict[str, str], Any]:
     from .bindings import Bindings
+    from .choosers import Choosers
     from .columns import Columns
     from .effects import Effected
     from .gate import check
     from .jumps import Jumps, walk
+    from .library import OUTPUT, Library
     from .names import Names
     from .output import File
     from .places import Places
@@ -96,7 +113,9 @@ def written(given: argparse.Namespace, refusals: Refusals, apart: set[Any]) -> t
     def flag(stem: str) -> str:
         return next(name for name in (f"{stem}_{n}" for n in numbers) if name not in taken)
 
+    Library(units, taken)
     names = Names(refusals)
+    names.pool = given.pool
     for unit in units:
         for item in unit.tree.ext:
             if isinstance(item, c_ast.FuncDef):
@@ -105,8 +124,9 @@ def written(given: argparse.Namespace, refusals: Refusals, apart: set[Any]) -> t
         names.unit(unit)
     places = Places(names)
     Bindings(places, apart).bind()
-    places.columns = Columns(names)
-    inputs = set(given.inputs)
+    places.columns = Columns(names, apart)
+    places.choosers = Choosers(names, places.columns)
+    inputs = set(given.inputs) | OUTPUT
     effected = Effected(names, places, inputs)
     writer = Units(names, places, effected, Spelling(names, taken), given.check)
     writer.inputs = inputs

@@ -7,6 +7,7 @@ from pycparser import c_ast, c_generator
 
 
 from . import kinds
+from .constants import is_offset
 from .declarators import Declarators, Function, Variable
 from .kinds import Array, Other
 from .reading import Unit, is_system
@@ -141,6 +142,7 @@ class Names(Declarators):
             of = self.usable(one.type)
             if of == kinds.VOID:
                 continue
+            of = kinds.Pointer(of) if isinstance(of, kinds.Signature) else of
             variable = Variable(one.name or "", of, one.coord or node.coord, "parameter")
             self.meaning[id(one)] = variable
             made.append(variable)
@@ -234,6 +236,9 @@ class Names(Declarators):
             self.children(node)
 
     def call(self, node: Any) -> None:
+        if is_offset(node):
+            self.expression(node.args.exprs[0])
+            return
         called = self.scope.get(node.name.name) if isinstance(node.name, c_ast.ID) else None
         if isinstance(called, Function):
             self.meaning[id(node)] = called

@@ -56,6 +56,7 @@ class Places:
     def __init__(self, names: Names) -> None:
         self.names = names
         self.columns: Any = None  # set once regions have columns
+        self.choosers: Any = None
         names.constants.place_type = self.type_at
         self.zero = c_ast.Constant("int", "0")
 

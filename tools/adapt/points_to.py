@@ -7,8 +7,10 @@ from pycparser import c_ast
 from . import kinds
 from .bindings import with_parents
 from .declarators import Function, Variable
+from .constants import is_offset
+from .heap import GIVES, TAKES, Pool, heap_call, known_call
 from .initialisers import filled
-from .kinds import Array, Int, Pointer, Struct, Type
+from .kinds import Array, Int, Pointer, Signature, Struct, Type
 from .models import model_of
 from .names import Names
 from .places import Place, arguments
@@ -18,12 +20,17 @@ from .unification import Unification
 
 
 class PointsTo(Unification):
-    def __init__(self, names: Names) -> None:
-        self.names, self.constants = names, names.constants
+    def __init__(self, names: Names, learned: set[Any]) -> None:
+        self.names, self.constants, self.learned = names, names.constants, learned
+        self.pools: dict[int, Pool] = {}
         super().__init__()
         self.texts: dict[int, tuple[Any, Variable]] = {}
         self.values: dict[int, tuple[Any, Type]] = {}
         self.function: Optional[Function] = None
+        self.pointer_calls: list[tuple[Optional[Function], Any]] = []
+        self.codes: dict[Function, Pointer] = {}
+        for function in names.functions:
+            function.own_type = None  # (parameters have got their types)
         for variable in list(names.variables):
             if variable.init is not None:
                 self.first_values(variable.type, variable.init)
@@ -78,7 +85,7 @@ class PointsTo(Unification):
         made = self.value(node)
         if not isinstance(made, Pointer):
             raise Refused(node.coord, "what is no pointer", "use a pointer")
-        if made.to not in (kinds.VOID, kinds.FUNCTION):
+        if made.to != kinds.VOID and not made.region.is_code:
             made.region.root().pointed = True
         return made.to, made.region.root()
 
@@ -101,6 +108,8 @@ class PointsTo(Unification):
     def made(self, node: Any) -> Type:
         if isinstance(node, c_ast.Constant) and node.type == "string":
             return self.text(node)
+        if isinstance(self.constants.type_of(node), Signature):
+            return self.code(node)
         if isinstance(node, c_ast.UnaryOp) and node.op == "&":
             return self.address(node)
         if isinstance(node, c_ast.UnaryOp) and node.op in ("++", "--", "p++", "p--"):
@@ -118,6 +127,8 @@ class PointsTo(Unification):
             return self.value(node.exprs[-1])
         if isinstance(node, c_ast.Assignment):
             return self.value(node.lvalue)
+        if isinstance(node, c_ast.FuncCall) and self.of_heap(node) in GIVES:
+            return self.allocated(node)
         model = model_of(self.names.meaning.get(id(node))) if isinstance(node, c_ast.FuncCall) else None
         if model is not None and model.gives_pointer and arguments(node):
             return self.value(arguments(node)[0])
@@ -128,6 +139,16 @@ class PointsTo(Unification):
         if isinstance(node, (c_ast.ID, c_ast.StructRef, c_ast.ArrayRef, c_ast.UnaryOp)):
             return self.decayed(node)
         return self.constants.type_of(node)
+
+    def code(self, node: Any) -> Type:
+        """The pointer that a function's name, or what a pointer to one leads to, is (6.3.2.1p4)."""
+        meaning = self.names.meaning.get(id(node)) if isinstance(node, c_ast.ID) else None
+        if not isinstance(meaning, Function):
+            return self.value(node.expr)
+        if meaning not in self.codes:
+            self.codes[meaning] = Pointer(meaning.type)
+            self.codes[meaning].region.targets.append(meaning)
+        return self.codes[meaning]
 
     def decayed(self, node: Any) -> Type:
         """The type of what names an object; an array is a pointer to its first element."""
@@ -140,6 +161,8 @@ class PointsTo(Unification):
         return of
 
     def address(self, node: Any) -> Type:
+        if isinstance(self.constants.type_of(node.expr), Signature):
+            return self.value(node.expr)
         of, region = self.place(node.expr)
         region.root().pointed = True
         inner = node.expr
@@ -196,7 +219,7 @@ class PointsTo(Unification):
         of = self.value(node)
         if isinstance(to, Pointer) and not self.is_null(node):
             if isinstance(of, Pointer):
-                if (of.to == kinds.FUNCTION) != (to.to == kinds.FUNCTION):
+                if isinstance(of.to, Signature) != isinstance(to.to, Signature):
                     self.fault(to.region, of.to, to.to, node.coord)
                 self.unify(to.region, of.region, node.coord)
             else:
@@ -267,10 +290,41 @@ class PointsTo(Unification):
         elif node.op in ("+", "-"):
             self.value(node)
 
+    def of_heap(self, node: Any) -> str:
+        """The function of the heap that a call calls, if it does."""
+        return heap_call(self.names.meaning.get(id(node))) or known_call(node, self.learned)
+
+    def allocated(self, node: Any) -> Type:
+        """Memory that a call gives: an object of its own."""
+        name = self.of_heap(node)
+        variable = Variable("heap", kinds.VOID, node.coord, "pool", function=self.function, defined=True)
+        self.pools[id(node)] = Pool(node, name, variable, self.names.pool[0])
+        made = Pointer(kinds.VOID)
+        made.region.objects.append(variable)
+        made.region.pointed = True
+        if name == "realloc":
+            self.flow(arguments(node)[0], made)
+            made.region.root().freed = True
+        return made
+
+    def called_heap(self, node: Any, name: str) -> None:
+        if len(arguments(node)) != TAKES[name]:
+            raise Refused(node.coord, f"{name} is declared otherwise than in the library", "declare it as stdlib.h does")
+        of = self.value(arguments(node)[0] if name == "free" else node)
+        if isinstance(of, Pointer):
+            of.region.root().freed = of.region.root().freed or name == "free"
+
     def called(self, node: Any) -> None:
         function = self.names.meaning.get(id(node))
+        if is_offset(node):
+            return
+        if self.of_heap(node):
+            self.called_heap(node, self.of_heap(node))
+            return
         if model_of(function):
             self.of_model(node)
+        if not isinstance(function, Function):
+            self.called_by_pointer(node)
         if not isinstance(function, Function) or function.definition is None:
             return
         for argument, parameter in zip(arguments(node), function.parameters):
@@ -280,6 +334,14 @@ class PointsTo(Unification):
                 self.same_type(of, mine, node.coord, region)
             else:
                 self.tried(argument, parameter.type)
+
+    def called_by_pointer(self, node: Any) -> None:
+        of = self.value(node.name)
+        if not isinstance(of, Pointer) or not isinstance(of.to, Signature):
+            raise Refused(node.coord, "a call of what is no function", "call a function")
+        self.pointer_calls.append((self.function, node))
+        for argument, to in zip(arguments(node), of.to.parameters):
+            self.tried(argument, to)
 
     def of_model(self, node: Any) -> None:
         """A call of a library's function goes through the objects of its pointers, and may copy from one to the other."""

@@ -4,7 +4,7 @@ from typing import Any
 
 from . import kinds
 from .declarators import Variable
-from .kinds import Int, Pointer, Struct, Type
+from .kinds import Int, Pointer, Signature, Struct, Type
 from .regions import Region
 
 ADVICE = "let one pointer point to objects of one type"
@@ -14,6 +14,8 @@ def words(of: Type) -> str:
     """What a type is called."""
     if isinstance(of, Struct):
         return f"struct {of.tag}"
+    if isinstance(of, Signature):
+        return f"a function of {len(of.parameters)} parameters"
     return of.text if isinstance(of, Int) else "pointer" if isinstance(of, Pointer) else getattr(of, "name", "array")
 
 
@@ -37,6 +39,8 @@ class Unification:
         b.into = a
         a.objects += [variable for variable in b.objects if variable not in a.objects]
         a.pointed, a.moved, a.down = a.pointed or b.pointed, a.moved or b.moved, a.down or b.down
+        a.freed = a.freed or b.freed
+        a.targets += [function for function in b.targets if function not in a.targets]
         a.fault = a.fault or b.fault
         left, right = a.elem, b.elem
         a.elem = right if left is None else left
@@ -52,6 +56,9 @@ class Unification:
     def same_type(self, one: Type, other: Type, at: Any, region: Region) -> None:
         """Brings the pointers within two types together; types that can't be one are a fault of the region."""
         one, other = kinds.element(one), kinds.element(other)
+        if isinstance(one, Signature) and isinstance(other, Signature):
+            self.same_signature(one, other, at, region)
+            return
         if isinstance(one, Pointer) and isinstance(other, Pointer):
             self.unify(one.region, other.region, at)
         elif isinstance(one, Struct) and isinstance(other, Struct):
@@ -68,6 +75,20 @@ class Unification:
             self.fault(region, one, other, at)
         elif one.boolean != other.boolean:
             self.fault(region, one, other, at)
+
+    def same_signature(self, one: Signature, other: Signature, at: Any, region: Region) -> None:
+        """Brings what functions of two types take and give together."""
+        if one is other:
+            return
+        lists = [[of.result, *of.parameters] for of in (one, other)]
+        if len(lists[0]) != len(lists[1]) or one.variadic or other.variadic:
+            self.fault(region, one, other, at)
+            return
+        for mine, theirs in zip(*lists):
+            if isinstance(mine, Pointer) and isinstance(theirs, Pointer):
+                self.unify(mine.region, theirs.region, at)
+            elif mine is not theirs and mine != theirs:
+                self.fault(region, one, other, at)
 
     @staticmethod
     def fault(region: Region, one: Type, other: Type, at: Any) -> None:

@@ -7,14 +7,18 @@ from pycparser import c_ast
 from . import kinds
 from .effects import pointee
 from .initialisers import Part, filled, none_of
+from .heap import heap_call
 from .jumps import walk
 from .kinds import Int, Pointer, Struct
 from .declarators import Function, Variable
+from .library import OUTPUT
+from .models import model_of
 from .output import FELL, File, unmarked
 from .places import Place, arguments
 from .reading import is_system
 from .refusals import Refused
 from .checks import Checks
+from .choosers import written
 
 
 class Units(Checks):
@@ -35,11 +39,24 @@ class Units(Checks):
             self.names.refusals.go(item.coord)
             with self.names.refusals.gathered():
                 self.item(item, number)
-        made = [(self.begin[1], text) for _, text in self.written_models.values()]
+        front, end = written(self, self.places.choosers)
+        outer = [self.heading(one) + ";" for one in self.names.functions if self.is_outer(one)]
+        made = [(self.begin[1], text) for text in [*outer, *self.heap.front(), *front, *(text for _, text in self.written_models.values())]]
+        if end:
+            last = self.files.setdefault(self.names.items[-1][0].path, File(self.names.items[-1][0].path))
+            last.pieces += [(last.pieces[-1][0] if last.pieces else 1, text) for text in end]
         if made:
             file = self.files.setdefault(self.begin[0], File(self.begin[0]))
             file.pieces[self.begin[2] : self.begin[2]] = made
         return self.files
+
+    def is_outer(self, function: Function) -> bool:
+        """Whether a header of the system declares an input function."""
+        if function.definition is not None or not function.calls or not is_system(str(function.coord.file)):
+            return False
+        known = model_of(function) or heap_call(function) or function.name in ("assert", "assume")
+        used = function.name not in OUTPUT or function in self.outer_used
+        return not known and used and isinstance(function.result, Int)
 
     def first_uses(self) -> dict[Variable, int]:
         """For each variable the number of the first function that names it."""
@@ -152,8 +169,8 @@ class Units(Checks):
         known = self.constants.value(node)
         if known is None:
             raise Refused(node.coord, "a first value that is no constant", "give a number")
-        if kind.boolean:
-            return str(int(known != 0))
+        if kind.boolean or kind.width:
+            return str(kinds.fit(known, kind))
         text = self.value(node).text
         return text if marked else unmarked(text)
 
