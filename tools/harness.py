@@ -9,7 +9,7 @@ of the file have their first values again; input functions give the input's answ
 import argparse
 from collections.abc import Iterator
 
-from tools import inputs, items, program
+from tools import inputs, items, program, usage
 from tools.reports import Input, Run
 from tools.sources import Source
 
@@ -178,14 +178,19 @@ def text_of(entry: str, given: list[Input], runs: list[Run], sources: list[Sourc
     return "".join(parts)
 
 
-def words() -> argparse.Namespace:
-    parser = argparse.ArgumentParser(prog="harness", description=__doc__, formatter_class=argparse.RawTextHelpFormatter)
-    parser.add_argument("entry", metavar="ENTRY")
-    parser.add_argument("inputs", metavar="INPUTS")
-    parser.add_argument("sources", nargs="+", metavar="SOURCE")
+def parser_of_words() -> usage.Parser:
+    """What reads the words."""
+    parser = usage.parser("harness", __doc__, "the file is written")
+    parser.add_argument("entry", metavar="ENTRY", help="the function in which runs begin")
+    parser.add_argument("inputs", metavar="INPUTS", help="a file of inputs, in any form that bin/inputs reads")
+    parser.add_argument("sources", nargs="+", metavar="SOURCE", help="the sources, in their order")
     parser.add_argument("-o", metavar="OUT", dest="out", help="the C file that is written; else standard output")
     parser.add_argument("--steps", type=program.in_range("steps"), metavar="N", help="as for runs")
-    return parser.parse_intermixed_args()
+    return parser
+
+
+def words() -> argparse.Namespace:
+    return parser_of_words().parse_intermixed_args()
 
 
 def main() -> int:

@@ -5,7 +5,7 @@ import os
 import sys
 from typing import Any, Optional
 
-from tools import program
+from tools import program, usage
 
 from .output import FELL
 from .refusals import Refusals, Stop
@@ -20,13 +20,12 @@ def count(word: str) -> int:
     return int(word)
 
 
-def words(given: Optional[list[str]]) -> argparse.Namespace:
-    parser = argparse.ArgumentParser(
-        prog="bin/adapt",
-        description="Writes C sources again in the profile of C that FShell reads, every statement on its line. "
-        + FIRST
-        + ".",
-    )
+def parser_of_words() -> usage.Parser:
+    """What reads the words."""
+    about = f"Writes C sources again in the profile of C that FShell reads, every statement on its line. {FIRST}."
+    done = "the sources are written, and with --compare all runs agree"
+    refused = "sources are refused, with a line for each cause"
+    parser = usage.parser("bin/adapt", about, done, "runs of --compare differ", status_3=refused)
     parser.add_argument("sources", nargs="+", metavar="SOURCE", help="C sources, which together are one program")
     parser.add_argument("-I", action="append", default=[], metavar="DIR", dest="folders", help="a folder with headers")
     parser.add_argument("-D", action="append", default=[], metavar="NAME=VALUE", dest="macros", help="a macro")
@@ -53,7 +52,11 @@ def words(given: Optional[list[str]]) -> argparse.Namespace:
     parser.add_argument(
         "--compare", type=count, default=0, metavar="N", help="compile both with gcc and run both on N random inputs"
     )
-    return parser.parse_args(given)
+    return parser
+
+
+def words(given: Optional[list[str]]) -> argparse.Namespace:
+    return parser_of_words().parse_args(given)
 
 
 def flags_of(given: argparse.Namespace) -> list[str]:
