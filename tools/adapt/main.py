@@ -149,17 +149,16 @@ def put(folder: str, texts: dict[str, str]) -> list[str]:
 
 def write_harness(asked: argparse.Namespace, writer: Any, paths: list[str]) -> None:
     """Writes the tests of the original beside what was written."""
-    from .harness import text_of
+    from .harness import how_to_compile, text_of
 
-    if len(asked.sources) != 1:
-        raise Stop("--harness takes one source")
+    entry, given = asked.harness
     try:
-        text = text_of(writer, os.path.abspath(asked.sources[0]), paths, *asked.harness)
+        text, home = text_of(writer, paths, entry, given, asked.out)
     except program.Failure as failure:
         raise Stop(str(failure)) from failure
     name = os.path.join(asked.out, "tests.c")
     program.give(text, name)
-    print(f"wrote {name}: compile it with {' '.join(['-fwrapv', *flags_of(asked)])}")
+    print(f"wrote {name}: compile it with {how_to_compile(writer, asked.sources, home, flags_of(asked))}")
 
 
 def compare(asked: argparse.Namespace, writer: Any, texts: dict[str, str]) -> int:
