@@ -15,7 +15,7 @@ import subprocess
 from collections import Counter
 
 from tools import graph as graphs
-from tools import page_tabs, program, verdicts
+from tools import page_tabs, program, usage, verdicts
 from tools.graph import Edge
 from tools.page_data import Page, folded, worst
 from tools.program import Failure
@@ -96,9 +96,10 @@ def page_text(page: Page) -> str:
     )  # fmt: skip
 
 
-def words() -> argparse.Namespace:
-    parser = argparse.ArgumentParser(prog="page", description=__doc__, formatter_class=argparse.RawTextHelpFormatter)
-    parser.add_argument("reports", nargs="+", metavar="REPORT")
+def parser_of_words() -> usage.Parser:
+    """What reads the words."""
+    parser = usage.parser("page", __doc__, "the page is written")
+    parser.add_argument("reports", nargs="+", metavar="REPORT", help="a report, or a campaign's folder")
     parser.add_argument("-o", metavar="FILE", dest="out", required=True, help="the page that is written")
     parser.add_argument("--source", action="append", default=[], help="a source, in their order")
     parser.add_argument("--entry", default="", help="the function in which runs begin")
@@ -109,6 +110,11 @@ def words() -> argparse.Namespace:
         help="the query of the report; of several reports one each, in their order",
     )
     parser.add_argument("--inputs", metavar="FILE", help="the inputs of a report of measure")
+    return parser
+
+
+def words() -> argparse.Namespace:
+    parser = parser_of_words()
     given = parser.parse_intermixed_args()
     if len(given.query) not in (0, len(given.reports)):
         parser.error(

@@ -21,7 +21,7 @@ import json
 import os
 
 from tools import graph as graphs
-from tools import inputs, leaving, program, rte_items
+from tools import inputs, leaving, program, rte_items, usage
 from tools.asked import Asked, read_sums
 from tools.campaign import DEFAULTS, locked, measured
 from tools.folder import Folder
@@ -32,10 +32,13 @@ from tools.rte_rows import Row, Rows, Verdict, is_clean, tally
 from tools.rte_search import ENDINGS, has_bounds_certificates, known, not_reached, prove_bounds
 
 
-def words() -> argparse.Namespace:
-    parser = argparse.ArgumentParser(prog="rte", description=__doc__, formatter_class=argparse.RawTextHelpFormatter)
-    parser.add_argument("entry", metavar="ENTRY")
-    parser.add_argument("sources", nargs="+", metavar="SOURCE")
+def parser_of_words() -> usage.Parser:
+    """What reads the words."""
+    parser = usage.parser(
+        "rte", __doc__, "each row is `never`, and the bounds suffice", "a row is another, or the bounds don't suffice"
+    )
+    parser.add_argument("entry", metavar="ENTRY", help="the function in which runs begin")
+    parser.add_argument("sources", nargs="+", metavar="SOURCE", help="the sources, in their order")
     parser.add_argument("-o", metavar="DIR", dest="folder", required=True, help="the folder of what is found")
     for name, value in DEFAULTS.items():
         number = program.in_range(name)
@@ -44,7 +47,11 @@ def words() -> argparse.Namespace:
     parser.add_argument("--budget", type=program.in_range("budget"), default=5_000_000, metavar="N", help=budget)
     ends = "trapped (the default): runs that trap; any: also runs that are blocked or too deep"
     parser.add_argument("--ends", choices=("trapped", "any"), default="trapped", help=ends)
-    return parser.parse_intermixed_args()
+    return parser
+
+
+def words() -> argparse.Namespace:
+    return parser_of_words().parse_intermixed_args()
 
 
 def asked_by(given: argparse.Namespace) -> Asked:

@@ -5,7 +5,7 @@ import os
 import sys
 from typing import Any, Optional
 
-from tools import program
+from tools import program, usage
 
 from .output import FELL
 from .refusals import Refusals, Stop
@@ -20,13 +20,12 @@ def count(word: str) -> int:
     return int(word)
 
 
-def words(given: Optional[list[str]]) -> argparse.Namespace:
-    parser = argparse.ArgumentParser(
-        prog="bin/adapt",
-        description="Writes C sources again in the profile of C that FShell reads, every statement on its line. "
-        + FIRST
-        + ".",
-    )
+def parser_of_words() -> usage.Parser:
+    """What reads the words."""
+    about = f"Writes C sources again in the profile of C that FShell reads, every statement on its line. {FIRST}."
+    done = "the sources are written, and with --compare all runs agree"
+    refused = "sources are refused, with a line for each cause"
+    parser = usage.parser("bin/adapt", about, done, "runs of --compare differ", status_3=refused)
     parser.add_argument("sources", nargs="+", metavar="SOURCE", help="C sources, which together are one program")
     parser.add_argument("-I", action="append", default=[], metavar="DIR", dest="folders", help="a folder with headers")
     parser.add_argument("-D", action="append", default=[], metavar="NAME=VALUE", dest="macros", help="a macro")
@@ -60,7 +59,11 @@ def words(given: Optional[list[str]]) -> argparse.Namespace:
     parser.add_argument(
         "--compare", type=count, default=0, metavar="N", help="compile both with gcc and run both on N random inputs"
     )
-    return parser.parse_args(given)
+    return parser
+
+
+def words(given: Optional[list[str]]) -> argparse.Namespace:
+    return parser_of_words().parse_args(given)
 
 
 def pool(word: str) -> tuple[int, int]:
@@ -166,17 +169,16 @@ def put(folder: str, texts: dict[str, str]) -> list[str]:
 
 def write_harness(asked: argparse.Namespace, writer: Any, paths: list[str]) -> None:
     """Writes the tests of the original beside what was written."""
-    from .harness import text_of
+    from .harness import how_to_compile, text_of
 
-    if len(asked.sources) != 1:
-        raise Stop("--harness takes one source")
+    entry, given = asked.harness
     try:
-        text = text_of(writer, os.path.abspath(asked.sources[0]), paths, *asked.harness)
+        text, home = text_of(writer, paths, entry, given, asked.out)
     except program.Failure as failure:
         raise Stop(str(failure)) from failure
     name = os.path.join(asked.out, "tests.c")
     program.give(text, name)
-    print(f"wrote {name}: compile it with {' '.join(['-fwrapv', *flags_of(asked)])}")
+    print(f"wrote {name}: compile it with {how_to_compile(writer, asked.sources, home, flags_of(asked))}")
 
 
 def compare(asked: argparse.Namespace, writer: Any, texts: dict[str, str]) -> int:
