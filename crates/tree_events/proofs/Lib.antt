@@ -1,0 +1,6 @@
+pub mod TreeForms
+pub mod Fits
+pub mod StatementFits
+pub mod Erases
+pub mod ErasesRows
+pub mod ErasesTrees
