@@ -1,6 +1,6 @@
 -- Events left out, each row does what tree_meaning says.
-use Rattle.std.proofs.Common.{◌≡◌, ℕ, zero, suc, ◌+◌, Bool, true, false, List, [], ◌∷◌, ◌++◌, map, drop, Option, Some, None, Result, Ok, Err, refl, sym, ap, subst, ◌∙◌, arith, pos}
-use Rattle.std.specs.Prelude.{not, ◌==◌, nat_le, slice_get, slice_index, cond}
+use Rattle.std.proofs.Common.{◌≡◌, ℕ, zero, suc, ◌+◌, Bool, true, false, List, [], ◌∷◌, ◌++◌, drop, Some, None, Result, Ok, Err, refl, sym, ap, subst, ◌∙◌, arith, pos}
+use Rattle.std.specs.Prelude.{not, ◌==◌, slice_index}
 use Rattle.fq_core.specs.declared.span.Span.{Span}
 use Rattle.c_values.specs.Kind.{int, wrapped, number_of, IsValue, converted}
 use Rattle.c_values.specs.Operations.{unary_value, truth_of, is_equal}
@@ -10,21 +10,16 @@ use Rattle.c_values.specs.declared.operators.UnaryOp.{UnaryOp}
 use Rattle.c_values.specs.declared.operators.UnaryOp.TheVariants as unary
 use Rattle.c_values.proofs.Fitting.{value_parts, wrapped-number_of, IsValue-truth_of}
 use Rattle.c_values.proofs.Machine.{machine_equal}
-use Rattle.c_meaning.specs.Steps.{value_before}
 use Rattle.cfa.specs.Values.{after_value}
-use Rattle.cfa.specs.declared.parts.InputFunction.{InputFunction}
 use Rattle.cfa.specs.declared.parts.Variable.{Variable}
 use Rattle.cfa.specs.declared.state.Trap.{Trap}
-use Rattle.edge_events.specs.declared.event.Event.{Event}
 use Rattle.tree_meaning.specs.Outcomes.{Store, End, Done, Gives, Ends, OutOfTurns, ◌andthen◌, is_true}
 use Rattle.tree_meaning.specs.Outcomes as outcomes
-use Rattle.tree_meaning.specs.declared.way.Way.{Way}
-use Rattle.tree_meaning.specs.declared.way.Way.TheVariants.{GoesOn, Breaks, Continues, Returns}
 use Rattle.tree_meaning.specs.declared.activation.Activation.{Activation}
-use Rattle.tree_meaning.specs.Activations.{as_kind, read, element_at, start_of}
+use Rattle.tree_meaning.specs.Activations.{as_kind, read, element_at}
 use Rattle.tree_meaning.specs.Expressions.{Rest, Meant, Placed, truth, operated}
 use Rattle.tree_meaning.specs.Expressions as expressions
-use Rattle.tree_events.specs.Outcomes.{Told, silent, gives, behind, continued, ◌thence◌, unless_trap, turn_of, Evaluation, Deciding, At, happens}
+use Rattle.tree_events.specs.Outcomes.{Told, gives, continued, ◌thence◌, unless_trap, turn_of, Evaluation, Deciding, At}
 use Rattle.tree_events.specs.Expressions.{First, Telling, Placing, evaluated, evaluate, decide_value, decide_not, where_true, decide_both, where_false, decide_either, no_parts, both_parts, placed_at, part_first, part_rest, decided, one_of, choice_does, unsplit, constant_told, convert_told, load_told, operator_rest, operator_decides, unary_told, binary_told, split_told, part_told}
 
 -- ---- one thing after another

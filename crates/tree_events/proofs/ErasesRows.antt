@@ -1,6 +1,6 @@
 -- Events left out, statements and calls do what tree_meaning says.
-use Rattle.std.proofs.Common.{◌≡◌, ℕ, zero, suc, ◌+◌, Bool, true, false, List, [], ◌∷◌, ◌++◌, map, drop, Option, Some, None, Result, Ok, Err, refl, sym, ap, subst, ◌∙◌}
-use Rattle.std.specs.Prelude.{nat_le, slice_get, slice_index, cond}
+use Rattle.std.proofs.Common.{◌≡◌, ℕ, zero, suc, ◌+◌, Bool, true, false, List, [], ◌∷◌, map, drop, Option, Some, None, refl, ap, subst, ◌∙◌}
+use Rattle.std.specs.Prelude.{nat_le, slice_get, cond}
 use Rattle.fq_core.specs.declared.span.Span.{Span}
 use Rattle.c_values.specs.declared.kinds.Kind.{Kind}
 use Rattle.c_values.specs.declared.operators.BinaryOp.{BinaryOp}
@@ -17,7 +17,7 @@ use Rattle.tree_meaning.specs.Outcomes as outcomes
 use Rattle.tree_meaning.specs.declared.way.Way.{Way}
 use Rattle.tree_meaning.specs.declared.way.Way.TheVariants.{GoesOn, Breaks, Continues, Returns}
 use Rattle.tree_meaning.specs.declared.activation.Activation.{Activation}
-use Rattle.tree_meaning.specs.Activations.{start_of, length_of, stored, cleared, with_activation, without_activation, first_cells}
+use Rattle.tree_meaning.specs.Activations.{start_of, length_of, stored, cleared, with_activation, first_cells}
 use Rattle.tree_meaning.specs.Expressions.{Rest, Meant, Placed}
 use Rattle.tree_meaning.specs.Expressions as expressions
 use Rattle.tree_meaning.specs.Statements.{combined}
@@ -27,14 +27,13 @@ use Rattle.tree_meaning.specs.Switch.{has_label}
 use Rattle.tree_meaning.specs.Switch as switch
 use Rattle.tree_meaning.specs.Calls.{called}
 use Rattle.tree_meaning.specs.Calls as calling
-use Rattle.tree_events.specs.Outcomes.{Told, silent, gives, behind, ◌thence◌, unless_trap, turn_of, turn, Meaning, Evaluation, Deciding, At, happens, skip}
-use Rattle.tree_events.specs.Expressions.{First, Telling, Placing, evaluate}
+use Rattle.tree_events.specs.Outcomes.{Told, ◌thence◌, unless_trap, Meaning, Evaluation, Deciding, At, skip}
+use Rattle.tree_events.specs.Expressions.{Telling, Placing, evaluate}
 use Rattle.tree_events.specs.Statements.{then_next, sequence, block, doing, leaving, labelled, call_done, one_of, arms, putting, assign, put, declare, fill, declare_array, return_value, unless_false}
-use Rattle.tree_events.specs.Loops.{after_body, pass, again_at, passes, entering, while_loop, again_if, do_passes, do_loop, test_or, step_or, for_loop}
+use Rattle.tree_events.specs.Loops.{after_body, pass, again_at, passes, while_loop, again_if, do_passes, do_loop, test_or, step_or, for_loop}
 use Rattle.tree_events.specs.Switch.{Group, groups_from, groups_or, groups_at, after_switch, chosen, switch_on}
 use Rattle.tree_events.specs.Calls.{Calls, first_parts, word_values, unless_deep, call_defined, answer, call_of, Bodies, give_result, run_function}
-use Rattle.tree_events.specs.Calls as told
-use Rattle.tree_events.proofs.Erases.{Erases, then_done, trap_done, turn_done, truly, Decides, decided_then, FirstErases, Erased, PlaceErased, evaluate_erases}
+use Rattle.tree_events.proofs.Erases.{Erases, then_done, trap_done, turn_done, Decides, decided_then, FirstErases, Erased, PlaceErased, evaluate_erases}
 
 -- ---- calls
 

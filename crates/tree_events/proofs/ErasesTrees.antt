@@ -1,21 +1,19 @@
 -- Events left out, trees that fit do what tree_meaning says.
-use Rattle.std.proofs.Common.{◌≡◌, ℕ, zero, suc, ◌+◌, ◌-◌, Bool, true, false, List, [], ◌∷◌, map, Option, Some, None, Ok, refl, sym, ap, subst, ◌∙◌}
+use Rattle.std.proofs.Common.{◌≡◌, ℕ, zero, suc, ◌-◌, Bool, true, List, [], ◌∷◌, map, Option, Some, None, Ok, refl, sym, ap, subst}
 use Rattle.std.specs.Prelude.{IsTrue, IfSome, ◌&&◌, slice_get}
 use Rattle.std.specs.List.{AllByRecursion, list_all}
 use Rattle.std.specs.Option.{option_map}
 use Rattle.fq_core.specs.declared.span.Span.{Span}
-use Rattle.fq_core.specs.declared.statement_kind.StatementKind.{StatementKind}
 use Rattle.fq_core.specs.declared.statement_kind.StatementKind.TheVariants as kinds
 use Rattle.c_values.specs.Kind.{int, is_kind, IsValue}
 use Rattle.c_values.specs.declared.kinds.Kind.{Kind}
 use Rattle.c_values.specs.declared.operators.BinaryOp.{BinaryOp}
 use Rattle.c_values.specs.declared.operators.UnaryOp.{UnaryOp}
-use Rattle.c_values.proofs.Fitting.{and_left, and_right, and_both}
-use Rattle.c_meaning.specs.declared.input.Input.{Input}
+use Rattle.c_values.proofs.Fitting.{and_left, and_right}
 use Rattle.cfa.specs.Each.{matched}
 use Rattle.cfa.specs.declared.parts.Variable.{Variable}
 use Rattle.cfa.specs.declared.state.Trap.TheVariants as trap
-use Rattle.typed_trees.specs.Fitting.{Nameable, Fit, span_fits, is_array, is_integer, is_cell, begins_within, operator_fits, option_fits, arms_fit, arm_fits, statement_if, labels_fit, callee_fits, defined_fits, word_fits, array_fits, word_kinds, array_lengths, expression_fit, expression_fits, place_fits, call_fit, statement_fits}
+use Rattle.typed_trees.specs.Fitting.{Nameable, Fit, span_fits, is_array, is_integer, is_cell, operator_fits, option_fits, arms_fit, arm_fits, statement_if, labels_fit, callee_fits, defined_fits, word_fits, word_kinds, expression_fit, expression_fits, place_fits, call_fit, statement_fits}
 use Rattle.typed_trees.specs.declared.expression.Callee.{Callee}
 use Rattle.typed_trees.specs.declared.expression.Callee.TheVariants.{Defined, Input as InputCallee}
 use Rattle.typed_trees.specs.declared.expression.TypedCall.{TypedCall, roll-TypedCall, ind-TypedCall}
@@ -31,7 +29,6 @@ use Rattle.typed_trees.specs.declared.unit.Typed.{Typed}
 use Rattle.typed_trees.specs.declared.unit.TypedFunction.{TypedFunction}
 use Rattle.tree_meaning.specs.Outcomes.{Store, TrapEnd, BlockedEnd, Done, Gives}
 use Rattle.tree_meaning.specs.Outcomes as outcomes
-use Rattle.tree_meaning.specs.declared.way.Way.{Way}
 use Rattle.tree_meaning.specs.declared.way.Way.TheVariants.{Breaks, Continues}
 use Rattle.tree_meaning.specs.declared.activation.Activation.{Activation}
 use Rattle.tree_meaning.specs.Expressions.{Meant, Placed}
@@ -40,20 +37,20 @@ use Rattle.tree_meaning.specs.Statements as statements
 use Rattle.tree_meaning.specs.Switch as switch
 use Rattle.tree_meaning.specs.Calls as calling
 use Rattle.tree_meaning.specs.Trees as trees
-use Rattle.tree_meaning.specs.Running.{FitUnit, FitStatements}
+use Rattle.tree_meaning.specs.Running.{FitUnit}
 use Rattle.tree_meaning.specs.Ends.{run_end, first_activation, first_store}
 use Rattle.tree_meaning.specs.Ends as ending
 use Rattle.tree_meaning.proofs.TreeForms as plainly
 use Rattle.tree_meaning.proofs.ValueKinds.{known, same_kind_is}
 use Rattle.tree_meaning.proofs.StatementFits.{body_fit}
-use Rattle.tree_events.specs.Outcomes.{Meaning, Evaluation, Deciding, At, at_hand}
+use Rattle.tree_events.specs.Outcomes.{Meaning, Evaluation, At, at_hand}
 use Rattle.tree_events.specs.Expressions.{Telling, Placing, evaluate, placed_at, decide_both, decide_either, choice_does}
 use Rattle.tree_events.specs.Statements.{block}
 use Rattle.tree_events.specs.Switch.{Group}
 use Rattle.tree_events.specs.Calls.{Calls, call_of}
 use Rattle.tree_events.specs.Calls as told
 use Rattle.tree_events.specs.Trees.{Formed, telling_form, telling, placing, call_does, decides, arm_does, form_does, group_of, does, body_does, calls_in}
-use Rattle.tree_events.specs.Runs.{function_told, end_if}
+use Rattle.tree_events.specs.Runs.{end_if}
 use Rattle.tree_events.specs.Laws.{EndsAreThose}
 use Rattle.tree_events.proofs.Fits as Fits
 use Rattle.tree_events.proofs.StatementFits as Statements

@@ -4,3 +4,5 @@ pub mod StatementFits
 pub mod Erases
 pub mod ErasesRows
 pub mod ErasesTrees
+pub mod Grows
+pub mod GrowTrees

@@ -19,7 +19,7 @@ use Rattle.typed_trees.specs.declared.unit.Typed.{Typed}
 use Rattle.tree_events.specs.Outcomes.{Meaning, At}
 use Rattle.tree_meaning.specs.declared.activation.Activation.{Activation}
 use Rattle.tree_events.specs.Expressions.{placed_at}
-use Rattle.tree_events.specs.Statements.{block, labelled}
+use Rattle.tree_events.specs.Statements.{block}
 use Rattle.tree_events.specs.Calls.{Calls, call_of}
 use Rattle.tree_events.specs.Trees.{form_step, telling_form, telling, placing, call_does, statement_form, form_does, group_of, does}
 

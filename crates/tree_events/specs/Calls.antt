@@ -1,5 +1,5 @@
 -- What happens in calls (ISO/IEC 9899:2011, 6.5.2.2).
-use Rattle.std.specs.Prelude.{ℕ, ◌+◌, zero, suc, Bool, true, false, List, [], ◌∷◌, drop, nat_le, Option, Some, None, Result, Ok, slice_get, slice_index}
+use Rattle.std.specs.Prelude.{ℕ, zero, suc, Bool, true, false, List, [], ◌∷◌, drop, nat_le, Option, Some, None, Result, Ok, slice_get, slice_index}
 use Rattle.c_meaning.specs.Steps.{value_before}
 use Rattle.cfa.specs.declared.parts.InputFunction.{InputFunction}
 use Rattle.cfa.specs.declared.parts.Variable.{Variable}

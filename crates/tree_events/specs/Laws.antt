@@ -17,5 +17,5 @@ abbrev pub MoreTurnsTellMore : Type 0
 MoreTurnsTellMore = (t : Typed) (entry : ℕ) (input : Input) (turns more : ℕ) → (rest : List Event) × (tree_events t entry input (turns + more) ≡ tree_events t entry input turns ++ rest)
 
 -- where so many turns are enough, nothing more happens with more
-abbrev pub TurnsSuffice : Type 0
-TurnsSuffice = (t : Typed) (entry : ℕ) (input : Input) (turns more : ℕ) → tree_end t entry input turns ≢ OutOfTurns → tree_events t entry input (turns + more) ≡ tree_events t entry input turns
+abbrev pub EnoughTurnsTellAll : Type 0
+EnoughTurnsTellAll = (t : Typed) (entry : ℕ) (input : Input) (turns more : ℕ) → told_end t entry input turns ≢ OutOfTurns → tree_events t entry input (turns + more) ≡ tree_events t entry input turns

@@ -1,13 +1,13 @@
 -- What is done, as tree_meaning has it, and what happens meanwhile, in order. An event happens when a row comes to it: what a
 -- trap or the lack of a turn comes before is left out.
-use Rattle.std.specs.Prelude.{ℕ, zero, suc, Bool, List, [], ◌∷◌, ◌++◌, Option, None, Result, Ok, Err}
+use Rattle.std.specs.Prelude.{ℕ, zero, suc, Bool, List, [], ◌∷◌, ◌++◌, None, Result, Ok, Err}
 use Rattle.fq_core.specs.declared.span.Span.{Span}
 use Rattle.fq_core.specs.declared.statement_kind.StatementKind.{StatementKind}
 use Rattle.cfa.specs.declared.state.Trap.{Trap}
 use Rattle.edge_events.specs.declared.event.Event.{Event}
 use Rattle.edge_events.specs.declared.event.What.{What}
 use Rattle.edge_events.specs.declared.event.What.TheVariants.{Did}
-use Rattle.tree_meaning.specs.Outcomes.{Store, End, TrapEnd, Done, Gives, Ends, OutOfTurns}
+use Rattle.tree_meaning.specs.Outcomes.{Store, TrapEnd, Done, Gives, Ends, OutOfTurns}
 use Rattle.tree_meaning.specs.declared.way.Way.{Way}
 use Rattle.tree_meaning.specs.declared.way.Way.TheVariants.{GoesOn}
 

@@ -7,9 +7,8 @@ use Rattle.edge_events.specs.declared.event.Event.{Event}
 use Rattle.tree_meaning.specs.declared.ends.TreeEnd.{TreeEnd}
 use Rattle.tree_meaning.specs.declared.ends.TreeEnd.TheVariants as ends
 use Rattle.tree_meaning.specs.declared.way.Way.{Way}
-use Rattle.tree_meaning.specs.Outcomes.{Ends, BlockedEnd}
 use Rattle.tree_meaning.specs.Ends.{first_activation, first_store, run_end}
-use Rattle.tree_events.specs.Outcomes.{Told, silent}
+use Rattle.tree_events.specs.Outcomes.{Told}
 use Rattle.tree_events.specs.Trees.{body_does, calls_in}
 
 -- what a function does on an input, with so many turns
