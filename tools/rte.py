@@ -21,15 +21,18 @@ import json
 import os
 
 from tools import graph as graphs
-from tools import inputs, leaving, program, rte_items
+from tools import inputs, leaving, program, rte_items, rte_order, rte_sites
 from tools.asked import Asked, read_sums
-from tools.campaign import DEFAULTS, locked, measured
+from tools.campaign import DEFAULTS, jobs, locked, measured
 from tools.folder import Folder
 from tools.graph import Graph
 from tools.leaving import Left
+from tools.order import Warned
 from tools.program import Failure
+from tools.rte_items import Finder
 from tools.rte_rows import Row, Rows, Verdict, is_clean, tally
 from tools.rte_search import ENDINGS, has_bounds_certificates, known, not_reached, prove_bounds
+from tools.verdicts import Limits
 
 
 def words() -> argparse.Namespace:
@@ -44,6 +47,8 @@ def words() -> argparse.Namespace:
     parser.add_argument("--budget", type=program.in_range("budget"), default=5_000_000, metavar="N", help=budget)
     ends = "trapped (the default): runs that trap; any: also runs that are blocked or too deep"
     parser.add_argument("--ends", choices=("trapped", "any"), default="trapped", help=ends)
+    told = "how many searches at a time, which is kept (as many as there are processors)"
+    parser.add_argument("--jobs", type=jobs, metavar="N", help=told)
     return parser.parse_intermixed_args()
 
 
@@ -62,14 +67,31 @@ def bounds_of(graph: Graph, folder: Folder, asked: Asked) -> Left:
     return leaving.of_answer(said, *words, query=asked.query, ends=asked.ends)
 
 
-def rows_of(graph: Graph, folder: Folder, asked: Asked, left: Left) -> list[Row]:
-    """The rows of all operations."""
-    operations = rte_items.of_sources(graph, asked.entry, asked.sources, asked.ends)
-    found = known(graph, folder, asked, graph.function(asked.entry).exit)
-    made = Rows(graph, operations, found, left.limits)
-    if left.limits.make_unreachable and operations:
-        made.unreached = not_reached(graph, folder.path, asked, made.all_never())
-    return made.rows()
+def rows_of(graph: Graph, folder: Folder, asked: Asked, limits: Limits, warned: list[Warned], jobs: int) -> list[Row]:
+    """The rows of all operations, in the order of the sources."""
+    finder = rte_items.finder_of(graph, asked.sources)
+    table = rte_sites.table_of(asked.sources, graph)
+    hidden = {node.number for node in graph.nodes if node.function in table.functions}
+    found = known(graph, folder, asked, hidden | {graph.function(asked.entry).exit}, jobs)
+    all_of = rte_items.of_finder(graph, finder, asked.entry, asked.ends)
+    operations = [one for one in all_of if one.file != table.header]
+    made = Rows(graph, operations, found, limits)
+    written = rte_sites.of_finder(graph, finder, table, asked.entry)
+    sites = rte_sites.Sites(graph, folder.path, asked, written, jobs) if written else None
+    if limits.make_unreachable and (operations or sites):
+        nodes = made.all_never() | {node for site in written for node in site.operation.nodes}
+        made.unreached = not_reached(graph, folder.path, asked, nodes, jobs)
+    rows = [(tokens_of(finder, row), row) for row in made.rows()]
+    if sites:
+        for site in written:
+            rows.append((set(finder.at.get((site.file, *site.spot), [])), sites.row(site, limits, made.unreached)))
+        rows.sort(key=lambda one: min(one[0], default=len(finder.words)))
+    return [row for _, row in rte_order.Regions(graph, finder, warned).restricted(rows)]
+
+
+def tokens_of(finder: Finder, row: Row) -> set[int]:
+    """The tokens of the marks of a row's operations."""
+    return {token for one in row.operations for token in finder.at.get((one.file, one.line, one.column), [])}
 
 
 def json_of(asked: Asked, left: Left, rows: list[Row]) -> str:
@@ -101,7 +123,9 @@ def main() -> int:
     with locked(folder):
         folder.clean()
         left = bounds_of(graph, folder, asked)
-        rows = rows_of(graph, folder, asked, left)
+        limits, warned = rte_order.limits_of(left.limits, asked)
+        left = dataclasses.replace(left, limits=limits)
+        rows = rows_of(graph, folder, asked, limits, warned, folder.jobs(given.jobs))
         program.write_whole(
             folder.at("inputs.json"), inputs.json_text(inputs.once([row.input for row in rows if row.input]))
         )

@@ -33,6 +33,7 @@ class Row:
     end: str = ""
     operations: tuple[Operation, ...] = ()
     goals: tuple[int, ...] = field(default=())
+    folder: str = ""  # of the certificates, where it isn't that of the whole
 
     def line(self) -> str:
         why = f": {self.why}" if self.why else ""
@@ -45,9 +46,20 @@ class Row:
         value["goals"] = list(self.goals)
         if self.why:
             value["why"] = self.why
+        if self.folder:
+            value["folder"] = self.folder
         if self.input:
             value |= {"end": self.end, "input": {"args": list(self.input.args), "answers": list(self.input.answers)}}
         return value
+
+
+def refuted(limits: Limits, is_unreached: bool) -> tuple[Verdict, str]:
+    """The verdict of an operation at which no run within the bounds ends, and why it isn't a better one."""
+    if limits.restriction and limits.suffice:
+        return Verdict.WITHIN, limits.restriction
+    if not limits.make_unreachable:
+        return Verdict.WITHIN, ""
+    return (Verdict.NOT_REACHED if is_unreached else Verdict.NEVER), ""
 
 
 class Rows:
@@ -90,11 +102,7 @@ class Rows:
                 Verdict.OPEN,
                 self.known.open.get(left[0], "its node has no goal") if left else "its node isn't known",
             )
-        if self.limits.restriction and self.limits.suffice:
-            return Verdict.WITHIN, self.limits.restriction
-        if not self.limits.make_unreachable:
-            return Verdict.WITHIN, ""
-        return (Verdict.NOT_REACHED if one.nodes <= self.unreached else Verdict.NEVER), ""
+        return refuted(self.limits, one.nodes <= self.unreached)
 
     def nameless(self) -> list[Row]:
         """A row for each node that is left open though no operation is known there."""

@@ -47,14 +47,21 @@ class Assignments(Calls):
         twice = (kind.boolean or other) and node.op != "="
         target, _ = self.leaf(place, stable or twice)
         given = self.value(node.rvalue)
-        if twice:
-            level = LEVELS[node.op[:-1]]
-            own = f"({kind.text}) {target}" if other else target
-            whole = Value(f"{own} {node.op[:-1]} {given.within(level + 1)}", kinds.INT, level)
-            self.emit(f"{target} = {whole.text if other else self.truth(whole).text};")
-        else:
-            self.emit(f"{target} {node.op} {self.converted(given, kind).text};")
+        self.emit(self.assignment(node, target, kind, given, other))
         return target, kind
+
+    def assignment(self, node: Any, target: str, kind: Int, given: Value, other: bool) -> str:
+        """The statement of an assignment; `other` says that the column has integers of the other sign."""
+        if node.op == "=" or not (kind.boolean or other):
+            return f"{target} {node.op} {self.converted(given, kind).text};"
+        level = LEVELS[node.op[:-1]]
+        own = f"({kind.text}) {target}" if other else target
+        whole = Value(f"{own} {node.op[:-1]} {given.within(level + 1)}", kinds.INT, level)
+        return f"{target} = {whole.text if other else self.truth(whole).text};"
+
+    def stepping(self, node: Any, target: str, kind: Int) -> str:
+        """The statement of `++` or `--`."""
+        return f"{target}{node.op[-2:]};"
 
     def not_twice(self, node: Any, place: Place, value: Any) -> None:
         """An object that isn't an element may not be assigned once more by the value."""
@@ -77,7 +84,7 @@ class Assignments(Calls):
     def stepped(self, node: Any) -> Value:
         """`++` and `--` as a value: the old one, which is kept, or the new one, which is read (6.5.2.4, 6.5.3.1)."""
         target, kind = self.step(node, True)
-        step, before = f"{target}{node.op[-2:]};", not node.op.startswith("p")
+        step, before = self.stepping(node, target, kind), not node.op.startswith("p")
         if before or id(node) in self.behind:
             self.emit(step) if before else self.after.append(step)
             if self.kind_at(self.places.place(node.expr)) != kind:
@@ -103,7 +110,7 @@ class Assignments(Calls):
             place = self.places.place(node.expr)
             self.emit(self.step_text(node, self.parts_at(place, self.index(place, False))[INDEX].text))
         elif isinstance(node, c_ast.UnaryOp) and node.op in STEPS:
-            self.emit(f"{self.step(node)[0]}{node.op[-2:]};")
+            self.emit(self.stepping(node, *self.step(node)))
         elif isinstance(node, c_ast.FuncCall):
             self.call_effect(node)
         elif isinstance(node, c_ast.TernaryOp):

@@ -41,6 +41,13 @@ class Units(Checks):
             file.pieces[self.begin[2] : self.begin[2]] = made
         return self.files
 
+    def finished(self, texts: dict[str, str]) -> dict[str, str]:
+        """The texts as they are put into files."""
+        return texts
+
+    def put_table(self, folder: str) -> None:
+        """Writes what stands beside the files."""
+
     def first_uses(self) -> dict[Variable, int]:
         """For each variable the number of the first function that names it."""
         found: dict[Variable, int] = {}
