@@ -11,7 +11,7 @@ fails                    the input that is told ends there
 not reached              no run comes there, by certificates
 open                     the budget was spent, or another operation of the same step fails
 
-DIR gets rte.json, the certificates and the inputs. Where it is there, of the same question, what it holds is checked again and
+DIR gets rte.json, rte.sarif, the certificates, the inputs, and failures.c, which repeats the runs that fail. Where it is there, of the same question, what it holds is checked again and
 what is missing is made. The status is 0 where all are never, and 1 else.
 """
 
@@ -21,7 +21,7 @@ import json
 import os
 
 from tools import graph as graphs
-from tools import inputs, leaving, program, rte_items, rte_order, rte_sites
+from tools import inputs, leaving, program, rte_items, rte_order, rte_repeat, rte_sites, rte_told
 from tools.asked import Asked, read_sums
 from tools.campaign import DEFAULTS, jobs, locked, measured
 from tools.folder import Folder
@@ -47,6 +47,8 @@ def words() -> argparse.Namespace:
     parser.add_argument("--budget", type=program.in_range("budget"), default=5_000_000, metavar="N", help=budget)
     ends = "trapped (the default): runs that trap; any: also runs that are blocked or too deep"
     parser.add_argument("--ends", choices=("trapped", "any"), default="trapped", help=ends)
+    confirm = "compiles DIR/failures.c by gcc with its sanitizers, runs each failure, and tells what they say"
+    parser.add_argument("--confirm", action="store_true", help=confirm)
     told = "how many searches at a time, which is kept (as many as there are processors)"
     parser.add_argument("--jobs", type=jobs, metavar="N", help=told)
     return parser.parse_intermixed_args()
@@ -94,6 +96,25 @@ def tokens_of(finder: Finder, row: Row) -> set[int]:
     return {token for one in row.operations for token in finder.at.get((one.file, one.line, one.column), [])}
 
 
+def repeated(folder: Folder, asked: Asked, rows: list[Row], is_confirmed: bool) -> list[Row]:
+    """The rows with the numbers of their inputs, which are written with a C file that repeats their runs, and with what gcc
+    says of these, where it is asked."""
+    found = inputs.once([row.input for row in rows if row.input])
+    program.write_whole(folder.at("inputs.json"), inputs.json_text(found))
+    if not found:
+        return rows
+    header = rte_sites.header_of(asked.sources)
+    text = rte_repeat.text_of(asked.entry, found, asked.sources, header, folder.path)
+    program.write_whole(folder.at(rte_repeat.NAME + ".c"), text)
+    said = list(rte_repeat.confirmed(folder.path, len(found))) if is_confirmed else [""] * len(found)
+    return [
+        dataclasses.replace(row, number=found.index(row.input) + 1, gcc=said[found.index(row.input)])
+        if row.input
+        else row
+        for row in rows
+    ]
+
+
 def json_of(asked: Asked, left: Left, rows: list[Row]) -> str:
     """The rows with what was asked."""
     named = {name: getattr(asked, name) for name in ("entry", "sources", "sums", "bounds", "ends", "budget")}
@@ -126,10 +147,11 @@ def main() -> int:
         limits, warned = rte_order.limits_of(left.limits, asked)
         left = dataclasses.replace(left, limits=limits)
         rows = rows_of(graph, folder, asked, limits, warned, folder.jobs(given.jobs))
-        program.write_whole(
-            folder.at("inputs.json"), inputs.json_text(inputs.once([row.input for row in rows if row.input]))
-        )
+        rows = repeated(folder, asked, rows, given.confirm)
         program.write_whole(folder.at("rte.json"), json_of(asked, left, rows))
-    said = [*(row.line() for row in rows), *left.lines(), tally(rows)]
+        program.write_whole(folder.at("rte.sarif"), rte_told.sarif_of(rows, asked))
+    lines = [line for row in rows for line in row.lines(given.folder)]
+    how = [f"failures are repeated by {rte_repeat.command(given.folder)}"] if any(row.input for row in rows) else []
+    said = [*lines, *left.lines(), *how, tally(rows)]
     program.give("".join(line + "\n" for line in said), None)
     return program.DONE if is_clean(rows, left.limits) else program.OPEN

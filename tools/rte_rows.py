@@ -1,7 +1,9 @@
 """The rows of bin/rte: what is said of each operation that can end a run wrongly."""
 
 import enum
+import os
 from collections import Counter
+from collections.abc import Iterator
 from dataclasses import dataclass, field
 
 from tools.graph import Graph
@@ -34,10 +36,20 @@ class Row:
     operations: tuple[Operation, ...] = ()
     goals: tuple[int, ...] = field(default=())
     folder: str = ""  # of the certificates, where it isn't that of the whole
+    number: int = 0  # of its input, by which the failure is repeated
+    gcc: str = ""  # what gcc's sanitizers say of that run
 
     def line(self) -> str:
         why = f": {self.why}" if self.why else ""
         return f"{self.place}: {self.verdict}: {self.what}{why}"
+
+    def lines(self, folder: str) -> Iterator[str]:
+        """The row's line, and of a failure how it is repeated, and what gcc says of it."""
+        yield self.line()
+        if self.number:
+            yield f"  to repeat it: {os.path.join(folder, 'failures')} {self.number}"
+        if self.gcc:
+            yield f"  gcc: {self.gcc}"
 
     def value(self) -> dict[str, object]:
         """As JSON."""
@@ -49,6 +61,7 @@ class Row:
         if self.folder:
             value["folder"] = self.folder
         if self.input:
+            value |= {"failure": self.number} | ({"gcc": self.gcc} if self.gcc else {})
             value |= {"end": self.end, "input": {"args": list(self.input.args), "answers": list(self.input.answers)}}
         return value
 

@@ -59,23 +59,28 @@ class Said:
     open: str = ""
 
 
+def header_of(sources: Sequence[str]) -> str:
+    """The header of checked operations, if one is among the sources."""
+    named = [one for one in sources if os.path.basename(one) == HEADER]
+    return next((one for one in named if os.path.exists(os.path.join(os.path.dirname(one), TABLE))), "")
+
+
 def table_of(sources: Sequence[str], graph: Graph) -> Table:
     """The table of the sources, if they have the header that it belongs to."""
-    for source in sources:
-        path = os.path.join(os.path.dirname(source), TABLE)
-        if os.path.basename(source) != HEADER or not os.path.exists(path):
-            continue
-        try:
-            value = json.loads(program.read(path))
-            names = {one.name for one in graph.functions if graph.nodes[one.entry].file == source}
-            calls = {
-                (row["file"], int(row["line"]), int(row["column"])): (row["what"], row["place"], row["text"])
-                for row in value["calls"]
-            }
-            return Table(source, tuple(name for name in value["functions"] if name in names), calls)
-        except (ValueError, KeyError, TypeError):
-            raise Failure(f"{path} isn't what bin/adapt wrote") from None
-    return Table()
+    source = header_of(sources)
+    if not source:
+        return Table()
+    path = os.path.join(os.path.dirname(source), TABLE)
+    try:
+        value = json.loads(program.read(path))
+        names = {one.name for one in graph.functions if graph.nodes[one.entry].file == source}
+        calls = {
+            (row["file"], int(row["line"]), int(row["column"])): (row["what"], row["place"], row["text"])
+            for row in value["calls"]
+        }
+        return Table(source, tuple(name for name in value["functions"] if name in names), calls)
+    except (ValueError, KeyError, TypeError):
+        raise Failure(f"{path} isn't what bin/adapt wrote") from None
 
 
 def of_call(finder: Finder, table: Table, edges: tuple[Edge, ...], token: int, text: str) -> Site:

@@ -1,8 +1,8 @@
 """Writes each signed operation that can overflow as a call of a small function with an assert (--check-overflow), and each
 implicit conversion that may lose a value (--check-conversions).
 
-It stands before the rest of the writer: what it doesn't check, that writes. An operation whose operands' kinds leave no room for an
-overflow stays as it is, and so does one of constants. Divisions and remainders trap in the profile itself. Each call carries a mark in its text
+It stands before the rest of the writer: what it doesn't check, that writes. An operation whose operands leave no room for an
+overflow, by their kinds or as constants, stays as it is. Divisions and remainders trap in the profile itself. Each call carries a mark in its text
 until the files are laid out; then the table of overflow.json tells of each call which operation of the original it is.
 """
 
@@ -140,12 +140,15 @@ class Checked(Units):
 
     def inner_value(self, node: Any) -> Value:
         made = super().inner_value(node)
+        known = None if isinstance(made, Ranged) or made.kind.boolean else self.constants.value(node)
+        if known is not None:
+            made = Ranged(**vars(made), low=known, high=known)
         self.last = node, made
         return made
 
     def binary(self, node: Any) -> Value:
         both = (node.left, node.right) if node.op in CHECKED else ()
-        if not both or any(self.is_pointer(one) for one in both) or self.constants.value(node) is not None:
+        if not both or self.function is None or any(self.is_pointer(one) for one in both):
             return super().binary(node)
         self.unsequenced(node, list(both))
         left, right = self.value(node.left), self.value(node.right)
@@ -163,7 +166,7 @@ class Checked(Units):
         return Ranged(text, kind, level, calls=calls, low=found[0], high=found[1])
 
     def unary(self, node: Any) -> Value:
-        if node.op != "-" or self.constants.value(node) is not None:
+        if node.op != "-" or self.function is None:
             return super().unary(node)
         one = self.value(node.expr)
         made = self.checked(node, "-", one, None)
@@ -207,10 +210,8 @@ class Checked(Units):
 
     def converted(self, value: Value, kind: Int) -> Value:
         node = self.last[0] if self.last[1] is value else None
-        if node is None or node.coord is None or not self.narrows(value, kind):
+        if node is None or node.coord is None or self.function is None or not self.narrows(value, kind):
             return super().converted(value, kind)
-        if isinstance(node, c_ast.Constant) or self.constants.value(node) is not None:
-            return value
         function = self.helper(
             ("to", value.kind.bits == 64 and not value.kind.signed, kind.bits, kind.signed),
             overflow_texts.conversion_stem(value.kind, kind),
