@@ -26,6 +26,7 @@ HEAD = """/* Written by FShell's bin/rte: runs of {entry} that end wrongly. Comp
 #include <stdint.h>
 
 extern int printf(const char *, ...);
+extern int fflush(void *);
 extern void _Exit(int);
 
 static const unsigned long long *fshell_answers;
@@ -41,6 +42,7 @@ static unsigned long long fshell_answer(void) {{
 
 static void fshell_failed(const char *file, int line, const char *what) {{
   printf("%s:%d: %s\\n", file, line, what);
+  fflush(0);
   _Exit(1);
 }}
 

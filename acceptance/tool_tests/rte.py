@@ -79,7 +79,8 @@ CASES = [
     one("the order of evaluation of a statement in which something fails", TWO_TRAPS, [], 1, told(
         "a.c:3:11: never within the bounds: index a[y & 3]: C leaves the order of evaluation open at a.c:7:8 (strict)",
         "a.c:6:13: never: division 9 / (y + 1)", "a.c:7:10: fails: division 8 / x: trapped zero-divisor by the input args 0 0",
-        "a.c:8:15: never: index a[y & 3]", SUFFICE[:-1], "rows 4: 2 never, 1 never within the bounds, 1 fails")),
+        "  to repeat it: d/failures 1", "a.c:8:15: never: index a[y & 3]", SUFFICE[:-1],
+        "failures are repeated by gcc -w -fsanitize=undefined -fno-sanitize-recover=all -o d/failures d/failures.c", "rows 4: 2 never, 1 never within the bounds, 1 fails")),
     one("the order of evaluation on which a value hangs", VALUE, [], 1, told(
         "a.c:8:12: never within the bounds: division 8 / (y + 1): C leaves the order of evaluation open at a.c:7:11 (value)",
         SUFFICE[:-1], "no refuted goal is called unreachable: C leaves the order of evaluation open at a.c:7:11 (value)",

@@ -138,7 +138,7 @@ def put(folder: str, texts: dict[str, str]) -> list[str]:
         target = os.path.join(folder, os.path.basename(original))
         if target in paths:
             raise Stop(f"two files are named {os.path.basename(original)}")
-        if os.path.exists(target) and os.path.samefile(target, original):
+        if os.path.exists(target) and os.path.exists(original) and os.path.samefile(target, original):
             raise Stop(f"{target} is the original itself; name another folder (-o)")
         try:
             program.write_whole(target, text.replace(FELL, ""))

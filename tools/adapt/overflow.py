@@ -25,7 +25,7 @@ from .values import LEVELS, PRIMARY, UNARY, Value, number
 
 HEADER, TABLE = "overflow.h", "overflow.json"
 MARK = re.compile("\x04(\\d+)\x05")
-CHECKED = ("+", "-", "*", "<<")
+CHECKED, KNOWN = ("+", "-", "*", "<<"), ("/", "%", "&", ">>")
 Span = tuple[int, int]
 
 
@@ -69,8 +69,24 @@ def result(op: str, left: Span, right: Span) -> Span:
         return left[0] + right[0], left[1] + right[1]
     if op == "-":
         return left[0] - right[1], left[1] - right[0]
-    products = [one * other for one in left for other in right]
-    return min(products), max(products)
+    if op == "*":
+        products = [one * other for one in left for other in right]
+        return min(products), max(products)
+    return part(op, left, right)
+
+
+def part(op: str, left: Span, right: Span) -> Span:
+    """Between which numbers the result lies of an operation that doesn't grow, where the right operand is known and positive."""
+    number_of = right[1] if right[0] == right[1] > 0 else 0
+    if op == "&" and right[0] >= 0:
+        return 0, right[1]
+    if op == "/" and number_of:
+        return -(-left[0] // number_of) if left[0] < 0 else left[0] // number_of, left[1] // number_of
+    if op == "%" and number_of:
+        return (0 if left[0] >= 0 else 1 - number_of), number_of - 1
+    if op == ">>" and left[0] >= 0:
+        return 0, left[1]
+    return -(1 << 200), 1 << 200
 
 
 @dataclass(frozen=True)
@@ -147,12 +163,13 @@ class Checked(Units):
         return made
 
     def binary(self, node: Any) -> Value:
-        both = (node.left, node.right) if node.op in CHECKED else ()
+        is_size = self.is_size(node.left) and self.is_size(node.right)
+        both = (node.left, node.right) if node.op in CHECKED + KNOWN and not is_size else ()
         if not both or self.function is None or any(self.is_pointer(one) for one in both):
             return super().binary(node)
         self.unsequenced(node, list(both))
         left, right = self.value(node.left), self.value(node.right)
-        made = self.checked(node, node.op, left, right)
+        made = self.checked(node, node.op, left, right) if node.op in CHECKED else None
         return made or self.plain(node.op, left, right)
 
     def plain(self, op: str, left: Value, right: Value) -> Value:
@@ -160,7 +177,7 @@ class Checked(Units):
         level = LEVELS[op]
         kind = kinds.promoted(left.kind) if op in ("<<", ">>") else kinds.common(left.kind, right.kind)
         text, calls = f"{left.within(level)} {op} {right.within(level + 1)}", left.calls or right.calls
-        found = result(op, span(left), span(right)) if op in CHECKED else span_of(kind)
+        found = result(op, span(left), span(right)) if op in CHECKED + KNOWN else span_of(kind)
         if not within(found, kind):
             return Value(text, kind, level, calls=calls)
         return Ranged(text, kind, level, calls=calls, low=found[0], high=found[1])
@@ -228,7 +245,7 @@ class Checked(Units):
         if not self.helpers:
             return made
         header = overflow_texts.HEAD + "".join("\n" + text for _, text in self.helpers.values())
-        return {HEADER: header} | made
+        return {os.path.join("checked operations", HEADER): header} | made
 
     def unmarked_file(self, path: str, text: str) -> str:
         lines = []
