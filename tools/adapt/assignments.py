@@ -47,15 +47,23 @@ class Assignments(Calls):
         twice = (kind.boolean or other or kind.width > 0) and node.op != "="
         target, _ = self.leaf(place, stable or twice)
         given = self.value(node.rvalue)
-        if twice:
-            level = LEVELS[node.op[:-1]]
-            own = f"({kind.text}) {target}" if other else target
-            of = kinds.common(kind, given.kind)
-            whole = Value(f"{own} {node.op[:-1]} {given.within(level + 1)}", of, level)
-            self.emit(f"{target} = {whole.text if other else self.converted(whole, kind).text};")
-        else:
-            self.emit(f"{target} {node.op} {self.converted(given, kind).text};")
+        self.emit(self.assignment(node, target, kind, given, other))
         return target, kind
+
+    def assignment(self, node: Any, target: str, kind: Int, given: Value, other: bool) -> str:
+        """The statement of an assignment; `other` says that the column has integers of the other sign."""
+        if node.op == "=" or not (kind.boolean or other or kind.width > 0):
+            return f"{target} {node.op} {self.converted(given, kind).text};"
+        level = LEVELS[node.op[:-1]]
+        own = f"({kind.text}) {target}" if other else target
+        whole = Value(f"{own} {node.op[:-1]} {given.within(level + 1)}", kinds.common(kind, given.kind), level)
+        return f"{target} = {whole.text if other else self.converted(whole, kind).text};"
+
+    def stepping(self, node: Any, target: str, kind: Int) -> str:
+        """The statement of `++` or `--`."""
+        if not kind.width:
+            return f"{target}{node.op[-2:]};"
+        return f"{target} = {self.converted(Value(f'{target} {node.op[-1]} 1', kinds.INT, 9), kind).text};"
 
     def not_twice(self, node: Any, place: Place, value: Any) -> None:
         """An object that isn't an element may not be assigned once more by the value."""
@@ -75,16 +83,10 @@ class Assignments(Calls):
             raise Refused(node.coord, "a step of what is no integer", "assign its value")
         return self.leaf(place, stable)[0], place.type
 
-    def step_text_of(self, op: str, target: str, kind: Int) -> str:
-        """The statement of a step."""
-        if not kind.width:
-            return f"{target}{op[-2:]};"
-        return f"{target} = {self.converted(Value(f'{target} {op[-1]} 1', kinds.INT, 9), kind).text};"
-
     def stepped(self, node: Any) -> Value:
         """`++` and `--` as a value: the old one, which is kept, or the new one, which is read (6.5.2.4, 6.5.3.1)."""
         target, kind = self.step(node, True)
-        step, before = self.step_text_of(node.op, target, kind), not node.op.startswith("p")
+        step, before = self.stepping(node, target, kind), not node.op.startswith("p")
         if before or id(node) in self.behind:
             self.emit(step) if before else self.after.append(step)
             if self.kind_at(self.places.place(node.expr)) != kind:
@@ -110,8 +112,7 @@ class Assignments(Calls):
             place = self.places.place(node.expr)
             self.emit(self.step_text(node, self.parts_at(place, self.index(place, False))[INDEX].text))
         elif isinstance(node, c_ast.UnaryOp) and node.op in STEPS:
-            target, kind = self.step(node, self.kind_has_width(node.expr))
-            self.emit(self.step_text_of(node.op, target, kind))
+            self.emit(self.stepping(node, *self.step(node, self.kind_has_width(node.expr))))
         elif isinstance(node, c_ast.FuncCall):
             self.call_effect(node)
         elif isinstance(node, c_ast.TernaryOp):

@@ -50,6 +50,10 @@ def parser_of_words() -> usage.Parser:
     parser.add_argument(
         "--check", action="store_true", help="each index of an array in an array is tested by an assert"
     )
+    overflow = "each signed operation that can overflow is a call of a function of DIR/overflow.h, with an assert"
+    parser.add_argument("--check-overflow", action="store_true", help=overflow)
+    narrowing = "so is each implicit conversion that may lose a value"
+    parser.add_argument("--check-conversions", action="store_true", help=narrowing)
     parser.add_argument(
         "--harness",
         nargs=2,
@@ -101,10 +105,10 @@ def written(given: argparse.Namespace, refusals: Refusals, apart: set[Any]) -> t
     from .library import OUTPUT, Library
     from .names import Names
     from .output import File
+    from .overflow import writer_of
     from .places import Places
     from .reading import read
     from .spelling import Spelling
-    from .units import Units
     from pycparser import c_ast
 
     units = [read(path, flags_of(given), refusals) for path in given.sources]
@@ -131,14 +135,14 @@ def written(given: argparse.Namespace, refusals: Refusals, apart: set[Any]) -> t
     places.choosers = Choosers(names, places.columns)
     inputs = set(given.inputs) | OUTPUT
     effected = Effected(names, places, inputs)
-    writer = Units(names, places, effected, Spelling(names, taken), given.check)
+    writer = writer_of(given)(names, places, effected, Spelling(names, taken), given.check)
     writer.inputs = inputs
     files = writer.write()
     for path in given.sources:
         files.setdefault(path, File(path))  # (which has no code)
     order = dict.fromkeys(path for unit in units for path in unit.files)
     kept = [path for path in order if path in files and (files[path].pieces or path in given.sources)]
-    texts = {path: files[path].text(lines_of(path)) for path in kept}
+    texts = writer.finished({path: files[path].text(lines_of(path)) for path in kept})
     if not refusals.found:
         check(texts, refusals)
     return texts, writer
@@ -157,7 +161,7 @@ def put(folder: str, texts: dict[str, str]) -> list[str]:
         target = os.path.join(folder, os.path.basename(original))
         if target in paths:
             raise Stop(f"two files are named {os.path.basename(original)}")
-        if os.path.exists(target) and os.path.samefile(target, original):
+        if os.path.exists(target) and os.path.exists(original) and os.path.samefile(target, original):
             raise Stop(f"{target} is the original itself; name another folder (-o)")
         try:
             program.write_whole(target, text.replace(FELL, ""))
@@ -197,6 +201,8 @@ def main(given: Optional[list[str]] = None) -> int:
     refusals = Refusals()
     try:
         program.check_names(asked.sources)
+        if asked.compare and (asked.check_overflow or asked.check_conversions):
+            raise Stop("--compare compares what is written without --check-overflow and --check-conversions")
         print(FIRST, flush=True)
         texts, writer = adapt(asked, refusals)
         if refusals.found:
@@ -204,6 +210,7 @@ def main(given: Optional[list[str]] = None) -> int:
             print("\n".join([*lines, f"{len(lines)} refused, nothing is written"]), file=sys.stderr)
             return 3
         paths = put(asked.out, texts)
+        writer.put_table(asked.out)
         print("wrote " + " ".join(paths))
         if asked.harness:
             write_harness(asked, writer, paths)

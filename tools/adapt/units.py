@@ -58,6 +58,13 @@ class Units(Checks):
         used = function.name not in OUTPUT or function in self.outer_used
         return not known and used and isinstance(function.result, Int)
 
+    def finished(self, texts: dict[str, str]) -> dict[str, str]:
+        """The texts as they are put into files."""
+        return texts
+
+    def put_table(self, folder: str) -> None:
+        """Writes what stands beside the files."""
+
     def first_uses(self) -> dict[Variable, int]:
         """For each variable the number of the first function that names it."""
         found: dict[Variable, int] = {}
