@@ -179,6 +179,7 @@ def text_of(entry: str, given: list[Input], runs: list[Run], sources: list[Sourc
 
 
 def words() -> argparse.Namespace:
+    """What the words of bin/harness say."""
     parser = argparse.ArgumentParser(prog="harness", description=__doc__, formatter_class=argparse.RawTextHelpFormatter)
     parser.add_argument("entry", metavar="ENTRY")
     parser.add_argument("inputs", metavar="INPUTS")
@@ -189,6 +190,7 @@ def words() -> argparse.Namespace:
 
 
 def main() -> int:
+    """Writes a harness, as the module says; the status is 0."""
     given = words()
     program.check_names(given.sources)
     steps = ["--steps", str(given.steps)] if given.steps else []

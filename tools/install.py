@@ -66,6 +66,7 @@ def check() -> int:
 
 
 def text_of(*names: str) -> str:
+    """The text of a file of the repository, by the names of its folders."""
     return program.read(os.path.join(ROOT, *names)).decode()
 
 
@@ -77,7 +78,7 @@ def put(text: str, path: str, is_program: bool = False) -> None:
 
 
 def copy(source: str, path: str) -> None:
-    """Copies a file into its place, with its mode."""
+    """Copies a file into its place, with its mode. Raises Failure where it can't be written."""
     try:
         shutil.copy(source, path + ".new")
         os.replace(path + ".new", path)
@@ -107,7 +108,7 @@ def link(target: str, path: str) -> None:
 
 
 def built() -> str:
-    """The path of the program that is installed."""
+    """The path of the program that is installed. Raises Failure where it isn't built."""
     if os.environ.get("FSHELL"):
         return program.program()
     found = subprocess.run([os.path.join(ROOT, "bin", "program")], capture_output=True, text=True, check=False)
@@ -117,7 +118,7 @@ def built() -> str:
 
 
 def folders(prefix: str) -> dict[str, str]:
-    """The folders that are made."""
+    """The folders that are made. Raises Failure where one can't be made."""
     names = {"bin": "bin", "lib": "lib/fshell", "scripts": "lib/fshell/bin", "tools": "lib/fshell/tools", "man": "share/man/man1",
              "completion": "share/bash-completion/completions", "doc": "share/doc/fshell"}  # fmt: skip
     found = {name: os.path.join(prefix, path) for name, path in names.items()}
@@ -156,12 +157,14 @@ def install(prefix: str) -> int:
 
 
 def help_of(name: str) -> str:
+    """What `bin/NAME --help` prints."""
     return subprocess.run(
         [os.path.join(ROOT, "bin", name), "--help"], capture_output=True, text=True, check=True
     ).stdout
 
 
 def main() -> int:
+    """Installs into a prefix, or says what is there, and answers the exit status, as the module says."""
     parser = argparse.ArgumentParser(prog="install", description=__doc__, formatter_class=argparse.RawTextHelpFormatter)
     parser.add_argument("prefix", nargs="?", metavar="PREFIX", help="such as /usr/local or ~/.local")
     parser.add_argument("--check", action="store_true", help="says which of the things that tools need are there")

@@ -97,6 +97,7 @@ class Totals:
         return numbers
 
     def text(self) -> str:
+        """The counts of lines, functions and branches, those that were hit first."""
         return ", ".join(
             f"{what} {self.hit[what]} of {self.found[what]}" for what in ("lines", "functions", "branches")
         )
@@ -174,6 +175,7 @@ def left_out(given: argparse.Namespace, graph: Graph, runs: list[Run]) -> LeftOu
 
 
 def words() -> argparse.Namespace:
+    """What the words of bin/lcov say; options that can't go together end it with status 2 and a line."""
     parser = argparse.ArgumentParser(prog="lcov", description=__doc__, formatter_class=argparse.RawTextHelpFormatter)
     parser.add_argument("entry", metavar="ENTRY")
     parser.add_argument("inputs", metavar="INPUTS")
@@ -188,6 +190,7 @@ def words() -> argparse.Namespace:
 
 
 def main() -> int:
+    """Writes a tracefile, as the module says; the status is 0."""
     given = words()
     graph = graphs.of_sources(given.sources)
     steps = ["--steps", str(given.steps)] if given.steps else []
