@@ -158,6 +158,7 @@ def wrong_paths(document, text):
 
 
 def of_counts():
+    """How many made parts of pages were looked at, and a line for each that is another one."""
     import counts  # which reads this module
     import decisions
     import figures
@@ -172,6 +173,7 @@ def of_counts():
 
 
 def of_tools(document, text):
+    """How many examples of tools a document has, and a line for each that isn't as it says."""
     count, wrong = wrong_tool_examples(text)
     return count, [f"{document}: {line}" for line in wrong]
 

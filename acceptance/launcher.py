@@ -46,6 +46,9 @@ KEEPS_NOTHING = """usage
 
 
 class Tree:
+    """A copy of the scripts of bin/ over two small crates, with a kit that is a script (tools/rt) and notes how it
+    was called."""
+
     def __init__(self, folder):
         self.root = os.path.join(folder, "a tree")
         self.elsewhere = os.path.join(folder, "elsewhere")
@@ -66,14 +69,17 @@ class Tree:
         shutil.copytree(SCRIPTS, self.path("bin"))
 
     def path(self, name):
+        """The path of a file in the tree."""
         return os.path.join(self.root, name)
 
     def write(self, name, text):
+        """Writes a file of the tree, with its folders."""
         os.makedirs(os.path.dirname(self.path(name)), exist_ok=True)
         with open(self.path(name), "w") as file:
             file.write(text)
 
     def text(self, name):
+        """The text of a file of the tree."""
         with open(self.path(name)) as file:
             return file.read()
 
@@ -96,12 +102,14 @@ class Tree:
         return lines
 
     def call(self, script, *words, user=None, path=None):
+        """How a script ends that is called from another folder, perhaps by another user."""
         path = path or self.path("tools") + os.pathsep + os.environ["PATH"]
         env = {**os.environ, "PATH": path, "TREE": self.root, "TMPDIR": self.elsewhere}  # (the log of a failed build is kept)
         return subprocess.run([script, *words], cwd=self.elsewhere, env=env, stdin=subprocess.DEVNULL, capture_output=True,
                               text=True, user=user)
 
     def run(self, launcher=None, user=None):
+        """How the launcher ends with two words."""
         return self.call(launcher or self.path("bin/fshell"), "a", "b c", user=user)
 
     def release(self):
@@ -499,10 +507,12 @@ class Gate:
         tree.write(".gitignore", "out/\n/tools\n/calls\n/help\n/kit\n/broken\n")
 
     def git(self, *words):
+        """What git prints in the tree."""
         who = ["-c", "user.name=a", "-c", "user.email=a@b", "-c", "init.defaultBranch=main", "-c", "commit.gpgsign=false"]
         return subprocess.run(["git", *who, *words], cwd=self.tree.root, check=True, capture_output=True, text=True).stdout.strip()
 
     def commit(self):
+        """Commits all, and answers the commit's name."""
         self.git("add", "-A")
         self.git("commit", "-q", "-m", "a change")
         return self.git("rev-parse", "HEAD")
@@ -664,4 +674,5 @@ def tried(case):
 
 
 def parts():
+    """The cases, a part each."""
     return [functools.partial(tried, case) for case in CASES]

@@ -78,6 +78,7 @@ class Definition:
 
     @property
     def lines(self) -> int:
+        """How many lines have text; comments are gone from it."""
         return sum(1 for line in self.text.splitlines() if line.strip())
 
 
@@ -91,6 +92,7 @@ class File:
 
 
 def without_comments(text: str, mark: str) -> str:
+    """A text without what stands behind a comment's mark, line by line."""
     return "\n".join(re.split(rf"(?:^|\s){mark}", line)[0] for line in text.splitlines())
 
 
@@ -212,7 +214,7 @@ def rests_on(roots: list[Definition]) -> set[Definition]:
 
 
 def row(name: str) -> set[Definition]:
-    """The definitions of a row."""
+    """The definitions of a row. Raises SystemExit where no crate has one of its roots."""
     roots = []
     for root in ROWS[name]:
         crate, _, rest = root.partition("/")
@@ -225,6 +227,7 @@ def row(name: str) -> set[Definition]:
 
 
 def table() -> str:
+    """The table of docs/THEOREM.md, as it is due."""
     lines = ["| Of | Definitions | Lines |", "|---|---|---|"]
     for name in ROWS:
         found = row(name)
@@ -250,6 +253,7 @@ def write() -> None:
 
 
 def main() -> int:
+    """Prints the table, puts it into its place, or lists a row; the status is 0."""
     parser = argparse.ArgumentParser(
         description="Counts the definitions on which the clauses of the main theorem rest."
     )

@@ -109,6 +109,7 @@ def words() -> argparse.Namespace:
 
 
 def main() -> int:
+    """Writes a harness, as the module says; the status is 0."""
     given = words()
     program.check_names(given.sources)
     steps = ["--steps", str(given.steps)] if given.steps else []

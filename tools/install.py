@@ -51,6 +51,7 @@ def check() -> int:
 
 
 def text_of(*names: str) -> str:
+    """The text of a file of the repository, by the names of its folders."""
     return program.read(os.path.join(ROOT, *names)).decode()
 
 
@@ -62,7 +63,7 @@ def put(text: str, path: str, is_program: bool = False) -> None:
 
 
 def copy(source: str, path: str) -> None:
-    """Copies a file into its place, with its mode."""
+    """Copies a file into its place, with its mode. Raises Failure where it can't be written."""
     try:
         shutil.copy(source, path + ".new")
         os.replace(path + ".new", path)
@@ -92,7 +93,7 @@ def link(target: str, path: str) -> None:
 
 
 def built() -> str:
-    """The path of the program that is installed."""
+    """The path of the program that is installed. Raises Failure where it isn't built."""
     if os.environ.get("FSHELL"):
         return program.program()
     found = subprocess.run([os.path.join(ROOT, "bin", "program")], capture_output=True, text=True, check=False)

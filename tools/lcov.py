@@ -97,6 +97,7 @@ class Totals:
         return numbers
 
     def text(self) -> str:
+        """The counts of lines, functions and branches, those that were hit first."""
         return ", ".join(
             f"{what} {self.hit[what]} of {self.found[what]}" for what in ("lines", "functions", "branches")
         )
@@ -193,6 +194,7 @@ def words() -> argparse.Namespace:
 
 
 def main() -> int:
+    """Writes a tracefile, as the module says; the status is 0."""
     given = words()
     graph = graphs.of_sources(given.sources)
     steps = ["--steps", str(given.steps)] if given.steps else []

@@ -44,6 +44,7 @@ def files(*patterns: str) -> list[str]:
 
 
 def folded(name: str) -> str:
+    """A name's letters and digits, in small letters."""
     return re.sub(r"\W|_", "", name).lower()
 
 
@@ -135,7 +136,8 @@ def rooms_of(word: str) -> Rooms:
 
 
 def main() -> int:
-    """Prints the rooms of a word; status 1 where none is found."""
+    """Prints the rooms of a word; status 1 where none is found. Raises Failure for a word without letters and
+    digits."""
     parser = argparse.ArgumentParser(
         prog="where", description="Says in which rooms of the repository a word is at home."
     )

@@ -96,6 +96,7 @@ def a_field_of_a_record_is_no_use_of_its_name(folder):
 
 
 def told(*words):
+    """How tools/believed.py ends over this repository."""
     path = os.path.join(programs.ROOT, "tools", "believed.py")
     return subprocess.run([path, *words], stdin=subprocess.DEVNULL, capture_output=True, text=True, timeout=SECONDS)
 

@@ -61,10 +61,12 @@ SHARED = "int f(int x, int y) {\n  return 4 / x + 6 % y;\n}\n"
 
 
 def told(*lines):
+    """Lines as a text."""
     return "".join(line + "\n" for line in lines)
 
 
 def one(name, text, words, status, stdout):
+    """A case of one source."""
     return Case(f"rte: {name}", ["rte", "f", "a.c", "-o", "d", *words], {"a.c": text}, status, stdout, written=None, needs=GRAPH)
 
 
@@ -103,6 +105,7 @@ def wrong_words(folder):
 
 
 def report(folder, name="d"):
+    """The JSON of a folder."""
     with open(os.path.join(folder, name, "rte.json"), encoding="utf-8") as file:
         return json.load(file)
 
