@@ -85,7 +85,10 @@ class Columns:
     def pool(self, owner: Any, region: Region) -> tuple[int, int]:
         """How many elements the memory of a call of malloc has, and how many objects."""
         pool, size = self.pools[owner], kinds.size(region.elem) or 1
-        asked = bytes_asked(self.names.constants, pool.node, pool.called)
+        try:
+            asked = bytes_asked(self.names.constants, pool.node, pool.called)
+        except Refused:
+            asked = None  # (told where it is written)
         pool.count = self.names.pool[1] if asked is None else max(1, asked // size)
         owner.type = Array(region.elem, pool.slots * pool.count)
         return pool.slots * pool.count, pool.slots
@@ -96,7 +99,7 @@ class Columns:
             of = owner.type.to if owner.is_bound and isinstance(owner.type, Pointer) else owner.type
             return kinds.elements(of), 1
         outer, name = owner
-        of = dict(outer.elem.members or [])[name]
+        of = outer.elem.type_of(name)
         count = self.lay_out(outer) if outer.pointed else sum(self.extent(one)[0] for one in outer.objects)
         return count * kinds.elements(of), count
 
@@ -161,7 +164,7 @@ class Columns:
         variable, factor, add = region.column, 1, 0
         at: Optional[Region] = region
         for name in path:
-            of = dict(at.root().elem.members or [])[name] if at is not None and not name.startswith("@") else None
+            of = at.root().elem.type_of(name) if at is not None and not name.startswith("@") else None
             inner = at.root().members.get(name) if at is not None else None
             count = kinds.elements(of) if of is not None else 1
             factor, add = factor * count, add * count

@@ -71,8 +71,9 @@ def parts(
         for at in range(of.length or 0):
             yield from parts(of.of, f"{text}[{at}]", path, index + (at,))
     elif isinstance(of, Struct):
-        for name, member in of.members or []:
-            yield from parts(member, f"{text}.{name}", path + (name,), index)
+        for name, member in of.held if not of.is_parts() else []:
+            own = text if name.startswith("?") else f"{text}.{name}"
+            yield from parts(member, own, path + (name,), index)
 
 
 def plain(function: Function) -> bool:

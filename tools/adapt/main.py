@@ -102,6 +102,7 @@ def written(given: argparse.Namespace, refusals: Refusals, apart: set[Any]) -> t
     from .reading import read
     from .spelling import Spelling
     from .units import Units
+    from .unions import settle
     from pycparser import c_ast
 
     units = [read(path, flags_of(given), refusals) for path in given.sources]
@@ -122,6 +123,7 @@ def written(given: argparse.Namespace, refusals: Refusals, apart: set[Any]) -> t
                 Jumps(flag, refusals).function(item.body)
         taken.update(node.name for node in walk(unit.tree) if isinstance(node, c_ast.ID))
         names.unit(unit)
+    settle(names.structs, names.named_members)
     places = Places(names)
     Bindings(places, apart).bind()
     places.columns = Columns(names, apart)

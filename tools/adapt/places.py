@@ -2,11 +2,11 @@
 indexes into columns (columns.py)."""
 
 from dataclasses import dataclass, field, replace
-from typing import Any, Iterator, Optional
+from typing import Any, Iterator, NamedTuple, Optional
 
 from pycparser import c_ast
 
-from . import kinds
+from . import kinds, unions
 from .kinds import Array, Int, Other, Path, Pointer, Struct, Type, fault_of
 from .declarators import Variable
 from .names import Names
@@ -32,6 +32,14 @@ class At(c_ast.Node):  # type: ignore[misc]
         yield from (one for _, one in self.children())
 
 
+class View(NamedTuple):
+    """A part of an integer: its kind, and of one in an array the index and the array's length."""
+
+    kind: Int
+    index: Any
+    length: Optional[int]
+
+
 @dataclass(frozen=True)
 class Place:
     """An object: a variable, the members that lead to it, and on the way each index with the array's length. What is added
@@ -46,6 +54,8 @@ class Place:
     region: Optional[Region] = field(default=None, compare=False)
     around: Optional["Place"] = field(default=None, compare=False)
     row: bool = field(default=False, compare=False)  # an array at a pointer to it
+    stored: Optional[Type] = field(default=None, compare=False)  # of what a union has as another member
+    view: Optional["View"] = field(default=None, compare=False)
 
     def shifted(self) -> tuple[tuple[Any, int], ...]:
         """The indexes with what is added behind them."""
@@ -75,9 +85,23 @@ class Places:
 
     def member(self, base: Place, name: str, node: Any) -> Place:
         """The place of a member."""
-        of = dict(base.type.members or []).get(name) if isinstance(base.type, Struct) else None
-        if of is None:
+        path = unions.found(base.type, name)
+        if path is None or not isinstance(base.type, Struct):
+            if isinstance(base.type, Struct) and base.type.carrier and base.type.carrier[0] == name:
+                return Place(base.variable, base.path + (name,), base.shifted(), base.type.carrier[1])
             raise Refused(node.coord if node else None, f"the member {name}", "use a struct")
+        if len(path) > 1:
+            return self.member(self.member(base, path[0], node), name, node)
+        whole = base.type
+        of = whole.type_of(name)
+        if whole.fault:
+            raise Refused(node.coord if node else None, f"member {name}: {whole.fault[1]}", whole.fault[2])
+        if whole.is_parts():
+            kind = of.of if isinstance(of, Array) else of
+            view = View(kind, None, of.length if isinstance(of, Array) else None)  # type: ignore[arg-type]
+            return Place(base.variable, base.path + (whole.path_of(name),), base.shifted(), of, view=view)
+        stored = whole.type_of(whole.path_of(name))
+        name = whole.path_of(name)
         fault = fault_of(of)
         if fault:
             tag = base.type.tag if isinstance(base.type, Struct) else ""
@@ -87,7 +111,18 @@ class Places:
         if inner is not None and inner.column is not None and base.region is not None:
             start = self.columns.begin(inner, (base.region.root(), name))
             return Place(inner.column, (), base.shifted(), of, start, inner)
-        return Place(base.variable, base.path + (name,), base.shifted(), of, 0, inner)
+        other = kinds.element(stored) if isinstance(kinds.element(of), Int) and stored != of else None
+        return Place(base.variable, base.path + (name,), base.shifted(), of, 0, inner, stored=other)
+
+    @staticmethod
+    def carrier_kind(place: Place) -> Int:
+        """The kind of the integer of which a place is a part."""
+        of: Any = place.variable.type
+        for name in place.path:
+            of = kinds.element(of).type_of(name)
+        found = kinds.element(of)
+        assert isinstance(found, Int)
+        return found
 
     def element(self, base: Place, index: Any) -> Place:
         """The place of an array's element."""
@@ -95,6 +130,8 @@ class Places:
             raise Refused(index.coord, "what is no array", USE)
         if base.row and isinstance(base.type.of, Array):
             raise Refused(index.coord, "a pointer to an array of arrays", "use indexes")
+        if base.view is not None:
+            return replace(base, view=base.view._replace(index=index), type=base.type.of)
         length, around = 1 if base.row else base.type.length, base.around or base
         return replace(base, indexes=base.indexes + ((index, length),), type=base.type.of, around=around, row=False)
 

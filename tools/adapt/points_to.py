@@ -4,7 +4,7 @@ from typing import Any, Optional
 
 from pycparser import c_ast
 
-from . import kinds
+from . import kinds, unions
 from .bindings import with_parents
 from .declarators import Function, Variable
 from .constants import is_offset
@@ -49,10 +49,12 @@ class PointsTo(Unification):
             return meaning.type, self.home(meaning)
         if isinstance(node, c_ast.StructRef):
             of, region = self.pointee(node.name) if node.type == "->" else self.place(node.name)
-            inner = dict(of.members or []).get(node.field.name) if isinstance(of, Struct) else None
-            if inner is None:
+            path = unions.found(of, node.field.name)
+            if path is None:
                 raise Refused(node.coord, f"the member {node.field.name}", "use a struct")
-            return inner, region.member(node.field.name, kinds.element(inner))
+            for name in path:
+                of, region = self.member(of, region, name, node)
+            return of, region
         if isinstance(node, c_ast.ArrayRef):
             base, index = node.name, node.subscript
             if isinstance(self.constants.type_of(base), Int):
@@ -67,6 +69,18 @@ class PointsTo(Unification):
             of = self.constants.type_of(node)
             return of, Region(of)
         raise Refused(node.coord, "what is no named object", "use a variable")
+
+    def member(self, of: Any, region: Region, name: str, node: Any) -> tuple[Type, Region]:
+        """The type and the region of a member. A part of an integer can't be pointed to."""
+        inner: Type = of.type_of(name)
+        if of.is_parts():
+            made = Region(kinds.element(inner))
+            made.fault = (node.coord, "a pointer to a part of a union", "read and write it by its name")
+            return inner, made
+        own = region.member(of.path_of(name), kinds.element(inner))
+        if of.union:
+            self.same_type(own.elem, inner, node.coord, own)
+        return inner, own.root()
 
     def pointee(self, node: Any) -> tuple[Type, Region]:
         """What a pointer, or an array, leads to."""
@@ -94,7 +108,7 @@ class PointsTo(Unification):
         if isinstance(meaning.binding, Place):
             of, region = meaning.binding.variable.type, self.home(meaning.binding.variable)
             for name in meaning.binding.path:
-                of = dict(of.members or [])[name]  # type: ignore[union-attr]
+                of = of.type_of(name)  # type: ignore[union-attr]
                 region = region.member(name, kinds.element(of))
             return of, region
         return getattr(meaning.type, "to", getattr(meaning.type, "of", meaning.type)), self.home(meaning)
@@ -236,7 +250,7 @@ class PointsTo(Unification):
         for (path, _), node in made.given.items():
             part = kinds.element(of)
             for name in path:
-                part = kinds.element(dict(part.members or [])[name])  # type: ignore[union-attr]
+                part = kinds.element(part.type_of(name))  # type: ignore[union-attr]
             self.tried(node, part)
 
     def tried(self, node: Any, to: Type) -> None:

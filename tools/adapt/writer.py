@@ -190,6 +190,8 @@ class Writer:
     @staticmethod
     def kind_at(place: Place) -> kinds.Type:
         """The kind of the integers that a place's column has, which may have another sign than those of the access."""
+        if place.stored is not None:
+            return place.stored
         if place.variable.home != "column" or place.path:
             return place.type
         return kinds.element(place.variable.type)
