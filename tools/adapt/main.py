@@ -90,6 +90,7 @@ def adapt(given: argparse.Namespace, refusals: Refusals) -> tuple[dict[str, str]
 
 def written(given: argparse.Namespace, refusals: Refusals, apart: set[Any]) -> tuple[dict[str, str], Any]:
     from .bindings import Bindings
+    from .cases import Cases
     from .choosers import Choosers
     from .columns import Columns
     from .effects import Effected
@@ -120,7 +121,9 @@ def written(given: argparse.Namespace, refusals: Refusals, apart: set[Any]) -> t
     for unit in units:
         for item in unit.tree.ext:
             if isinstance(item, c_ast.FuncDef):
-                Jumps(flag, refusals).function(item.body)
+                Cases(flag).function(item.body)
+                listed = item.decl.type.args.params if item.decl.type.args else []
+                Jumps(flag, refusals).function(item.body, {getattr(one, "name", "") or "" for one in listed})
         taken.update(node.name for node in walk(unit.tree) if isinstance(node, c_ast.ID))
         names.unit(unit)
     settle(names.structs, names.named_members)
