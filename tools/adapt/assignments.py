@@ -48,7 +48,7 @@ class Assignments(Calls):
             return self.assign_part(place, lambda own: self.combined(own, node), kind)
         other = self.kind_at(place) != kind and node.op in ("/=", "%=", ">>=")
         twice = (kind.boolean or other or kind.width > 0) and node.op != "="
-        target, _ = self.leaf(place, stable or twice)
+        target, _ = self.leaf(place, stable or twice or (node.op != "=" and self.is_large(place)))
         given = self.value(node.rvalue)
         if twice:
             level = LEVELS[node.op[:-1]]
@@ -121,7 +121,7 @@ class Assignments(Calls):
         place = self.places.place(node.expr)
         if not isinstance(place.type, Int) or place.type.boolean:
             raise Refused(node.coord, "a step of what is no integer", "assign its value")
-        return self.leaf(place, stable)[0], place.type
+        return self.leaf(place, stable or self.is_large(place))[0], place.type
 
     def step_text_of(self, op: str, target: str, kind: Int) -> str:
         """The statement of a step."""

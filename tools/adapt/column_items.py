@@ -11,6 +11,7 @@ from .initialisers import Part, filled, none_of
 from .kinds import Int, Path, Pointer
 from .output import File, unmarked
 from .places import Place
+from .pointers import MOST
 from .refusals import Refused
 from .regions import Region
 from .statements import Statements
@@ -57,14 +58,16 @@ class ColumnItems(Statements):
         for leaf in kinds.leaves(column.type):
             if self.places.columns.is_apart(region, leaf.path):
                 continue
-            if leaf.count > MOST_ELEMENTS:
-                advice = (
-                    f"the profile takes {MOST_ELEMENTS} at most, also of all objects together that one pointer meets"
-                )
-                raise Refused(column.coord, f"{column.out} has {leaf.count} elements", advice)
             values = [none_of(leaf)] * leaf.count
             for at, text in given.get((column, leaf.path), {}).items():
                 values[at] = text
+            if leaf.count > MOST + 1:
+                advice = f"at most {MOST + 1}, of all objects together that one pointer meets"
+                raise Refused(column.coord, f"{column.out} has {leaf.count} elements", advice)
+            if leaf.count > MOST_ELEMENTS:
+                name = self.spelling.leaf(column, leaf.path)
+                self.emit(self.large.declared(name, leaf.kind, leaf.count, values, column.const, column.coord))
+                continue
             while len(values) > 1 and values[-1] == "0":
                 values.pop()
             first = "" if values == ["0"] else f" = {{{', '.join(values)}}}"

@@ -63,10 +63,10 @@ TELLING += [2**31 - 1, -(2**31), 2**32 - 1, 2**63 - 1]
 
 def parts(
     of: Type, text: str = "", path: Path = (), index: tuple[int, ...] = ()
-) -> Iterator[tuple[str, Path, tuple[int, ...]]]:
-    """The integers of an object: how C reaches each, and the members and indexes that lead to it."""
+) -> Iterator[tuple[str, Path, tuple[int, ...], Int]]:
+    """The integers of an object: how C reaches each, the members and indexes that lead to it, and its type."""
     if isinstance(of, Int):
-        yield text, path, index
+        yield text, path, index, of
     elif isinstance(of, Array):
         for at in range(of.length or 0):
             yield from parts(of.of, f"{text}[{at}]", path, index + (at,))
@@ -143,9 +143,10 @@ class Comparison:
         """Prints each integer of the variables."""
         lines = []
         for variable in variables:
-            for text, path, index in parts(variable.type):
+            for text, path, index, kind in parts(variable.type):
                 own = unmarked(self.writer.leaf(self.writer.placed(variable, path, index))[0])
-                lines.append(f"  adapt_tell((long long) {own if ours else variable.name + text});")
+                own = self.writer.large.rewritten(own)
+                lines.append(f"  adapt_tell((long long) {f'({kinds.c_words(kind)}) {own}' if ours else variable.name + text});")
         return "\n".join(lines)
 
     def calls(self) -> str:

@@ -17,6 +17,7 @@ from .output import FELL, File, unmarked
 from .places import Place, arguments
 from .reading import is_system
 from .refusals import Refused
+from .calls import MOST_ELEMENTS
 from .checks import Checks
 from .choosers import written
 
@@ -48,6 +49,8 @@ class Units(Checks):
         if made:
             file = self.files.setdefault(self.begin[0], File(self.begin[0]))
             file.pieces[self.begin[2] : self.begin[2]] = made
+        for file in self.files.values():
+            file.pieces = [(line, self.large.rewritten(text)) for line, text in file.pieces]
         return self.files
 
     def is_outer(self, function: Function) -> bool:
@@ -148,13 +151,16 @@ class Units(Checks):
         words = ("static " if static or variable.name and self.is_static(variable) else "") + (
             "const " if variable.const else ""
         )
-        self.check_lengths(variable)
         leaves = list(kinds.leaves(variable.type))
         for leaf in leaves:
             if self.places.columns.is_apart(self.places.columns.home(variable), leaf.path):
                 continue
-            texts = made.texts(leaf, lambda one: self.first(one, leaf.kind, here and len(leaves) == 1))
             name = self.spelling.leaf(variable, leaf.path)
+            if leaf.count > MOST_ELEMENTS:
+                values = made.texts(leaf, lambda one: self.first_number(one, leaf.kind))
+                self.emit(self.large.declared(name, leaf.kind, leaf.count, values, variable.const, variable.coord))
+                continue
+            texts = made.texts(leaf, lambda one: self.first(one, leaf.kind, here and len(leaves) == 1))
             whole = f"{{{', '.join(texts)}}}" if leaf.dims else texts[0]
             value = "" if variable.init is None and none_of(leaf) == "0" else f" = {whole}"
             self.emit(f"{words}{leaf.kind.text} {name}{f'[{leaf.count}]' if leaf.dims else ''}{value};")

@@ -10,6 +10,7 @@ from .effects import STEPS, Effected
 from .jumps import walk
 from .heap import Heap, heap_call
 from .kinds import Int, Leaf, Struct
+from .large import LargeArrays
 from .declarators import Function, Variable
 from .names import Names
 from .output import File, mark, unmarked
@@ -36,6 +37,7 @@ class Writer:
         self.model_words: dict[str, str] = {}
         self.needing: dict[int, tuple[Any, bool]] = {}
         self.heap = Heap(self)
+        self.large = LargeArrays(spelling.fresh)
         self.outer_used: set[Function] = set()  # whose values are used
 
     def value(self, node: Any) -> Value:
@@ -195,6 +197,10 @@ class Writer:
         if place.variable.home != "column" or place.path:
             return place.type
         return kinds.element(place.variable.type)
+
+    def is_large(self, place: Place) -> bool:
+        """Whether a place lies in an array whose elements are read and set by functions."""
+        return self.spelling.leaf(place.variable, place.path) in self.large.known
 
     def leaf(self, place: Place, stable: bool = False) -> tuple[str, bool]:
         """The text of an integer's place, and whether it calls functions."""
