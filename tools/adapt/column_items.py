@@ -4,6 +4,7 @@ import re
 from typing import Any
 
 from . import kinds
+from .bindings import key
 from .calls import MOST_ELEMENTS
 from .declarators import Function, Variable
 from .effects import pointee
@@ -92,7 +93,12 @@ class ColumnItems(Statements):
                         spot = [at // product(leaf.dims[n + 1 :]) % length for n, length in enumerate(leaf.dims)]
                         place = self.placed(variable, leaf.path, tuple(spot))
                         index = self.index(place, False)
-                        if place.variable.home == "column" and index is not None:
+                        if self.places.is_raw(place) and index is not None and isinstance(place.type, Int):
+                            word = int(self.first_number(node, place.type))
+                            for byte in range(place.type.bits // 8):
+                                spot_at = int(index.text) + byte
+                                found.setdefault((place.variable, ()), {})[spot_at] = str(word >> (8 * byte) & 255)
+                        elif place.variable.home == "column" and index is not None:
                             text = self.first_number(node, leaf.kind)
                             found.setdefault((place.variable, place.path), {})[int(index.text)] = text
         return found
@@ -120,6 +126,7 @@ class ColumnItems(Statements):
                 continue
             with self.names.refusals.gathered():
                 if one.is_bound and isinstance(one.type, Pointer):
+                    self.names.refusals.apart.add(key(one))
                     raise Refused(one.coord, f"the address of what {one.name} points to", "hand over the object itself")
                 for leaf, texts in self.each_integer(place, self.index(place, True) if place.shifted() else None):
                     if place.variable.home == "column" or self.places.columns.is_apart(region, leaf.path):

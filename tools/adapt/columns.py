@@ -66,7 +66,7 @@ class Columns:
                 raise Refused(None, "an object that lies within itself by a pointer", "use objects apart")
             return count
         self.counts[region] = None
-        if region.elem is None or region.elem == kinds.VOID:
+        if region.elem is None or region.elem == kinds.VOID or self.points.is_open(region.elem):
             region.elem = kinds.Int(8, False, "unsigned char")
         end, objects = 0, 0
         owners: list[Owner] = [*region.objects, *self.inner.get(region, [])]
@@ -97,11 +97,11 @@ class Columns:
         """How many elements an owner has, and how many objects these are."""
         if isinstance(owner, Variable):
             of = owner.type.to if owner.is_bound and isinstance(owner.type, Pointer) else owner.type
-            return kinds.elements(of), 1
+            return self.points.count(of, self.points.home(owner)), 1
         outer, name = owner
         of = outer.elem.type_of(name)
         count = self.lay_out(outer) if outer.pointed else sum(self.extent(one)[0] for one in outer.objects)
-        return count * kinds.elements(of), count
+        return count * self.points.count(of, outer.member(name, kinds.element(of))), count
 
     def column(self, region: Region, count: int, alone: Optional[Variable]) -> None:
         coord = region.objects[0].coord if region.objects else None
@@ -177,6 +177,8 @@ class Columns:
         return variable, inside, factor, add
 
     def any_apart(self, region: Optional[Region], of: Type) -> bool:
+        if region is not None and region.root().raw:
+            return True
         return any(self.is_apart(region, leaf.path) for leaf in kinds.leaves(of))
 
     def named(self, spelling: Spelling) -> None:

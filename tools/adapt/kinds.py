@@ -181,6 +181,26 @@ def bit_field(declared: Int, width: int) -> Int:
     return Int(bits, signed, f"{'' if signed else 'u'}int{bits}_t", False, width, declared.signed)
 
 
+def has_bytes(of: Type) -> bool:
+    """Whether an object of the type may stand as its bytes: it has a known size, and no pointers or bit-fields."""
+    if isinstance(of, Array):
+        return of.length is not None and has_bytes(of.of)
+    if isinstance(of, Struct):
+        if of.members is None or of.fault or any(width is not None for _, _, width in of.declared):
+            return False
+        return all(has_bytes(member) for _, member in of.members)
+    return isinstance(of, Int) and not of.width or (isinstance(of, Other) and of != VOID and of.bytes is not None)
+
+
+def is_mixed(of: Type) -> bool:
+    """Whether a union in it has members that aren't one object in what is written but by their bytes."""
+    if isinstance(of, Array):
+        return is_mixed(of.of)
+    if not isinstance(of, Struct) or of.fault:
+        return False
+    return (of.union and of.members is not None and not of.carrier) or any(is_mixed(one) for _, one in of.held)
+
+
 def alignment(of: Type) -> int:
     if isinstance(of, Struct):
         return max((alignment(member) for name, member, width in of.declared if name or width is None), default=1)
@@ -276,5 +296,7 @@ def fault_of(of: Type) -> Optional[tuple[str, str]]:
             return of.fault[1], of.fault[2]
         if of.members is None:
             return f"struct {of.tag} isn't complete", "give its members before its use"
+        if of.union and not of.carrier:
+            return UNION
         return None  # (members that can't be written are left out, and refused where they are used)
     return (of.name, of.advice) if isinstance(of, Other) else None

@@ -50,8 +50,6 @@ def carried(of: Struct, named: set[str]) -> None:
         return
     if not live and members:
         of.carrier = members[0]
-        return
-    of.fault = of.fault or (None, *kinds.UNION)
 
 
 def settle(structs: list[Struct], named: set[str]) -> None:

@@ -42,7 +42,7 @@ class Units(Checks):
                 self.item(item, number)
         front, end = written(self, self.places.choosers)
         outer = [self.heading(one) + ";" for one in self.names.functions if self.is_outer(one)]
-        made = [(self.begin[1], text) for text in [*outer, *self.heap.front(), *front, *(text for _, text in self.written_models.values())]]
+        made = [(self.begin[1], text) for text in [*outer, *self.heap.front(), *self.raw.front(), *front, *(text for _, text in self.written_models.values())]]
         if end:
             last = self.files.setdefault(self.names.items[-1][0].path, File(self.names.items[-1][0].path))
             last.pieces += [(last.pieces[-1][0] if last.pieces else 1, text) for text in end]
@@ -142,9 +142,9 @@ class Units(Checks):
 
     def variable(self, variable: Variable, static: bool = False, here: bool = False) -> None:
         """Writes an object of the file with its first values, on their lines where they stand here."""
-        self.check_type(variable)
         if self.places.columns.in_column(variable):
             return
+        self.check_type(variable)
         made = filled(self.constants, variable.type, variable.init)
         for _, _, source in made.wholes:
             raise Refused(source.coord, "a struct as the first value of a part", "give its members one by one")
@@ -192,7 +192,7 @@ class Units(Checks):
                 continue
             if isinstance(one.binding, Place):
                 continue
-            fault = kinds.fault_of(pointee(one))
+            fault = kinds.UNION if kinds.is_mixed(pointee(one)) else kinds.fault_of(pointee(one))
             if fault:
                 raise Refused(
                     one.coord,
@@ -214,6 +214,7 @@ class Units(Checks):
                 function.coord, f"{function.name} takes any number of arguments", "give it a fixed number of parameters"
             )
         fault = kinds.fault_of(result) if isinstance(result, Pointer) else None
+        fault = kinds.UNION if kinds.is_mixed(result) else fault
         if not isinstance(result, (Int, Struct, Pointer)) and result != kinds.VOID or fault:
             cause, advice = fault or kinds.fault_of(result) or ("what is no integer", "")
             raise Refused(function.coord, f"{function.name} gives {cause}", advice)
