@@ -90,7 +90,9 @@ def text_of(entry: str, given: Sequence[Input], names: Sequence[str], header: st
     parts, out = [HEAD.format(entry=entry, command=command(folder))], os.path.join(folder, NAME) + ".c"
     for number, source in enumerate(sources):
         parts.append(NO_ASSERTS if source.name == header else ASSERTS)
-        parts.append(source_text(source, [(name, kind) for name, (first, kind) in heads.items() if first == number], out))
+        parts.append(
+            source_text(source, [(name, kind) for name, (first, kind) in heads.items() if first == number], out)
+        )
     words = [word(number) for one in given for number in (*one.args, *one.answers)]
     first = [sum(len(one.args) + len(one.answers) for one in given[:at]) for at in range(len(given) + 1)]
     arity = len(given[0].args)

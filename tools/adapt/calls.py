@@ -201,7 +201,12 @@ class Calls(ModelCalls, OutsideCalls):
             self.outer_call(node, function)
             return
         text, after = self.call(node)
-        if function.definition is not None or isinstance(function.result, Int) or model_of(function) or heap_call(function):
+        if (
+            function.definition is not None
+            or isinstance(function.result, Int)
+            or model_of(function)
+            or heap_call(function)
+        ):
             self.emit(text + ";")
         for one in after:
             self.emit(one)

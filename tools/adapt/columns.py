@@ -66,7 +66,7 @@ class Columns:
                 raise Refused(None, "an object that lies within itself by a pointer", "use objects apart")
             return count
         self.counts[region] = None
-        if region.elem is None or region.elem == kinds.VOID:
+        if region.elem is None or region.elem == kinds.VOID or self.points.is_open(region.elem):
             region.elem = kinds.Int(8, False, "unsigned char")
         end, objects = 0, 0
         owners: list[Owner] = [*region.objects, *self.inner.get(region, [])]
@@ -85,7 +85,10 @@ class Columns:
     def pool(self, owner: Any, region: Region) -> tuple[int, int]:
         """How many elements the memory of a call of malloc has, and how many objects."""
         pool, size = self.pools[owner], kinds.size(region.elem) or 1
-        asked = bytes_asked(self.names.constants, pool.node, pool.called)
+        try:
+            asked = bytes_asked(self.names.constants, pool.node, pool.called)
+        except Refused:
+            asked = None  # (told where it is written)
         pool.count = self.names.pool[1] if asked is None else max(1, asked // size)
         owner.type = Array(region.elem, pool.slots * pool.count)
         return pool.slots * pool.count, pool.slots
@@ -94,11 +97,11 @@ class Columns:
         """How many elements an owner has, and how many objects these are."""
         if isinstance(owner, Variable):
             of = owner.type.to if owner.is_bound and isinstance(owner.type, Pointer) else owner.type
-            return kinds.elements(of), 1
+            return self.points.count(of, self.points.home(owner)), 1
         outer, name = owner
-        of = dict(outer.elem.members or [])[name]
+        of = outer.elem.type_of(name)
         count = self.lay_out(outer) if outer.pointed else sum(self.extent(one)[0] for one in outer.objects)
-        return count * kinds.elements(of), count
+        return count * self.points.count(of, outer.member(name, kinds.element(of))), count
 
     def column(self, region: Region, count: int, alone: Optional[Variable]) -> None:
         coord = region.objects[0].coord if region.objects else None
@@ -161,7 +164,7 @@ class Columns:
         variable, factor, add = region.column, 1, 0
         at: Optional[Region] = region
         for name in path:
-            of = dict(at.root().elem.members or [])[name] if at is not None and not name.startswith("@") else None
+            of = at.root().elem.type_of(name) if at is not None and not name.startswith("@") else None
             inner = at.root().members.get(name) if at is not None else None
             count = kinds.elements(of) if of is not None else 1
             factor, add = factor * count, add * count
@@ -174,6 +177,8 @@ class Columns:
         return variable, inside, factor, add
 
     def any_apart(self, region: Optional[Region], of: Type) -> bool:
+        if region is not None and region.root().raw:
+            return True
         return any(self.is_apart(region, leaf.path) for leaf in kinds.leaves(of))
 
     def named(self, spelling: Spelling) -> None:

@@ -63,16 +63,17 @@ TELLING += [2**31 - 1, -(2**31), 2**32 - 1, 2**63 - 1]
 
 def parts(
     of: Type, text: str = "", path: Path = (), index: tuple[int, ...] = ()
-) -> Iterator[tuple[str, Path, tuple[int, ...]]]:
-    """The integers of an object: how C reaches each, and the members and indexes that lead to it."""
+) -> Iterator[tuple[str, Path, tuple[int, ...], Int]]:
+    """The integers of an object: how C reaches each, the members and indexes that lead to it, and its type."""
     if isinstance(of, Int):
-        yield text, path, index
+        yield text, path, index, of
     elif isinstance(of, Array):
         for at in range(of.length or 0):
             yield from parts(of.of, f"{text}[{at}]", path, index + (at,))
     elif isinstance(of, Struct):
-        for name, member in of.members or []:
-            yield from parts(member, f"{text}.{name}", path + (name,), index)
+        for name, member in of.held if not of.is_parts() else []:
+            own = text if name.startswith("?") else f"{text}.{name}"
+            yield from parts(member, own, path + (name,), index)
 
 
 def plain(function: Function) -> bool:
@@ -120,7 +121,11 @@ class Comparison:
         self.shared = [
             one
             for one in writer.names.variables
-            if one.home == "file" and not isinstance(one.coord, Spot) and one.defined and not one.const and not kinds.fault_of(one.type)
+            if one.home == "file"
+            and not isinstance(one.coord, Spot)
+            and one.defined
+            and not one.const
+            and not kinds.fault_of(one.type)
         ]
         self.original(sources, flags, outer)
         self.adapted(made, outer)
@@ -142,9 +147,12 @@ class Comparison:
         """Prints each integer of the variables."""
         lines = []
         for variable in variables:
-            for text, path, index in parts(variable.type):
+            for text, path, index, kind in parts(variable.type):
                 own = unmarked(self.writer.leaf(self.writer.placed(variable, path, index))[0])
-                lines.append(f"  adapt_tell((long long) {own if ours else variable.name + text});")
+                own = self.writer.large.rewritten(own)
+                lines.append(
+                    f"  adapt_tell((long long) {f'({kinds.c_words(kind)}) {own}' if ours else variable.name + text});"
+                )
         return "\n".join(lines)
 
     def calls(self) -> str:
@@ -178,8 +186,12 @@ class Comparison:
         self.compile("original", [*texts, head + DRIVER % (self.calls(), dumps)], flags + WATCHED)
 
     def adapted(self, made: dict[str, str], outer: list[Function]) -> None:
-        own = [one.out for one in self.writer.names.functions if isinstance(one.coord, Spot) and one.definition is not None]
-        apart, again = ["".join(line.format(one) for one in own) for line in ("#define {0} adapt_own_{0}\n", "#undef {0}\n")]
+        own = [
+            one.out for one in self.writer.names.functions if isinstance(one.coord, Spot) and one.definition is not None
+        ]
+        apart, again = [
+            "".join(line.format(one) for one in own) for line in ("#define {0} adapt_own_{0}\n", "#undef {0}\n")
+        ]
         text = f"#include <stdint.h>\n#include <stddef.h>\n#include <assert.h>\n{apart}{self.copied(made)}{again}"
         text += "long long adapt_answer(void);\nvoid adapt_tell(long long);\n"
         for one in outer:

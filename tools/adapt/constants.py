@@ -5,7 +5,7 @@ from typing import Any, Callable, Optional
 
 from pycparser import c_ast
 
-from . import kinds
+from . import kinds, unions
 from .kinds import Array, Int, Struct, Type, fit
 from .refusals import Refused
 
@@ -89,7 +89,10 @@ class Constants:
         if isinstance(node, c_ast.StructRef):
             of = self.type_of(node.name)
             of = getattr(of, "to", getattr(of, "of", of)) if node.type == "->" else of
-            return dict(of.members or []).get(node.field.name, kinds.VOID) if isinstance(of, Struct) else kinds.VOID
+            path = unions.found(of, node.field.name)
+            for name in path or []:
+                of = dict(of.members or [])[name]  # type: ignore[union-attr]
+            return of if path else kinds.VOID
         of = self.type_of(node.name if isinstance(node, c_ast.ArrayRef) else node.expr)
         if isinstance(node, c_ast.ArrayRef) and isinstance(of, Int):
             of = self.type_of(node.subscript)

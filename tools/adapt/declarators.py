@@ -88,6 +88,8 @@ class Declarators:
         self.enumerators: dict[str, Any] = {}
         self.constants = Constants(self)
         self.function: Optional[Function] = None
+        self.structs: list[Struct] = []
+        self.named_members: set[str] = set()
         self.pool = (4, 16)  # the slots of a call of malloc, and the elements of one whose number isn't constant
         self.scope: ChainMap[str, Any] = ChainMap()
         self.tags: ChainMap[str, Any] = ChainMap()
@@ -114,12 +116,10 @@ class Declarators:
         if isinstance(node, c_ast.PtrDecl):
             to = node.type
             return Pointer(self.type_of(to))
-        if isinstance(node, c_ast.Struct):
+        if isinstance(node, (c_ast.Struct, c_ast.Union)):
             return self.struct(node)
         if isinstance(node, c_ast.Enum):
             return self.enum(node)
-        if isinstance(node, c_ast.Union):
-            return self.union(node)
         if isinstance(node, c_ast.FuncDecl):
             return self.signature(node)
         raise Refused(node.coord, f"a type ({type(node).__name__})", "use an integer, an array or a struct")
@@ -152,7 +152,8 @@ class Declarators:
         tag = node.name or f"at line {node.coord.line}"
         made = self.tags.get(tag) if node.name else None
         if made is None or (node.decls is not None and node.name and tag not in self.tags.maps[0]):
-            made = Struct(tag)
+            made = Struct(tag, union=isinstance(node, c_ast.Union))
+            self.structs.append(made)
             if node.name:
                 self.tags[tag] = made
         if node.decls is None or made.members is not None:
@@ -162,6 +163,8 @@ class Declarators:
             if isinstance(one, c_ast.Decl) and one.bitsize is not None:
                 members += self.bit_field(made, one)
                 continue
+            if isinstance(one, c_ast.Decl) and one.name is None and isinstance(one.type, (c_ast.Struct, c_ast.Union)):
+                one.name = f"?{len(members)}"
             if not isinstance(one, c_ast.Decl) or one.name is None:
                 cause = (one.coord or node.coord, "a member without a name", "use a member of its own")
                 made.fault = made.fault or cause
@@ -177,25 +180,15 @@ class Declarators:
         self.expression(node.bitsize)
         width = self.constants.value(node.bitsize)
         if not isinstance(of, Int) or width is None or 32 < width < of.bits:
-            cause = "a bit-field of more than 32 bits" if isinstance(of, Int) and width else "a bit-field of no known width"
+            cause = (
+                "a bit-field of more than 32 bits" if isinstance(of, Int) and width else "a bit-field of no known width"
+            )
             made.fault = made.fault or (node.coord, cause, "use a member of its own")
             return []
         made.declared.append((node.name or "", of, width))
         if node.name is None:
             return []
         return [(node.name, of if width == of.bits else kinds.bit_field(of, width))]
-
-    def union(self, node: Any) -> Type:
-        """A union, which is refused where it is used; its size is known where those of its members are."""
-        if node.decls is None:
-            return self.tags.get(f"union {node.name}", Other(*kinds.UNION))
-        members = [self.usable(one.type) for one in node.decls if isinstance(one, c_ast.Decl)]
-        sizes, align = [kinds.size(one) for one in members], max(kinds.alignment(one) for one in members)
-        whole = max((one for one in sizes if one is not None), default=0)
-        made = Other(*kinds.UNION, None if None in sizes else -(-whole // align) * align, align)
-        if node.name:
-            self.tags[f"union {node.name}"] = made
-        return made
 
     def enum(self, node: Any) -> Type:
         if node.values is None:

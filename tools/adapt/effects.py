@@ -52,6 +52,8 @@ def may_be(one: Object, two: Object) -> bool:
 
 def objects(place: Place) -> list[Object]:
     inner = bool(place.indexes) or place.variable.home == "column"
+    if place.view is not None:
+        return [(place.variable, place.path, inner)]
     return [(place.variable, place.path + leaf.path, inner or bool(leaf.dims)) for leaf in leaves(place.type)]
 
 

@@ -27,12 +27,37 @@ class Array:
 
 @dataclass(eq=False)
 class Struct:
-    """A struct by its tag. Its members are None until it is complete, and `fault` is why it can't be used, if so."""
+    """A struct or a union by its tag. Its members are None until it is complete, and `fault` is why it can't be used, if so.
+    What a union is written as is its `carrier`, and `dead` are members that are left out (unions.py)."""
 
     tag: str
     members: Optional[list[tuple[str, "Type"]]] = None
     fault: Optional[tuple[Any, str, str]] = None
     declared: list[tuple[str, "Type", Optional[int]]] = field(default_factory=list)  # with the widths of bit-fields
+    union: bool = False
+    carrier: Optional[tuple[str, "Type"]] = None
+    dead: set[str] = field(default_factory=set)
+
+    @property
+    def held(self) -> list[tuple[str, "Type"]]:
+        """The members that are written."""
+        if self.union:
+            return [self.carrier] if self.carrier else []
+        return [one for one in self.members or [] if one[0] not in self.dead]
+
+    def path_of(self, name: str) -> str:
+        """The member as which one is written."""
+        return self.carrier[0] if self.union and self.carrier else name
+
+    def type_of(self, name: str) -> "Type":
+        """The type of a member, or of what a union is written as."""
+        if self.carrier and self.carrier[0] == name:
+            return self.carrier[1]
+        return dict(self.members or [])[name]
+
+    def is_parts(self) -> bool:
+        """Whether a union's members are parts of one integer."""
+        return bool(self.carrier and self.carrier[0] not in dict(self.members or []))
 
 
 @dataclass(eq=False)
@@ -156,6 +181,26 @@ def bit_field(declared: Int, width: int) -> Int:
     return Int(bits, signed, f"{'' if signed else 'u'}int{bits}_t", False, width, declared.signed)
 
 
+def has_bytes(of: Type) -> bool:
+    """Whether an object of the type may stand as its bytes: it has a known size, and no pointers or bit-fields."""
+    if isinstance(of, Array):
+        return of.length is not None and has_bytes(of.of)
+    if isinstance(of, Struct):
+        if of.members is None or of.fault or any(width is not None for _, _, width in of.declared):
+            return False
+        return all(has_bytes(member) for _, member in of.members)
+    return isinstance(of, Int) and not of.width or (isinstance(of, Other) and of != VOID and of.bytes is not None)
+
+
+def is_mixed(of: Type) -> bool:
+    """Whether a union in it has members that aren't one object in what is written but by their bytes."""
+    if isinstance(of, Array):
+        return is_mixed(of.of)
+    if not isinstance(of, Struct) or of.fault:
+        return False
+    return (of.union and of.members is not None and not of.carrier) or any(is_mixed(one) for _, one in of.held)
+
+
 def alignment(of: Type) -> int:
     if isinstance(of, Struct):
         return max((alignment(member) for name, member, width in of.declared if name or width is None), default=1)
@@ -186,6 +231,10 @@ def offsets(of: Struct) -> dict[str, int]:
 def laid_out(of: Struct) -> tuple[dict[str, int], Optional[int]]:
     """Where the members of a struct lie, without bit-fields, and how many bytes they take before what is filled up."""
     at, found = 0, {}  # (in bits)
+    if of.union:
+        sizes = [size(member) if width is None else -(-width // 8) for _, member, width in of.declared]
+        known = [one for one in sizes if one is not None]
+        return {name: 0 for name, _, _ in of.declared}, max(known, default=0) if len(known) == len(sizes) else None
     for name, member, width in of.declared:
         one, step = size(member), alignment(member) * 8
         if one is None:
@@ -227,7 +276,7 @@ def leaves(of: Type, path: Path = (), dims: tuple[int, ...] = ()) -> Iterator[Le
     elif isinstance(of, Array) and of.length is not None:
         yield from leaves(of.of, path, dims + (of.length,))
     elif isinstance(of, Struct):
-        for name, member in of.members or []:
+        for name, member in of.held:
             yield from leaves(member, path + (name,), dims)
 
 
@@ -247,5 +296,7 @@ def fault_of(of: Type) -> Optional[tuple[str, str]]:
             return of.fault[1], of.fault[2]
         if of.members is None:
             return f"struct {of.tag} isn't complete", "give its members before its use"
+        if of.union and not of.carrier:
+            return UNION
         return None  # (members that can't be written are left out, and refused where they are used)
     return (of.name, of.advice) if isinstance(of, Other) else None

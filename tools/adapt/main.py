@@ -97,6 +97,7 @@ def adapt(given: argparse.Namespace, refusals: Refusals) -> tuple[dict[str, str]
 
 def written(given: argparse.Namespace, refusals: Refusals, apart: set[Any]) -> tuple[dict[str, str], Any]:
     from .bindings import Bindings
+    from .cases import Cases
     from .choosers import Choosers
     from .columns import Columns
     from .effects import Effected
@@ -109,6 +110,7 @@ def written(given: argparse.Namespace, refusals: Refusals, apart: set[Any]) -> t
     from .places import Places
     from .reading import read
     from .spelling import Spelling
+    from .unions import settle
     from pycparser import c_ast
 
     units = [read(path, flags_of(given), refusals) for path in given.sources]
@@ -126,9 +128,12 @@ def written(given: argparse.Namespace, refusals: Refusals, apart: set[Any]) -> t
     for unit in units:
         for item in unit.tree.ext:
             if isinstance(item, c_ast.FuncDef):
-                Jumps(flag, refusals).function(item.body)
+                Cases(flag).function(item.body)
+                listed = item.decl.type.args.params if item.decl.type.args else []
+                Jumps(flag, refusals).function(item.body, {getattr(one, "name", "") or "" for one in listed})
         taken.update(node.name for node in walk(unit.tree) if isinstance(node, c_ast.ID))
         names.unit(unit)
+    settle(names.structs, names.named_members)
     places = Places(names)
     Bindings(places, apart).bind()
     places.columns = Columns(names, apart)

@@ -106,6 +106,7 @@ class Names(Declarators):
         elif isinstance(node, c_ast.NamedInitializer):
             for one in node.name:
                 if isinstance(one, c_ast.ID):  # (a member's name, or a constant)
+                    self.named_members.add(one.name)
                     self.meaning[id(one)] = self.scope.get(one.name)
                 else:
                     self.expression(one)
@@ -221,6 +222,7 @@ class Names(Declarators):
         elif isinstance(node, c_ast.FuncCall):
             self.call(node)
         elif isinstance(node, c_ast.StructRef):
+            self.named_members.add(node.field.name)
             self.expression(node.name)
         elif isinstance(node, c_ast.ArrayRef) and isinstance(node.name, c_ast.Constant) and node.name.type == "string":
             of = self.constants.type_of(node.name)

@@ -170,9 +170,9 @@ class Checked(Units):
         self.unsequenced(node, list(both))
         left, right = self.value(node.left), self.value(node.right)
         made = self.checked(node, node.op, left, right) if node.op in CHECKED else None
-        return made or self.plain(node.op, left, right)
+        return made or self.unchecked(node.op, left, right)
 
-    def plain(self, op: str, left: Value, right: Value) -> Value:
+    def unchecked(self, op: str, left: Value, right: Value) -> Value:
         """The operation as it is."""
         level = LEVELS[op]
         kind = kinds.promoted(left.kind) if op in ("<<", ">>") else kinds.common(left.kind, right.kind)
@@ -202,11 +202,15 @@ class Checked(Units):
             return super().assignment(node, target, kind, given, other)
         own = Value(f"({kind.text}) {target}" if other else target, kind, UNARY if other else PRIMARY)
         whole = self.checked(node, op, own, given) if op in CHECKED else None
-        if whole is None and not self.narrows(self.plain(op, own, given), kind):
+        if whole is None and not self.narrows(self.unchecked(op, own, given), kind):
             return super().assignment(node, target, kind, given, other)
-        whole = whole or self.plain(op, own, given)
+        whole = whole or self.unchecked(op, own, given)
         self.last = node, whole
         return f"{target} = {self.converted(whole, kind).text};"
+
+    def operated(self, node: Any, op: str, own: Value, given: Value) -> Value:
+        made = self.checked(node, op, own, given) if op in CHECKED else None
+        return super().operated(node, op, own, given) if made is None else made
 
     def step(self, node: Any, stable: bool = False) -> tuple[str, Int]:
         return super().step(node, True)
@@ -215,9 +219,9 @@ class Checked(Units):
         one = Value("1", kinds.INT, PRIMARY)
         own, op = Value(target, kind, PRIMARY), node.op[-1]
         whole = self.checked(node, op, own, one)
-        if whole is None and not self.narrows(self.plain(op, own, one), kind):
+        if whole is None and not self.narrows(self.unchecked(op, own, one), kind):
             return super().stepping(node, target, kind)
-        whole = whole or self.plain(op, own, one)
+        whole = whole or self.unchecked(op, own, one)
         self.last = node, whole
         return f"{target} = {self.converted(whole, kind).text};"
 

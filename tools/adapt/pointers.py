@@ -140,12 +140,15 @@ class Pointers(Writer):
         """A pointer to a place within an object."""
         if place.variable.home != "column" or place.path:
             raise Refused(None, f"the address of {place.variable.name}", "name the object itself")
-        index = self.index(place, True)
+        raw = self.places.is_raw(place)
+        index = self.raw.index(place, True, False) if raw else self.index(place, True)
         assert index is not None
         begin = index
         if isinstance(around.type, Array):
-            begin = self.index(self.first_element(around), True) or index
-        end = plus(begin, Value(str(kinds.elements(around.type)), kinds.INT, PRIMARY))
+            first = self.first_element(around)
+            begin = self.raw.index(first, True, False) if raw else self.index(first, True) or index
+        count = self.places.columns.points.count(around.type, place.region) if raw else kinds.elements(around.type)
+        end = plus(begin, Value(str(count), kinds.INT, PRIMARY))
         return {INDEX: index, END: end, BEGIN: begin}
 
     def address(self, node: Any) -> Parts:
@@ -179,7 +182,8 @@ class Pointers(Writer):
         )
 
     def stride(self, node: Any) -> int:
-        return kinds.elements(self.places.columns.pointer(node).to)
+        of = self.places.columns.pointer(node)
+        return (kinds.size(of.to) or 1) if of.region.root().raw else kinds.elements(of.to)
 
     def steady_value(self, value: Value) -> Value:
         return Value(self.temporary(value.kind, value.text), value.kind, PRIMARY) if value.calls else value
@@ -286,6 +290,9 @@ class Pointers(Writer):
             index = plus(index, times(by, node.stride))
         region = self.places.columns.pointer(node.pointer).region
         wanted = region.parts()
+        if node.raw:
+            node.tests, node.ends = tests, {name: parts[name] for name in wanted if name != INDEX}
+            return index
         tests += [f"{index.within(8)} >= {parts[END].within(8)}"] if END in wanted else []
         tests += [f"{index.within(8)} < {parts[BEGIN].within(8)}"] if BEGIN in wanted else []
         if not tests:

@@ -24,6 +24,7 @@ class Region:
     fault: Optional[tuple[Any, str, str]] = None
     into: Optional["Region"] = None
     freed: bool = False
+    raw: bool = False  # whether its objects stand as their bytes
     targets: list[Any] = field(default_factory=list)  # the functions to which a pointer may point
     single: bool = False
     column: Any = None
@@ -50,5 +51,7 @@ class Region:
 
     def member(self, name: str, elem: Any) -> "Region":
         """The region of a member of the elements."""
+        if self.root().raw:
+            return self.root()
         found = self.root().members.setdefault(name, Region(elem))
         return found.root()

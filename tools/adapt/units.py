@@ -17,6 +17,7 @@ from .output import FELL, File, unmarked
 from .places import Place, arguments
 from .reading import is_system
 from .refusals import Refused
+from .calls import MOST_ELEMENTS
 from .checks import Checks
 from .choosers import written
 
@@ -41,13 +42,24 @@ class Units(Checks):
                 self.item(item, number)
         front, end = written(self, self.places.choosers)
         outer = [self.heading(one) + ";" for one in self.names.functions if self.is_outer(one)]
-        made = [(self.begin[1], text) for text in [*outer, *self.heap.front(), *front, *(text for _, text in self.written_models.values())]]
+        made = [
+            (self.begin[1], text)
+            for text in [
+                *outer,
+                *self.heap.front(),
+                *self.raw.front(),
+                *front,
+                *(text for _, text in self.written_models.values()),
+            ]
+        ]
         if end:
             last = self.files.setdefault(self.names.items[-1][0].path, File(self.names.items[-1][0].path))
             last.pieces += [(last.pieces[-1][0] if last.pieces else 1, text) for text in end]
         if made:
             file = self.files.setdefault(self.begin[0], File(self.begin[0]))
             file.pieces[self.begin[2] : self.begin[2]] = made
+        for file in self.files.values():
+            file.pieces = [(line, self.large.rewritten(text)) for line, text in file.pieces]
         return self.files
 
     def is_outer(self, function: Function) -> bool:
@@ -146,22 +158,25 @@ class Units(Checks):
 
     def variable(self, variable: Variable, static: bool = False, here: bool = False) -> None:
         """Writes an object of the file with its first values, on their lines where they stand here."""
-        self.check_type(variable)
         if self.places.columns.in_column(variable):
             return
+        self.check_type(variable)
         made = filled(self.constants, variable.type, variable.init)
         for _, _, source in made.wholes:
             raise Refused(source.coord, "a struct as the first value of a part", "give its members one by one")
         words = ("static " if static or variable.name and self.is_static(variable) else "") + (
             "const " if variable.const else ""
         )
-        self.check_lengths(variable)
         leaves = list(kinds.leaves(variable.type))
         for leaf in leaves:
             if self.places.columns.is_apart(self.places.columns.home(variable), leaf.path):
                 continue
-            texts = made.texts(leaf, lambda one: self.first(one, leaf.kind, here and len(leaves) == 1))
             name = self.spelling.leaf(variable, leaf.path)
+            if leaf.count > MOST_ELEMENTS:
+                values = made.texts(leaf, lambda one: self.first_number(one, leaf.kind))
+                self.emit(self.large.declared(name, leaf.kind, leaf.count, values, variable.const, variable.coord))
+                continue
+            texts = made.texts(leaf, lambda one: self.first(one, leaf.kind, here and len(leaves) == 1))
             whole = f"{{{', '.join(texts)}}}" if leaf.dims else texts[0]
             value = "" if variable.init is None and none_of(leaf) == "0" else f" = {whole}"
             self.emit(f"{words}{leaf.kind.text} {name}{f'[{leaf.count}]' if leaf.dims else ''}{value};")
@@ -193,7 +208,7 @@ class Units(Checks):
                 continue
             if isinstance(one.binding, Place):
                 continue
-            fault = kinds.fault_of(pointee(one))
+            fault = kinds.UNION if kinds.is_mixed(pointee(one)) else kinds.fault_of(pointee(one))
             if fault:
                 raise Refused(
                     one.coord,
@@ -215,6 +230,7 @@ class Units(Checks):
                 function.coord, f"{function.name} takes any number of arguments", "give it a fixed number of parameters"
             )
         fault = kinds.fault_of(result) if isinstance(result, Pointer) else None
+        fault = kinds.UNION if kinds.is_mixed(result) else fault
         if not isinstance(result, (Int, Struct, Pointer)) and result != kinds.VOID or fault:
             cause, advice = fault or kinds.fault_of(result) or ("what is no integer", "")
             raise Refused(function.coord, f"{function.name} gives {cause}", advice)

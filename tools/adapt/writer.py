@@ -10,10 +10,12 @@ from .effects import STEPS, Effected
 from .jumps import walk
 from .heap import Heap, heap_call
 from .kinds import Int, Leaf, Struct
+from .large import LargeArrays
 from .declarators import Function, Variable
 from .names import Names
 from .output import File, mark, unmarked
 from .places import Place, Places
+from .raw import Raw
 from .refusals import Refused
 from .spelling import Spelling
 from .values import PRIMARY, UNARY, Value, number, plus, times
@@ -36,6 +38,8 @@ class Writer:
         self.model_words: dict[str, str] = {}
         self.needing: dict[int, tuple[Any, bool]] = {}
         self.heap = Heap(self)
+        self.large = LargeArrays(spelling.fresh)
+        self.raw = Raw(self)
         self.outer_used: set[Function] = set()  # whose values are used
 
     def value(self, node: Any) -> Value:
@@ -142,7 +146,11 @@ class Writer:
         mask, sign = (1 << kind.width) - 1, 1 << (kind.width - 1)
         text = f"{value.within(6)} & {hex(mask)}"
         if kind.below_zero:
-            text = f"(int) (({text} ^ {hex(sign)}) - {hex(sign)})" if value.kind.bits > 32 else f"(int) (({text}) ^ {hex(sign)}) - {sign}"
+            text = (
+                f"(int) (({text} ^ {hex(sign)}) - {hex(sign)})"
+                if value.kind.bits > 32
+                else f"(int) (({text}) ^ {hex(sign)}) - {sign}"
+            )
         return Value(text, kinds.INT, 0, calls=value.calls)
 
     def steady(self, node: Any, value: Value) -> Value:
@@ -165,6 +173,8 @@ class Writer:
     def index(self, place: Place, stable: bool, kept: bool = False) -> Optional[Value]:
         """The number of a place's first element among those of its arrays; None where there are none. With `kept` it is a
         constant or a variable of its own."""
+        if self.places.is_raw(place):
+            return self.raw.index(place, stable or kept)
         whole: Optional[Value] = Value("0", kinds.INT, PRIMARY) if place.variable.home == "column" else None
         self.unsequenced(place.indexes[0][0] if place.indexes else None, [node for node, _ in place.indexes])
         for node, length in place.shifted():
@@ -190,12 +200,34 @@ class Writer:
     @staticmethod
     def kind_at(place: Place) -> kinds.Type:
         """The kind of the integers that a place's column has, which may have another sign than those of the access."""
+        if place.stored is not None:
+            return place.stored
+        if (
+            isinstance(place.type, Int)
+            and place.type.bits != 8
+            and place.region is not None
+            and place.region.root().raw
+        ):
+            return place.type
         if place.variable.home != "column" or place.path:
             return place.type
         return kinds.element(place.variable.type)
 
+    def is_large(self, place: Place) -> bool:
+        """Whether a place lies in an array whose elements are read and set by functions."""
+        if self.places.is_raw(place):
+            return True
+        return self.spelling.leaf(place.variable, place.path) in self.large.known
+
+    @staticmethod
+    def plain(text: str) -> str:
+        return unmarked(text)
+
     def leaf(self, place: Place, stable: bool = False) -> tuple[str, bool]:
         """The text of an integer's place, and whether it calls functions."""
+        if self.places.is_raw(place):
+            raw = self.raw.index(place, stable)
+            return f"{self.raw.array(place)}[{raw.text}]", raw.calls
         name, index = self.spelling.leaf(place.variable, place.path), self.index(place, stable)
         return (name, False) if index is None else (f"{name}[{index.text}]", index.calls)
 
