@@ -69,10 +69,10 @@ local_result : (cell : ℕ) → is_result (place.Local cell) ≡ (cell == 0)
 local_result cell = search (rules, place_lemmas)
 
 -- the two nodes of a decision
-own_first : (n m : ℕ) → decides (Some (n, m)) n ≡ true
+pub own_first : (n m : ℕ) → decides (Some (n, m)) n ≡ true
 own_first n m = let same : (n == n) ≡ true = eq-eqb n n refl in ap (λ b. b || n == m) same
 
-own_second : (n m : ℕ) → decides (Some (n, m)) m ≡ true
+pub own_second : (n m : ℕ) → decides (Some (n, m)) m ≡ true
 own_second n m = let same : (m == m) ≡ true = eq-eqb m m refl in ap (λ b. m == n || b) same ∙ by (m == n)
   where
     by : (b : Bool) → (b || true) ≡ true
