@@ -40,13 +40,13 @@ use Rattle.command_words.specs.Request.{Tracing}
 use Rattle.command.specs.Due.{IsDueOf}
 use Rattle.command.specs.Inputs.{AreInputsOf}
 use Rattle.command.specs.Reads.{Reads}
-use Rattle.command.specs.Recorded.{most_listed}
-use Rattle.command.specs.Recorded as recorded
+use Rattle.command.specs.RunList.{most_listed}
+use Rattle.command.specs.RunList as recorded
 use Rattle.command.specs.Refusal.{said_by}
 use Rattle.command.specs.Runs.{EntryFunction, entry_of, if_startable, no_predicates, run_of, runs_of, startable_at}
 use Rattle.command.specs.Said.{Said, answered}
 use Rattle.command.specs.Stages.{OfInputs}
-use Rattle.command.specs.Tracing.{is_counted, trace_of, traced, traces_of}
+use Rattle.command.specs.Traces.{is_counted, trace_of, traced, traces_of}
 use Rattle.printed_laws.specs.Named.{NamedEntry}
 use Rattle.printed_laws.proofs.Graphs.{entry_there, sources_are_graph}
 use Rattle.printed_laws.proofs.Walk.{named_entry, no_refusal, no_text}

@@ -12,7 +12,7 @@ use Rattle.command.specs.Due.{IsDueOf}
 use Rattle.command.specs.Inputs.{AreInputsOf}
 use Rattle.command.specs.Reads.{Reads}
 use Rattle.command.specs.Said.{Said, answered}
-use Rattle.command.specs.Tracing.{traces_of}
+use Rattle.command.specs.Traces.{traces_of}
 use Rattle.printed_laws.specs.Named.{NamedEntry}
 
 -- the edges of traces' runs
