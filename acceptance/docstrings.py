@@ -1,6 +1,7 @@
 """Whether the Python of tools/ and acceptance/ says what it is for: pydocstyle's first rules, by the trees of the files alone.
 
-Each module, and each class, function and method without `_` before its name, has a docstring with a sentence. One that raises an error of its own names it, or says `failure` of a Failure. Cases of
+Each module, and each class, function and method without `_` before its name, has a docstring with a sentence. One that raises an
+error of its own names it, or says `failure` of a Failure; one that gives a number says of what, or in which unit. Cases of
 tests, which take a folder or a tree alone, have their names for that.
 """
 
@@ -12,6 +13,10 @@ from collections.abc import Iterator
 
 import programs
 
+UNITS = re.compile(
+    r"number|how many|count|status|seconds?|bytes?|percent|column|line|bit|width|moves|place|least|greatest|value",
+    re.IGNORECASE,
+)
 LATER = re.compile(r"tools/(?:adapt|driver|page|project|rte)")  # whose docstrings aren't complete
 
 
@@ -42,6 +47,8 @@ def faults_of(node: ast.Module | ast.ClassDef | ast.FunctionDef, name: str) -> I
     if isinstance(node, ast.FunctionDef):
         missing = {one for one in raised(node) if one not in said and not (one == "Failure" and "failure" in said)}
         yield from (f"{name}: its docstring doesn't name {one}" for one in sorted(missing) if not is_case(node))
+        if node.returns and ast.unparse(node.returns) in ("int", "float") and said and not UNITS.search(said):
+            yield f"{name}: its docstring doesn't say what its number is of"
         return
     for inner in node.body:
         if isinstance(inner, (ast.ClassDef, ast.FunctionDef)) and not inner.name.startswith("_"):
