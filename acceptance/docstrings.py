@@ -12,6 +12,7 @@ import re
 from collections.abc import Iterator
 
 import programs
+from pages import text_of
 
 UNITS = re.compile(
     r"number|how many|count|status|seconds?|bytes?|percent|column|line|bit|width|moves|place|least|greatest|value",
@@ -62,7 +63,6 @@ def wrong() -> list[str]:
     found = list[str]()
     for pattern in ("tools/**/*.py", "acceptance/**/*.py"):
         for path in sorted(glob.glob(pattern, root_dir=programs.ROOT, recursive=True)):
-            with open(os.path.join(programs.ROOT, path), encoding="utf-8") as file:
-                if not LATER.match(path):
-                    found += faults_of(ast.parse(file.read()), path)
+            if not LATER.match(path):
+                found += faults_of(ast.parse(text_of(os.path.join(programs.ROOT, path))), path)
     return found

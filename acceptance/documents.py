@@ -28,6 +28,7 @@ import tempfile
 
 import crates
 import programs
+from pages import text_of
 
 PLACES = ("README.md", "CHANGELOG.md", "docs/*.md", "acceptance/*.md", "bench/*.md")
 FOLDERS = "acceptance|bench|bin|crates|docs|examples|tools"
@@ -37,8 +38,7 @@ def texts():
     """The documents from the top, with what they hold."""
     for place in PLACES:
         for path in sorted(glob.glob(os.path.join(programs.ROOT, place))):
-            with open(path, encoding="utf-8") as file:
-                yield os.path.relpath(path, programs.ROOT), file.read()
+            yield os.path.relpath(path, programs.ROOT), text_of(path)
 
 
 def begun(line):

@@ -13,17 +13,12 @@ import re
 
 import crates
 import programs
+from pages import text_of
 
 MOST = 300
 LABELS = ("Takes", "Gives", "Refuses", "Definition", "Not said")
 CALL = re.compile(r"\bpub fn (\w+)")
 NAME = re.compile(r"`([\w.' /]+)`")
-
-
-def text_of(path: str) -> str:
-    """What a file holds."""
-    with open(path, encoding="utf-8") as file:
-        return file.read()
 
 
 def handed_on(crate: str) -> set[str]:

@@ -5,6 +5,7 @@ import decisions
 import figures
 import proved
 import releases
+from pages import text_of
 
 DECISIONS = """# Decisions
 
@@ -101,7 +102,7 @@ def of_releases(folder):
 
 def of_what_is_proved(folder):
     """A section of the page, which loses a call, a definition or a part."""
-    text = proved.text_of(crates.PROVED)
+    text = text_of(crates.PROVED)
     section = dict(crates.sections(text))["sample"]
     yield proved.faults_of("sample", section) == []
     yield "sample_query" in proved.handed_on("sample")

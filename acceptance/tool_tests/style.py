@@ -13,7 +13,7 @@ import programs
 
 RULES = os.path.join(programs.ROOT, "tools", "pyproject.toml")
 TYPED = (
-    "programs.py", "side_by_side.py", "cases.py", "counts.py", "crates.py", "decisions.py", "docstrings.py", "figures.py", "proved.py",
+    "programs.py", "side_by_side.py", "cases.py", "counts.py", "crates.py", "decisions.py", "docstrings.py", "figures.py", "pages.py", "proved.py",
     "releases.py",
 )  # fmt: skip
 ROW = '''"""A text."""
