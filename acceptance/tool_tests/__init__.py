@@ -40,7 +40,7 @@ class Case:
     status: int = 0
     stdout: str | None = ""
     stderr: str | None = ""
-    written: dict[str, str] | None = dataclasses.field(default_factory=lambda: {})
+    written: dict[str, str] | None = dataclasses.field(default_factory=dict[str, str])
     needs: tuple[str, ...] = ()
 
 
