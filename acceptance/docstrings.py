@@ -2,7 +2,7 @@
 
 Each module, and each class, function and method without `_` before its name, has a docstring with a sentence. One that raises an
 error of its own names it, or says `failure` of a Failure; one that gives a number says of what, or in which unit. Cases of
-tests, which take a folder or a tree alone, have their names for that.
+tests, which take a folder or a tree alone and yield what is right, have their names for that.
 """
 
 import ast
@@ -22,8 +22,10 @@ LATER = re.compile(r"tools/(?:adapt|driver|page|project|rte)")  # whose docstrin
 
 
 def is_case(node: ast.AST) -> bool:
-    """Whether a definition is a case of tests."""
-    return isinstance(node, ast.FunctionDef) and [one.arg for one in node.args.args] in (["folder"], ["tree"])
+    """Whether a definition is a case of tests: it takes a folder or a tree of files, and yields what is right."""
+    if not isinstance(node, ast.FunctionDef) or [one.arg for one in node.args.args] not in (["folder"], ["tree"]):
+        return False
+    return any(isinstance(one, (ast.Yield, ast.YieldFrom)) for one in ast.walk(node))
 
 
 def raised(node: ast.FunctionDef) -> set[str]:

@@ -282,6 +282,7 @@ def expression(chance, depth):
 
 
 def text_of(tree):
+    """The text of an expression, each operator in brackets."""
     if isinstance(tree, str):
         return tree
     return f"!({text_of(tree[1])})" if tree[0] == "!" else f"({text_of(tree[1])} {tree[0]} {text_of(tree[2])})"
@@ -302,6 +303,7 @@ def evaluated(tree, values, leaves):
 
 
 def count(tree):
+    """How many leaves an expression has."""
     return 1 if isinstance(tree, str) else sum(count(part) for part in tree[1:])
 
 

@@ -20,7 +20,8 @@ TYPED = (
 ROW = '''"""A text."""
 def bare(): pass
 def _own(): pass
-def case(folder): pass
+def case(folder): yield True
+def helper(folder): pass
 class Open:
     """A class."""
     def shut(self): pass
@@ -34,7 +35,7 @@ def many() -> int:
     """As it is."""
 '''
 FAULTS = [
-    "a:bare has no docstring", "a:Open.shut has no docstring", "a:raises: its docstring doesn't name Fault",
+    "a:bare has no docstring", "a:helper has no docstring", "a:Open.shut has no docstring", "a:raises: its docstring doesn't name Fault",
     "a:many: its docstring doesn't say what its number is of",
 ]  # fmt: skip
 
