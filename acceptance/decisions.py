@@ -15,17 +15,12 @@ import sys
 import textwrap
 
 import programs
-from pages import put, text_of
+from pages import anchor, put, text_of
 
 HOME = os.path.join(programs.ROOT, "docs", "DECISIONS.md")
 INDEX = re.compile(r"(?<=^## The parts\n\n)(?: *- \[.*\n)*", re.MULTILINE)
 FORM = re.compile(r"\n- Context \((\d{4}-\d\d-\d\d)\): \S.*\n- Choice: \S.*\n- Reason: \S.*\n- Would change it: \S.*\n")
 MOST_LINES, COLUMNS = 10, 120
-
-
-def anchor(heading: str) -> str:
-    """The anchor that a page of headings gives to one."""
-    return re.sub(r"[^\w -]", "", heading.lower()).replace(" ", "-")
 
 
 def parts(text: str) -> list[tuple[str, list[tuple[str, str]]]]:

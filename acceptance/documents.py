@@ -9,6 +9,8 @@ by a shell in a copy of the examples, one behind the other, up to the document's
 standard output gets, where something follows. A line `..` stands for any lines. What needs a program that isn't there is left
 out.
 
+A heading that a document refers to, as `PAGE`, "HEADING" or as a link, is there.
+
 A path is a text between backquotes that begins as one from the top of the repository does, or the target of a link. In
 docs/PROVED.md those that begin with specs/ or src/ are of the crate whose section it is. The counts in acceptance/README.md must be
 those that counts.py makes, and those in docs/THEOREM.md those of tools/believed.py; docs/DECISIONS.md
@@ -29,7 +31,7 @@ from collections.abc import Callable, Iterator
 
 import crates
 import programs
-from pages import text_of
+from pages import anchor, text_of
 from side_by_side import Outcome
 
 PLACES = ("README.md", "CHANGELOG.md", "docs/*.md", "acceptance/*.md", "bench/*.md")
@@ -148,6 +150,34 @@ def paths_of_crates(text: str) -> Iterator[str]:
             yield f"crates/{crate}/{path}"
 
 
+def headings(path: str) -> set[str]:
+    """The headings of a page, from the top of the repository; none where there is no such page."""
+    whole = os.path.join(programs.ROOT, path)
+    return set(re.findall(r"^#+ (.*)$", text_of(whole), re.MULTILINE)) if os.path.exists(whole) else set()
+
+
+def references(document: str, text: str) -> Iterator[tuple[str, str]]:
+    """The headings that a document refers to, each with its page: `PAGE`, "HEADING", and ("HEADING") of its own."""
+    for path, heading in re.findall(r'`([\w/]+\.md)`, "([^"]+)"', text):
+        is_whole = os.path.exists(os.path.join(programs.ROOT, path))
+        yield path if is_whole else os.path.join(os.path.dirname(document), path), heading
+    yield from ((document, heading) for heading in re.findall(r'\("([A-Z][^"]+)"\)', text))
+
+
+def wrong_headings(document: str, text: str) -> list[str]:
+    """A line for each heading that a document refers to and that isn't there, and for each link to no heading of its own."""
+    own = set(re.findall(r"^#+ (.*)$", text, re.MULTILINE))
+    wrong = [
+        f'{document}: there is no "{heading}" in {path}'
+        for path, heading in references(document, text)
+        if heading not in (own if path == document else headings(path))
+    ]
+    anchors = set(map(anchor, own))
+    return wrong + [
+        f"{document}: there is no #{one}" for one in re.findall(r"\]\(#([^)]*)\)", text) if one not in anchors
+    ]
+
+
 def is_built(path: str) -> bool:
     """Whether a path is in a folder that rt makes."""
     return "/out/" in path
@@ -167,10 +197,11 @@ def wrong_examples(document: str, text: str) -> Outcome:
 
 
 def wrong_paths(document: str, text: str) -> Outcome:
-    """How many paths a document names, and a line for each that isn't there."""
+    """How many paths and headings a document names, and a line for each that isn't there."""
     named = set(paths(document, text)) | (set(paths_of_crates(text)) if document == "docs/PROVED.md" else set())
     there = {path for path in named if is_built(path) or os.path.exists(os.path.join(programs.ROOT, path))}
-    return len(named), [f"{document}: there is no {path}" for path in sorted(named - there)]
+    lost = [f"{document}: there is no {path}" for path in sorted(named - there)]
+    return len(named) + len(list(references(document, text))), lost + wrong_headings(document, text)
 
 
 def of_counts() -> Outcome:

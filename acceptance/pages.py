@@ -1,6 +1,7 @@
 """How the scripts here read pages of the repository, and write them: whole or not at all."""
 
 import os
+import re
 
 
 def text_of(path: str) -> str:
@@ -14,3 +15,8 @@ def put(path: str, text: str) -> None:
     with open(path + ".new", "w", encoding="utf-8") as file:
         file.write(text)
     os.replace(path + ".new", path)
+
+
+def anchor(heading: str) -> str:
+    """The anchor that a page of headings gives to one."""
+    return re.sub(r"[^\w -]", "", heading.lower()).replace(" ", "-")
