@@ -18,7 +18,7 @@ import sys
 from collections.abc import Iterator
 from typing import IO
 
-from tools import changes, inputs, program, verdicts
+from tools import changes, inputs, program, usage, verdicts
 from tools.asked import Asked, read_sums
 from tools.folder import STEPS, Folder
 from tools.program import Failure
@@ -137,11 +137,10 @@ def jobs(word: str) -> int:
     return int(word)
 
 
-def parser_of_words() -> argparse.ArgumentParser:
-    """The parser of the words of bin/campaign."""
-    parser = argparse.ArgumentParser(
-        prog="campaign", description=__doc__, formatter_class=argparse.RawTextHelpFormatter
-    )
+def parser_of_words() -> usage.Parser:
+    """What reads the words."""
+    done = "each goal is decided, and the gate of --at-least passes"
+    parser = usage.parser("campaign", __doc__, done, "a goal is undecided, or the gate fails")
     parser.add_argument("words", nargs="*", metavar="ENTRY QUERY SOURCE..", help="none where a campaign goes on")
     parser.add_argument("-o", metavar="DIR", dest="folder", required=True, help="the campaign's folder")
     for name, value in DEFAULTS.items():

@@ -14,7 +14,7 @@ import sys
 from collections.abc import Iterator
 
 from tools import graph as graphs
-from tools import inputs, leaving, program, verdicts
+from tools import inputs, leaving, program, usage, verdicts
 from tools.graph import Graph, Letter, Node
 from tools.program import Failure
 from tools.reports import Goal, Input, Report, Run, report_of_json, report_of_text
@@ -54,9 +54,10 @@ def letter_line(faces: Faces, letter: Letter) -> str:
         return f"e{letter.edge.number} {faces.face(letter.edge)}"
     if letter.node:
         return f"n{letter.node.number} {node_line(faces, letter.node)}"
-    if letter.text.startswith("!"):
-        return f"{letter.text[1:]} doesn't hold"
-    return f"{letter.text} holds" if letter.text.startswith("{") else f"a row of steps that match {letter.text}"
+    text = " ".join(letter.text.split())  # (a query may have line breaks)
+    if text.startswith("!"):
+        return f"{text[1:]} doesn't hold"
+    return f"{text} holds" if text.startswith("{") else f"a row of steps that match {text}"
 
 
 def node_line(faces: Faces, node: Node) -> str:
@@ -154,11 +155,11 @@ def is_of(goal: Goal, limits: Limits, mark: str) -> bool:
     return bool(goal.verdict) and verdicts.of_word(goal.verdict, limits).mark == mark
 
 
-def words() -> argparse.Namespace:
-    """What the words of bin/explain say."""
-    parser = argparse.ArgumentParser(prog="explain", description=__doc__, formatter_class=argparse.RawTextHelpFormatter)
-    parser.add_argument("what", metavar="WHAT")
-    parser.add_argument("sources", nargs="+", metavar="SOURCE")
+def parser_of_words() -> usage.Parser:
+    """What reads the words."""
+    parser = usage.parser("explain", __doc__, "the goals are told")
+    parser.add_argument("what", metavar="WHAT", help="a query, a file with a report, or - for standard input")
+    parser.add_argument("sources", nargs="+", metavar="SOURCE", help="the sources, in their order")
     parser.add_argument("--entry", default="", help="the function in which runs begin")
     parser.add_argument("--inputs", metavar="FILE", help="the inputs of the runs")
     parser.add_argument(
@@ -167,6 +168,11 @@ def words() -> argparse.Namespace:
         help="goals of this verdict alone; of refuted ones those that aren't unreachable",
     )
     parser.add_argument("--steps", type=program.in_range("steps"), metavar="N", help="as for runs")
+    return parser
+
+
+def words() -> argparse.Namespace:
+    parser = parser_of_words()
     given = parser.parse_intermixed_args()
     if given.inputs and not given.entry:
         parser.error("--inputs needs --entry")

@@ -13,7 +13,7 @@ import sys
 from collections.abc import Iterator, Sequence
 
 from tools import graph as graphs
-from tools import naming, program
+from tools import naming, program, usage
 from tools.program import Failure
 from tools.reports import ENDS, Input, Report, Run, input_of, number, report_of_json, report_of_text
 
@@ -173,16 +173,21 @@ def named_text(inputs: list[Input], entry: str, sources: list[str]) -> str:
     return "[" + ",\n ".join(json.dumps(one, ensure_ascii=False) for one in told) + "]\n"
 
 
-def words() -> argparse.Namespace:
-    """What the words of bin/inputs say; a form that needs an entry and hasn't one ends it with status 2 and a line."""
-    parser = argparse.ArgumentParser(prog="inputs", description=__doc__, formatter_class=argparse.RawTextHelpFormatter)
-    parser.add_argument("files", nargs="+", metavar="FILE")
+def parser_of_words() -> usage.Parser:
+    """What reads the words."""
+    parser = usage.parser("inputs", __doc__, "the inputs are written")
+    parser.add_argument("files", nargs="+", metavar="FILE", help="a report, a trace file, or a file of inputs")
     parser.add_argument("-o", metavar="OUT", dest="out", help="the file that is written; else standard output")
     parser.add_argument("--to", choices=FORMS, help="the form; else lines where they are enough, or JSON")
     parser.add_argument("--suite", action="store_true", help="of a report, the inputs of its suite alone")
     parser.add_argument("--entry", help="for traces and names: the function in which runs begin")
     parser.add_argument("--source", action="append", default=[], help="for traces and names: a source, in their order")
     parser.add_argument("--ends", choices=ENDS, default="returned", help="for traces: the ends of runs that count")
+    return parser
+
+
+def words() -> argparse.Namespace:
+    parser = parser_of_words()
     given = parser.parse_intermixed_args()
     if given.to in ("traces", "named") and not (given.entry and given.source):
         parser.error(f"--to {given.to} needs --entry and --source")

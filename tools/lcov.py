@@ -15,7 +15,7 @@ from collections.abc import Iterator
 from dataclasses import dataclass, field
 
 from tools import graph as graphs
-from tools import inputs, leaving, program
+from tools import inputs, leaving, program, usage
 from tools.explain import report_of
 from tools.graph import Edge, Graph
 from tools.program import Failure
@@ -174,19 +174,23 @@ def left_out(given: argparse.Namespace, graph: Graph, runs: list[Run]) -> LeftOu
     return LeftOut(edges, why, f"# what is refuted within {bounds} is left out: --bounds-are-enough\n")
 
 
-def words() -> argparse.Namespace:
-    """What the words of bin/lcov say; options that can't go together end it with status 2 and a line."""
-    parser = argparse.ArgumentParser(prog="lcov", description=__doc__, formatter_class=argparse.RawTextHelpFormatter)
-    parser.add_argument("entry", metavar="ENTRY")
-    parser.add_argument("inputs", metavar="INPUTS")
-    parser.add_argument("sources", nargs="+", metavar="SOURCE")
+def parser_of_words() -> usage.Parser:
+    """What reads the words."""
+    parser = usage.parser("lcov", __doc__, "the tracefile is written")
+    parser.add_argument("entry", metavar="ENTRY", help="the function in which runs begin")
+    parser.add_argument("inputs", metavar="INPUTS", help="a file of inputs, in any form that bin/inputs reads")
+    parser.add_argument("sources", nargs="+", metavar="SOURCE", help="the sources, in their order")
     parser.add_argument("-o", metavar="OUT", dest="out", help="the tracefile that is written; else standard output")
     parser.add_argument("--ends", choices=ENDS, default="returned", help="the ends of runs that count")
     parser.add_argument("--steps", type=program.in_range("steps"), metavar="N", help="as for runs")
     parser.add_argument("--refuted", metavar="FILE", help="leaves out what is unreachable by this report")
     enough = "leaves out what the report refutes, though a run may leave its bounds"
     parser.add_argument("--bounds-are-enough", action="store_true", help=enough)
-    return parser.parse_intermixed_args()
+    return parser
+
+
+def words() -> argparse.Namespace:
+    return parser_of_words().parse_intermixed_args()
 
 
 def main() -> int:

@@ -14,7 +14,7 @@ import os
 import sys
 
 from tools import graph as graphs
-from tools import inputs, leaving, program, verdicts
+from tools import inputs, leaving, program, usage, verdicts
 from tools.conditions import Found, Text, json_text
 from tools.decisions import Decision, Decisions
 from tools.folder import STEPS
@@ -74,11 +74,16 @@ def certify(given: argparse.Namespace, all_asked: list[Asked]) -> int:
     return count
 
 
-def words() -> argparse.Namespace:
-    """What the words of bin/mcdc say."""
-    parser = argparse.ArgumentParser(prog="mcdc", description=__doc__, formatter_class=argparse.RawTextHelpFormatter)
-    parser.add_argument("entry", metavar="ENTRY")
-    parser.add_argument("sources", nargs="+", metavar="SOURCE")
+def parser_of_words() -> usage.Parser:
+    """What reads the words."""
+    parser = usage.parser(
+        "mcdc",
+        __doc__,
+        "each condition is decided, and the gate of --at-least passes",
+        "a condition is undecided, or the gate fails",
+    )
+    parser.add_argument("entry", metavar="ENTRY", help="the function in which runs begin")
+    parser.add_argument("sources", nargs="+", metavar="SOURCE", help="the sources, in their order")
     for name, value in BOUNDS.items():
         parser.add_argument(
             f"--{name}", type=program.in_range(name), default=value, metavar="N", help=f"as for generate ({value})"
@@ -94,7 +99,11 @@ def words() -> argparse.Namespace:
     parser.add_argument("--json", action="store_true", help="the report is one line of JSON")
     gate = "the status is 1 where less than P percent of the conditions are covered"
     parser.add_argument("--at-least", type=verdicts.percent, metavar="P", help=gate)
-    return parser.parse_intermixed_args()
+    return parser
+
+
+def words() -> argparse.Namespace:
+    return parser_of_words().parse_intermixed_args()
 
 
 def bounds_of(given: argparse.Namespace, graph: Graph, all_asked: list[Asked]) -> Left:

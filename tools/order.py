@@ -20,7 +20,7 @@ import sys
 from collections.abc import Iterable, Sequence
 from dataclasses import dataclass
 
-from tools import order_items, order_tokens, program
+from tools import order_items, order_tokens, program, usage
 from tools.order_rule import told
 from tools.order_tree import Unit
 from tools.program import Failure
@@ -131,16 +131,22 @@ def restriction(entry: str, sources: Sequence[str], query: str | None, ends: str
     return f"C leaves the order of evaluation open at {places[0]} ({told_of[0].kind}){more}"
 
 
-def parsed() -> argparse.Namespace:
-    """What the words of bin/order say."""
-    parser = argparse.ArgumentParser(prog="order", description=__doc__, formatter_class=argparse.RawTextHelpFormatter)
-    parser.add_argument("entry", metavar="ENTRY")
-    parser.add_argument("sources", nargs="+", metavar="SOURCE")
+def parser_of_words() -> usage.Parser:
+    """What reads the words."""
+    parser = usage.parser(
+        "order", __doc__, "nothing is told: each order of evaluation gives the same", "places are told"
+    )
+    parser.add_argument("entry", metavar="ENTRY", help="the function in which runs begin")
+    parser.add_argument("sources", nargs="+", metavar="SOURCE", help="the sources, in their order")
     parser.add_argument("--ends", choices=ENDS, default="returned", help="as for generate: which runs count")
     parser.add_argument("--query", default="", help="a query, whose predicates watch the variables that they read")
     parser.add_argument("--watch", action="append", default=[], metavar="NAME", help="a variable that is watched")
     parser.add_argument("--json", action="store_true", help="one line of JSON")
-    return parser.parse_intermixed_args()
+    return parser
+
+
+def parsed() -> argparse.Namespace:
+    return parser_of_words().parse_intermixed_args()
 
 
 def main() -> int:

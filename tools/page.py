@@ -1,7 +1,7 @@
 """bin/page: shows reports as one HTML file: the sources with a mark at each goal, and what each goal is.
 
 A REPORT is a report of `measure` or `generate` (text or JSON), one of `mcdc` as JSON, of which each condition is a goal, or the
-folder of a campaign; the last two have all that is needed. For a report the sources are named by --source; with --entry the page also has the paths of its inputs (--inputs for a report of
+folder of a campaign; the last two have all that is needed. The folder of bin/rte is a page of its own. For a report the sources are named by --source; with --entry the page also has the paths of its inputs (--inputs for a report of
 `measure`), and says whether a refuted goal is unreachable, by `bounds`; with --query it has the commands that write and check the
 certificate of a refuted goal.
 """
@@ -15,7 +15,7 @@ import subprocess
 from collections import Counter
 
 from tools import graph as graphs
-from tools import page_tabs, program, verdicts
+from tools import page_rte, page_tabs, program, usage, verdicts
 from tools.graph import Edge
 from tools.page_data import Page, folded, worst
 from tools.program import Failure
@@ -96,9 +96,10 @@ def page_text(page: Page) -> str:
     )  # fmt: skip
 
 
-def words() -> argparse.Namespace:
-    parser = argparse.ArgumentParser(prog="page", description=__doc__, formatter_class=argparse.RawTextHelpFormatter)
-    parser.add_argument("reports", nargs="+", metavar="REPORT")
+def parser_of_words() -> usage.Parser:
+    """What reads the words."""
+    parser = usage.parser("page", __doc__, "the page is written")
+    parser.add_argument("reports", nargs="+", metavar="REPORT", help="a report, or a campaign's folder")
     parser.add_argument("-o", metavar="FILE", dest="out", required=True, help="the page that is written")
     parser.add_argument("--source", action="append", default=[], help="a source, in their order")
     parser.add_argument("--entry", default="", help="the function in which runs begin")
@@ -109,6 +110,11 @@ def words() -> argparse.Namespace:
         help="the query of the report; of several reports one each, in their order",
     )
     parser.add_argument("--inputs", metavar="FILE", help="the inputs of a report of measure")
+    return parser
+
+
+def words() -> argparse.Namespace:
+    parser = parser_of_words()
     given = parser.parse_intermixed_args()
     if len(given.query) not in (0, len(given.reports)):
         parser.error(
@@ -119,6 +125,10 @@ def words() -> argparse.Namespace:
 
 def main() -> int:
     given = words()
+    if any(page_rte.is_folder(name) for name in given.reports):
+        if len(given.reports) > 1:
+            raise Failure("a folder of bin/rte is a page of its own")
+        return page_rte.write(given.reports[0], given.out)
     queries = given.query or [""] * len(given.reports)
     reports = [shown(name, query, given) for name, query in zip(given.reports, queries)]
     sources, place = reports[0].sources, reports[0].place
