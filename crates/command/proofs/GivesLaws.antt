@@ -50,12 +50,6 @@ module _ (due : Said → Type 0) (names : List Text) where
   gives_told w (Err (fault.Refused x)) none told = (told, none)
   gives_told w (Err fault.Memory) none told = tt
 
-  -- a text in which nothing is left open
-  pub gives_plain : (w : Watched) (a : Result (Vec ℕ) Fault) (r : Result Reply Fault) → MatchResult a (λ text. r ≡ Ok (reply.Answer text false)) (λ f. r ≡ Err f)
-      → IfOk a (λ text. due (answered text.items)) → IfErr a (λ f. IfRefused f (λ x. due (said_by names x))) → IsShownNone w → Gives due names w r
-  gives_plain w (Ok text) r is ok err none = subst (Gives due names w) (sym is) ([], ok, shown_nothing w none)
-  gives_plain w (Err f) r is ok err none = subst (Gives due names w) (sym is) (gives_refused w f err none)
-
 -- what holds of what is answered tells another thing of it
 pub ok_tells : {T E : Type 0} (r : Result T E) (P Q : T → Type 0) → IfOk r P → ((x : T) → P x → Q x) → IfOk r Q
 ok_tells (Ok x) P Q p tells = tells x p

@@ -1,0 +1,4 @@
+pub mod Bodies
+pub mod Calling
+pub mod Law
+pub mod Units
