@@ -111,6 +111,7 @@ def report(folder, name="d"):
 
 
 def program(folder, *words):
+    """How the program ends in a folder."""
     return subprocess.run([programs.LAUNCHER, *words], cwd=folder, capture_output=True, text=True)
 
 
