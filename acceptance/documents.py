@@ -27,6 +27,7 @@ import tempfile
 
 import crates
 import programs
+import tool_tests
 
 PLACES = ("README.md", "CHANGELOG.md", "docs/*.md", "acceptance/*.md", "bench/*.md")
 FOLDERS = "acceptance|bench|bin|crates|docs|examples|tools"
@@ -96,9 +97,15 @@ def matches(due, got):
     return not due or re.fullmatch(pattern, got) is not None
 
 
+def can_run(line):
+    """Whether what an example's line needs is there."""
+    adapts = "/adapt " in line or "adapted/" in line
+    return ("/campaign " not in line or shutil.which("parallel")) and (not adapts or all(map(tool_tests.is_there, ("pycparser", "gcc"))))
+
+
 def wrong_tool_examples(text):
     """How many examples of tools a document has, and a line for each that isn't as it says."""
-    runs = [run for run in tool_examples(text) if "/campaign " not in run[1] or shutil.which("parallel")]
+    runs = [run for run in tool_examples(text) if can_run(run[1])]
     wrong = []
     with tempfile.TemporaryDirectory() as kept:
         if runs:

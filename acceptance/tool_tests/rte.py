@@ -55,6 +55,25 @@ int f(int x, unsigned char y) {
   return s + a[y & 3];
 }
 """
+# the same in a declaration, in the head of a loop, and in a condition
+IN_OTHER_FORMS = """int a[4] = {2, 3, 4, 5};
+int h(int y) {
+  return a[y & 3];
+}
+int f(int x, unsigned char y) {
+  int s = 8 / x + h(y);
+  if (a[y & 3] > 1) {
+    for (int i = 8 % y + h(y); i < 3; i++) {
+      s += a[i & 3];
+    }
+    s += a[y & 1];
+  }
+  if (7 / (y - 3) > h(y)) {
+    s += a[y & 2];
+  }
+  return s + a[y & 3];
+}
+"""
 VALUE = "int g = 1;\nint h(void) {\n  g = 5;\n  return 1;\n}\nint f(unsigned char y) {\n  int k = g + h();\n  return 8 / (y + 1) + k;\n}\n"
 ENDS = "int deep(int n) {\n  return deep(n);\n}\nint f(int x) {\n  assume(x != 3);\n  return x == 5 ? deep(x) : 0;\n}\n"
 SHARED = "int f(int x, int y) {\n  return 4 / x + 6 % y;\n}\n"
@@ -208,6 +227,18 @@ def bounds_that_are_left(folder):
     yield lines[-1] == "rows 1: 1 never within the bounds" and not os.path.exists(os.path.join(folder, "d", "bounds.cert"))
 
 
+def an_order_restricts_its_statement(folder):
+    """Also where it is a declaration, the head of a loop or a condition; the whole loop and the whole `if` are its statement."""
+    put(folder, {"a.c": IN_OTHER_FORMS})
+    run(folder, ["rte", "f", "a.c", "-o", "d"])
+    rows = {row["place"].removeprefix("a.c:"): row for row in report(folder)["rows"]}
+    fails, within = {"6:13", "8:20", "13:9"}, {"3:11", "9:13", "14:11"}
+    yield {place for place, row in rows.items() if row["verdict"] == "fails"} == fails
+    yield {place for place, row in rows.items() if row["verdict"] == "never within the bounds"} == within
+    yield {place for place, row in rows.items() if row["verdict"] == "never"} == {"7:8", "11:11", "16:15"}
+    yield rows["9:13"]["why"] == "C leaves the order of evaluation open at a.c:8:18 (strict)"
+
+
 def any_ends(folder):
     """With any ends an assume that fails and a call that is too deep are told too."""
     put(folder, {"a.c": ENDS})
@@ -238,7 +269,8 @@ def operations_of_one_step(folder):
     yield first[0].startswith("a.c:2:12: fails: one of division 4 / x, remainder 6 % y (a.c:2:20): trapped zero-divisor by ")
     second = run(folder, ["rte", "f", "b.c", "-o", "e"]).stdout.splitlines()
     yield second[0].startswith("b.c:3:12: fails: division 4 / x: trapped zero-divisor by the input args 0")
-    yield second[1] == "b.c:3:19: open: index t[y & 3]: another operation of the same step fails"
+    yield second[1] == "  to repeat it: e/failures 1"
+    yield second[2] == "b.c:3:19: open: index t[y & 3]: another operation of the same step fails"
 
 
 # ---- which operation is done at which node: each line has an input, by hand, that ends at the operation whose mark is told
@@ -323,6 +355,6 @@ def each_trap_has_its_operation(folder):
 
 TRIED = [(GRAPH, wrong_words), (GRAPH, planted_faults_are_red), (("graph", "gcc"), gcc_says_the_same),
          (GRAPH, certificates_stand_alone), (GRAPH, a_folder_goes_on), (GRAPH, an_input_that_is_wrong_isnt_told),
-         (GRAPH, bounds_that_are_left), (GRAPH, any_ends), (GRAPH, a_budget_that_is_spent),
+         (GRAPH, bounds_that_are_left), (GRAPH, an_order_restricts_its_statement), (GRAPH, any_ends), (GRAPH, a_budget_that_is_spent),
          (GRAPH, operations_of_one_step), (GRAPH, operations_have_their_nodes),
          (GRAPH, each_trap_has_its_operation)]  # fmt: skip
