@@ -228,15 +228,15 @@ def bounds_that_are_left(folder):
 
 
 def an_order_restricts_its_statement(folder):
-    """Also where it is a declaration, the head of a loop or a condition; the whole loop and the whole `if` are its statement."""
+    """Also where it is a declaration, the begin of a loop or a condition; of an `if` the whole is the statement."""
     put(folder, {"a.c": IN_OTHER_FORMS})
     run(folder, ["rte", "f", "a.c", "-o", "d"])
     rows = {row["place"].removeprefix("a.c:"): row for row in report(folder)["rows"]}
-    fails, within = {"6:13", "8:20", "13:9"}, {"3:11", "9:13", "14:11"}
+    fails, within = {"6:13", "8:20", "13:9"}, {"3:11", "14:11"}
     yield {place for place, row in rows.items() if row["verdict"] == "fails"} == fails
     yield {place for place, row in rows.items() if row["verdict"] == "never within the bounds"} == within
-    yield {place for place, row in rows.items() if row["verdict"] == "never"} == {"7:8", "11:11", "16:15"}
-    yield rows["9:13"]["why"] == "C leaves the order of evaluation open at a.c:8:18 (strict)"
+    yield {place for place, row in rows.items() if row["verdict"] == "never"} == {"7:8", "9:13", "11:11", "16:15"}
+    yield rows["14:11"]["why"] == "C leaves the order of evaluation open at a.c:13:7 (strict)"
 
 
 def any_ends(folder):
