@@ -145,7 +145,7 @@ def install(prefix: str) -> int:
     for name in ("fshell", *NAMES):
         copy(os.path.join(ROOT, "bin", name), os.path.join(at["scripts"], name))
         link(f"../lib/fshell/bin/{name}", os.path.join(at["bin"], name if name == "fshell" else f"fshell-{name}"))
-    for folder, kept, endings in (("tools", "tools", (".py", ".html", ".css", ".h")), ("docs", "doc", (".md",))):
+    for folder, kept, endings in (("tools", "tools", (".py", ".html", ".css", ".h", ".c")), ("docs", "doc", (".md",))):
         copy_tree(os.path.join(ROOT, folder), at[kept], endings)
     for name, page in pages.items():
         put(page, os.path.join(at["man"], f"{name}.1"))
