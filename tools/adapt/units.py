@@ -241,6 +241,7 @@ class Units(Checks):
 
     def prototype(self, function: Function, item: Any) -> None:
         wanted = function.calls and (function.definition is not None or isinstance(function.result, Int))
+        wanted = wanted and not (model_of(function) or heap_call(function))
         if (
             function.name in ("assert", "assume")
             or not wanted

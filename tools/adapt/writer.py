@@ -171,13 +171,19 @@ class Writer:
         constant or a variable of its own."""
         if self.places.is_raw(place):
             return self.raw.index(place, stable or kept)
-        whole: Optional[Value] = Value("0", kinds.INT, PRIMARY) if place.variable.home == "column" else None
+        column, tests = place.variable.home == "column", []
+        whole: Optional[Value] = Value("0", kinds.INT, PRIMARY) if column else None
         self.unsequenced(place.indexes[0][0] if place.indexes else None, [node for node, _ in place.indexes])
         for node, length in place.shifted():
             one = self.value(node)
             if stable or (self.check and len(place.indexes) > 1):
                 one = self.steady(node, one)
             known = self.constants.value(node)
+            inner = length > 1 and (whole is not None and (number(whole) != 0 or not self.alone(place, length)))
+            if inner and not self.check and not self.below(node, one, length):
+                wide = "unsigned long" if one.kind.bits == 64 else "unsigned int"
+                text = one.within(UNARY) if not one.kind.signed else f"({wide}) {one.within(UNARY)}"
+                tests.append(unmarked(f"{text} >= {length}"))
             if length == 1 or (whole is not None and whole.text.isdecimal()):
                 whole = plus(times(whole, length), one) if whole is not None else one
                 continue
@@ -189,9 +195,33 @@ class Writer:
             else:
                 text = f"{whole.within(10)} * {length} + {one.within(10)}"
                 whole = Value(text, kinds.common(whole.kind, one.kind), 9, calls=whole.calls or one.calls)
+        if tests and whole is not None:
+            text = " | ".join([whole.within(4), *(f"-({one})" for one in tests)])
+            whole = Value(text, kinds.INT if whole.kind.bits < 64 else whole.kind, 3, calls=whole.calls)
         if kept and whole is not None and any(self.constants.value(node) is None for node, _ in place.indexes):
             whole = Value(self.temporary(kinds.promoted(whole.kind), whole.text, "index"), whole.kind, PRIMARY)
         return whole
+
+    @staticmethod
+    def alone(place: Place, length: int) -> bool:
+        """Whether an array is all that its column has."""
+        of = place.variable.type
+        return isinstance(of, kinds.Array) and of.length == length and not place.path and len(place.indexes) == 1
+
+    def below(self, node: Any, value: Value, length: int) -> bool:
+        """Whether an index is one of the array's at all events."""
+        known = self.constants.value(node)
+        if known is not None:
+            return 0 <= known < length
+        if not value.kind.signed and not value.kind.boolean and 1 << value.kind.bits <= length:
+            return True
+        if isinstance(node, c_ast.BinaryOp) and node.op in "&%":
+            ends = [self.constants.value(one) for one in (node.left, node.right)]
+            if node.op == "&":
+                return any(one is not None and 0 <= one < length for one in ends)
+            of = self.constants.type_of(node)
+            return isinstance(of, Int) and not of.signed and ends[1] is not None and 0 < ends[1] <= length
+        return False
 
     @staticmethod
     def kind_at(place: Place) -> kinds.Type:
