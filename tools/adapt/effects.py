@@ -153,6 +153,12 @@ class Effected:
             return
         for index, _ in place.indexes:
             found.add(self.of(index))
+        for index, _ in place.inside:
+            found.add(self.of(index))
+        if place.view is not None and place.view.index is not None:
+            found.add(self.of(place.view.index))
+        if place.variable.is_input:
+            found.writes[OUTSIDE] = True
         if read:
             found.add(Effects({one: False for one in objects(place)}))
         if written:

@@ -99,6 +99,8 @@ class Expressions(Assignments):
         if not isinstance(place.type, Int):
             what = {Array: "an array", Pointer: "a pointer"}.get(type(place.type), "a struct")
             raise Refused(node.coord, f"{what} stands where an integer is needed", "name an element or a member")
+        if place.variable.is_input:
+            return Value(f"{self.at(node)}{place.variable.out}()", place.type, PRIMARY, calls=True)
         if place.view is not None:
             return self.part(place, self.leaf(place)[0])
         text, calls = self.leaf(place)

@@ -85,6 +85,7 @@ class Names(Declarators):
             self.variables.append(made)
             if home == "file":
                 self.linked[key] = made
+        made.volatile = made.volatile or "volatile" in (node.quals or []) or "volatile" in self.quals(node.type)
         made.defined = made.defined or "extern" not in node.storage or node.init is not None
         self.scope[node.name] = made
         if node.init is not None:

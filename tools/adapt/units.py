@@ -27,6 +27,7 @@ class Units(Checks):
 
     def write(self) -> dict[str, File]:
         self.files: dict[str, File] = {}
+        self.registers: list[Variable] = []
         self.done: set[Any] = set()
         self.uses = self.first_uses()
         self.write_columns()
@@ -105,6 +106,10 @@ class Units(Checks):
             early = self.uses.get(meaning, len(self.names.items) + 1) < self.defined_at(meaning)
             if meaning.defined and (early or self.defined_at(meaning) == number) and self.once(meaning):
                 self.variable(meaning, False, self.defined_at(meaning) == number)
+            elif meaning.is_input and not self.places.columns.in_column(meaning):
+                if meaning in self.uses and self.once(meaning):
+                    self.registers.append(meaning)
+                    self.emit(f"{meaning.type.text} {meaning.out}(void);")  # type: ignore[union-attr]
             elif not meaning.defined and meaning in self.uses and self.once(meaning):
                 self.check_type(meaning)
                 raise Refused(item.coord, f"no source defines {meaning.name}", "give the source that defines it")
