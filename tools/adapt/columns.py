@@ -72,6 +72,7 @@ class Columns:
         owners: list[Owner] = [*region.objects, *self.inner.get(region, [])]
         for owner in owners:
             count, each = self.pool(owner, region) if owner in self.pools else self.extent(owner)
+            end = -(-end // 8) * 8 if region.raw else end  # (as aligned as their objects are, so that a test of it tells the same)
             self.begins[(region, owner)] = end
             end += count + 1
             objects += each
@@ -143,6 +144,10 @@ class Columns:
         if not isinstance(of, Pointer):
             raise Refused(node.coord, "what is no pointer", "use a pointer")
         return of
+
+    def number(self, region: Region) -> int:
+        """The number of a region among all."""
+        return self.regions.index(region) if region in self.regions else len(self.regions)
 
     def in_column(self, variable: Variable) -> bool:
         """Whether the whole of a variable lies in a column."""

@@ -96,6 +96,7 @@ class Declarators:
         self.function: Optional[Function] = None
         self.structs: list[Struct] = []
         self.named_members: set[str] = set()
+        self.initialised: list[Type] = []  # types of objects that have lists of first values
         self.pool = (4, 16)  # the slots of a call of malloc, and the elements of one whose number isn't constant
         self.scope: ChainMap[str, Any] = ChainMap()
         self.tags: ChainMap[str, Any] = ChainMap()

@@ -126,7 +126,7 @@ def written(given: argparse.Namespace, refusals: Refusals, apart: set[Any]) -> t
                 Jumps(flag, refusals).function(item.body, {getattr(one, "name", "") or "" for one in listed})
         taken.update(node.name for node in walk(unit.tree) if isinstance(node, c_ast.ID))
         names.unit(unit)
-    settle(names.structs, names.named_members)
+    settle(names.structs, names.named_members, names.initialised)
     places = Places(names)
     Bindings(places, apart).bind()
     places.columns = Columns(names, apart)

@@ -88,6 +88,8 @@ class Names(Declarators):
         made.volatile = made.volatile or "volatile" in (node.quals or []) or "volatile" in self.quals(node.type)
         made.defined = made.defined or "extern" not in node.storage or node.init is not None
         self.scope[node.name] = made
+        if isinstance(node.init, c_ast.InitList):
+            self.initialised.append(of)
         if node.init is not None:
             made.init = node.init
             self.initialiser(node.init)
@@ -235,6 +237,9 @@ class Names(Declarators):
             self.types[id(node)] = self.type_of(node.type)
         elif isinstance(node, c_ast.InitList):
             self.initialiser(node)
+        elif isinstance(node, c_ast.CompoundLiteral):
+            self.children(node)
+            self.initialised.append(self.types[id(node.type)])
         else:
             self.children(node)
 

@@ -111,6 +111,9 @@ class States:
             of = of.type
         return [c_ast.Assignment("=", c_ast.ID(node.name, at), init, at)]
 
+    def flat_Label(self, node: Any) -> list[Any]:
+        return self.flat(node.stmt)  # (nothing goes to it)
+
     def flat_Compound(self, node: Any) -> list[Any]:
         for at, one in enumerate(node.block_items or []):
             if isinstance(one, c_ast.Decl) and one.name:
