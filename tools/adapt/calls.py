@@ -48,7 +48,7 @@ class Calls(ModelCalls, OutsideCalls):
         if heap_call(function):
             return self.heap.freed(node) if function.name == "free" else self.pointer(node)[INDEX].text, []
         if function.definition is None:
-            return self.outer_call(node, function), []
+            return self.outer_call(node, function)
         given = arguments(node)
         if len(given) != len(function.parameters) and not function.variadic:
             raise Refused(
@@ -198,7 +198,8 @@ class Calls(ModelCalls, OutsideCalls):
             self.emit(f"{self.at(node)}{function.name}({self.value(arguments(node)[0]).text});")
             return
         if function.definition is None and function.name in OUTPUT:
-            self.outer_call(node, function)
+            for one in self.outer_call(node, function)[1]:
+                self.emit(one)
             return
         text, after = self.call(node)
         if function.definition is not None or isinstance(function.result, Int) or model_of(function) or heap_call(function):

@@ -5,6 +5,7 @@ from typing import Any, Optional
 
 from pycparser import c_ast
 
+from .changed import changed
 from .constants import is_offset
 from .kinds import Array, Int, Pointer, Struct, leaves
 from .declarators import Function, Variable
@@ -175,6 +176,8 @@ class Effected:
                 return
             if not isinstance(function, Function) or function.name not in ("assert", "assume"):
                 found.writes[OUTSIDE] = True
+            for place in changed(self.places, node, function, self.inputs):
+                found.add(Effects({}, {one: True for one in objects(place)}))
             return
         if self.places.choosers.targets(function) is not None:
             found.add(self.of(node.name))

@@ -42,8 +42,9 @@ def text_of(writer: Units, source: str, made: list[str], entry: str, given: str)
     function = next((one for one in writer.names.functions if one.name == entry and one.definition is not None), None)
     if function is None or not plain(function):
         raise Stop(f"{entry} is no function of the source that takes integers alone and gives one or nothing")
-    if writer.registers or writer.heap.asked:
+    if writer.registers or writer.heap.asked or writer.outer_values:
         what = f"{writer.registers[0].name} is" if writer.registers else "whether malloc fails is"
+        what = f"what {next(iter(writer.outer_values))[0].name} writes is" if writer.outer_values else what
         raise Stop(f"{what} an input of what was written alone, so the original can't be tested by its inputs")
     read, runs = inputs.runs_of(entry, given, made)
     heads = "".join(answering(writer, one, "fshell_answer()") for one in undefined(writer))

@@ -42,7 +42,8 @@ class Units(Checks):
             with self.names.refusals.gathered():
                 self.item(item, number)
         front, end = written(self, self.places.choosers)
-        outer = [self.heading(one) + ";" for one in self.names.functions if self.is_outer(one)]
+        gives = [f"{text} {name}(void);" for (_, text), name in self.outer_values.items()]
+        outer = [*gives, *(self.heading(one) + ";" for one in self.names.functions if self.is_outer(one))]
         made = [(self.begin[1], text) for text in [*outer, *self.heap.front(), *self.raw.front(), *front, *(text for _, text in self.written_models.values())]]
         if end:
             last = self.files.setdefault(self.names.items[-1][0].path, File(self.names.items[-1][0].path))

@@ -11,6 +11,7 @@ from .jumps import walk
 from .heap import Heap, heap_call
 from .kinds import Int, Leaf, Struct
 from .large import LargeArrays
+from .changed import changed
 from .declarators import Function, Variable
 from .names import Names
 from .output import File, mark, unmarked
@@ -40,6 +41,8 @@ class Writer:
         self.heap = Heap(self)
         self.large = LargeArrays(spelling.fresh)
         self.raw = Raw(self)
+        self.inputs: set[str] = set()
+        self.outer_values: dict[tuple[Function, str], str] = {}  # the inputs that objects get by functions that no source defines
         self.outer_used: set[Function] = set()  # whose values are used
 
     def value(self, node: Any) -> Value:
@@ -100,7 +103,7 @@ class Writer:
             called = self.places.choosers.called(node)
             if not isinstance(called, Function):
                 return False
-            if heap_call(called):
+            if heap_call(called) or changed(self.places, node, called, self.inputs):
                 return True
             several = isinstance(called.result, kinds.Pointer) and len(called.result.region.parts()) > 1
             return several or bool(self.outs(called)) or isinstance(called.result, Struct)
