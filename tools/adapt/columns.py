@@ -3,6 +3,7 @@
 from typing import Any, Optional, Union
 
 from . import kinds
+from .clones import learn
 from .declarators import Variable
 from .heap import bytes_asked, call_key, heap_call
 from .kinds import Array, Path, Pointer, Type
@@ -26,6 +27,7 @@ class Columns:
                 names.refusals.apart.add(call_key(node, heap.pop()))
             for target in targets:
                 target.calls.append((caller, node))
+        learn(names, self.points, names.refusals.apart)
         self.begins: dict[tuple[Region, Owner], int] = {}
         self.counts: dict[Region, Optional[int]] = {}
         self.inner: dict[Region, list[tuple[Region, str]]] = {}

@@ -92,6 +92,7 @@ def written(given: argparse.Namespace, refusals: Refusals, apart: set[Any]) -> t
     from .bindings import Bindings
     from .cases import Cases
     from .choosers import Choosers
+    from .clones import Clones
     from .columns import Columns
     from .effects import Effected
     from .gate import check
@@ -115,6 +116,7 @@ def written(given: argparse.Namespace, refusals: Refusals, apart: set[Any]) -> t
     def flag(stem: str) -> str:
         return next(name for name in (f"{stem}_{n}" for n in numbers) if name not in taken)
 
+    Clones(units, apart, flag)
     Library(units, taken)
     names = Names(refusals)
     names.pool = given.pool
