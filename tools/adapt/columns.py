@@ -103,7 +103,8 @@ class Columns:
             return self.points.count(of, self.points.home(owner)), 1
         outer, name = owner
         of = outer.elem.type_of(name)
-        count = self.lay_out(outer) if outer.pointed else sum(self.extent(one)[0] for one in outer.objects)
+        owners: list[Owner] = [*outer.objects, *self.inner.get(outer, [])]
+        count = self.lay_out(outer) if outer.pointed else sum(self.extent(one)[0] for one in owners)
         return count * self.points.count(of, outer.member(name, kinds.element(of))), count
 
     def column(self, region: Region, count: int, alone: Optional[Variable]) -> None:

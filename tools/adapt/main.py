@@ -83,6 +83,10 @@ def adapt(given: argparse.Namespace, refusals: Refusals) -> tuple[dict[str, str]
         tried = Refusals()
         texts, writer = written(given, tried, apart)
         if not tried.apart - apart:
+            copies = {one for one in apart if one[0] in ("copied", "direct")}
+            if tried.found and copies:  # (told in the words of the sources)
+                tried = Refusals()
+                written(given, tried, apart - copies)
             refusals.found |= tried.found
             return texts, writer
         apart |= tried.apart
