@@ -214,6 +214,11 @@ class Calls(ModelCalls, OutsideCalls):
         if isinstance(source, c_ast.TernaryOp):
             self.either(source, lambda one: self.assign_whole(target, one, node))
             return
+        if isinstance(source, c_ast.ExprList):
+            for one in source.exprs[:-1]:
+                self.effect(one)
+            self.assign_whole(target, source.exprs[-1], node)
+            return
         if sum(leaf.count for leaf in kinds.leaves(target.type)) > MOST_COPIED:
             raise Refused(node.coord, f"a struct of more than {MOST_COPIED} integers is copied", "copy what is needed")
         self.unsequenced(node, [c_ast.ExprList([one for one, _ in target.indexes]), source])
@@ -225,6 +230,22 @@ class Calls(ModelCalls, OutsideCalls):
         for (_, to), (_, of) in zip(self.integers(target, index), values):
             for one, value in zip(to, of):
                 self.emit(f"{one} = {value};")
+
+    def kept_whole(self, node: Any) -> Any:
+        """A member of a struct that is no object (6.5.2.3p3), as one of an object that is written before and has it."""
+        if isinstance(node, (c_ast.StructRef, c_ast.ArrayRef)):
+            base = self.kept_whole(node.name)
+            if isinstance(node, c_ast.ArrayRef):
+                return c_ast.ArrayRef(base, node.subscript, node.coord)
+            return c_ast.StructRef(base, ".", node.field, node.coord)
+        of = self.constants.type_of(node)
+        local = Variable("whole", of, node.coord, "local", out=self.spelling.fresh("whole"))
+        self.declared(local)
+        self.assign_whole(Place(local, (), (), of), node, node)
+        made = c_ast.ID(local.out, node.coord)
+        self.names.meaning[id(made)] = local
+        self.kept_nodes.append(made)
+        return made
 
     def whole(self, source: Any, target: Place) -> tuple[Place, Optional[Value]]:
         """The object in which a struct's value stands."""

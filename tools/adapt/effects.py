@@ -151,6 +151,8 @@ class Effected:
         try:
             place = self.places.place(node)
         except Refused:
+            for _, child in node.children():
+                found.add(self.of(child))
             return
         for index, _ in place.indexes:
             found.add(self.of(index))

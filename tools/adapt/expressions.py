@@ -15,6 +15,7 @@ from .refusals import Refused
 from .initialisers import Part
 from .places import At
 from .regions import INDEX, NIL
+from .writer import is_no_object
 from .values import LEVELS, PRIMARY, UNARY, Known, Value
 
 
@@ -95,6 +96,8 @@ class Expressions(Assignments):
         return self.read(node)
 
     def read(self, node: Any) -> Value:
+        if is_no_object(node):
+            node = self.kept_whole(node)
         place = self.places.place(node)
         if not isinstance(place.type, Int):
             what = {Array: "an array", Pointer: "a pointer"}.get(type(place.type), "a struct")

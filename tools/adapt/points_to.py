@@ -126,6 +126,9 @@ class PointsTo(Unification):
         if isinstance(node, c_ast.FuncCall):
             of = self.constants.type_of(node)
             return of, Region(of)
+        if isinstance(node, (c_ast.ExprList, c_ast.Assignment, c_ast.TernaryOp)):
+            parts = [node.iftrue] if isinstance(node, c_ast.TernaryOp) else [node.exprs[-1] if isinstance(node, c_ast.ExprList) else node.lvalue]
+            return self.place(parts[0])
         raise Refused(node.coord, "what is no named object", "use a variable")
 
     def member(self, of: Any, region: Region, name: str, node: Any) -> tuple[Type, Region]:

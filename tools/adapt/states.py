@@ -167,20 +167,33 @@ class States:
             return
         if isinstance(declared.type, c_ast.FuncDecl) or "extern" in declared.storage:
             return
-        again = [one for one in nodes if isinstance(one, c_ast.Decl) and one.name == name and one is not declared]
-        if again:
-            raise Refused(again[0].coord, f"{name} is declared again, in a function with goto back", "give it another name")
         other = self.fresh(name)
         self.own.add(other)
-        fields = {id(one.field) for one in nodes if isinstance(one, c_ast.StructRef)}
-        for one in nodes:
-            if isinstance(one, c_ast.ID) and one.name == name and id(one) not in fields:
-                one.name = other
         declared.name = other
+        self.rename(scope, name, other)
         of = declared.type
         while not isinstance(of, c_ast.TypeDecl):
             of = of.type
         of.declname = other
+
+    def rename(self, nodes: list[Any], name: str, other: str) -> None:
+        """Renames what a name stands for in some statements of one block, up to where the block declares it anew."""
+        for node in nodes:
+            listed = node.decls if isinstance(node, c_ast.DeclList) else [node]
+            if any(isinstance(one, c_ast.Decl) and one.name == name for one in listed):
+                return
+            if isinstance(node, c_ast.For) and isinstance(node.init, c_ast.DeclList):
+                if any(one.name == name for one in node.init.decls):
+                    continue
+            if isinstance(node, c_ast.ID):
+                node.name = other if node.name == name else node.name
+            elif isinstance(node, c_ast.StructRef):
+                self.rename([node.name], name, other)
+            elif isinstance(node, c_ast.Compound):
+                self.rename(list(node.block_items or []), name, other)
+            else:
+                for _, child in node.children():
+                    self.rename([child], name, other)
 
     def flat_If(self, node: Any) -> list[Any]:
         behind, end = self.label(), self.label()

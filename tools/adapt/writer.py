@@ -24,6 +24,16 @@ from .values import PRIMARY, UNARY, Value, number, plus, times
 ORDER = "C leaves open whether {} is read or written first; use two statements"
 
 
+def is_no_object(node: Any) -> bool:
+    """Whether an expression is a member of a struct that a call, a comma, a choice or an assignment gives."""
+    if not isinstance(node, (c_ast.ArrayRef, c_ast.StructRef)):
+        return False
+    member = False
+    while (isinstance(node, c_ast.StructRef) and node.type == ".") or isinstance(node, c_ast.ArrayRef):
+        member, node = member or isinstance(node, c_ast.StructRef), node.name
+    return member and isinstance(node, (c_ast.FuncCall, c_ast.ExprList, c_ast.TernaryOp, c_ast.Assignment))
+
+
 class Writer:
     """Writes one function into a file. `check` asks for a test of each index of an array in an array."""
 
@@ -39,6 +49,7 @@ class Writer:
         self.model_words: dict[str, str] = {}
         self.needing: dict[int, tuple[Any, bool]] = {}
         self.heap = Heap(self)
+        self.kept_nodes: list[Any] = []  # (so that no other node gets their ids)
         self.large = LargeArrays(spelling.fresh)
         self.raw = Raw(self)
         self.inputs: set[str] = set()
@@ -107,6 +118,8 @@ class Writer:
                 return True
             several = isinstance(called.result, kinds.Pointer) and len(called.result.region.parts()) > 1
             return several or bool(self.outs(called)) or isinstance(called.result, Struct)
+        if is_no_object(node):
+            return True
         stepped = isinstance(node, c_ast.UnaryOp) and node.op in STEPS
         return stepped or isinstance(node, (c_ast.Assignment, c_ast.ExprList, c_ast.CompoundLiteral))
 
