@@ -15,10 +15,11 @@ import subprocess
 from collections import Counter
 
 from tools import graph as graphs
-from tools import page_tabs, program, usage, verdicts
+from tools import page_tabs, program, progress, usage, verdicts
 from tools.graph import Edge
 from tools.page_data import Page, folded, worst
 from tools.program import Failure
+from tools.progress import Progress
 from tools.shown import shown
 from tools.sources import Faces
 from tools.verdicts import Verdict
@@ -89,9 +90,14 @@ def page_text(page: Page) -> str:
     errors = page_tabs.errors(page)
     shown_tabs = {"sources": "Sources"} | {name: TABS[name] for name, rows in tables.items() if rows}
     shown_tabs |= {"errors": f"Run-time errors ({len(errors)})"} if errors is not None else {}
+    with progress.shown(Progress("page: pictures of functions", len(used))) as tell:
+        pictures = {}
+        for function in used:
+            pictures[function] = picture(page, function)
+            tell.step(function)
     return template.render(
         page=page, verdicts=BARS, signs=SIGNS, tally=tally, kinds=sorted({goal["k"] for goal in page.goals}), folded=folded,
-        worst=worst, pictures={function: picture(page, function) for function in used}, data=page.data(),
+        worst=worst, pictures=pictures, data=page.data(),
         tabs=shown_tabs, decisions=tables["mcdc"], requirements=tables["requirements"], errors=errors,
     )  # fmt: skip
 

@@ -34,7 +34,7 @@ class Progress:
         self.stream, self.now = stream or sys.stderr, now
         self.begun = now()
         self.is_terminal = self.stream.isatty()
-        self.shown = self.begun if not self.is_terminal else self.begun - ON_TERMINAL
+        self.shown = self.begun if not self.is_terminal else self.begun - 2 * ON_TERMINAL
         self.is_shown = False
         self.lock = threading.RLock()
 
@@ -48,6 +48,10 @@ class Progress:
             self.done, self.told = done, told
             self.total = self.total if total is None else total
             self.tick()
+
+    def of_total(self, done: int, total: int) -> None:
+        """So many parts are done, of so many."""
+        self.at(done, self.told, total)
 
     def tick(self) -> None:
         """Shows how far it is, where the last time is long enough ago."""
@@ -84,9 +88,8 @@ class Progress:
 
 
 @contextlib.contextmanager
-def of(what: str, total: int) -> Iterator[Progress]:
-    """Progress that is taken away at the end, and that ticks by itself, so that the time goes on while a part takes long."""
-    made = Progress(what, total)
+def shown(made: Progress) -> Iterator[Progress]:
+    """Shows progress until the end, where it is taken away; it ticks by itself, so that the time goes on while a part takes long."""
     over = threading.Event()
 
     def ticking() -> None:
