@@ -13,6 +13,7 @@ from tools.program import Failure
 from tools.reports import Goal, Input
 from tools.shown import Shown, commands, paths
 from tools.sources import Faces
+from tools.syntax import Coloured
 from tools.verdicts import Tally, Verdict
 
 LONGEST_NAME = 40
@@ -187,10 +188,11 @@ class Page:
 
     # ---- the sources
 
-    def lines(self, name: str) -> Iterator[tuple[int, str, list[tuple[str, list[dict[str, Any]]]]]]:
-        """Each line of a source: its number, the verdict that it shows if any, and its parts, each with the goals that are
-        marked before it."""
+    def lines(self, name: str) -> Iterator[tuple[int, str, list[tuple[list[tuple[str, str]], list[dict[str, Any]]]]]]:
+        """Each line of a source: its number, the verdict that it shows if any, and its parts, each as pieces with their colours,
+        and with the goals that are marked before it."""
         source = self.faces.own(name)
+        coloured = Coloured(source.text)
         columns: dict[int, dict[int, list[int]]] = {}
         for (file, line, column), goals in self.places.items():
             if file == name:
@@ -201,8 +203,8 @@ class Page:
             parts = []
             for at, end in zip(starts, starts[1:] + [len(text)]):
                 goals = marks.get(at + 1, []) + (marks.get(0, []) if at == 0 else [])
-                words = text[at:end].encode("latin-1").decode("utf-8", "replace")
-                parts.append((words, [{**self.goals[goal], "at": goal} for goal in goals]))
+                pieces = [(decoded(words), kind) for words, kind in coloured.cut(number, text, at, end)]
+                parts.append((pieces, [{**self.goals[goal], "at": goal} for goal in goals]))
             states: set[Verdict] = {self.goals[goal]["t"] for of_column in marks.values() for goal in of_column}
             yield number, worst(states).mark if states else "", parts
 
@@ -210,6 +212,11 @@ class Page:
         """How many goals of a file have which verdict."""
         numbers = [goal for place, goals in self.places.items() if place[0] == name for goal in goals]
         return verdicts.tally(self.goals[number]["t"] for number in numbers)
+
+
+def decoded(text: str) -> str:
+    """A text of bytes as UTF-8 has it."""
+    return text.encode("latin-1").decode("utf-8", "replace")
 
 
 def pairs(given: Input, parameters: list[str], asked: list[str]) -> list[list[Any]]:
