@@ -16,6 +16,7 @@ import programs
 import side_by_side
 
 SECONDS = programs.SECONDS
+PACKAGES = ("jinja2", "pycparser", "yaml", "jsonschema")  # of Python
 EXAMPLES = os.path.join(programs.ROOT, "examples")
 
 
@@ -81,7 +82,7 @@ def is_there(need):
     """Whether something is there that cases need: the program's command graph, a Python package, or a command."""
     if need == "graph":
         return "Usage" not in subprocess.run([programs.LAUNCHER, "graph", "/no"], capture_output=True, text=True).stderr
-    return importlib.util.find_spec(need) is not None if need in ("jinja2", "pycparser") else shutil.which(need) is not None
+    return importlib.util.find_spec(need) is not None if need in PACKAGES else shutil.which(need) is not None
 
 
 def tried(function):
