@@ -77,6 +77,7 @@ TABLE = [
 
 
 def run(words, folder):
+    """How the program ends in a folder: its status and both texts."""
     ended = subprocess.run([programs.program(), *words], cwd=folder, stdin=subprocess.DEVNULL, capture_output=True, text=True, timeout=programs.SECONDS)
     return ended.returncode, ended.stdout, ended.stderr
 
@@ -120,10 +121,12 @@ class Tried:
                       for chunk in self.chunks(self.inputs) for line in self.of(chunk, "runs", "--steps", "400", "f").splitlines()]
 
     def chunks(self, inputs):
+        """Inputs in rows that one call takes."""
         return [inputs[at:at + CHUNK] for at in range(0, len(inputs), CHUNK)]
 
     def of(self, chunk, *words, after=()):
-        """What the program says of some inputs, whose file stands behind these words."""
+        """What the program says of some inputs, whose file stands behind these words. Raises ValueError where the
+        program answers another thing."""
         with open(os.path.join(self.folder, "all.json"), "w", encoding="ascii") as file:
             json.dump([{"args": words, "answers": answers} for words, answers in chunk], file)
         status, said, err = run([*words, "all.json", "p.c", *after], self.folder)
@@ -132,6 +135,7 @@ class Tried:
         return said
 
     def leaves(self, number, bounds):
+        """Whether an input, by its number, needs more than bounds have."""
         return any(need > most for need, most in zip(self.needs[number], bounds))
 
     def first_hits(self, bounds, query, ends):
@@ -148,6 +152,7 @@ class Tried:
 
 
 def options(bounds):
+    """The options for bounds of turns, frames and answers."""
     return [word for name, value in zip(("--turns", "--frames", "--answers"), bounds) for word in (name, str(value))]
 
 
@@ -207,4 +212,5 @@ def of_program(program):
 
 
 def parts():
+    """The programs, a part each."""
     return [functools.partial(of_program, program) for program in TABLE]

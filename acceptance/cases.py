@@ -75,6 +75,7 @@ def instances(case: Case) -> list[Case]:
 
 
 def make_files(folder: str, files: dict[str, Any]) -> None:
+    """Writes the files of a case into a folder; one may be a folder."""
     for name, content in files.items():
         path = os.path.join(folder, name)
         if isinstance(content, dict) and content.get("folder"):

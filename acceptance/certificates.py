@@ -144,6 +144,7 @@ def is_drat(folder, text):
 
 
 def run(program, folder, words):
+    """How a program ends in a folder: its status and both texts."""
     done = subprocess.run([program, *words], cwd=folder, stdin=subprocess.DEVNULL, capture_output=True, text=True, timeout=programs.SECONDS)
     return done.returncode, done.stdout, done.stderr
 
@@ -163,6 +164,7 @@ class Written:
         self.write("s.c", case.source)
 
     def write(self, name, text):
+        """Writes a file of the folder."""
         with open(os.path.join(self.folder, name), "w", encoding="ascii") as file:
             file.write(text)
 
@@ -206,5 +208,6 @@ def of_another(case, before):
 
 
 def parts():
+    """The certificates, and each with another one's, a part each."""
     return [functools.partial(of_case, case) for case in CASES] + [
         functools.partial(of_another, case, CASES[place - 1]) for place, case in enumerate(CASES)]

@@ -26,29 +26,37 @@ NUMBERS = ["0", "7", "017", "0x1f", "1u", "2L", "3ull", "'a'", "'\\n'", "4294967
 
 
 class Grammar:
+    """Texts of the grammar of docs/C_PROFILE.md that are drawn, each of its methods the rule of its name."""
+
     def __init__(self, seed):
         self.random = random.Random(seed)
 
     def one(self, of):
+        """One of some things."""
         return self.random.choice(of)
 
     def some(self, make, least=0):
+        """So many things of one rule, none to four beside the least number."""
         return [make() for _ in range(self.one([0, 1, 2, 3, 4]) + least)]
 
     def perhaps(self, make):
+        """A thing of a rule, or nothing."""
         return make() if self.random.random() < 0.5 else ""
 
     def name(self):
+        """A name."""
         return self.one("abcxyz") + self.one(["", "1", "_q"])
 
     # ---- expressions
 
     def choice(self, depth=2):
+        """An expression with `?:`, so deep at most."""
         if depth > 0 and self.random.random() < 0.2:
             return f"{self.level(0, depth - 1)} ? {self.choice(depth - 1)} : {self.choice(depth - 1)}"
         return self.level(0, depth)
 
     def level(self, level, depth):
+        """Operands with the operators of a level."""
         if level == len(INFIX):
             return self.unary(depth)
         parts = [self.level(level + 1, depth)]
@@ -58,12 +66,14 @@ class Grammar:
         return " ".join(parts)
 
     def unary(self, depth):
+        """An operand with signs before it."""
         if depth > 0 and self.random.random() < 0.25:
             mark = self.one(["+", "-", "~", "!", f"({self.one(TYPES)})"])
             return f"{mark} {self.unary(depth - 1)}"
         return self.primary(depth)
 
     def primary(self, depth):
+        """A number, a name, an element, a call or brackets."""
         form = self.one(["number", "name", "element", "call", "parens"]) if depth > 0 else self.one(["number", "name"])
         if form == "number":
             return self.one(NUMBERS)
@@ -78,44 +88,55 @@ class Grammar:
     # ---- declarations
 
     def declarator(self):
+        """A name with its length and first values."""
         length = self.perhaps(lambda: f"[{self.choice(1)}]")
         last = self.perhaps(lambda: ",")
         first = self.one(["", f" = {self.choice(1)}", f" = {{{', '.join(self.some(lambda: self.choice(1), 1))}{last}}}"])
         return self.name() + length + first
 
     def declarators(self):
+        """Declarators up to the `;`."""
         return ", ".join(self.some(self.declarator, 1)) + ";"
 
     def consts(self):
+        """Words `const`, perhaps none."""
         return "const " * self.one([0, 0, 1, 3])
 
     def local(self):
+        """A variable of a block."""
         return f"{self.consts()}{self.one(TYPES)} {self.declarators()}"
 
     # ---- statements
 
     def place(self):
+        """A place that is assigned."""
         return self.name() + self.perhaps(lambda: f"[{self.choice(1)}]")
 
     def simple(self):
+        """An assignment, a step or a call."""
         return self.one([
             f"{self.place()} {self.one(ASSIGN)} {self.choice()}", f"{self.place()}{self.one(['++', '--'])}",
             f"{self.one(['++', '--'])}{self.place()}", f"{self.name()}({', '.join(self.some(self.choice))})"])
 
     def body(self, depth):
+        """Statements and variables."""
         return " ".join(self.some(lambda: self.one([self.local, lambda: self.statement(depth)])()))
 
     def block(self, depth):
+        """A block."""
         return f"{{ {self.body(depth)} }}"
 
     def labels(self):
+        """Labels of a switch."""
         return " ".join(self.some(lambda: self.one([f"case {self.choice(1)}:", "default:"]), 1))
 
     def groups(self, depth):
+        """Groups of a switch."""
         groups = self.some(lambda: f"{self.labels()} {self.statement(depth)} {self.body(depth)}")
         return " ".join(groups) + self.perhaps(lambda: " " + self.labels())
 
     def statement(self, depth):
+        """A statement with others within it, so deep at most."""
         if depth == 0:
             return self.one([";", f"{self.simple()};", "break;", "continue;", "return;", f"return {self.choice()};",
                              f"assert({self.choice()});", f"assume({self.choice()});", "{}"])
@@ -143,10 +164,12 @@ class Grammar:
     # ---- items
 
     def parameter(self):
+        """A parameter."""
         named = self.perhaps(lambda: self.name() + self.perhaps(lambda: f"[{self.choice(1)}]"))
         return f"{self.consts()}{self.one(TYPES)} {named}"
 
     def item(self):
+        """A function, variables or constants."""
         before = " ".join(self.some(lambda: self.one(["static", "const"])))
         form = self.one(["function", "function", "variables", "constants"])
         if form == "variables":
@@ -212,4 +235,5 @@ def tried(numbers):
 
 
 def parts():
+    """The sources, in rows, a part each."""
     return [functools.partial(tried, range(first, min(first + CHUNK, COUNT + 1))) for first in range(0, COUNT + 1, CHUNK)]

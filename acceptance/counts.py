@@ -50,6 +50,7 @@ def rows() -> Iterator[tuple[str, str]]:
 
 
 def table() -> str:
+    """The table of acceptance/README.md, as it is due."""
     return "| Group | How many |\n|---|---|\n" + "".join(f"| {group} | {number} |\n" for group, number in rows())
 
 

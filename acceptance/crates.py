@@ -35,14 +35,17 @@ class Crate:
 
     @property
     def layer(self) -> str:
+        """The layer whose heading stands above it."""
         return self.heading.partition(":")[0]
 
     @property
     def is_of_tests(self) -> bool:
+        """Whether it has tests, or what they share."""
         return self.name.endswith("_tests") or self.name.startswith("test_")
 
 
 def text_of(path: str) -> str:
+    """What a file holds."""
     with open(path, encoding="utf-8") as file:
         return file.read()
 
@@ -127,11 +130,13 @@ def wrong() -> Iterator[str]:
 
 
 def tried() -> tuple[int, list[str]]:
+    """How many things were looked at, and a line for each that is wrong."""
     found = list(wrong())
     return max(1, len(found)), found
 
 
 def parts() -> list[Callable[[], tuple[int, list[str]]]]:
+    """One part, of all."""
     return [tried]
 
 

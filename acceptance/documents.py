@@ -11,8 +11,9 @@ out.
 
 A path is a text between backquotes that begins as one from the top of the repository does, or the target of a link. In
 docs/PROVED.md those that begin with specs/ or src/ are of the crate whose section it is. The counts in acceptance/README.md must be
-those that counts.py makes, and those in docs/THEOREM.md those of tools/believed.py; so must the
-index of docs/DECISIONS.md, by decisions.py.
+those that counts.py makes, and those in docs/THEOREM.md those of tools/believed.py; docs/DECISIONS.md
+must have the form and the index of decisions.py and docs/PROVED.md the form and the names of proved.py; the sums in
+bench/RESULTS.md must be right (figures.py), and CHANGELOG.md has releases (releases.py).
 """
 
 import functools
@@ -157,17 +158,22 @@ def wrong_paths(document, text):
 
 
 def of_counts():
+    """How many made parts of pages were looked at, and a line for each that is another one."""
     import counts  # which reads this module
     import decisions
+    import figures
+    import proved
+    import releases
 
     sys.path.insert(0, programs.ROOT)
     from tools import believed
 
-    wrong = counts.wrong() + decisions.wrong() + believed.wrong()
+    wrong = counts.wrong() + decisions.wrong() + figures.wrong() + proved.wrong() + releases.wrong() + believed.wrong()
     return max(1, len(wrong)), wrong
 
 
 def of_tools(document, text):
+    """How many examples of tools a document has, and a line for each that isn't as it says."""
     count, wrong = wrong_tool_examples(text)
     return count, [f"{document}: {line}" for line in wrong]
 

@@ -76,6 +76,7 @@ def of_json(report, counted):
 
 
 def run(words, folder):
+    """How the launcher ends: its status and both texts."""
     ended = subprocess.run([programs.LAUNCHER, *words], cwd=folder, stdin=subprocess.DEVNULL, capture_output=True, timeout=programs.SECONDS)
     return ended.returncode, ended.stdout.decode(), ended.stderr.decode()
 
@@ -116,4 +117,5 @@ def replayed(case, words, report):
 
 
 def parts():
+    """The measurements, a part each."""
     return [functools.partial(replayed, *measurement) for measurement in measurements()]

@@ -28,7 +28,7 @@ MOST = "1000000"
 
 
 def said(words, folder):
-    """The lines of an answer, which must have the status 0."""
+    """The lines of an answer, which must have the status 0. Raises ValueError where the program refuses them."""
     ended = subprocess.run([programs.program(), *words], cwd=folder, stdin=subprocess.DEVNULL, capture_output=True, text=True, timeout=programs.SECONDS)
     if ended.returncode or ended.stderr:
         raise ValueError(f"{words[:4]} ends with {ended.returncode}, {ended.stderr!r}")
@@ -36,7 +36,7 @@ def said(words, folder):
 
 
 def by_trees(steps, entry, inputs, sources, folder):
-    """The end of each input by the trees, in order."""
+    """The end of each input by the trees, in order. Raises ValueError for other lines than one an input."""
     lines = said(["trees", "--steps", str(steps), entry, inputs, "--", *sources], folder)
     ends = [re.fullmatch(r"input (\d+) (.+)", line) for line in lines]
     if [end and int(end[1]) for end in ends] != list(range(1, len(lines) + 1)):
@@ -141,4 +141,5 @@ def sources():
 
 
 def parts():
+    """The sources, a part each."""
     return [functools.partial(told, name, differing) for name, differing in sources()]

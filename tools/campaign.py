@@ -162,7 +162,7 @@ def numbers(text: str) -> list[int]:
 
 
 def jobs(word: str) -> int:
-    """How many jobs there are: one at least."""
+    """How many jobs there are: one at least. Raises argparse.ArgumentTypeError for another text."""
     if not word.isdecimal() or int(word) < 1:
         raise argparse.ArgumentTypeError(f"{word} is no number from 1 on")
     return int(word)
@@ -193,6 +193,7 @@ def parser_of_words() -> usage.Parser:
 
 
 def words() -> argparse.Namespace:
+    """What the words of bin/campaign say; words that can't go together end it with status 2 and a line."""
     parser = parser_of_words()
     given = parser.parse_intermixed_args()
     if 0 < len(given.words) < 3:
@@ -267,6 +268,8 @@ def has_parallel() -> bool:
 
 
 def main() -> int:
+    """Does a campaign and answers the exit status, as the module says. Raises Failure where GNU parallel is asked
+    for and isn't there."""
     given = words()
     folder = Folder(given.folder)
     if given.one:

@@ -40,6 +40,7 @@ class Found:
 
     @property
     def is_open(self) -> bool:
+        """Whether some condition or outcome is undecided."""
         return self.tally(self.decisions + self.apart).is_open
 
 

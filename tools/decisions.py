@@ -23,6 +23,7 @@ class Test:
     guards: tuple[Edge, Edge]
 
     def outcomes(self) -> list[Edge]:
+        """Those of its guards that decide the decision."""
         return [guard for guard in self.guards if guard.outcome]
 
 
@@ -59,6 +60,7 @@ class Decision:
 
     @property
     def first(self) -> Edge:
+        """The guard of truth of its first condition, whose place is the decision's."""
         return self.tests[0].guards[0]
 
     def guards(self) -> set[int]:

@@ -30,7 +30,8 @@ def is_query(word: str) -> bool:
 
 
 def report_of(word: str) -> Report:
-    """The report in a file or on standard input; one that isn't read is a failure."""
+    """The report in a file or on standard input; one that isn't read is a failure. Raises Failure; a ValueError of
+    what reads it is told so."""
     try:
         text = (sys.stdin.buffer.read() if word == "-" else program.read(word)).decode()
         if text.startswith("fshell traces 1"):
@@ -53,9 +54,10 @@ def letter_line(faces: Faces, letter: Letter) -> str:
         return f"e{letter.edge.number} {faces.face(letter.edge)}"
     if letter.node:
         return f"n{letter.node.number} {node_line(faces, letter.node)}"
-    if letter.text.startswith("!"):
-        return f"{letter.text[1:]} doesn't hold"
-    return f"{letter.text} holds" if letter.text.startswith("{") else f"a row of steps that match {letter.text}"
+    text = " ".join(letter.text.split())  # (a query may have line breaks)
+    if text.startswith("!"):
+        return f"{text[1:]} doesn't hold"
+    return f"{text} holds" if text.startswith("{") else f"a row of steps that match {text}"
 
 
 def node_line(faces: Faces, node: Node) -> str:
@@ -90,7 +92,7 @@ class Explained:
         self.runs = runs
 
     def goal(self, goal: Goal) -> Iterator[str]:
-        """The lines of a goal."""
+        """The lines of a goal. Raises Failure where the report names an edge or node that the automaton hasn't."""
         verdict = verdicts.of_word(goal.verdict, self.limits) if goal.verdict else ""
         verdict += f" by input {goal.input}" if goal.input else ""
         yield f"goal {goal.number}: {verdict}" if verdict else f"goal {goal.number}:"
@@ -103,7 +105,8 @@ class Explained:
             yield f"  input {goal.input}: {self.inputs[goal.input - 1].told()}"
 
     def run(self, run: Run) -> Iterator[str]:
-        """The line of a run, where it was trapped, blocked or too deep."""
+        """The line of a run, where it was trapped, blocked or too deep. Raises Failure where the run takes an edge
+        that the automaton hasn't."""
         if run.end.split(" ")[0] not in OPENED:
             return
         entry = self.entry or (
@@ -114,6 +117,8 @@ class Explained:
         yield f"input {run.number} {run.end} at {end_line(self.faces, run, entry)}"
 
     def lines(self) -> Iterator[str]:
+        """What is said of the report, a line each: its goals, its runs, and a hint where runs were lost and no
+        inputs are given."""
         for goal in self.report.goals:
             yield from self.goal(goal)
         for run in self.runs:
@@ -167,6 +172,7 @@ def parser_of_words() -> usage.Parser:
 
 
 def words() -> argparse.Namespace:
+    """The words that are given."""
     parser = parser_of_words()
     given = parser.parse_intermixed_args()
     if given.inputs and not given.entry:
@@ -175,6 +181,7 @@ def words() -> argparse.Namespace:
 
 
 def main() -> int:
+    """Explains a report or a query and answers the exit status, as the module says."""
     given = words()
     automaton: Graph = graphs.of_sources(given.sources)
     report = graphs.goals_of(automaton, given.what, given.sources) if is_query(given.what) else report_of(given.what)

@@ -39,12 +39,14 @@ class Folder:
         self.path = path
 
     def at(self, *names: str) -> str:
+        """The path of a file in the folder."""
         return os.path.join(self.path, *names)
 
     # ---- what was asked
 
     def begin(self, asked: Asked, given: list[Input]) -> None:
-        """Makes the folder of a campaign, or goes on with the same one."""
+        """Makes the folder of a campaign, or goes on with the same one. Raises Failure where it is another
+        campaign's."""
         before = self.asked() if os.path.exists(self.at("campaign.json")) else None
         if before and before.differs(asked):
             raise Failure(
@@ -99,6 +101,7 @@ class Folder:
             raise Failure(f"{self.at('campaign.json')} isn't a campaign's") from None
 
     def given(self) -> list[Input]:
+        """The inputs with which the campaign began."""
         return inputs.of_file(self.at("given.json"))
 
     def clean(self) -> None:
@@ -143,7 +146,8 @@ class Folder:
         return {goal.number for goal in made.goals if goal.verdict == "refuted"} if made else set()
 
     def found(self) -> dict[int, Input]:
-        """The input of each goal for which one was found; a file that isn't whole is removed."""
+        """The input of each goal for which one was found; a file that isn't whole is removed. Its ValueError doesn't
+        come out."""
         known = {}
         for goal in self.numbers("found"):
             path = self.at("found", str(goal))
@@ -171,6 +175,7 @@ class Folder:
         return len(certificates) + len(self.numbers("found")) + len(self.numbers("open"))
 
     def certificate(self, goal: int) -> str:
+        """The path of a goal's certificate, by its number from 1."""
         return self.at("certificates", f"{goal}.cert")
 
     def refuted(self, asked: Asked) -> list[int]:
@@ -178,6 +183,8 @@ class Folder:
         return [goal for goal in self.numbers("certificates", ".cert") if self.is_checked(asked, goal)]
 
     def is_checked(self, asked: Asked, goal: int) -> bool:
+        """Whether a goal's certificate is accepted by `check`, or was with the sum that is noted; one that isn't
+        accepted is removed."""
         path, noted = self.certificate(goal), self.at("certificates", f"{goal}.sum")
         if os.path.exists(noted) and program.read(noted).decode().strip() == sum_of(path):
             return True
@@ -213,7 +220,8 @@ class Folder:
     # ---- one goal
 
     def decide_all(self, goals: list[int]) -> None:
-        """Has goals decided one after the other; where some aren't, that is told behind the last."""
+        """Has goals decided one after the other; where some aren't, that is told behind the last. The first of the
+        failures is raised then."""
         failures = []
         refuted = self.known_refuted()
         for goal in goals:
@@ -252,7 +260,7 @@ class Folder:
                 os.remove(path)
 
     def keep(self, asked: Asked, goal: int, path: str, status: int, refusal: str) -> None:
-        """Keeps what prove answered of a goal."""
+        """Keeps what prove answered of a goal. Raises Failure where it answered something else."""
         with open(path, "rb") as file:
             line = file.readline(1_000_000).decode()
         if status == program.DONE and line == "fshell certificate 1\n":

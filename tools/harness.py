@@ -106,10 +106,12 @@ def parser_of_words() -> usage.Parser:
 
 
 def words() -> argparse.Namespace:
+    """The words that are given."""
     return parser_of_words().parse_intermixed_args()
 
 
 def main() -> int:
+    """Writes a harness, as the module says; the status is 0."""
     given = words()
     program.check_names(given.sources)
     steps = ["--steps", str(given.steps)] if given.steps else []

@@ -199,6 +199,7 @@ def hints(line: str, words: Sequence[str]) -> Iterator[str]:
 
 
 def main(line: str, words: Sequence[str]) -> int:
+    """Prints a line of hints, where there are some; the status is 0."""
     parts = list(hints(line, words))
     if parts:
         print("fshell: " + " ".join("; ".join(parts).split()))

@@ -51,6 +51,7 @@ def check() -> int:
 
 
 def text_of(*names: str) -> str:
+    """The text of a file of the repository, by the names of its folders."""
     return program.read(os.path.join(ROOT, *names)).decode()
 
 
@@ -62,7 +63,7 @@ def put(text: str, path: str, is_program: bool = False) -> None:
 
 
 def copy(source: str, path: str) -> None:
-    """Copies a file into its place, with its mode."""
+    """Copies a file into its place, with its mode. Raises Failure where it can't be written."""
     try:
         shutil.copy(source, path + ".new")
         os.replace(path + ".new", path)
@@ -92,7 +93,7 @@ def link(target: str, path: str) -> None:
 
 
 def built() -> str:
-    """The path of the program that is installed."""
+    """The path of the program that is installed. Raises Failure where it isn't built."""
     if os.environ.get("FSHELL"):
         return program.program()
     found = subprocess.run([os.path.join(ROOT, "bin", "program")], capture_output=True, text=True, check=False)
@@ -102,7 +103,7 @@ def built() -> str:
 
 
 def folders(prefix: str) -> dict[str, str]:
-    """The folders that are made."""
+    """The folders that are made; a failure where one can't be."""
     names = {"bin": "bin", "lib": "lib/fshell", "scripts": "lib/fshell/bin", "tools": "lib/fshell/tools", "docs": "lib/fshell/docs", "man": "share/man/man1",
              "completion": "share/bash-completion/completions", "doc": "share/doc/fshell"}  # fmt: skip
     found = {name: os.path.join(prefix, path) for name, path in names.items()}
@@ -145,6 +146,7 @@ def install(prefix: str) -> int:
 
 
 def main() -> int:
+    """Installs, or says what is there; the status."""
     done, missing = "all is put there, or is there", "something is missing that tools need (--check)"
     parser = usage.parser("install", __doc__, done, missing)
     parser.add_argument("prefix", nargs="?", metavar="PREFIX", help="such as /usr/local or ~/.local")

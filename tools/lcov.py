@@ -98,6 +98,7 @@ class Totals:
         return numbers
 
     def text(self) -> str:
+        """The counts of lines, functions and branches, those that were hit first."""
         return ", ".join(
             f"{what} {self.hit[what]} of {self.found[what]}" for what in ("lines", "functions", "branches")
         )
@@ -190,10 +191,12 @@ def parser_of_words() -> usage.Parser:
 
 
 def words() -> argparse.Namespace:
+    """The words that are given."""
     return parser_of_words().parse_intermixed_args()
 
 
 def main() -> int:
+    """Writes a tracefile, as the module says; the status is 0."""
     given = words()
     graph = graphs.of_sources(given.sources)
     steps = ["--steps", str(given.steps)] if given.steps else []

@@ -36,6 +36,7 @@ OF_ONE = tuple(f"error {code} " for code in (63, 71, 72, 73, 82))
 
 
 def options(given: argparse.Namespace) -> list[str]:
+    """The options of the program for the bounds that are given."""
     return [word for name in BOUNDS for word in (f"--{name}", str(getattr(given, name)))]
 
 
@@ -111,6 +112,7 @@ def parser_of_words() -> usage.Parser:
 
 
 def words() -> argparse.Namespace:
+    """The words that are given."""
     return parser_of_words().parse_intermixed_args()
 
 
@@ -125,6 +127,8 @@ def bounds_of(given: argparse.Namespace, graph: Graph, all_asked: list[Asked]) -
 
 
 def main() -> int:
+    """Decides all conditions and answers the exit status, as the module says. Raises Failure where there is no
+    decision."""
     given = words()
     graph = graphs.of_sources(given.sources)
     faces = Faces(graph, given.sources)

@@ -46,6 +46,7 @@ class Warned:
 
     @property
     def place(self) -> str:
+        """`FILE:LINE:COLUMN`, the column in bytes from 1, of the token as it stands, also within a macro's line."""
         return f"{self.file}:{self.line}:{self.column}"
 
     def shown(self, sources: Sequence[str]) -> "Warned":
@@ -56,6 +57,7 @@ class Warned:
 
     @property
     def text(self) -> str:
+        """The line of the warning."""
         return f"{self.place}: warning: {self.kind}: {self.why}"
 
 
@@ -79,7 +81,8 @@ def deep() -> None:
 
 
 def unit_of(sources: Sequence[str], folder: str | None = None) -> tuple[Unit, list[order_tokens.Word]]:
-    """The unit of sources that the program accepts, and its tokens."""
+    """The unit of sources that the program accepts, and its tokens. Raises Failure where the program refuses them,
+    or where they can't be read here."""
     program.check_names(sources)
     program.answer(["graph", *sources], folder)
     words = order_tokens.of_sources(sources, folder or ".")
@@ -98,8 +101,8 @@ def warnings(
     watch: Iterable[str] = (),
     folder: str | None = None,
 ) -> list[Warned]:
-    """All that is told of what an entry reaches, in the order of the sources; each place once for each class. Where the query
-    isn't known, its predicates may read anything."""
+    """All that is told of what an entry reaches, in the order of the sources; each place once for each class. Where
+    the query isn't known, its predicates may read anything. Raises Failure as unit_of does."""
     unit, words = unit_of(sources, folder)
     function = unit.functions.get(entry)
     if not function or any(one.length for one in function.parameters):
@@ -149,10 +152,12 @@ def parser_of_words() -> usage.Parser:
 
 
 def parsed() -> argparse.Namespace:
+    """The words that are given."""
     return parser_of_words().parse_intermixed_args()
 
 
 def main() -> int:
+    """Prints the warnings; the status is 1 where there are some."""
     given = parsed()
     told_of = warnings(given.entry, given.sources, given.query, given.ends, given.watch)
     found = [one.shown(given.sources) for one in told_of]

@@ -1,7 +1,7 @@
 """bin/page: shows reports as one HTML file: the sources with a mark at each goal, and what each goal is.
 
 A REPORT is a report of `measure` or `generate` (text or JSON), one of `mcdc` as JSON, of which each condition is a goal, or the
-folder of a campaign; the last two have all that is needed. For a report the sources are named by --source; with --entry the page also has the paths of its inputs (--inputs for a report of
+folder of a campaign; the last two have all that is needed. The folder of bin/rte is a page of its own. For a report the sources are named by --source; with --entry the page also has the paths of its inputs (--inputs for a report of
 `measure`), and says whether a refuted goal is unreachable, by `bounds`; with --query it has the commands that write and check the
 certificate of a refuted goal.
 """
@@ -11,7 +11,7 @@ import os
 from collections import Counter
 
 from tools import graph as graphs
-from tools import page_picture, page_tabs, program, progress, syntax, usage, verdicts
+from tools import page_picture, page_rte, page_tabs, program, progress, syntax, usage, verdicts
 from tools.page_data import Page, folded, worst
 from tools.program import Failure
 from tools.progress import Progress
@@ -88,6 +88,10 @@ def words() -> argparse.Namespace:
 
 def main() -> int:
     given = words()
+    if any(page_rte.is_folder(name) for name in given.reports):
+        if len(given.reports) > 1:
+            raise Failure("a folder of bin/rte is a page of its own")
+        return page_rte.write(given.reports[0], given.out)
     queries = given.query or [""] * len(given.reports)
     reports = [shown(name, query, given) for name, query in zip(given.reports, queries)]
     sources, place = reports[0].sources, reports[0].place

@@ -1,7 +1,9 @@
 """The rows of bin/rte: what is said of each operation that can end a run wrongly."""
 
 import enum
+import os
 from collections import Counter
+from collections.abc import Iterator
 from dataclasses import dataclass, field
 
 from tools.graph import Graph
@@ -33,10 +35,21 @@ class Row:
     end: str = ""
     operations: tuple[Operation, ...] = ()
     goals: tuple[int, ...] = field(default=())
+    folder: str = ""  # of the certificates, where it isn't that of the whole
+    number: int = 0  # of its input, by which the failure is repeated
+    gcc: str = ""  # what gcc's sanitizers say of that run
 
     def line(self) -> str:
         why = f": {self.why}" if self.why else ""
         return f"{self.place}: {self.verdict}: {self.what}{why}"
+
+    def lines(self, folder: str) -> Iterator[str]:
+        """The row's line, and of a failure how it is repeated, and what gcc says of it."""
+        yield self.line()
+        if self.number:
+            yield f"  to repeat it: {os.path.join(folder, 'failures')} {self.number}"
+        if self.gcc:
+            yield f"  gcc: {self.gcc}"
 
     def value(self) -> dict[str, object]:
         """As JSON."""
@@ -45,9 +58,21 @@ class Row:
         value["goals"] = list(self.goals)
         if self.why:
             value["why"] = self.why
+        if self.folder:
+            value["folder"] = self.folder
         if self.input:
+            value |= {"failure": self.number} | ({"gcc": self.gcc} if self.gcc else {})
             value |= {"end": self.end, "input": {"args": list(self.input.args), "answers": list(self.input.answers)}}
         return value
+
+
+def refuted(limits: Limits, is_unreached: bool) -> tuple[Verdict, str]:
+    """The verdict of an operation at which no run within the bounds ends, and why it isn't a better one."""
+    if limits.restriction and limits.suffice:
+        return Verdict.WITHIN, limits.restriction
+    if not limits.make_unreachable:
+        return Verdict.WITHIN, ""
+    return (Verdict.NOT_REACHED if is_unreached else Verdict.NEVER), ""
 
 
 class Rows:
@@ -90,11 +115,7 @@ class Rows:
                 Verdict.OPEN,
                 self.known.open.get(left[0], "its node has no goal") if left else "its node isn't known",
             )
-        if self.limits.restriction and self.limits.suffice:
-            return Verdict.WITHIN, self.limits.restriction
-        if not self.limits.make_unreachable:
-            return Verdict.WITHIN, ""
-        return (Verdict.NOT_REACHED if one.nodes <= self.unreached else Verdict.NEVER), ""
+        return refuted(self.limits, one.nodes <= self.unreached)
 
     def nameless(self) -> list[Row]:
         """A row for each node that is left open though no operation is known there."""

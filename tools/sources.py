@@ -27,6 +27,8 @@ OPENING, CLOSING = "([{", ")]}"
 
 @dataclass(frozen=True)
 class Token:
+    """A token with its first byte in the source and the one behind its last."""
+
     text: str
     start: int
     end: int

@@ -48,6 +48,7 @@ def run(folder, words, **more):
 
 
 def put(folder, files):
+    """Writes files into a folder, by their names."""
     for name, text in files.items():
         os.makedirs(os.path.dirname(os.path.join(folder, name)), exist_ok=True)
         with open(os.path.join(folder, name), "w", encoding="utf-8", newline="") as file:

@@ -58,6 +58,7 @@ def verdicts(folder):
 
 
 def due(known):
+    """The answers that are due of the first goals, so many."""
     return ["refuted within the bounds" if number in REFUTED else "covered" for number in range(1, known + 1)]
 
 

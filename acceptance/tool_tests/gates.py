@@ -146,6 +146,7 @@ def line_breaks_of_a_query_make_no_lines(folder):
     yield not any(line.startswith("goal 2 ") for line in ended.stdout.splitlines())
     told = run(folder, ["explain", query, "a.c"])
     yield told.returncode == 0 and told.stdout.endswith("2 goals\n")
+    yield told.stdout.startswith("goal 1:\n  {x == 0 /* goal 2 refuted e0@a.c:2 */} holds\ngoal 2:\n")
     made = run(folder, ["fshell", "generate", "f", query, "a.c"]).stdout
     put(folder, {"made": made, "json": run(folder, ["fshell", "generate", "--json", "f", query, "a.c"]).stdout})
     yield run(folder, ["explain", "made", "a.c"]).returncode == 2

@@ -12,6 +12,7 @@ GRAPH = ("graph",)
 
 
 def source(condition, statement="if ({}) {{\n    return 1;\n  }}\n  return 0;"):
+    """A function whose statement has a condition."""
     return "int f(int a, int b, int c) {\n  " + statement.format(condition) + "\n}\n"
 
 
@@ -26,6 +27,7 @@ def worked(name, condition, given, lines, total, **more):
 
 
 def goals_of(line):
+    """The line that names the query of a decision on a line."""
     return f"goals of: cover PATHS(INTERSECT(@CONDITIONGRAPH,INTERSECT(@FUNC(f),@LINE({line}))),1)"
 
 

@@ -28,6 +28,7 @@ CHECK = "fshell check f 'cover @CONDITIONEDGE' 3 3.cert never.c --turns 4 --fram
 
 
 def refused(name, words, files, line):
+    """A case of words that are refused, with the line."""
     return Case(f"page: {name}", words, files, 2, "", f"page: {line}\n", needs=PAGE)
 
 

@@ -55,6 +55,7 @@ def project(folder, *words, **more):
 
 
 def report(folder, name="report.json"):
+    """A report of the project: its JSON as a value, or another one's text."""
     with open(os.path.join(folder, DIRECTORY, "report", name), encoding="utf-8") as file:
         return json.load(file) if name.endswith("json") or name.endswith("sarif") else file.read()
 

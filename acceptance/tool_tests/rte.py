@@ -44,15 +44,29 @@ SUFFICE = "the bounds suffice: no run at all leaves them\n"
 LOOP = "int f(int n) {\n  int s = 8;\n  for (int i = 0; i < n; i++) {\n    s = 8 / (i + 1);\n  }\n  return s;\n}\n"
 DEAD = "int f(unsigned char n) {\n  if (n > 300) {\n    return 1 / n;\n  }\n  return 0;\n}\n"
 STRICT = "int a[4];\nint in(void);\nint f(unsigned char x) {\n  if (x < 4) {\n    a[x] = in();\n  }\n  return 0;\n}\n"
+# where x is 0, the body of h may come before the division or not; what stands on other lines doesn't hang on that
+TWO_TRAPS = """int a[4];
+int h(int y) {
+  return a[y & 3];
+}
+int f(int x, unsigned char y) {
+  int s = 9 / (y + 1);
+  s += 8 / x + h(y);
+  return s + a[y & 3];
+}
+"""
+VALUE = "int g = 1;\nint h(void) {\n  g = 5;\n  return 1;\n}\nint f(unsigned char y) {\n  int k = g + h();\n  return 8 / (y + 1) + k;\n}\n"
 ENDS = "int deep(int n) {\n  return deep(n);\n}\nint f(int x) {\n  assume(x != 3);\n  return x == 5 ? deep(x) : 0;\n}\n"
 SHARED = "int f(int x, int y) {\n  return 4 / x + 6 % y;\n}\n"
 
 
 def told(*lines):
+    """Lines as a text."""
     return "".join(line + "\n" for line in lines)
 
 
 def one(name, text, words, status, stdout):
+    """A case of one source."""
     return Case(f"rte: {name}", ["rte", "f", "a.c", "-o", "d", *words], {"a.c": text}, status, stdout, written=None, needs=GRAPH)
 
 
@@ -62,9 +76,16 @@ CASES = [
     one("nothing that can fail", "int f(int x) {\n  return x;\n}\n", [], 0, told(SUFFICE[:-1], "rows 0")),
     one("a constant expression", "int f(int x) {\n  int a[8 / 2];\n  return a[x & 3];\n}\n", [], 0,
         told("a.c:3:11: never: index a[x & 3]", SUFFICE[:-1], "rows 1: 1 never")),
-    one("the order of evaluation", STRICT, [], 1, told(
-        "a.c:5:6: never within the bounds: index a[x]: C leaves the order of evaluation open at a.c:5:5 (strict)",
-        SUFFICE[:-1], "no refuted goal is called unreachable: C leaves the order of evaluation open at a.c:5:5 (strict)",
+    one("an order of evaluation in which nothing fails", STRICT, [], 0,
+        told("a.c:5:6: never: index a[x]", SUFFICE[:-1], "rows 1: 1 never")),
+    one("the order of evaluation of a statement in which something fails", TWO_TRAPS, [], 1, told(
+        "a.c:3:11: never within the bounds: index a[y & 3]: C leaves the order of evaluation open at a.c:7:8 (strict)",
+        "a.c:6:13: never: division 9 / (y + 1)", "a.c:7:10: fails: division 8 / x: trapped zero-divisor by the input args 0 0",
+        "  to repeat it: d/failures 1", "a.c:8:15: never: index a[y & 3]", SUFFICE[:-1],
+        "failures are repeated by gcc -w -fsanitize=undefined -fno-sanitize-recover=all -o d/failures d/failures.c", "rows 4: 2 never, 1 never within the bounds, 1 fails")),
+    one("the order of evaluation on which a value hangs", VALUE, [], 1, told(
+        "a.c:8:12: never within the bounds: division 8 / (y + 1): C leaves the order of evaluation open at a.c:7:11 (value)",
+        SUFFICE[:-1], "no refuted goal is called unreachable: C leaves the order of evaluation open at a.c:7:11 (value)",
         "rows 1: 1 never within the bounds")),
     Case("rte: no such entry", ["rte", "g", "a.c", "-o", "d"], {"a.c": DEAD}, 2, "", "rte: no function is called g\n", needs=GRAPH),
     Case("rte: no such file", ["rte", "f", "no.c", "-o", "d"], {}, 2, "", "rte: no.c: No such file or directory\n", needs=GRAPH),
@@ -84,6 +105,7 @@ def wrong_words(folder):
 
 
 def report(folder, name="d"):
+    """The JSON of a folder."""
     with open(os.path.join(folder, name, "rte.json"), encoding="utf-8") as file:
         return json.load(file)
 

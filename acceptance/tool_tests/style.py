@@ -1,4 +1,5 @@
-"""Layout and types of the Python of tools/ and of the newer modules of acceptance/, by Debian's black, mypy and pyflakes.
+"""Layout and types of the Python of tools/ and of the newer modules of acceptance/, by Debian's black, mypy and pyflakes, and its
+docstrings, by docstrings.py.
 
 pyflakes is asked of all. The modules of acceptance/ that are older have no type hints; `TYPED` has those that are typed.
 """
@@ -7,10 +8,29 @@ import glob
 import os
 import subprocess
 
+import docstrings
 import programs
 
 RULES = os.path.join(programs.ROOT, "tools", "pyproject.toml")
-TYPED = ("side_by_side.py", "cases.py", "counts.py", "crates.py", "decisions.py")
+TYPED = (
+    "programs.py", "side_by_side.py", "cases.py", "counts.py", "crates.py", "decisions.py", "docstrings.py", "figures.py", "proved.py",
+    "releases.py",
+)  # fmt: skip
+ROW = '''"""A text."""
+def bare(): pass
+def _own(): pass
+def case(folder): pass
+class Open:
+    """A class."""
+    def shut(self): pass
+def raises():
+    """Raises."""
+    raise Fault("so")
+def told():
+    """Raises Fault."""
+    raise Fault("so")
+'''
+STRICT = [name for name in TYPED if name not in ("cases.py", "counts.py")]  # those two read modules without types
 
 
 def passes(folder, *words):
@@ -24,6 +44,7 @@ def passes(folder, *words):
 
 def types_are_strict(folder):
     yield passes(folder, "mypy", "--strict", "--config-file", RULES, "tools")
+    yield passes(folder, "mypy", "--strict", "--config-file", RULES, *(os.path.join("acceptance", name) for name in STRICT))
 
 
 def layout_is_black(folder):
@@ -35,9 +56,19 @@ def nothing_is_unused_or_undefined(folder):
     yield passes(folder, "pyflakes3", "tools", "acceptance", os.path.join("acceptance", "run"), *scripts)
 
 
+def what_it_is_for_is_said(folder):
+    """Each docstring that is missing, or doesn't name an error, is printed; so are faults that are put into a small text."""
+    wrong = docstrings.wrong()
+    print(*wrong, sep="\n", end="\n" if wrong else "", flush=True)
+    yield wrong == []
+    tree = docstrings.ast.parse(ROW)
+    yield list(docstrings.faults_of(tree, "a")) == ["a:bare has no docstring", "a:Open.shut has no docstring", "a:raises: its docstring doesn't name Fault"]
+
+
 def first_line(path):
+    """The first line of a file."""
     with open(path, encoding="utf-8") as file:
         return file.readline().strip()
 
 
-TRIED = [(("mypy",), types_are_strict), (("black",), layout_is_black), (("pyflakes3",), nothing_is_unused_or_undefined)]
+TRIED = [((), what_it_is_for_is_said), (("mypy",), types_are_strict), (("black",), layout_is_black), (("pyflakes3",), nothing_is_unused_or_undefined)]

@@ -5,7 +5,7 @@ from typing import Any, Callable, Optional
 
 from pycparser import c_ast
 
-from . import kinds
+from . import kinds, unions
 from .kinds import Array, Int, Struct, Type, fit
 from .refusals import Refused
 
@@ -69,6 +69,11 @@ def number(node: Any) -> tuple[int, Int]:
     raise Refused(node.coord, f"the constant {text} is too large", "use at most 64 bits")
 
 
+def is_offset(node: Any) -> bool:
+    """Whether a call is `offsetof`."""
+    return isinstance(node, c_ast.FuncCall) and isinstance(node.name, c_ast.ID) and node.name.name == "offsetof"
+
+
 class Constants:
     """Values and types, by what names stand for. `place_type` is set where places are known."""
 
@@ -84,7 +89,10 @@ class Constants:
         if isinstance(node, c_ast.StructRef):
             of = self.type_of(node.name)
             of = getattr(of, "to", getattr(of, "of", of)) if node.type == "->" else of
-            return dict(of.members or []).get(node.field.name, kinds.VOID) if isinstance(of, Struct) else kinds.VOID
+            path = unions.found(of, node.field.name)
+            for name in path or []:
+                of = dict(of.members or [])[name]  # type: ignore[union-attr]
+            return of if path else kinds.VOID
         of = self.type_of(node.name if isinstance(node, c_ast.ArrayRef) else node.expr)
         if isinstance(node, c_ast.ArrayRef) and isinstance(of, Int):
             of = self.type_of(node.subscript)
@@ -115,6 +123,9 @@ class Constants:
             return kinds.promoted(left) if node.op in SHIFTS else kinds.common(left, right)
         if isinstance(node, c_ast.TernaryOp):
             left, right = self.type_of(node.iftrue), self.type_of(node.iffalse)
+            if self.value(node.iftrue) == 0 and not isinstance(right, Int):
+                return kinds.adjusted(right)
+            left = kinds.adjusted(left)
             return kinds.common(left, right) if isinstance(left, Int) and isinstance(right, Int) else left
         if isinstance(node, c_ast.Assignment):
             return self.type_of(node.lvalue)
@@ -123,9 +134,18 @@ class Constants:
         if isinstance(node, (c_ast.Cast, c_ast.CompoundLiteral)):
             to: Type = self.names.types.get(id(node.to_type if isinstance(node, c_ast.Cast) else node.type), kinds.VOID)
             return to
-        called = self.names.meaning.get(id(node)) if isinstance(node, c_ast.FuncCall) else None
-        result: Type = called.result if called is not None else kinds.VOID
-        return result
+        if is_offset(node):
+            return kinds.SIZE
+        return self.called(node).result if isinstance(node, c_ast.FuncCall) else kinds.VOID
+
+    def called(self, node: Any) -> Any:
+        """The function, or the type of one, that a call calls."""
+        known = self.names.meaning.get(id(node))
+        if known is not None:
+            return known
+        of = self.type_of(node.name)
+        of = of.to if isinstance(of, kinds.Pointer) else of
+        return of if isinstance(of, kinds.Signature) else kinds.Signature(kinds.VOID, [])
 
     def type_of_unary(self, node: Any) -> Type:
         if node.op == "sizeof":
@@ -135,7 +155,8 @@ class Constants:
         if node.op == "&":
             return kinds.Pointer(self.type_of(node.expr))
         if node.op == "*":
-            return self.place_type(node)
+            of = self.type_of(node.expr)
+            return of if isinstance(of, kinds.Signature) else self.place_type(node)
         of = self.type_of(node.expr)
         return kinds.promoted(of) if isinstance(of, Int) and node.op in "+-~" else of
 
@@ -149,6 +170,22 @@ class Constants:
         if known is None:
             raise Refused(node.coord, "the size isn't known", "write its number")
         return known
+
+    def offset(self, node: Any, of: Type) -> tuple[int, Type]:
+        """Where a member lies in a struct, and its type (7.19p3)."""
+        at, inner = 0, of
+        if isinstance(node, c_ast.StructRef):
+            at, inner = self.offset(node.name, of)
+            node = node.field
+        elif isinstance(node, c_ast.ArrayRef):
+            at, inner = self.offset(node.name, of)
+            known, size = self.value(node.subscript), kinds.size(getattr(inner, "of", inner))
+            if known is not None and size is not None and isinstance(inner, Array):
+                return at + known * size, inner.of
+        own = kinds.offsets(inner) if isinstance(inner, Struct) else {}
+        if not isinstance(node, c_ast.ID) or node.name not in own:
+            raise Refused(node.coord, "an offset that isn't known", "write its number")
+        return at + own[node.name], dict(getattr(inner, "members", None) or [])[node.name]
 
     def length_of(self, init: Any, of: Type) -> int:
         """The length of an array that has none of its own, by its initialiser (6.7.9p22)."""
@@ -183,6 +220,8 @@ class Constants:
             return (fit(one[0], to), to) if one and isinstance(to, Int) else None
         if isinstance(node, c_ast.UnaryOp):
             return self.known_unary(node)
+        if is_offset(node):
+            return self.offset(node.args.exprs[1], self.names.types[id(node.args.exprs[0])])[0], kinds.SIZE
         if isinstance(node, c_ast.TernaryOp):
             test, of = self.known(node.cond), self.type_of(node)
             one = self.known(node.iftrue if test[0] else node.iffalse) if test else None

@@ -101,6 +101,8 @@ class Expressions(Assignments):
         if not isinstance(place.type, Int):
             what = {Array: "an array", Pointer: "a pointer"}.get(type(place.type), "a struct")
             raise Refused(node.coord, f"{what} stands where an integer is needed", "name an element or a member")
+        if place.view is not None:
+            return self.part(place, self.leaf(place)[0])
         text, calls = self.leaf(place)
         if self.kind_at(place) != place.type:  # (as an object of the other sign, 6.5p7)
             return Value(f"{self.at(node)}({place.type.text}) {text}", place.type, UNARY, calls=calls)

@@ -5,6 +5,7 @@ from typing import Any, Callable, Iterator
 
 from pycparser import c_ast
 
+from . import unions
 from .constants import Constants, codes
 from .kinds import Array, Int, Leaf, Other, Path, Pointer, Struct, Type
 from .refusals import Refused
@@ -86,13 +87,18 @@ class Filled:
             return of.of, (spot[0], spot[1] + (at,))
         if isinstance(of, Struct) and at < len(of.members or []):
             name, member = (of.members or [])[at]
-            return member, (spot[0] + (name,), spot[1])
+            if of.union and of.is_parts():
+                raise Refused(init.coord, "a first value of a part of an integer", "assign it")
+            return member, (spot[0] + (of.path_of(name),), spot[1])
         raise Refused(init.coord, "more values than there are members or elements", "leave them out")
 
     def number(self, of: Type, designator: Any) -> int:
         """The number of the element or member that a designator names."""
         if isinstance(of, Struct):
-            return [name for name, _ in of.members or []].index(designator.name)
+            path = unions.found(of, designator.name) or []
+            if len(path) != 1:
+                raise Refused(designator.coord, "a member within one without a name", "give it by its place")
+            return [name for name, _ in of.members or []].index(path[0])
         known = self.constants.value(designator)
         if known is None:
             raise Refused(designator.coord, "a designator that is no constant", "give a number")
@@ -122,7 +128,7 @@ class Filled:
         if one or isinstance(self.constants.type_of(item), Struct):
             self.fill(part, spot, item)
             return taken + 1
-        members = len(part.members or []) if isinstance(part, Struct) else 0
+        members = (1 if part.union else len(part.members or [])) if isinstance(part, Struct) else 0
         count = (part.length or 0) if isinstance(part, Array) else members
         for at in range(count):
             if taken >= len(items) or isinstance(items[taken], c_ast.NamedInitializer):

@@ -41,8 +41,19 @@ def parser_of_words() -> usage.Parser:
         help="a function that no source defines gives an input, or nothing; its arguments don't matter",
     )
     parser.add_argument(
+        "--pool",
+        type=pool,
+        default=(4, 16),
+        metavar="SLOTS[,ELEMENTS]",
+        help="how often each call of malloc gives memory, and how many elements where their number isn't constant (4,16)",
+    )
+    parser.add_argument(
         "--check", action="store_true", help="each index of an array in an array is tested by an assert"
     )
+    overflow = "each signed operation that can overflow is a call of a function of DIR/overflow.h, with an assert"
+    parser.add_argument("--check-overflow", action="store_true", help=overflow)
+    narrowing = "so is each implicit conversion that may lose a value"
+    parser.add_argument("--check-conversions", action="store_true", help=narrowing)
     parser.add_argument(
         "--harness",
         nargs=2,
@@ -57,6 +68,14 @@ def parser_of_words() -> usage.Parser:
 
 def words(given: Optional[list[str]]) -> argparse.Namespace:
     return parser_of_words().parse_args(given)
+
+
+def pool(word: str) -> tuple[int, int]:
+    """How many slots a call of malloc has, and of how many elements."""
+    slots, _, elements = word.partition(",")
+    if not slots.isdecimal() or not (elements or "16").isdecimal() or not 1 <= int(slots) * int(elements or 16) <= 1024:
+        raise argparse.ArgumentTypeError(f"{word} is no SLOTS[,ELEMENTS] of 1 to 1024 elements together")
+    return int(slots), int(elements or 16)
 
 
 def flags_of(given: argparse.Namespace) -> list[str]:
@@ -78,16 +97,20 @@ def adapt(given: argparse.Namespace, refusals: Refusals) -> tuple[dict[str, str]
 
 def written(given: argparse.Namespace, refusals: Refusals, apart: set[Any]) -> tuple[dict[str, str], Any]:
     from .bindings import Bindings
+    from .cases import Cases
+    from .choosers import Choosers
     from .columns import Columns
     from .effects import Effected
     from .gate import check
     from .jumps import Jumps, walk
+    from .library import OUTPUT, Library
     from .names import Names
     from .output import File
+    from .overflow import writer_of
     from .places import Places
     from .reading import read
     from .spelling import Spelling
-    from .units import Units
+    from .unions import settle
     from pycparser import c_ast
 
     units = [read(path, flags_of(given), refusals) for path in given.sources]
@@ -99,26 +122,32 @@ def written(given: argparse.Namespace, refusals: Refusals, apart: set[Any]) -> t
     def flag(stem: str) -> str:
         return next(name for name in (f"{stem}_{n}" for n in numbers) if name not in taken)
 
+    Library(units, taken)
     names = Names(refusals)
+    names.pool = given.pool
     for unit in units:
         for item in unit.tree.ext:
             if isinstance(item, c_ast.FuncDef):
-                Jumps(flag, refusals).function(item.body)
+                Cases(flag).function(item.body)
+                listed = item.decl.type.args.params if item.decl.type.args else []
+                Jumps(flag, refusals).function(item.body, {getattr(one, "name", "") or "" for one in listed})
         taken.update(node.name for node in walk(unit.tree) if isinstance(node, c_ast.ID))
         names.unit(unit)
+    settle(names.structs, names.named_members)
     places = Places(names)
     Bindings(places, apart).bind()
-    places.columns = Columns(names)
-    inputs = set(given.inputs)
+    places.columns = Columns(names, apart)
+    places.choosers = Choosers(names, places.columns)
+    inputs = set(given.inputs) | OUTPUT
     effected = Effected(names, places, inputs)
-    writer = Units(names, places, effected, Spelling(names, taken), given.check)
+    writer = writer_of(given)(names, places, effected, Spelling(names, taken), given.check)
     writer.inputs = inputs
     files = writer.write()
     for path in given.sources:
         files.setdefault(path, File(path))  # (which has no code)
     order = dict.fromkeys(path for unit in units for path in unit.files)
     kept = [path for path in order if path in files and (files[path].pieces or path in given.sources)]
-    texts = {path: files[path].text(lines_of(path)) for path in kept}
+    texts = writer.finished({path: files[path].text(lines_of(path)) for path in kept})
     if not refusals.found:
         check(texts, refusals)
     return texts, writer
@@ -137,7 +166,7 @@ def put(folder: str, texts: dict[str, str]) -> list[str]:
         target = os.path.join(folder, os.path.basename(original))
         if target in paths:
             raise Stop(f"two files are named {os.path.basename(original)}")
-        if os.path.exists(target) and os.path.samefile(target, original):
+        if os.path.exists(target) and os.path.exists(original) and os.path.samefile(target, original):
             raise Stop(f"{target} is the original itself; name another folder (-o)")
         try:
             program.write_whole(target, text.replace(FELL, ""))
@@ -188,6 +217,8 @@ def main(given: Optional[list[str]] = None) -> int:
     refusals = Refusals()
     try:
         program.check_names(asked.sources)
+        if asked.compare and (asked.check_overflow or asked.check_conversions):
+            raise Stop("--compare compares what is written without --check-overflow and --check-conversions")
         print(FIRST, flush=True)
         texts, writer = adapt(asked, refusals)
         if refusals.found:
@@ -196,6 +227,7 @@ def main(given: Optional[list[str]] = None) -> int:
             return 3
         paths = put(asked.out, texts)
         put_map(asked.out, texts, writer)
+        writer.put_table(asked.out)
         print("wrote " + " ".join(paths))
         if asked.harness:
             write_harness(asked, writer, paths)

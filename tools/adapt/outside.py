@@ -43,10 +43,16 @@ class OutsideCalls(PointerEffects):
                     )
                 if not isinstance(argument, c_ast.Constant):
                     self.effect(argument)
-        elif function.parameters or function.variadic or not isinstance(function.result, Int):
-            advice = f"give the source that defines it, or name it (--input {function.name}) where its arguments don't matter and it changes no object"
-            raise Refused(node.coord, f"no source defines {function.name}", advice)
+        else:
+            self.check_outer(function, node.coord)
         return f"{self.at(node)}{function.out}()"
+
+    def check_outer(self, function: Function, coord: Any) -> None:
+        """Refuses a function that no source defines and that is no input function."""
+        named = function.name in self.inputs
+        if (function.parameters or function.variadic) and not named or not isinstance(function.result, Int):
+            advice = f"give the source that defines it, or name it (--input {function.name}) where its arguments don't matter and it changes no object"
+            raise Refused(coord, f"no source defines {function.name}", advice)
 
     def may_change(self, function: Function, number: int, argument: Any) -> bool:
         """Whether a function that no source defines may change an object of these sources by an argument."""

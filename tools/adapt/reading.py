@@ -20,15 +20,52 @@ ERRORS = (
 )
 FOREIGN = {
     "asm": "inline assembly; write what it does in C, or hide it by a macro",
-    "__attribute__": "an attribute; hide it by a macro, with -D '__attribute__(x)='",
     "_Generic": "a generic selection; write the expression that is meant",
     "_Atomic": "an atomic object; use a plain one",
     "_Alignas": "an alignment; leave it out",
     "_Thread_local": "an object of a thread; use a plain one",
     "__int128": "an integer of 128 bits; use two of 64",
     "__typeof__": "typeof; write the type",
-    "__extension__": "an extension of GNU C; write standard C",
 }
+# words of GNU C that say what C's own ones do, or nothing
+PLAIN = {
+    "__extension__": "",
+    "__inline": "inline",
+    "__inline__": "inline",
+    "__const": "const",
+    "__const__": "const",
+    "__volatile": "volatile",
+    "__volatile__": "volatile",
+    "__restrict": "",
+    "__restrict__": "",
+    "__signed": "signed",
+    "__signed__": "signed",
+    "__builtin_offsetof": "offsetof",
+    "_Noreturn": "",
+    "__alignof__": "_Alignof",
+    "__alignof": "_Alignof",
+}
+# attributes that change what a program means, or how its objects are laid out
+TELLING = set(
+    """packed aligned vector_size mode transparent_union alias weakref ifunc constructor destructor cleanup scalar_storage_order
+    ms_struct gcc_struct warn_if_not_aligned copy symver""".split()
+)
+ATTRIBUTE = re.compile(r"\b__attribute(?:__)?\b\s*\(((?:[^()]|\((?:[^()]|\((?:[^()]|\([^()]*\))*\))*\))*)\)")
+RANGE = re.compile(r"\bcase\s+(-?\w+|'[^'\\]')\s*\.\.\.\s*(-?\w+|'[^'\\]')\s*:")
+MOST_CASES = 300
+# builtin functions of the compiler, by what they say in C; the others that have a model stand in models/
+BUILTINS = [
+    "__builtin_expect(e, c)=(e)",
+    "__builtin_constant_p(e)=0",
+    "__builtin_unreachable()=abort()",
+    "__builtin_trap()=abort()",
+]
+BUILTINS += ["__builtin_prefetch(...)=((void) 0)", "__builtin_assume_aligned(p, ...)=(p)", "__builtin_LINE()=__LINE__"]
+BUILTINS += [
+    f"__builtin_{name}={name}"
+    for name in "abort abs labs llabs memcpy memmove memset memcmp memchr strlen strcpy strncpy strcat strncat strcmp strncmp strchr "
+    "strrchr strstr strspn strcspn strpbrk malloc calloc realloc free printf puts putchar isdigit isalpha tolower toupper stpcpy".split()
+]
 SAME_WORD = {"__asm__": "asm", "__asm": "asm", "typeof": "__typeof__"}
 WORDS = re.compile(r'"(?:\\.|[^"\\])*"|\'(?:\\.|[^\'\\])*\'|[A-Za-z_]\w*|[{}]|[^\sA-Za-z_"\'{}]+')
 QUOTED = re.compile(r'"(?:\\.|[^"\\])*"|\'(?:\\.|[^\'\\])*\'')
@@ -83,6 +120,32 @@ def told_errors(path: str, told: str, refusals: Refusals) -> None:
         raise Stop(f"{path} can't be read: {first[0] if first else 'the compiler failed'}")
 
 
+def decoration(inner: str, refusals: Refusals, at: Any) -> str:
+    """An attribute, which is left out; one that changes what the program means is refused."""
+    told = [
+        word.strip("_") for word in re.findall(r"[A-Za-z_]\w*", QUOTED.sub("", inner)) if word.strip("_") in TELLING
+    ]
+    if told:
+        cause = f"the attribute {told[0]}, which changes a layout or a meaning"
+        refusals.add(at, cause, "hide it by a macro, with -D '__attribute__(x)=', where it doesn't matter")
+    return " "
+
+
+def listed(found: "re.Match[str]") -> str:
+    """The cases of a range of them."""
+    ends = [ord(one[1]) if one[0] == "'" else number_of(one) for one in found.groups()]
+    if ends[0] is None or ends[1] is None or not 0 <= ends[1] - ends[0] < MOST_CASES:
+        return found.group()
+    return " ".join(f"case {one}:" for one in range(ends[0], ends[1] + 1))
+
+
+def number_of(text: str) -> Optional[int]:
+    try:
+        return int(text, 0)
+    except ValueError:
+        return None
+
+
 def without_foreign(text: str, refusals: Refusals, at: Any) -> str:
     """A line without assembly and attributes, so that the parser can go on behind them."""
     for word in re.findall(r"[A-Za-z_]\w*", text):
@@ -90,8 +153,11 @@ def without_foreign(text: str, refusals: Refusals, at: Any) -> str:
         if name in FOREIGN:
             cause, advice = FOREIGN[name].split("; ", 1)
             refusals.add(at, cause, advice)
+    text = re.sub(r"\b(?:__\w+|_Noreturn)\b", lambda found: PLAIN.get(found.group(), found.group()), text)
+    text = ATTRIBUTE.sub(lambda found: decoration(found.group(1), refusals, at), text)
+    text = RANGE.sub(listed, text)
     return re.sub(
-        r"\b(__asm__|__asm|asm|__attribute__)\b\s*(volatile|__volatile__|goto)?\s*\((?:[^()]|\((?:[^()]|\([^()]*\))*\))*\)",
+        r"\b(__asm__|__asm|asm)\b\s*(volatile|__volatile__|goto)?\s*\((?:[^()]|\((?:[^()]|\([^()]*\))*\))*\)",
         " ",
         text,
     )
@@ -185,7 +251,7 @@ def read(path: str, flags: list[str], refusals: Refusals) -> Unit:
     judged = run_compiler(path, flags, ["-fsyntax-only", *(f"-Werror={name}" for name in ERRORS)])
     if judged.returncode:
         told_errors(path, judged.stderr, refusals)
-    cut = run_compiler(path, flags, ["-E"])
+    cut = run_compiler(path, flags, ["-E", *(f"-D{one}" for one in BUILTINS)])
     if cut.returncode:
         told_errors(path, cut.stderr, refusals)
         return unit

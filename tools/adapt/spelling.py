@@ -47,7 +47,7 @@ class Spelling:
         key = (base, path)
         self.owners.setdefault(key, variable)
         if key not in self.leaves:
-            words = [one.lstrip("@") for one in path if one != INDEX]
+            words = [one.lstrip("@?") for one in path if one != INDEX]
             self.leaves[key] = self.fresh("_".join(words if not base else (base, *words)), True)
         return self.leaves[key]
 

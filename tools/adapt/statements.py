@@ -81,10 +81,11 @@ class Statements(Expressions):
         variable = self.names.meaning.get(id(node))
         if not isinstance(variable, Variable) or variable.home != "local":
             return
-        fault = kinds.fault_of(variable.type)
+        fault = None if self.places.columns.in_column(variable) else kinds.fault_of(variable.type)
         if fault:
             raise Refused(node.coord, f"{node.name}: {fault[0]}", fault[1])
-        self.check_lengths(variable)
+        if not self.places.columns.in_column(variable):
+            self.check_lengths(variable)
         if node.init is None:
             self.declared(variable)
         elif isinstance(variable.type, Struct) and not isinstance(node.init, c_ast.InitList):

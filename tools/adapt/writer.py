@@ -8,14 +8,17 @@ from pycparser import c_ast
 from . import kinds
 from .effects import STEPS, Effected
 from .jumps import walk
+from .heap import Heap, heap_call
 from .kinds import Int, Leaf, Struct
+from .large import LargeArrays
 from .declarators import Function, Variable
 from .names import Names
 from .output import File, mark, unmarked
 from .places import Place, Places
+from .raw import Raw
 from .refusals import Refused
 from .spelling import Spelling
-from .values import PRIMARY, UNARY, Value, plus, times
+from .values import PRIMARY, UNARY, Value, number, plus, times
 
 ORDER = "C leaves open whether {} is read or written first; use two statements"
 
@@ -36,6 +39,10 @@ class Writer:
         self.written_models: dict[Any, tuple[str, str]] = {}
         self.model_words: dict[str, str] = {}
         self.needing: dict[int, tuple[Any, bool]] = {}
+        self.heap = Heap(self)
+        self.large = LargeArrays(spelling.fresh)
+        self.raw = Raw(self)
+        self.outer_used: set[Function] = set()  # whose values are used
 
     def value(self, node: Any) -> Value:
         raise NotImplementedError
@@ -93,9 +100,11 @@ class Writer:
         if isinstance(node, c_ast.ArrayRef) and self.check:
             return isinstance(node.name, c_ast.ArrayRef)
         if isinstance(node, c_ast.FuncCall):
-            called = self.names.meaning.get(id(node))
+            called = self.places.choosers.called(node)
             if not isinstance(called, Function):
                 return False
+            if heap_call(called):
+                return True
             several = isinstance(called.result, kinds.Pointer) and len(called.result.region.parts()) > 1
             return several or bool(self.outs(called)) or isinstance(called.result, Struct)
         stepped = isinstance(node, c_ast.UnaryOp) and node.op in STEPS
@@ -103,6 +112,8 @@ class Writer:
 
     def outs(self, function: Function) -> list[tuple[Variable, Leaf]]:
         """What a call gives back by copies: each integer of an object that the function writes, with its parameter."""
+        if self.places.choosers.targets(function) is not None:
+            return []
         writes = self.effected.of_function[function].writes
         found = []
         for parameter in function.parameters if function.definition is not None else []:
@@ -124,8 +135,26 @@ class Writer:
         return Value(f"{value.within(6)} != 0", kinds.INT, 6, truth=True, calls=value.calls)
 
     def converted(self, value: Value, kind: Int) -> Value:
-        """The value for a target of the kind; the profile converts by itself what isn't `bool`."""
+        """The value for a target of the kind; the profile converts by itself what is neither `bool` nor a bit-field."""
+        if kind.width and not kind.boolean:
+            return self.cut_to(value, kind)
         return self.truth(value) if kind.boolean else value
+
+    @staticmethod
+    def cut_to(value: Value, kind: Int) -> Value:
+        """The value as a bit-field has it: modulo 2^width (6.7.2.1p10)."""
+        known = number(value)
+        if known is not None and kinds.fit(known, kind) == known:
+            return value
+        mask, sign = (1 << kind.width) - 1, 1 << (kind.width - 1)
+        text = f"{value.within(6)} & {hex(mask)}"
+        if kind.below_zero:
+            text = (
+                f"(int) (({text} ^ {hex(sign)}) - {hex(sign)})"
+                if value.kind.bits > 32
+                else f"(int) (({text}) ^ {hex(sign)}) - {sign}"
+            )
+        return Value(text, kinds.INT, 0, calls=value.calls)
 
     def steady(self, node: Any, value: Value) -> Value:
         """An index that stays the same when it is read again."""
@@ -147,6 +176,8 @@ class Writer:
     def index(self, place: Place, stable: bool, kept: bool = False) -> Optional[Value]:
         """The number of a place's first element among those of its arrays; None where there are none. With `kept` it is a
         constant or a variable of its own."""
+        if self.places.is_raw(place):
+            return self.raw.index(place, stable or kept)
         whole: Optional[Value] = Value("0", kinds.INT, PRIMARY) if place.variable.home == "column" else None
         self.unsequenced(place.indexes[0][0] if place.indexes else None, [node for node, _ in place.indexes])
         for node, length in place.shifted():
@@ -172,12 +203,34 @@ class Writer:
     @staticmethod
     def kind_at(place: Place) -> kinds.Type:
         """The kind of the integers that a place's column has, which may have another sign than those of the access."""
+        if place.stored is not None:
+            return place.stored
+        if (
+            isinstance(place.type, Int)
+            and place.type.bits != 8
+            and place.region is not None
+            and place.region.root().raw
+        ):
+            return place.type
         if place.variable.home != "column" or place.path:
             return place.type
         return kinds.element(place.variable.type)
 
+    def is_large(self, place: Place) -> bool:
+        """Whether a place lies in an array whose elements are read and set by functions."""
+        if self.places.is_raw(place):
+            return True
+        return self.spelling.leaf(place.variable, place.path) in self.large.known
+
+    @staticmethod
+    def plain(text: str) -> str:
+        return unmarked(text)
+
     def leaf(self, place: Place, stable: bool = False) -> tuple[str, bool]:
         """The text of an integer's place, and whether it calls functions."""
+        if self.places.is_raw(place):
+            raw = self.raw.index(place, stable)
+            return f"{self.raw.array(place)}[{raw.text}]", raw.calls
         name, index = self.spelling.leaf(place.variable, place.path), self.index(place, stable)
         return (name, False) if index is None else (f"{name}[{index.text}]", index.calls)
 

@@ -15,13 +15,13 @@ use Rattle.sample.specs.Sample.{query_text}
 use Rattle.command_words.specs.Request.{Checking, CheckingBounds, Generating, Proving, Sufficing}
 use Rattle.command.specs.declared.reply.Reply.{Reply}
 use Rattle.command.specs.Asked.{sample_file}
-use Rattle.command.specs.Certificates as certificates
-use Rattle.command.specs.Certificates.{AreCertificateOf}
-use Rattle.command.specs.Checking.{IsChecked, IsDueOfCheck}
-use Rattle.command.specs.CheckingBounds.{IsCheckedBounds, IsDueOfCheckBounds}
-use Rattle.command.specs.Generating.{IsDueOfGenerate, IsGeneration, generated_report}
-use Rattle.command.specs.Lowering.{IsDueOfLeast, IsLowered}
-use Rattle.command.specs.Proving.{IsDueOfProve, IsProved}
+use Rattle.command.specs.CertificateFile as certificates
+use Rattle.command.specs.CertificateFile.{AreCertificateOf}
+use Rattle.command.specs.Check.{IsChecked, IsDueOfCheck}
+use Rattle.command.specs.CheckBounds.{IsCheckedBounds, IsDueOfCheckBounds}
+use Rattle.command.specs.Generate.{IsDueOfGenerate, IsGeneration, generated_report}
+use Rattle.command.specs.Least.{IsDueOfLeast, IsLowered}
+use Rattle.command.specs.Prove.{IsDueOfProve, IsProved}
 use Rattle.command.specs.Queries.{IsPlanned, IsRefused}
 use Rattle.command.specs.Ranges.{within}
 use Rattle.command.specs.Reads.{Reads}
@@ -29,10 +29,10 @@ use Rattle.command.specs.Refusal.{said_by}
 use Rattle.command.specs.Replies.{Gives, Tells}
 use Rattle.command.specs.Runs.{EntryFunction, entry_of}
 use Rattle.command.specs.Said.{Said}
-use Rattle.command.specs.Sampling.{IsSampled, default_bounds, default_budget}
+use Rattle.command.specs.Sample.{IsSampled, default_bounds, default_budget}
 use Rattle.command.specs.Stages.{OfCertificate, OfGoal, OfQuery, no_such_entry, no_such_goal}
-use Rattle.command.specs.declared.sufficing.Form.{Form}
-use Rattle.command.specs.Sufficing.{IsAskedOfBounds, IsDueOfBounds}
+use Rattle.command.specs.declared.bounds.Form.{Form}
+use Rattle.command.specs.Bounds.{IsAskedOfBounds, IsDueOfBounds}
 use Rattle.command.specs.Watched.{Watched}
 use Rattle.command.proofs.GivesLaws.{gives_map, tells_map}
 use Rattle.command.proofs.ReadsLaws.{refused_map}

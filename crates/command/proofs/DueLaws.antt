@@ -19,17 +19,17 @@ use Rattle.trace_file.specs.declared.trace.Trace.{Trace}
 use Rattle.typed_trees.specs.declared.unit.Typed.{Typed}
 use Rattle.command_words.specs.Reading.{Text}
 use Rattle.command_words.specs.Request.{Checking, CheckingBounds, Measuring, Replaying, Running, Tracing}
-use Rattle.command.specs.Certificates as certificates
-use Rattle.command.specs.Certificates.{AreCertificateOf}
-use Rattle.command.specs.Checking.{IsChecked, IsDueOfCheck}
-use Rattle.command.specs.CheckingBounds.{IsCheckedBounds, IsDueOfCheckBounds}
+use Rattle.command.specs.CertificateFile as certificates
+use Rattle.command.specs.CertificateFile.{AreCertificateOf}
+use Rattle.command.specs.Check.{IsChecked, IsDueOfCheck}
+use Rattle.command.specs.CheckBounds.{IsCheckedBounds, IsDueOfCheckBounds}
 use Rattle.command.specs.Due.{IsDueOfMeasure, IsDueOfReplay, IsDueOfRuns, IsDueOfTraces, IsDueOfTrees}
 use Rattle.command.specs.Inputs.{AreRefused, at_read, at_form}
 use Rattle.command.specs.Inputs as inputs
-use Rattle.command.specs.Measured.{IsMeasured}
-use Rattle.command.specs.OnTrees.{ended}
+use Rattle.command.specs.Measure.{IsMeasured}
+use Rattle.command.specs.Trees.{ended}
 use Rattle.command.specs.Reads.{Reads, Sees}
-use Rattle.command.specs.Recorded.{recorded}
+use Rattle.command.specs.RunList.{recorded}
 use Rattle.fq_core.specs.Refusals.{IfRefused}
 use Rattle.command.specs.Refusal.{said_by}
 use Rattle.command.specs.Runs.{EntryFunction, entry_of}
@@ -37,9 +37,9 @@ use Rattle.command.specs.Said.{Said}
 use Rattle.command.specs.Sources.{HaveAutomaton, HaveTrees, IsReadUpTo}
 use Rattle.command.specs.Sources as sources
 use Rattle.command.specs.Stages.{OfCertificate, OfEntry, OfGoal, OfInputs, OfQuery, OfSources, OfTraces, OfTrees, no_such_entry, no_such_goal, nowhere}
-use Rattle.command.specs.Traces as traces
-use Rattle.command.specs.Traces.{inputs_in, longest}
-use Rattle.command.specs.Tracing.{traced}
+use Rattle.command.specs.TraceFile as traces
+use Rattle.command.specs.TraceFile.{inputs_in, longest}
+use Rattle.command.specs.Traces.{traced}
 use Rattle.command.proofs.ReadsLaws.{late, refused_map, unread_since, whole}
 
 -- ---- refusals without a place

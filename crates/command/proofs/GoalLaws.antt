@@ -36,7 +36,7 @@ use Rattle.suite.specs.declared.decided.Decided.TheVariants.{Covered}
 use Rattle.unwinder.specs.Unwinding.{IsUnwindFault, IsUnwound}
 use Rattle.unwinder.specs.declared.unwound.Unwound.{Unwound}
 use Rattle.command.specs.OneGoal.{IsGoalRefused, IsGoalTooLarge, IsGoalWithin}
-use Rattle.command.specs.Proving.{IsSaidOf}
+use Rattle.command.specs.Prove.{IsSaidOf}
 use Rattle.command.specs.Runs.{EntryFunction}
 use Rattle.command.specs.Said.{Said, answered}
 

@@ -3,12 +3,12 @@ ghost use Rattle.std.specs.Prelude.{◌≡◌, IsSome};
 ghost use Rattle.command_words.specs.Reading.{texts};
 ghost use Rattle.command_words.specs.Request.{asked, texts_at};
 ghost use Rattle.command.specs.Asked.{sources_of};
-ghost use Rattle.command.specs.Certified.{Certifies, CertifiesBounds};
+ghost use Rattle.command.specs.Accepted.{Certifies, CertifiesBounds};
 ghost use Rattle.command.specs.Due.{IsDue, IsDueOf};
 ghost use Rattle.command.specs.Ranges.{IsInRange};
 ghost use Rattle.command.specs.Refusal.{status_of};
 ghost use Rattle.command.specs.Reads.{reads};
-ghost use Rattle.command.specs.Run.{Ends, EndsWriting, Refuses, WritesReply, writes};
+ghost use Rattle.command.specs.Outcome.{Ends, EndsWriting, Refuses, WritesReply, writes};
 ghost use Rattle.command.specs.Said.{status_with};
 ghost use Rattle.command.specs.Watched.{watched};
 

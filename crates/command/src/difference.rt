@@ -2,7 +2,7 @@
 ghost use Rattle.std.specs.Prelude.{◌≡◌, ◌++◌, IfOk, OnOk, Some};
 ghost use Rattle.std.specs.Option.{option_copied};
 ghost use Rattle.certificate.specs.Differences.{IsFirstDifference};
-ghost use Rattle.command.specs.Comparing.{clause_or_none, difference_line, difference_text};
+ghost use Rattle.command.specs.Comparison.{clause_or_none, difference_line, difference_text};
 
 use certificate::Difference;
 use cnf::{Clause, Formula, push_clause, push_number};

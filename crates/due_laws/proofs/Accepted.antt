@@ -24,12 +24,12 @@ use Rattle.suite.specs.declared.decided.Decided.TheVariants.{Covered, Refuted, U
 use Rattle.suite.specs.Made.{IsDecided}
 use Rattle.command_words.specs.Reading.{Text}
 use Rattle.command_words.specs.Request.{prove, check, Checking, Proving}
-use Rattle.command.specs.Certificates.{AreCertificateOf}
-use Rattle.command.specs.Checking.{IsChecked, accepted_text}
-use Rattle.command.specs.Comparing.{IsCompared, said_of_verdict}
+use Rattle.command.specs.CertificateFile.{AreCertificateOf}
+use Rattle.command.specs.Check.{IsChecked, accepted_text}
+use Rattle.command.specs.Comparison.{IsCompared, said_of_verdict}
 use Rattle.command.specs.Due.{IsDueOf}
 use Rattle.command.specs.OneGoal.{IsGoalWithin}
-use Rattle.command.specs.Proving.{IsProved, IsSaidOf}
+use Rattle.command.specs.Prove.{IsProved, IsSaidOf}
 use Rattle.command.specs.Queries.{IsPlanned}
 use Rattle.command.specs.Ranges.{within}
 use Rattle.command.specs.Reads.{Reads, Sees}

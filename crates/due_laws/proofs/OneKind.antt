@@ -61,27 +61,27 @@ use Rattle.command_words.specs.Reading.{Text}
 use Rattle.command_words.specs.Request as asks
 use Rattle.command_words.specs.Request.{Asked, measure, generate, goals, runs, prove, check, suffice, sample, Checking, CheckingBounds, Generating, Proving, Sufficing, request_of}
 use Rattle.command.specs.Asked.{sample_file}
-use Rattle.command.specs.Certificates.{AreCertificateOf}
-use Rattle.command.specs.Certificates as certificates
-use Rattle.command.specs.Checking.{IsChecked, accepted_text}
-use Rattle.command.specs.CheckingBounds.{IsCheckedBounds}
-use Rattle.command.specs.Comparing.{IsCompared, said_of_verdict}
+use Rattle.command.specs.CertificateFile.{AreCertificateOf}
+use Rattle.command.specs.CertificateFile as certificates
+use Rattle.command.specs.Check.{IsChecked, accepted_text}
+use Rattle.command.specs.CheckBounds.{IsCheckedBounds}
+use Rattle.command.specs.Comparison.{IsCompared, said_of_verdict}
 use Rattle.due_laws.specs.Determined.{AreAlike, AreOfOneCheck, AreOfOneKind, AreOfOneLeast, AreOfOneProof, AreOfOneSuffice, AtMostOneKindIsDue, SaysCertificate, SaysCompared, SaysLeft, SaysOpen, answers, are_told, files_of}
 use Rattle.command.specs.Due.{IsDueOf}
-use Rattle.command.specs.Generating.{IsGeneration, concluded, generated_report, is_open}
-use Rattle.command.specs.Lowering.{IsLowered, said_of_least}
+use Rattle.command.specs.Generate.{IsGeneration, concluded, generated_report, is_open}
+use Rattle.command.specs.Least.{IsLowered, said_of_least}
 use Rattle.command.specs.OneGoal.{IsGoalRefused, IsGoalTooLarge, IsGoalWithin}
-use Rattle.command.specs.Proving.{IsProved, IsSaidOf}
+use Rattle.command.specs.Prove.{IsProved, IsSaidOf}
 use Rattle.command.specs.Ranges.{within}
 use Rattle.command.specs.Reads.{Reads}
 use Rattle.command.specs.Runs.{EntryFunction, entry_of, no_predicates}
 use Rattle.command.specs.Refusal.{said_by}
 use Rattle.command.specs.Said.{Said, answered, status_with}
-use Rattle.command.specs.Sampling.{IsDueOfSample, IsSampled, default_bounds, default_budget, sample_source}
+use Rattle.command.specs.Sample.{IsDueOfSample, IsSampled, default_bounds, default_budget, sample_source}
 use Rattle.command.specs.Stages.{OfCertificate, OfEntry, OfGoal, OfQuery, OfTexts, no_such_entry, no_such_goal, usage}
-use Rattle.command.specs.declared.sufficing.Form.{Form}
-use Rattle.command.specs.declared.sufficing.Form.TheVariants as form
-use Rattle.command.specs.Sufficing.{IsAskedOfBounds, said_of_bounds, sufficient_text}
+use Rattle.command.specs.declared.bounds.Form.{Form}
+use Rattle.command.specs.declared.bounds.Form.TheVariants as form
+use Rattle.command.specs.Bounds.{IsAskedOfBounds, said_of_bounds, sufficient_text}
 use Rattle.due_laws.proofs.Agreement.{no_arrays}
 use Rattle.due_laws.proofs.OneLeast.{one_least_input}
 use Rattle.due_laws.proofs.OneLine.{one_line}

@@ -2,7 +2,7 @@ use Rattle.std.proofs.Common.{refl}
 use Rattle.std.proofs.lemmas.Result.{err_from_is_err_and}
 use Rattle.command_words.specs.Request.{sufficing}
 use Rattle.command.specs.Stages.{OfSources}
-use Rattle.command.specs.Sufficing.{IsDueOfBounds}
+use Rattle.command.specs.Bounds.{IsDueOfBounds}
 use Rattle.command.proofs.DueLaws.{at_graph, sources_refused}
 use Rattle.command.proofs.GivesLaws.{gives_map, gives_refused}
 use Rattle.command.proofs.ReadsLaws.{refused_map}

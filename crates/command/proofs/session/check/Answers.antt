@@ -1,6 +1,6 @@
 use Rattle.std.proofs.lemmas.Result.{err_from_is_err_and}
 use Rattle.command_words.specs.Request.{checking}
-use Rattle.command.specs.Checking.{IsDueOfCheck}
+use Rattle.command.specs.Check.{IsDueOfCheck}
 use Rattle.command.specs.Stages.{OfSources}
 use Rattle.command.proofs.DueLaws.{at_graph, check_since, sources_refused}
 use Rattle.command.proofs.GivesLaws.{tells_map, tells_refused}

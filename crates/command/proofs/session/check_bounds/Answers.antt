@@ -1,6 +1,6 @@
 use Rattle.std.proofs.lemmas.Result.{err_from_is_err_and}
 use Rattle.command_words.specs.Request.{checking_bounds}
-use Rattle.command.specs.CheckingBounds.{IsDueOfCheckBounds}
+use Rattle.command.specs.CheckBounds.{IsDueOfCheckBounds}
 use Rattle.command.specs.Stages.{OfSources}
 use Rattle.command.proofs.DueLaws.{at_graph, check_bounds_since, sources_refused}
 use Rattle.command.proofs.GivesLaws.{tells_map, tells_refused}

@@ -1,7 +1,7 @@
 use Rattle.std.proofs.Common.{refl}
 use Rattle.std.proofs.lemmas.Result.{err_from_is_err_and}
 use Rattle.command_words.specs.Request.{generating}
-use Rattle.command.specs.Generating.{IsDueOfGenerate}
+use Rattle.command.specs.Generate.{IsDueOfGenerate}
 use Rattle.command.specs.Stages.{OfSources}
 use Rattle.command.proofs.DueLaws.{at_graph, sources_refused}
 use Rattle.command.proofs.GivesLaws.{gives_map, gives_refused}

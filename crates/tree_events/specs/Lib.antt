@@ -1,0 +1,9 @@
+pub mod Outcomes
+pub mod Expressions
+pub mod Calls
+pub mod Statements
+pub mod Loops
+pub mod Switch
+pub mod Trees
+pub mod Runs
+pub mod Laws
