@@ -143,9 +143,11 @@ def run(case: Case) -> tuple[int, bytes | None, bytes | None]:
             stdin=subprocess.DEVNULL,
             timeout=programs.SECONDS,
             preexec_fn=streams.before,
-            **streams.targets,
+            stdout=streams.targets["stdout"],
+            stderr=streams.targets["stderr"],
         )
-        return ended.returncode, streams.written(ended.stdout), ended.stderr
+        told = ended.returncode, streams.written(ended.stdout), ended.stderr
+    return told
 
 
 def differences(case: Case) -> list[str]:

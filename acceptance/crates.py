@@ -16,6 +16,7 @@ import sys
 from collections.abc import Callable, Iterator
 
 import programs
+from pages import put, text_of
 
 ARCHITECTURE = os.path.join(programs.ROOT, "docs", "ARCHITECTURE.md")
 PROVED = os.path.join(programs.ROOT, "docs", "PROVED.md")
@@ -42,12 +43,6 @@ class Crate:
     def is_of_tests(self) -> bool:
         """Whether it has tests, or what they share."""
         return self.name.endswith("_tests") or self.name.startswith("test_")
-
-
-def text_of(path: str) -> str:
-    """What a file holds."""
-    with open(path, encoding="utf-8") as file:
-        return file.read()
 
 
 def crates() -> list[Crate]:
@@ -141,11 +136,8 @@ def parts() -> list[Callable[[], tuple[int, list[str]]]]:
 
 
 def write() -> None:
-    """Puts the tables into docs/ARCHITECTURE.md, in a new file that is then moved there."""
-    text = made(crates(), text_of(ARCHITECTURE))
-    with open(ARCHITECTURE + ".new", "w", encoding="utf-8") as file:
-        file.write(text)
-    os.replace(ARCHITECTURE + ".new", ARCHITECTURE)
+    """Puts the tables into docs/ARCHITECTURE.md."""
+    put(ARCHITECTURE, made(crates(), text_of(ARCHITECTURE)))
 
 
 if __name__ == "__main__":

@@ -15,16 +15,12 @@ import sys
 import textwrap
 
 import programs
+from pages import anchor, put, text_of
 
 HOME = os.path.join(programs.ROOT, "docs", "DECISIONS.md")
 INDEX = re.compile(r"(?<=^## The parts\n\n)(?: *- \[.*\n)*", re.MULTILINE)
 FORM = re.compile(r"\n- Context \((\d{4}-\d\d-\d\d)\): \S.*\n- Choice: \S.*\n- Reason: \S.*\n- Would change it: \S.*\n")
 MOST_LINES, COLUMNS = 10, 120
-
-
-def anchor(heading: str) -> str:
-    """The anchor that a page of headings gives to one."""
-    return re.sub(r"[^\w -]", "", heading.lower()).replace(" ", "-")
 
 
 def parts(text: str) -> list[tuple[str, list[tuple[str, str]]]]:
@@ -69,15 +65,9 @@ def faults(text: str) -> list[str]:
     return wrong
 
 
-def text_of() -> str:
-    """The page."""
-    with open(HOME, encoding="utf-8") as file:
-        return file.read()
-
-
 def wrong() -> list[str]:
     """A line for each fault of form, and one where the page has another index than the one that is due."""
-    text = text_of()
+    text = text_of(HOME)
     found = INDEX.search(text)
     lines = [f"docs/DECISIONS.md: {fault}" for fault in faults(text)]
     if found is None or found[0] != index(text):
@@ -86,15 +76,13 @@ def wrong() -> list[str]:
 
 
 def write() -> None:
-    """Puts the index into its place, in a new file that is then moved there."""
-    text = text_of()
-    with open(HOME + ".new", "w", encoding="utf-8") as file:
-        file.write(INDEX.sub(lambda _: index(text), text, count=1))
-    os.replace(HOME + ".new", HOME)
+    """Puts the index into its place."""
+    text = text_of(HOME)
+    put(HOME, INDEX.sub(lambda _: index(text), text, count=1))
 
 
 if __name__ == "__main__":
     if sys.argv[1:] == ["--write"]:
         write()
     else:
-        print(index(text_of()), end="")
+        print(index(text_of(HOME)), end="")

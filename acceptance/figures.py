@@ -4,6 +4,7 @@ import os
 import re
 
 import programs
+from pages import text_of
 
 HOME = os.path.join(programs.ROOT, "bench", "RESULTS.md")
 PARTS = ("Libraries and programs", "Tests", "Both", "Of edits")
@@ -32,5 +33,4 @@ def faults(text: str) -> list[str]:
 
 def wrong() -> list[str]:
     """A line for each fault of the page."""
-    with open(HOME, encoding="utf-8") as file:
-        return [f"bench/RESULTS.md: {fault}" for fault in faults(file.read())]
+    return [f"bench/RESULTS.md: {fault}" for fault in faults(text_of(HOME))]

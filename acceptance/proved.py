@@ -4,7 +4,7 @@ Each section of a crate has, in this order, what the crate takes, gives and refu
 (where it has some), and what isn't said. No line is longer than 300 characters. Each public call of a crate, that is a function
 which its lib.rt hands on or makes public, is named in its section; and each definition of a table's first column is one of the
 crate's specs/ or src/, or a file there. A law may be named by its statement (`OneOutcome` for `one_outcome`). No name of a call
-or definition, also of other crates, stands there that no crate has.
+or definition, also of other crates, stands there that no crate has; nor in the last column of docs/GLOSSARY.md.
 """
 
 import glob
@@ -13,17 +13,12 @@ import re
 
 import crates
 import programs
+from pages import text_of
 
 MOST = 300
 LABELS = ("Takes", "Gives", "Refuses", "Definition", "Not said")
 CALL = re.compile(r"\bpub fn (\w+)")
 NAME = re.compile(r"`([\w.' /]+)`")
-
-
-def text_of(path: str) -> str:
-    """What a file holds."""
-    with open(path, encoding="utf-8") as file:
-        return file.read()
 
 
 def handed_on(crate: str) -> set[str]:
@@ -94,6 +89,14 @@ def faults(text: str) -> list[str]:
     return wrong + unknown(text[text.find("\n## ") :])
 
 
+def still_otherwise(text: str) -> str:
+    """The last column of the first table of docs/GLOSSARY.md, which names today's code."""
+    return "\n".join(re.findall(r"^\|(?:[^|]*\|){3} (.*) \|$", text.split("\n## Terms\n")[0], re.MULTILINE))
+
+
 def wrong() -> list[str]:
-    """A line for each fault of docs/PROVED.md."""
-    return [f"docs/PROVED.md: {fault}" for fault in faults(text_of(crates.PROVED))]
+    """A line for each fault of docs/PROVED.md, and for each name of code in docs/GLOSSARY.md that no crate has."""
+    words = still_otherwise(text_of(os.path.join(programs.ROOT, "docs", "GLOSSARY.md")))
+    return [f"docs/PROVED.md: {fault}" for fault in faults(text_of(crates.PROVED))] + [
+        f"docs/GLOSSARY.md: {fault}" for fault in unknown(words)
+    ]

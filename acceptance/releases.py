@@ -4,6 +4,7 @@ import os
 import re
 
 import programs
+from pages import text_of
 
 HOME = os.path.join(programs.ROOT, "CHANGELOG.md")
 READERS = ["For users", "For those who prove"]
@@ -29,5 +30,4 @@ def faults(text: str) -> list[str]:
 
 def wrong() -> list[str]:
     """A line for each fault of CHANGELOG.md."""
-    with open(HOME, encoding="utf-8") as file:
-        return [f"CHANGELOG.md: {fault}" for fault in faults(file.read())]
+    return [f"CHANGELOG.md: {fault}" for fault in faults(text_of(HOME))]

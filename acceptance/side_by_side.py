@@ -61,7 +61,7 @@ class Result:
 
 
 def processor_seconds() -> float:
-    """What this process and those that it has waited for took so far."""
+    """What this process and those that it has waited for took so far. In seconds of a processor."""
     used = [resource.getrusage(of) for of in (resource.RUSAGE_SELF, resource.RUSAGE_CHILDREN)]
     return sum(one.ru_utime + one.ru_stime for one in used)
 

@@ -158,7 +158,7 @@ class Decisions:
         self.found.append(decision)
 
     def node_of_truth(self, targets: set[int], tests: list[Test]) -> int:
-        """The outcome node to which a decision leads where it holds."""
+        """The outcome node to which a decision leads where it holds. The node is given by its number."""
         last = next(test for test in reversed(tests) if len(test.outcomes()) == 2)
         if self.is_within(targets, tests):
             return min(targets)

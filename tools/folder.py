@@ -161,7 +161,8 @@ class Folder:
         return known
 
     def open(self, budget: int) -> dict[int, str]:
-        """What prove said of each goal that it left open with no less than this budget."""
+        """What prove said of each goal that it left open with no less than this budget. A budget is in moves of the
+        search."""
         known = {}
         for goal in self.numbers("open"):
             tried, _, said = program.read(self.at("open", str(goal))).decode().strip().partition(" ")

@@ -41,7 +41,7 @@ def needs() -> list[tuple[str, bool, str, str]]:
 
 
 def check() -> int:
-    """Says what is there."""
+    """Says what is there. The exit status is 1 where something is missing."""
     for name, is_there, package, purpose in needs():
         print(
             f"{'there  ' if is_there else 'missing'}  {name}, for {purpose}"

@@ -49,11 +49,13 @@ def campaign(folder, *words, **more):
 
 
 def report(folder):
+    """The JSON report of the campaign `new`."""
     with open(os.path.join(folder, "new", "report.json"), encoding="utf-8") as file:
         return json.load(file)
 
 
 def verdicts(folder):
+    """The answer of each goal of the campaign `new`."""
     return [goal["answer"] for goal in report(folder)["goals"]]
 
 

@@ -7,4 +7,4 @@ rte.TRIED += rte_overflow.TRIED
 
 TOOLS = {module.__name__.split(".")[-1]: module
          for module in (campaign, project, recipes, adapt, mcdc, page, maps, progress, order, rte, driver, install, lcov, first_hour, explain,
-                        inputs, harness, schemas, drat, where, believed, pages, streams, clauses, style)}
+                       inputs, harness, schemas, drat, where, believed, pages, streams, clauses, style)}

@@ -41,6 +41,7 @@ NO_RUN = "no run at all stays within the bounds, so each goal is refuted and not
 
 
 def campaign(folder, *words, name="new"):
+    """How a campaign in a folder ends."""
     return run(folder, ["campaign", "-o", name, *words])
 
 

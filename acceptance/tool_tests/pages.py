@@ -2,9 +2,11 @@
 
 import crates
 import decisions
+import documents
 import figures
 import proved
 import releases
+from pages import text_of
 
 DECISIONS = """# Decisions
 
@@ -99,9 +101,17 @@ def of_releases(folder):
         yield len(releases.faults(CHANGES.replace(before, after))) >= 1
 
 
+def of_headings(folder):
+    """A heading of another page by its name, one of the page's own, and a link."""
+    text = '# A\n\n## Own part\n\nSee `CI.md`, "Jenkins", and the part ("Own part"), [here](#own-part).\n'
+    yield documents.wrong_headings("docs/A.md", text) == []
+    for before, after in (("Jenkins", "Nobody"), ('("Own part")', '("Other part")'), ("#own-part", "#other"), ("`CI.md`", "`NONE.md`")):
+        yield len(documents.wrong_headings("docs/A.md", text.replace(before, after))) == 1
+
+
 def of_what_is_proved(folder):
     """A section of the page, which loses a call, a definition or a part."""
-    text = proved.text_of(crates.PROVED)
+    text = text_of(crates.PROVED)
     section = dict(crates.sections(text))["sample"]
     yield proved.faults_of("sample", section) == []
     yield "sample_query" in proved.handed_on("sample")
@@ -112,4 +122,4 @@ def of_what_is_proved(folder):
     yield [fault for fault in proved.faults("# Page\n\n" + "x" * 301 + "\n\n## Ground\n") if fault.startswith("line 3 has 301")] != []
 
 
-TRIED = [((), case) for case in (of_decisions, of_the_gate, of_releases, of_what_is_proved)]
+TRIED = [((), case) for case in (of_decisions, of_the_gate, of_releases, of_headings, of_what_is_proved)]

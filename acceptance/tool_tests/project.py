@@ -51,6 +51,7 @@ CASES = [
 
 
 def project(folder, *words, **more):
+    """How bin/project ends in a folder."""
     return run(folder, ["project", *words], **more)
 
 

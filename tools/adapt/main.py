@@ -90,6 +90,10 @@ def adapt(given: argparse.Namespace, refusals: Refusals) -> tuple[dict[str, str]
         tried = Refusals()
         texts, writer = written(given, tried, apart)
         if not tried.apart - apart:
+            copies = {one for one in apart if one[0] in ("copied", "direct")}
+            if tried.found and copies:  # (told in the words of the sources)
+                tried = Refusals()
+                written(given, tried, apart - copies)
             refusals.found |= tried.found
             return texts, writer
         apart |= tried.apart
@@ -99,6 +103,7 @@ def written(given: argparse.Namespace, refusals: Refusals, apart: set[Any]) -> t
     from .bindings import Bindings
     from .cases import Cases
     from .choosers import Choosers
+    from .clones import Clones
     from .columns import Columns
     from .effects import Effected
     from .gate import check
@@ -122,6 +127,7 @@ def written(given: argparse.Namespace, refusals: Refusals, apart: set[Any]) -> t
     def flag(stem: str) -> str:
         return next(name for name in (f"{stem}_{n}" for n in numbers) if name not in taken)
 
+    Clones(units, apart, flag)
     Library(units, taken)
     names = Names(refusals)
     names.pool = given.pool
@@ -133,7 +139,7 @@ def written(given: argparse.Namespace, refusals: Refusals, apart: set[Any]) -> t
                 Jumps(flag, refusals).function(item.body, {getattr(one, "name", "") or "" for one in listed})
         taken.update(node.name for node in walk(unit.tree) if isinstance(node, c_ast.ID))
         names.unit(unit)
-    settle(names.structs, names.named_members)
+    settle(names.structs, names.named_members, names.initialised)
     places = Places(names)
     Bindings(places, apart).bind()
     places.columns = Columns(names, apart)
@@ -181,8 +187,9 @@ def put_map(folder: str, texts: dict[str, str], writer: Any) -> None:
     from .mapping import text_of
 
     units = list({unit.path: unit for unit, _ in writer.names.items}.values())
+    mapped = {path: text for path, text in texts.items() if path in writer.files}
     try:
-        program.write_whole(os.path.join(folder, source_map.NAME), text_of(writer, units, texts, folder))
+        program.write_whole(os.path.join(folder, source_map.NAME), text_of(writer, units, mapped, folder))
     except program.Failure as failure:
         raise Stop(str(failure)) from None
 
@@ -226,8 +233,8 @@ def main(given: Optional[list[str]] = None) -> int:
             print("\n".join([*lines, f"{len(lines)} refused, nothing is written"]), file=sys.stderr)
             return 3
         paths = put(asked.out, texts)
-        put_map(asked.out, texts, writer)
         writer.put_table(asked.out)
+        put_map(asked.out, texts, writer)
         print("wrote " + " ".join(paths))
         if asked.harness:
             write_harness(asked, writer, paths)

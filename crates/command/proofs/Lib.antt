@@ -1,6 +1,7 @@
 pub mod AcceptedLaws
 pub mod AtEntry
 pub mod BoundsLaws
+pub mod CallLaws
 pub mod CertificateFileLaws
 pub mod CodeLaws
 pub mod DueLaws
@@ -10,6 +11,7 @@ pub mod FirstCovering
 pub mod GenerateLaws
 pub mod GivesLaws
 pub mod GoalLaws
+pub mod InputsLaws
 pub mod MeasureLaws
 pub mod QueryLaws
 pub mod RangeLaws

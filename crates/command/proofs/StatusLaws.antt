@@ -244,7 +244,7 @@ generation_told : (names : List Text) (graph : GraphParts) (entry : EntryFunctio
     (said : Said) → IsGeneration names graph entry p plan bounds ends budget text said → HasStatus said
 generation_told names graph entry p plan bounds ends budget text said (inl says) =
     says_coded names (λ (x : Refusal). IsGenerateFault graph entry.function p plan bounds ends (fault.Refused x)) said (generate_coded graph entry.function p plan bounds ends) says
-generation_told names graph entry p plan bounds ends budget text said (inr made) = subst HasStatus (sym made.1.2) refl
+generation_told names graph entry p plan bounds ends budget text said (inr made) = subst HasStatus (sym made.1.3) refl
 
 module _ (graph : GraphParts) (entry : EntryFunction) (p : Predicates) (plan : Plan) (bounds : Bounds) (ends : Ends) (number : ℕ) (goal : GoalForm) where
   decided_told : (d : Decided) (said : Said) → IsSaidOf graph entry p plan bounds ends number goal d said → HasStatus said
@@ -255,7 +255,7 @@ module _ (graph : GraphParts) (entry : EntryFunction) (p : Predicates) (plan : P
   proved_told : (names : List Text) (budget : ℕ) (said : Said) → IsProved graph entry p plan bounds ends number goal names budget said → HasStatus said
   proved_told names budget said (inl says) =
       says_coded names (IsGoalRefused graph entry.function p plan bounds goal) said (goal_coded graph entry.function p plan bounds goal) says
-  proved_told names budget said (inr made) = decided_told made.1.0 said made.1.2
+  proved_told names budget said (inr made) = decided_told made.1.0 said made.1.3
 
   lowered_told : (names : List Text) (budget : ℕ) (said : Said) → IsLowered graph entry p plan bounds ends number goal names budget said → HasStatus said
   lowered_told names budget said (inl says) =

@@ -1,6 +1,7 @@
 -- Laws of the traces of a file.
 use Rattle.std.proofs.Common.{◌≡◌, ℕ, ◌<◌, ◌≤◌, ◌^◌, All, List, [], ◌∷◌, length, refl, sym, subst, arith}
-use Rattle.std.specs.Prelude.{Option, Some, Ok, Err}
+use Rattle.std.specs.Prelude.{IfErr, IfOk, Option, Result, Some, Ok, Err, slice_get}
+use Rattle.std.specs.Global.{Vec}
 use Rattle.std.specs.Option.{IsSomeAnd}
 use Rattle.std.specs.List.{AllZip}
 use Rattle.std.proofs.lemmas.List.{length-map}
@@ -13,12 +14,17 @@ use Rattle.c_meaning.specs.Starts.{CanStart}
 use Rattle.c_meaning.specs.declared.ends.Ends.{Ends}
 use Rattle.c_meaning.specs.declared.input.Input.{Input}
 use Rattle.trace_file.specs.Form.{Form, form_of}
-use Rattle.trace_file.specs.Reading.{IsFileOf, IsReadAs, IsTraceOf}
+use Rattle.fq_core.specs.Refusals.{IfRefused}
+use Rattle.fq_core.specs.declared.refusal.Fault.{Fault}
+use Rattle.trace_file.specs.Reading.{IsFileOf, IsReadAs, IsRefused, IsTraceOf}
 use Rattle.trace_file.specs.declared.line.Line.{Line}
 use Rattle.trace_file.specs.declared.trace.Trace.{Trace}
 use Rattle.trace_file.proofs.ReadLaws.{can_start}
 use Rattle.command.specs.Reads.{Reads, Sees}
-use Rattle.command.specs.TraceFile.{AreTracesOf, inputs_in, most_trace_bytes}
+use Rattle.command.specs.declared.given.Planned.{Planned}
+use Rattle.command.specs.Calls.{AreTracesAs}
+use Rattle.command.specs.TraceFile.{at_form, inputs_in, most_trace_bytes}
+use Rattle.command.proofs.ReadsLaws.{refused_map}
 
 module _ (graph : GraphParts) (f : Function) (ends : Ends) (p : Predicates) where
   abbrev Starts : Input → Type 0
@@ -45,11 +51,19 @@ module _ (graph : GraphParts) (f : Function) (ends : Ends) (p : Predicates) wher
     pub can_replay : (traces : List Trace) → IsFileOf graph f ends p bytes traces → All Starts (inputs_in traces) × (length (inputs_in traces) < 2 ^ 32)
     can_replay traces is = by_form (form_of (length f.parameters) bytes) traces refl is
 
--- the traces of a file that was read
-pub traces_given : (r : Reads) (graph : GraphParts) (f : Function) (ends : Ends) (file bytes : List ℕ) (p : Predicates) → Sees r.holds file bytes → length bytes ≤ most_trace_bytes
-    → (traces : List Trace) → IsFileOf graph f ends p bytes traces → AreTracesOf r graph f ends file p traces
-traces_given r graph f ends file bytes p seen short traces is = record { bytes = bytes; seen = seen; short = short; is = is }
-
 -- what holds where a function is there holds of it
 pub at_function : (o : Option Function) (f : Function) (P : Function → Type 0) → o ≡ Some f → IsSomeAnd o P → P f
 at_function o f P there holds = subst (λ (x : Option Function). IsSomeAnd x P) there holds
+
+-- what the call that reads traces answers
+pub traces_as : (r : Reads) (planned : Planned) (ends : Ends) (file bytes : List ℕ) → Sees r.holds file bytes → length bytes ≤ most_trace_bytes → (result : Result (Vec Trace) Fault)
+    → (let graph = planned.entry.graph.now in let functions = slice_get graph.functions planned.entry.number in
+    IfOk result (λ given. IsSomeAnd functions (λ f. IsFileOf graph f ends planned.predicates bytes given.items))
+    → IfErr result (λ e. IfRefused e (λ x. IsSomeAnd functions (λ f. IsRefused graph f ends bytes x))) → AreTracesAs r planned ends file result)
+traces_as r planned ends file bytes seen short (Ok given) ok refused =
+    let e = planned.entry in
+    let is = at_function (slice_get e.graph.now.functions e.number) e.function.now (λ f. IsFileOf e.graph.now f ends planned.predicates bytes given.items) e.there ok in
+    record { bytes = bytes; seen = seen; short = short; is = is }
+traces_as r planned ends file bytes seen short (Err fault) ok refused =
+    let e = planned.entry in
+    refused_map fault refused (λ x why. at_form bytes seen short (at_function (slice_get e.graph.now.functions e.number) e.function.now (λ f. IsRefused e.graph.now f ends bytes x) e.there why))

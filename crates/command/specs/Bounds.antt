@@ -44,6 +44,9 @@ module _ (form : Form) (graph : GraphParts) (entry : EntryFunction) (bounds : Bo
   said_of_bounds (Open formula history) =
       record { status = Some status.DoneOpen; out = open_bounds_text; err = []; shown = (0, formula, history) ∷ [] }
 
+  abbrev pub IsSaidOfBounds : Suffice → Said → Type 0
+  IsSaidOfBounds suffice said = said ≡ said_of_bounds suffice
+
   -- It is found whether the bounds suffice (`IsSuffice` says what each answer means), open only where the budget falls short,
   -- and that is said; or codes 80 and 81 are those of the unwinding.
   abbrev pub IsAskedOfBounds : List Text → ℕ → Said → Type 0

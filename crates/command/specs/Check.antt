@@ -8,7 +8,10 @@ use Rattle.goal_formula.specs.Exact.{IsExact}
 use Rattle.goal_formula.specs.declared.goal.GoalFormula.{GoalFormula}
 use Rattle.goals.specs.GoalForm.{GoalForm}
 use Rattle.goals.specs.declared.plan.Plan.{Plan}
+use Rattle.c_meaning.specs.declared.ends.Ends.{Ends}
+use Rattle.reached.specs.declared.bounds.Bounds.{Bounds}
 use Rattle.report.specs.Generated.{refuted_text}
+use Rattle.command_words.specs.Reading.{Text}
 use Rattle.command_words.specs.Request.{Checking}
 use Rattle.command.specs.Comparison.{IsCompared}
 use Rattle.command.specs.OneGoal.{IsGoalRefused, IsGoalWithin}
@@ -23,12 +26,18 @@ abbrev pub accepted_text : Checking → List ℕ
 accepted_text m = refuted_text m.goal (within m.bounds) m.ends
 
 -- The certificate is compared with the formula that is made anew, which is exact for the goal; or the goal has none.
+module _ (names : List Text) (graph : GraphParts) (entry : EntryFunction) (p : Predicates) (plan : Plan) (bounds : Bounds) (ends : Ends) (number : ℕ) (goal : GoalForm) where
+  abbrev pub IsCheckedAt : Formula → Derivation → Said → Type 0
+  IsCheckedAt theirs derivation said =
+      Says names (IsGoalRefused graph entry.function p plan bounds goal) said
+      ⊎ (IsGoalWithin graph entry.function p plan bounds goal
+      × ((ours : GoalFormula) × IsExact graph p entry.function bounds ends plan goal ours
+      × IsCompared (refuted_text number bounds ends) theirs ours.formula derivation said))
+
+-- the same within the bounds of the words
 abbrev pub IsChecked : Checking → GraphParts → EntryFunction → Predicates → Plan → GoalForm → Formula → Derivation → Said → Type 0
 IsChecked m graph entry p plan goal theirs derivation said =
-    Says m.sources (IsGoalRefused graph entry.function p plan (within m.bounds) goal) said
-    ⊎ (IsGoalWithin graph entry.function p plan (within m.bounds) goal
-    × ((ours : GoalFormula) × IsExact graph p entry.function (within m.bounds) m.ends plan goal ours
-    × IsCompared (accepted_text m) theirs ours.formula derivation said))
+    IsCheckedAt m.sources graph entry p plan (within m.bounds) m.ends m.goal goal theirs derivation said
 
 -- what is due of `check`, by the sources' automaton
 abbrev pub IsDueOfCheck : Reads → Checking → GraphParts → Said → Type 0

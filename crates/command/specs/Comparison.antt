@@ -43,9 +43,13 @@ said_of_verdict text Yes = answered text
 said_of_verdict text (BadStep line) = said_by [] (record { code = 92; place = place.Line line })
 said_of_verdict text NoEmptyClause = nowhere 93
 
+-- the verdict on a derivation is said, with this text where it shows that nothing satisfies the formula
+abbrev pub IsJudged : List ℕ → Formula → Derivation → Said → Type 0
+IsJudged text formula derivation said = (verdict : Verdict) × IsVerdict formula derivation verdict × (said ≡ said_of_verdict text verdict)
+
 -- The certificate's formula differs from ours, and what differs first is said; or it is ours, and the verdict on the derivation is
 -- said.
 abbrev pub IsCompared : List ℕ → Formula → Formula → Derivation → Said → Type 0
 IsCompared text theirs ours derivation said =
     ((d : Difference) × IsFirstDifference theirs ours (Some d) × (said ≡ other_formula theirs ours d))
-    ⊎ ((theirs ≡ ours) × ((verdict : Verdict) × IsVerdict ours derivation verdict × (said ≡ said_of_verdict text verdict)))
+    ⊎ ((theirs ≡ ours) × IsJudged text ours derivation said)

@@ -28,6 +28,9 @@ said_of_least number bounds ends (Refuted formula derivation) = answered (refute
 said_of_least number bounds ends (Open formula history) =
     record { status = Some status.DoneOpen; out = open_text number; err = []; shown = (number, formula, history) ∷ [] }
 
+abbrev pub IsSaidOfLeast : ℕ → Bounds → Ends → Least → Said → Type 0
+IsSaidOfLeast number bounds ends least said = said ≡ said_of_least number bounds ends least
+
 module _ (graph : GraphParts) (entry : EntryFunction) (p : Predicates) (plan : Plan) (bounds : Bounds) (ends : Ends) (number : ℕ) (goal : GoalForm) where
   -- The least input of the goal is found (`IsAnswered` says what each answer means), open only where the budget falls short,
   -- and that is said; or the goal has no formula.

@@ -1,6 +1,8 @@
 pub mod Accepted
+pub mod Answered
 pub mod Asked
 pub mod Bounds
+pub mod Calls
 pub mod CertificateFile
 pub mod Check
 pub mod CheckBounds
@@ -15,6 +17,7 @@ pub mod Least
 pub mod Measure
 pub mod OneGoal
 pub mod Outcome
+pub mod Parts
 pub mod Prove
 pub mod Queries
 pub mod Ranges

@@ -11,7 +11,7 @@ use Rattle.hits.specs.Hits.{Hits}
 use Rattle.path_runner.specs.Paths.{record_of}
 use Rattle.reached.specs.declared.bounds.Bounds.{Bounds}
 use Rattle.report.specs.Generated.{proved_text, undecided_text}
-use Rattle.suite.specs.Made.{IsDecided, IsMade}
+use Rattle.suite.specs.Made.{IsDecided, IsMade, IsOpenWhereShort}
 use Rattle.suite.specs.declared.decided.Decided.{Decided}
 use Rattle.suite.specs.declared.decided.Decided.TheVariants.{Covered, Refuted, Undecided}
 use Rattle.command_words.specs.Reading.{Text}
@@ -34,12 +34,14 @@ module _ (graph : GraphParts) (entry : EntryFunction) (p : Predicates) (plan : P
   IsSaidOf (Undecided formula history) said =
       said ≡ record { status = Some status.DoneOpen; out = undecided_text number; err = []; shown = (number, formula.formula, history) ∷ [] }
 
-  -- The goal is decided (`IsDecided` says what each answer means), and that is said; or it has no formula.
+  -- The goal is decided (`IsDecided` says what each answer means), open only where the budget falls short, and that is said; or it
+  -- has no formula.
   abbrev pub IsProved : List Text → ℕ → Said → Type 0
   IsProved names budget said =
       Says names (IsGoalRefused graph entry.function p plan bounds goal) said
       ⊎ (IsGoalWithin graph entry.function p plan bounds goal
-      × ((decided : Decided) × IsDecided graph entry.function p plan bounds ends goal budget decided × IsSaidOf decided said))
+      × ((decided : Decided) × IsDecided graph entry.function p plan bounds ends goal budget decided
+      × IsOpenWhereShort graph entry.function p plan bounds goal budget decided × IsSaidOf decided said))
 
 -- what is due of `prove`, by the sources' automaton
 abbrev pub IsDueOfProve : Proving → GraphParts → Said → Type 0

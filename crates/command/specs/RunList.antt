@@ -1,5 +1,5 @@
 -- The runs of inputs, as they are listed.
-use Rattle.std.specs.Prelude.{ℕ, List, [], length, map, nat_lt, if◌then◌else◌}
+use Rattle.std.specs.Prelude.{◌≡◌, ℕ, List, [], length, map, nat_lt, if◌then◌else◌}
 use Rattle.std.specs.List.{sum_by}
 use Rattle.fq_core.specs.declared.refusal.Place.TheVariants as place
 use Rattle.cfa.specs.declared.parts.GraphParts.{GraphParts}
@@ -31,3 +31,7 @@ listed graph entry runs =
 -- the runs of these inputs, each cut after so many edges
 abbrev pub recorded : GraphParts → EntryFunction → ℕ → List Input → Said
 recorded graph entry steps inputs = listed graph entry.number (runs_of graph entry.function no_predicates steps inputs)
+
+-- that is said
+abbrev pub IsRecorded : GraphParts → EntryFunction → ℕ → List Input → Said → Type 0
+IsRecorded graph entry steps inputs said = said ≡ recorded graph entry steps inputs

@@ -1,5 +1,5 @@
 -- The traces of inputs.
-use Rattle.std.specs.Prelude.{ℕ, List, [], filter, map, nat_lt, Bool, if◌then◌else◌}
+use Rattle.std.specs.Prelude.{◌≡◌, ℕ, List, [], filter, map, nat_lt, Bool, if◌then◌else◌}
 use Rattle.fq_core.specs.declared.refusal.Place.TheVariants as place
 use Rattle.cfa.specs.declared.parts.Function.{Function}
 use Rattle.cfa.specs.declared.parts.GraphParts.{GraphParts}
@@ -29,3 +29,7 @@ abbrev pub traced : GraphParts → EntryFunction → Ends → ℕ → List Input
 traced graph entry ends steps inputs =
     if nat_lt most_listed (edges_in (runs_of graph entry.function no_predicates steps inputs)) then said_by [] (record { code = 54; place = place.Limit most_listed })
     else answered (traces_text entry.function.parameters (traces_of graph entry.function ends steps inputs))
+
+-- that is said
+abbrev pub IsTraced : GraphParts → EntryFunction → Ends → ℕ → List Input → Said → Type 0
+IsTraced graph entry ends steps inputs said = said ≡ traced graph entry ends steps inputs

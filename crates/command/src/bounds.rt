@@ -1,25 +1,26 @@
 // Whether bounds suffice.
-ghost use Rattle.std.specs.Prelude.{◌≡◌, [], List, IfOk, Some, slice_get};
-ghost use Rattle.cfa.specs.Contexts.{IsOnce};
+ghost use Rattle.std.specs.Prelude.{◌≡◌, IfOk};
 ghost use Rattle.report.specs.Made.{parameter_kinds};
-ghost use Rattle.suite.specs.Generated.{Shown};
 ghost use Rattle.command_words.specs.Request.{sufficing};
+ghost use Rattle.command.specs.Bounds.{HasInputFor, IsDueOfBounds, IsSaidOfBounds, sufficient_text};
 ghost use Rattle.command.specs.Entries.{seen};
-ghost use Rattle.command.specs.Ranges.{AreBounds, within};
-ghost use Rattle.command.specs.Replies.{Gives, said_in};
-ghost use Rattle.command.specs.Bounds.{HasInputFor, IsAskedOfBounds, IsDueOfBounds, said_of_bounds, sufficient_text};
-ghost use Rattle.command.specs.Watched.{IsShown, watched};
+ghost use Rattle.command.specs.Ranges.{AreBounds};
+ghost use Rattle.command.specs.Reads.{reads};
+ghost use Rattle.command.specs.Replies.{Gives, IsReply};
+ghost use Rattle.command.specs.Stages.{OfSources};
+ghost use Rattle.command.specs.Watched.{watched};
 
-use crate::entry::{Entry, entry_named};
+use crate::entry::entry_named;
 use crate::generate::within;
-use crate::refusal::nowhere;
+use crate::given::Entry;
 use crate::reply::Reply;
+use crate::sources::automaton;
 use bounds_check::{Suffice, bounds_suffice};
 use certificate::write_certificate;
-use cfa::Graph;
 use cnf::{Derivation, Formula};
 use command_words::Suffice as Asked;
 use fq_core::{Fault, Memory};
+use fq_io::Files;
 use reached::Bounds;
 use report::{left_text, open_bounds_text, suffice_text};
 use search::Watch;
@@ -42,7 +43,8 @@ fn sufficient(
     formula: &Formula,
     derivation: &Derivation,
 ) -> Result<Vec<u8>, Memory>
-    ensures { IfOk result (λ text. text.items ≡ sufficient_text form bounds formula.now derivation.now) }
+    ensures { IfOk result (λ text.
+        text.items ≡ sufficient_text form bounds formula.now derivation.now) }
 {
     match form {
         Form::Line => suffice_text(alloc, bounds),
@@ -54,15 +56,15 @@ fn sufficient(
 fn said_of<W: Watch>(
     alloc: Global,
     form: Form,
-    graph: &Graph,
     entry: &Entry,
     bounds: Bounds,
     suffice: Suffice,
     watch: &mut W,
 ) -> Result<Reply, Memory>
-    requires { HasInputFor (parameter_kinds graph.now entry.now.number) suffice }
-    ensures { IfOk result (λ reply. (shown : List Shown) × (said_in reply shown ≡ said_of_bounds form graph.now (seen entry.now) bounds suffice)
-        × IsShown shown (watched W.Watch watch.old watch.new)) }
+    requires { HasInputFor (parameter_kinds entry.now.graph.now entry.now.number) suffice }
+    ensures { IfOk result (λ reply.
+        IsReply (IsSaidOfBounds form entry.now.graph.now (seen entry.now) bounds suffice)
+        (watched W.Watch watch.old watch.new) reply) }
 {
     match suffice {
         Suffice::Yes {
@@ -76,7 +78,7 @@ fn said_of<W: Watch>(
             })
         }
         Suffice::Left(input) => {
-            let text = left_text(alloc, graph, entry.number, &input)?;
+            let text = left_text(alloc, entry.graph, entry.number, &input)?;
             Ok(Reply::Answer {
                 text,
                 left_open: false,
@@ -93,42 +95,29 @@ fn said_of<W: Watch>(
     }
 }
 
-// Finds whether the bounds suffice, and says it.
-fn asked<W: Watch>(
+/// What is due of `bounds` and `prove-bounds`, by what is written where the bounds suffice.
+pub fn bounds<F: Files, W: Watch>(
     alloc: Global,
     form: Form,
     request: &Asked,
-    graph: &Graph,
-    entry: &Entry,
+    files: &mut F,
     watch: &mut W,
 ) -> Result<Reply, Fault>
-    requires once { IsOnce graph.now }
-    requires number { slice_get graph.now.functions entry.now.number ≡ Some entry.now.function.now }
-    requires startable { entry.now.function.now.arrays ≡ [] }
-    requires bounds { AreBounds request.now.bounds }
+    requires { AreBounds request.now.bounds }
     ensures { let m = sufficing request.now in
-        Gives (IsAskedOfBounds form graph.now (seen entry.now) (within m.bounds) m.sources m.budget) m.sources (watched W.Watch watch.old watch.new) result }
+        Gives (OfSources (reads F.Files files.old files.new) m.sources (IsDueOfBounds form m))
+        m.sources (watched W.Watch watch.old watch.new) result }
 {
+    let automaton = automaton(alloc, files, &request.sources)?;
+    let entry = entry_named(&automaton, request.entry)?;
     let bounds = within(request.bounds);
-    let suffice = bounds_suffice(alloc, graph, entry.number, bounds, request.budget as u64)?;
-    let reply = said_of(alloc, form, graph, entry, bounds, suffice, watch)?;
+    let suffice = bounds_suffice(
+        alloc,
+        entry.graph,
+        entry.number,
+        bounds,
+        request.budget as u64,
+    )?;
+    let reply = said_of(alloc, form, &entry, bounds, suffice, watch)?;
     Ok(reply)
-}
-
-/// What is due of `bounds` and `prove-bounds` over an automaton, by what is written where the bounds suffice.
-pub fn bounds_graph<W: Watch>(
-    alloc: Global,
-    form: Form,
-    request: &Asked,
-    graph: &Graph,
-    watch: &mut W,
-) -> Result<Reply, Fault>
-    requires once { IsOnce graph.now }
-    requires bounds { AreBounds request.now.bounds }
-    ensures { Gives (IsDueOfBounds form (sufficing request.now) graph.now) (sufficing request.now).sources (watched W.Watch watch.old watch.new) result }
-{
-    let Some(entry) = entry_named(graph, request.entry.as_bytes()) else {
-        return Err(Fault::Refused(nowhere(36)));
-    };
-    asked(alloc, form, request, graph, &entry, watch)
 }

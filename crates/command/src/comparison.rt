@@ -1,12 +1,11 @@
 // A certificate compared with a formula that is made anew.
-ghost use Rattle.std.specs.Prelude.{◌≡◌, ◌<◌, ◌^◌, List, length};
+ghost use Rattle.std.specs.Prelude.{◌<◌, ◌^◌, List, length};
 ghost use Rattle.command_words.specs.Reading.{Text};
-ghost use Rattle.command.specs.Comparison.{IsCompared, said_of_verdict};
+ghost use Rattle.command.specs.Comparison.{IsCompared, IsJudged};
 ghost use Rattle.command.specs.Replies.{Tells};
-ghost use Rattle.derivation_check.specs.Verdicts.{IsVerdict};
-ghost use Rattle.derivation_check.specs.declared.verdict.Verdict.{Verdict as OneVerdict};
 
 use crate::difference::difference_line;
+use crate::given::Certificate;
 use crate::refusal::nowhere;
 use crate::reply::Reply;
 use certificate::compare;
@@ -23,7 +22,8 @@ fn verdict(
     derivation: &Derivation,
 ) -> Result<Reply, Fault>
     requires { length derivation.now.lines < 2 ^ 32 }
-    ensures { (names : List Text) → Tells (λ said. (verdict : OneVerdict) × IsVerdict formula.now derivation.now verdict × (said ≡ said_of_verdict text.items verdict)) names result }
+    ensures { (names : List Text) →
+        Tells (IsJudged text.items formula.now derivation.now) names result }
 {
     let mut checker = Checker::prepare(alloc, formula, derivation)?;
     match checker.check() {
@@ -44,20 +44,19 @@ fn verdict(
 pub fn compared(
     alloc: Global,
     text: Vec<u8>,
-    theirs: &Formula,
+    theirs: &Certificate,
     ours: &Formula,
-    derivation: &Derivation,
 ) -> Result<Reply, Fault>
-    requires theirs { length theirs.now.clauses < 2 ^ 32 }
-    requires ours { length ours.now.clauses < 2 ^ 32 }
-    requires lines { length derivation.now.lines < 2 ^ 32 }
-    ensures { (names : List Text) → Tells (IsCompared text.items theirs.now ours.now derivation.now) names result }
+    requires { length ours.now.clauses < 2 ^ 32 }
+    ensures { (names : List Text) →
+        Tells (IsCompared text.items theirs.now.formula ours.now theirs.now.derivation)
+        names result }
 {
-    match compare(theirs, ours) {
+    match compare(&theirs.formula, ours) {
         Some(difference) => {
-            let line = difference_line(alloc, theirs, ours, difference)?;
+            let line = difference_line(alloc, &theirs.formula, ours, difference)?;
             Ok(Reply::OtherFormula { line })
         }
-        None => verdict(alloc, text, ours, derivation),
+        None => verdict(alloc, text, ours, &theirs.derivation),
     }
 }

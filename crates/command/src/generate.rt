@@ -1,32 +1,29 @@
 // Inputs made for the goals of a query.
-ghost use Rattle.std.specs.Prelude.{◌≡◌, ◌≤◌, ◌<◌, ◌^◌, [], IfOk, Some, length, slice_get};
-ghost use Rattle.std.specs.List.{All};
-ghost use Rattle.cfa.specs.Contexts.{IsOnce};
-ghost use Rattle.cfa.specs.Predicates.{IsPredicates};
-ghost use Rattle.goals.specs.Over.{IsPlanOver};
-ghost use Rattle.input_text.specs.Laws.{HasWords};
-ghost use Rattle.report.specs.Made.{parameter_kinds};
+ghost use Rattle.std.specs.Prelude.{◌≡◌, List, IfOk};
+ghost use Rattle.command_words.specs.Reading.{Text};
 ghost use Rattle.command_words.specs.Request.{generating};
-ghost use Rattle.command.specs.Entries.{seen};
-ghost use Rattle.command.specs.Generate.{IsDueOfGenerate, IsGeneration, generated_report, is_open};
-ghost use Rattle.command.specs.Ranges.{AreBounds, within};
+ghost use Rattle.command_words.specs.Request as asks;
+ghost use Rattle.command.specs.Answered.{IsGiven};
+ghost use Rattle.command.specs.Generate.{is_open};
+ghost use Rattle.command.specs.Ranges.{IsInRange, within};
+ghost use Rattle.command.specs.Reads.{reads};
 ghost use Rattle.command.specs.Replies.{Gives};
+ghost use Rattle.command.specs.Parts.{IsGenerationFor, IsMadeAs, IsReportable, report_for};
 ghost use Rattle.command.specs.Watched.{watched};
 
-use crate::entry::{Entry, entry_named};
-use crate::query::{Planned, plan_query};
-use crate::refusal::nowhere;
+use crate::given::Given;
+use crate::query::plan_at;
 use crate::reply::Reply;
-use c_meaning::Ends;
-use cfa::Graph;
+use crate::sources::automaton;
 use command_words::Generate;
 use fq_core::{Fault, Memory};
-use goals::{Answer, Plan};
+use fq_io::Files;
+use goals::Answer;
 use reached::Bounds;
 use report::{generated_json, generated_text};
 use search::Watch;
 use std::alloc::Global;
-use suite::{Generated, generate, reduce};
+use suite::{Generated, reduce};
 
 /// The bounds that the words give.
 pub fn within(bounds: command_words::Bounds) -> Bounds
@@ -51,21 +48,19 @@ pub fn is_open(answers: &[Answer]) -> bool
 // The report of what was made.
 fn report(
     alloc: Global,
-    graph: &Graph,
-    entry: u32,
-    plan: &Plan,
-    bounds: Bounds,
-    ends: Ends,
+    given: &Given,
     budget: u64,
     json: bool,
     made: &Generated,
 ) -> Result<Vec<u8>, Memory>
-    requires words { All (HasWords (length (parameter_kinds graph.now entry))) made.now.inputs }
-    requires taken { length made.now.taken ≡ length made.now.inputs }
-    requires answers { length made.now.answers ≡ length plan.now.goals }
-    requires few { length made.now.hits < 2 ^ 32 }
-    ensures { IfOk result (λ text. text.items ≡ generated_report graph.now entry plan.now bounds ends budget json made.now) }
+    requires { IsReportable given.now made.now }
+    ensures { IfOk result (λ text. text.items ≡ report_for given.now budget json made.now) }
 {
+    let graph = given.planned.entry.graph;
+    let entry = given.planned.entry.number;
+    let plan = &given.planned.plan;
+    let bounds = given.bounds;
+    let ends = given.ends;
     let kept = reduce(alloc, &made.hits)?;
     if json {
         generated_json(alloc, graph, plan, entry, made, &kept, bounds, budget, ends)
@@ -74,70 +69,65 @@ fn report(
     }
 }
 
+/// Makes inputs for the goals.
+pub fn make_inputs<W: Watch>(
+    alloc: Global,
+    given: &Given,
+    budget: u64,
+    watch: &mut W,
+) -> Result<Generated, Fault>
+    ensures { IsMadeAs given.now budget (watched W.Watch watch.old watch.new) result }
+{
+    suite::generate(
+        alloc,
+        given.planned.entry.graph,
+        given.planned.entry.number,
+        &given.planned.plan,
+        &given.planned.predicates,
+        given.bounds,
+        given.ends,
+        budget,
+        watch,
+    )
+}
+
 // Makes inputs for the goals, and reports them.
 fn generation<W: Watch>(
     alloc: Global,
-    request: &Generate,
-    graph: &Graph,
-    entry: &Entry,
-    planned: &Planned,
+    given: &Given,
+    budget: u64,
+    json: bool,
     watch: &mut W,
 ) -> Result<Reply, Fault>
-    requires once { IsOnce graph.now }
-    requires number { slice_get graph.now.functions entry.now.number ≡ Some entry.now.function.now }
-    requires startable { entry.now.function.now.arrays ≡ [] }
-    requires predicates { IsPredicates graph.now planned.now.predicates }
-    requires plan { IsPlanOver graph.now planned.now.plan }
-    requires bounds { AreBounds request.now.bounds }
-    ensures { let m = generating request.now in
-        Gives (IsGeneration m.sources graph.now (seen entry.now) planned.now.predicates planned.now.plan (within m.bounds) m.ends m.budget
-        (generated_report graph.now entry.now.number planned.now.plan (within m.bounds) m.ends m.budget m.json))
-        m.sources (watched W.Watch watch.old watch.new) result }
+    ensures { (names : List Text) →
+        Gives (IsGenerationFor given.now budget (report_for given.now budget json) names) names
+        (watched W.Watch watch.old watch.new) result }
 {
-    let bounds = within(request.bounds);
-    let budget = request.budget as u64;
-    let made = generate(
-        alloc,
-        graph,
-        entry.number,
-        &planned.plan,
-        &planned.predicates,
-        bounds,
-        request.ends,
-        budget,
-        watch,
-    )?;
-    let text = report(
-        alloc,
-        graph,
-        entry.number,
-        &planned.plan,
-        bounds,
-        request.ends,
-        budget,
-        request.json,
-        &made,
-    )?;
+    let made = make_inputs(alloc, given, budget, watch)?;
+    let text = report(alloc, given, budget, json, &made)?;
     Ok(Reply::Answer {
         text,
         left_open: is_open(&made.answers),
     })
 }
 
-/// What is due of `generate` over an automaton.
-pub fn generate_graph<W: Watch>(
+/// What is due of `generate`.
+pub fn generate<F: Files, W: Watch>(
     alloc: Global,
     request: &Generate,
-    graph: &Graph,
+    files: &mut F,
     watch: &mut W,
 ) -> Result<Reply, Fault>
-    requires once { IsOnce graph.now }
-    requires bounds { AreBounds request.now.bounds }
-    ensures { Gives (IsDueOfGenerate (generating request.now) graph.now) (generating request.now).sources (watched W.Watch watch.old watch.new) result }
+    requires { IsInRange (asks.generate (generating request.now)) }
+    ensures { IsGiven (reads F.Files files.old files.new) (watched W.Watch watch.old watch.new)
+        (asks.generate (generating request.now)) result }
 {
-    let Some(entry) = entry_named(graph, request.entry.as_bytes()) else {
-        return Err(Fault::Refused(nowhere(36)));
+    let automaton = automaton(alloc, files, &request.sources)?;
+    let planned = plan_at(alloc, &automaton, request.entry, request.query.as_bytes())?;
+    let given = Given {
+        planned,
+        bounds: within(request.bounds),
+        ends: request.ends,
     };
-    let planned = plan_query(alloc, graph, request.query)?;
-    generation(alloc, request, graph, &entry, &planned, watch)
+    generation(alloc, &given, request.budget as u64, request.json, watch)
 }

@@ -1,24 +1,26 @@
 // The least input of a goal.
-ghost use Rattle.std.specs.Prelude.{◌≡◌, ◌-◌, ◌≤◌, [], List, IfOk, Some, length, slice_get};
-ghost use Rattle.cfa.specs.Contexts.{IsOnce};
-ghost use Rattle.cfa.specs.Predicates.{IsPredicates};
+ghost use Rattle.std.specs.Prelude.{◌≡◌, List, IfOk};
 ghost use Rattle.goals.specs.GoalForm.{GoalForm};
-ghost use Rattle.suite.specs.Generated.{Shown};
+ghost use Rattle.command_words.specs.Reading.{Text};
 ghost use Rattle.command_words.specs.Request.{proving};
-ghost use Rattle.command.specs.Entries.{seen};
-ghost use Rattle.command.specs.Least.{IsDueOfLeast, IsLowered, said_of_least};
-ghost use Rattle.command.specs.Ranges.{AreBounds, within};
-ghost use Rattle.command.specs.Replies.{Gives, said_in};
-ghost use Rattle.command.specs.Watched.{IsShown, watched};
+ghost use Rattle.command_words.specs.Request as asks;
+ghost use Rattle.command.specs.Answered.{IsGiven};
+ghost use Rattle.command.specs.Least.{IsSaidOfLeast};
+ghost use Rattle.command.specs.Parts.{IsGoalOf, IsLoweredFor};
+ghost use Rattle.command.specs.Ranges.{IsInRange};
+ghost use Rattle.command.specs.Reads.{reads};
+ghost use Rattle.command.specs.Replies.{Gives, IsReply};
+ghost use Rattle.command.specs.Watched.{watched};
 
-use crate::entry::{Entry, entry_named};
 use crate::generate::within;
-use crate::query::{Planned, plan_query};
-use crate::refusal::{no_such_goal, nowhere};
+use crate::given::{Given, Goal};
+use crate::query::plan_at;
+use crate::refusal::no_such_goal;
 use crate::reply::Reply;
-use cfa::Graph;
+use crate::sources::automaton;
 use command_words::Prove;
 use fq_core::{Fault, Memory};
+use fq_io::Files;
 use least_input::{Least, find_least};
 use path_runner::Ends;
 use reached::Bounds;
@@ -36,8 +38,8 @@ fn said_of<W: Watch>(
     least: Least,
     watch: &mut W,
 ) -> Result<Reply, Memory>
-    ensures { IfOk result (λ reply. (shown : List Shown) × (said_in reply shown ≡ said_of_least number bounds ends least)
-        × IsShown shown (watched W.Watch watch.old watch.new)) }
+    ensures { IfOk result (λ reply. IsReply (IsSaidOfLeast number bounds ends least)
+        (watched W.Watch watch.old watch.new) reply) }
 {
     match least {
         Least::Found {
@@ -72,66 +74,55 @@ fn said_of<W: Watch>(
     }
 }
 
-// Finds the least input of a goal that is there, and says it.
-fn lowered<W: Watch>(
-    alloc: Global,
-    request: &Prove,
-    graph: &Graph,
-    entry: &Entry,
-    planned: &Planned,
-    watch: &mut W,
-) -> Result<Reply, Fault>
-    requires once { IsOnce graph.now }
-    requires number { slice_get graph.now.functions entry.now.number ≡ Some entry.now.function.now }
-    requires startable { entry.now.function.now.arrays ≡ [] }
-    requires predicates { IsPredicates graph.now planned.now.predicates }
-    requires bounds { AreBounds request.now.bounds }
-    requires some { 1 ≤ request.now.goal }
-    requires there { request.now.goal ≤ length planned.now.plan.goals }
-    ensures { (goal : GoalForm) → slice_get planned.now.plan.goals (request.now.goal - 1) ≡ Some goal → let m = proving request.now in
-        Gives (IsLowered graph.now (seen entry.now) planned.now.predicates planned.now.plan (within m.bounds) m.ends m.goal goal m.sources m.budget)
-        m.sources (watched W.Watch watch.old watch.new) result }
+// Finds the least input of a goal, and says it.
+fn lowered<W: Watch>(alloc: Global, goal: &Goal, budget: u64, watch: &mut W) -> Result<Reply, Fault>
+    ensures { (names : List Text) (one : GoalForm) → IsGoalOf goal.now one →
+        Gives (IsLoweredFor goal.now one budget names) names
+        (watched W.Watch watch.old watch.new) result }
 {
-    let bounds = within(request.bounds);
-    let mut unwound = unwind(
-        alloc,
-        graph,
-        entry.number,
-        &planned.predicates,
-        bounds,
-        request.ends,
-    )?;
+    let given = &goal.given;
+    let graph = given.planned.entry.graph;
+    let entry = given.planned.entry.number;
+    let predicates = &given.planned.predicates;
+    let plan = &given.planned.plan;
+    let mut unwound = unwind(alloc, graph, entry, predicates, given.bounds, given.ends)?;
     let least = find_least(
         alloc,
         graph,
-        &planned.predicates,
+        predicates,
         &mut unwound,
-        &planned.plan,
-        request.goal,
-        request.budget as u64,
+        plan,
+        goal.number,
+        budget,
     )?;
-    let reply = said_of(alloc, request.goal, bounds, request.ends, least, watch)?;
+    let reply = said_of(alloc, goal.number, given.bounds, given.ends, least, watch)?;
     Ok(reply)
 }
 
-/// What is due of `least` over an automaton.
-pub fn least_graph<W: Watch>(
+/// What is due of `least`.
+pub fn least<F: Files, W: Watch>(
     alloc: Global,
     request: &Prove,
-    graph: &Graph,
+    files: &mut F,
     watch: &mut W,
 ) -> Result<Reply, Fault>
-    requires once { IsOnce graph.now }
-    requires bounds { AreBounds request.now.bounds }
-    requires some { 1 ≤ request.now.goal }
-    ensures { Gives (IsDueOfLeast (proving request.now) graph.now) (proving request.now).sources (watched W.Watch watch.old watch.new) result }
+    requires { IsInRange (asks.least (proving request.now)) }
+    ensures { IsGiven (reads F.Files files.old files.new) (watched W.Watch watch.old watch.new)
+        (asks.least (proving request.now)) result }
 {
-    let Some(entry) = entry_named(graph, request.entry.as_bytes()) else {
-        return Err(Fault::Refused(nowhere(36)));
-    };
-    let planned = plan_query(alloc, graph, request.query)?;
+    let automaton = automaton(alloc, files, &request.sources)?;
+    let planned = plan_at(alloc, &automaton, request.entry, request.query.as_bytes())?;
     if request.goal as usize > planned.plan.goals.len() {
         return Err(Fault::Refused(no_such_goal()));
     }
-    lowered(alloc, request, graph, &entry, &planned, watch)
+    let given = Given {
+        planned,
+        bounds: within(request.bounds),
+        ends: request.ends,
+    };
+    let goal = Goal {
+        given,
+        number: request.goal,
+    };
+    lowered(alloc, &goal, request.budget as u64, watch)
 }

@@ -12,9 +12,11 @@
 //! refusal that is due.
 //!
 //! Each stage has a crate: the words `command_words`, the sources' automaton `c_front` and their typed tree `typed_sources`, the
-//! query `fql_read`, `predicates` and `goals`, the inputs `input_text`, the runs `path_runner` and `tree_meaning`, their hits `measurer`, made inputs and reduced suites
-//! `suite`, over `unwinder`, `goal_formula` and `search`, certificates `certificate` and `derivation_check`, the program of
-//! `sample` `sample`, the printed texts `report`. Start at [`run`] in command.rt.
+//! query `fql_read`, `predicates` and `goals`, the inputs `input_text`, the runs `path_runner` and `tree_meaning`, their hits
+//! `measurer`, made inputs and reduced suites `suite`, over `unwinder`, `goal_formula` and `search`, certificates `certificate`
+//! and `derivation_check`, the program of `sample` `sample`, the printed texts `report`. Each command has a module by its word
+//! (`samples` and `goal_list` for `sample` and `goals`, whose words are crates), with one call that answers what is due. What
+//! a stage gives keeps what holds of it on its type (given.rt). Start at [`run`] in command.rt.
 #![tactic(auto)]
 
 mod bounds;
@@ -26,6 +28,9 @@ mod comparison;
 mod difference;
 mod entry;
 mod generate;
+mod given;
+mod goal_list;
+mod graph;
 mod inputs;
 pub mod laws;
 mod least;

@@ -1,29 +1,28 @@
 // One goal decided, and what is said of it.
-ghost use Rattle.std.specs.Prelude.{◌≡◌, ◌-◌, ◌≤◌, ℕ, [], List, IfOk, Some, length, slice_get};
-ghost use Rattle.cfa.specs.Contexts.{IsOnce};
-ghost use Rattle.cfa.specs.Predicates.{IsPredicates};
+ghost use Rattle.std.specs.Prelude.{ℕ, List, IfOk};
 ghost use Rattle.goals.specs.GoalForm.{GoalForm};
-ghost use Rattle.suite.specs.Generated.{Shown};
-ghost use Rattle.suite.specs.Made.{IsDecided, IsMadeFor};
-ghost use Rattle.suite.specs.Unwindings.{IsUnwindingOf};
+ghost use Rattle.command_words.specs.Reading.{Text};
 ghost use Rattle.command_words.specs.Request.{proving};
-ghost use Rattle.command.specs.Entries.{seen};
-ghost use Rattle.command.specs.Prove.{IsDueOfProve, IsProved, IsSaidOf};
-ghost use Rattle.command.specs.Ranges.{AreBounds, within};
-ghost use Rattle.command.specs.Replies.{Gives, said_in};
+ghost use Rattle.command_words.specs.Request as asks;
+ghost use Rattle.command.specs.Answered.{IsGiven};
+ghost use Rattle.command.specs.Parts.{IsDecidedOver, IsGoalOf, IsMadeOver, IsProvedFor, IsSaidOver, IsUnwindingFor};
+ghost use Rattle.command.specs.Ranges.{IsInRange};
+ghost use Rattle.command.specs.Reads.{reads};
+ghost use Rattle.command.specs.Replies.{Gives, IsReply};
 ghost use Rattle.command.specs.Said.{answered};
-ghost use Rattle.command.specs.Watched.{IsShown, watched};
+ghost use Rattle.command.specs.Watched.{watched};
 
-use crate::entry::{Entry, entry_named};
 use crate::generate::within;
-use crate::query::{Planned, plan_query};
-use crate::refusal::{no_such_goal, nowhere};
+use crate::given::{Given, Goal};
+use crate::query::plan_at;
+use crate::refusal::no_such_goal;
 use crate::reply::Reply;
+use crate::sources::automaton;
 use c_meaning::Input;
 use certificate::write_certificate;
-use cfa::Graph;
 use command_words::Prove;
 use fq_core::{Fault, Memory};
+use fq_io::Files;
 use report::{proved_text, undecided_text};
 use search::Watch;
 use std::alloc::Global;
@@ -31,52 +30,44 @@ use suite::{Decided, decide, replay};
 use unwinder::{Unwound, unwind};
 
 // The line of a goal that an input covers.
-fn covered(
-    alloc: Global,
-    graph: &Graph,
-    entry: &Entry,
-    planned: &Planned,
-    unwound: &Unwound,
-    number: u32,
-    input: &Input,
-) -> Result<Vec<u8>, Memory>
-    requires number { slice_get graph.now.functions entry.now.number ≡ Some entry.now.function.now }
-    requires entry { unwound.now.entry ≡ entry.now.number }
-    requires startable { entry.now.function.now.arrays ≡ [] }
-    requires predicates { IsPredicates graph.now planned.now.predicates }
-    requires unwound { IsUnwindingOf graph.now planned.now.predicates unwound.now }
-    requires made { (goal : GoalForm) × IsMadeFor graph.now entry.now.function.now planned.now.predicates planned.now.plan unwound.now.bounds unwound.now.ends goal input.now }
-    ensures { IfOk result (λ text. (goal : GoalForm) → IsMadeFor graph.now entry.now.function.now planned.now.predicates planned.now.plan unwound.now.bounds unwound.now.ends goal input.now
-        → IsSaidOf graph.now (seen entry.now) planned.now.predicates planned.now.plan unwound.now.bounds unwound.now.ends number goal (Decided.Covered input.now) (answered text.items)) }
+fn covered(alloc: Global, goal: &Goal, unwound: &Unwound, input: &Input) -> Result<Vec<u8>, Memory>
+    requires unwound { IsUnwindingFor goal.now unwound.now }
+    requires made { (one : GoalForm) × IsMadeOver goal.now unwound.now one input.now }
+    ensures { IfOk result (λ text. (one : GoalForm) → IsMadeOver goal.now unwound.now one input.now
+        → IsSaidOver goal.now unwound.now one (Decided.Covered input.now) (answered text.items)) }
 {
+    let planned = &goal.given.planned;
+    let graph = planned.entry.graph;
     let run = replay(alloc, graph, &planned.predicates, unwound, input)?;
-    proved_text(alloc, graph, entry.number, number, input, &run.taken)
+    proved_text(
+        alloc,
+        graph,
+        planned.entry.number,
+        goal.number,
+        input,
+        &run.taken,
+    )
 }
 
 // What is said of what is found of a goal. The watch is shown the search of one that stays undecided.
 fn said_of<W: Watch>(
     alloc: Global,
-    graph: &Graph,
-    entry: &Entry,
-    planned: &Planned,
+    goal: &Goal,
     unwound: &Unwound,
-    number: u32,
     decided: Decided,
     watch: &mut W,
 ) -> Result<Reply, Memory>
-    requires number { slice_get graph.now.functions entry.now.number ≡ Some entry.now.function.now }
-    requires entry { unwound.now.entry ≡ entry.now.number }
-    requires startable { entry.now.function.now.arrays ≡ [] }
-    requires predicates { IsPredicates graph.now planned.now.predicates }
-    requires unwound { IsUnwindingOf graph.now planned.now.predicates unwound.now }
-    requires decided { (goal : GoalForm) × ((budget : ℕ) × IsDecided graph.now entry.now.function.now planned.now.predicates planned.now.plan unwound.now.bounds unwound.now.ends goal budget decided) }
-    ensures { IfOk result (λ reply. (goal : GoalForm) (budget : ℕ) → IsDecided graph.now entry.now.function.now planned.now.predicates planned.now.plan unwound.now.bounds unwound.now.ends goal budget decided
-        → (shown : List Shown) × IsSaidOf graph.now (seen entry.now) planned.now.predicates planned.now.plan unwound.now.bounds unwound.now.ends number goal decided (said_in reply shown)
-        × IsShown shown (watched W.Watch watch.old watch.new)) }
+    requires unwound { IsUnwindingFor goal.now unwound.now }
+    requires decided { (one : GoalForm) × ((budget : ℕ)
+        × IsDecidedOver goal.now unwound.now one budget decided) }
+    ensures { IfOk result (λ reply. (one : GoalForm) (budget : ℕ)
+        → IsDecidedOver goal.now unwound.now one budget decided
+        → IsReply (IsSaidOver goal.now unwound.now one decided)
+        (watched W.Watch watch.old watch.new) reply) }
 {
     match decided {
         Decided::Covered(input) => {
-            let text = covered(alloc, graph, entry, planned, unwound, number, &input)?;
+            let text = covered(alloc, goal, unwound, &input)?;
             Ok(Reply::Answer {
                 text,
                 left_open: false,
@@ -93,6 +84,7 @@ fn said_of<W: Watch>(
             })
         }
         Decided::Undecided { formula, history } => {
+            let number = goal.number;
             let text = undecided_text(alloc, number)?;
             watch.shown(number, &formula.formula, &history)?;
             Ok(Reply::Answer {
@@ -103,74 +95,55 @@ fn said_of<W: Watch>(
     }
 }
 
-// Decides a goal that is there, and says what is found of it.
-fn proof<W: Watch>(
-    alloc: Global,
-    request: &Prove,
-    graph: &Graph,
-    entry: &Entry,
-    planned: &Planned,
-    watch: &mut W,
-) -> Result<Reply, Fault>
-    requires once { IsOnce graph.now }
-    requires number { slice_get graph.now.functions entry.now.number ≡ Some entry.now.function.now }
-    requires startable { entry.now.function.now.arrays ≡ [] }
-    requires predicates { IsPredicates graph.now planned.now.predicates }
-    requires bounds { AreBounds request.now.bounds }
-    requires some { 1 ≤ request.now.goal }
-    requires there { request.now.goal ≤ length planned.now.plan.goals }
-    ensures { (goal : GoalForm) → slice_get planned.now.plan.goals (request.now.goal - 1) ≡ Some goal → let m = proving request.now in
-        Gives (IsProved graph.now (seen entry.now) planned.now.predicates planned.now.plan (within m.bounds) m.ends m.goal goal m.sources m.budget)
-        m.sources (watched W.Watch watch.old watch.new) result }
+// Decides a goal, and says what is found of it.
+fn proof<W: Watch>(alloc: Global, goal: &Goal, budget: u64, watch: &mut W) -> Result<Reply, Fault>
+    ensures { (names : List Text) (one : GoalForm) → IsGoalOf goal.now one →
+        Gives (IsProvedFor goal.now one budget names) names
+        (watched W.Watch watch.old watch.new) result }
 {
-    let mut unwound = unwind(
-        alloc,
-        graph,
-        entry.number,
-        &planned.predicates,
-        within(request.bounds),
-        request.ends,
-    )?;
+    let given = &goal.given;
+    let graph = given.planned.entry.graph;
+    let entry = given.planned.entry.number;
+    let predicates = &given.planned.predicates;
+    let plan = &given.planned.plan;
+    let mut unwound = unwind(alloc, graph, entry, predicates, given.bounds, given.ends)?;
     let decided = decide(
         alloc,
         graph,
-        &planned.predicates,
+        predicates,
         &mut unwound,
-        &planned.plan,
-        request.goal,
-        request.budget as u64,
+        plan,
+        goal.number,
+        budget,
     )?;
-    let reply = said_of(
-        alloc,
-        graph,
-        entry,
-        planned,
-        &unwound,
-        request.goal,
-        decided,
-        watch,
-    )?;
+    let reply = said_of(alloc, goal, &unwound, decided, watch)?;
     Ok(reply)
 }
 
-/// What is due of `prove` over an automaton.
-pub fn prove_graph<W: Watch>(
+/// What is due of `prove`.
+pub fn prove<F: Files, W: Watch>(
     alloc: Global,
     request: &Prove,
-    graph: &Graph,
+    files: &mut F,
     watch: &mut W,
 ) -> Result<Reply, Fault>
-    requires once { IsOnce graph.now }
-    requires bounds { AreBounds request.now.bounds }
-    requires some { 1 ≤ request.now.goal }
-    ensures { Gives (IsDueOfProve (proving request.now) graph.now) (proving request.now).sources (watched W.Watch watch.old watch.new) result }
+    requires { IsInRange (asks.prove (proving request.now)) }
+    ensures { IsGiven (reads F.Files files.old files.new) (watched W.Watch watch.old watch.new)
+        (asks.prove (proving request.now)) result }
 {
-    let Some(entry) = entry_named(graph, request.entry.as_bytes()) else {
-        return Err(Fault::Refused(nowhere(36)));
-    };
-    let planned = plan_query(alloc, graph, request.query)?;
+    let automaton = automaton(alloc, files, &request.sources)?;
+    let planned = plan_at(alloc, &automaton, request.entry, request.query.as_bytes())?;
     if request.goal as usize > planned.plan.goals.len() {
         return Err(Fault::Refused(no_such_goal()));
     }
-    proof(alloc, request, graph, &entry, &planned, watch)
+    let given = Given {
+        planned,
+        bounds: within(request.bounds),
+        ends: request.ends,
+    };
+    let goal = Goal {
+        given,
+        number: request.goal,
+    };
+    proof(alloc, &goal, request.budget as u64, watch)
 }

@@ -1,12 +1,14 @@
 // The query that the words give, over an automaton.
-ghost use Rattle.std.specs.Prelude.{List, ℕ, IfOk, IfErr};
+ghost use Rattle.std.specs.Prelude.{List, ℕ, IfOk};
 ghost use Rattle.fql_read.specs.Asks.{Asks};
 ghost use Rattle.fql_read.specs.Usable.{IsUsable};
 ghost use Rattle.cfa.specs.Predicates.{IsPredicates};
-ghost use Rattle.command.specs.Queries.{IsPlanned, IsRefused};
-ghost use Rattle.fq_core.specs.Refusals.{IfRefused};
 ghost use Rattle.goals.specs.Over.{IsPlanOver};
+ghost use Rattle.command.specs.Calls.{IsPlannedAs};
+ghost use Rattle.command.specs.Calls.{IsQueryAs};
 
+use crate::entry::entry_named;
+use crate::given::{Automaton, Planned};
 use cfa::{Graph, Predicates};
 use fq_core::Fault;
 use fql_read::{Query, read_query};
@@ -14,43 +16,42 @@ use goals::{Plan, plan_of};
 use predicates::resolve;
 use std::alloc::Global;
 
-/// The predicates and the goals of a query over an automaton.
-#[derive(Drop)]
-pub struct Planned {
-    pub predicates: Predicates,
-    pub plan: Plan,
-}
-
 // The predicates and the goals of a query.
-fn plan_asked(alloc: Global, graph: &Graph, query: &Query) -> Result<Planned, Fault>
+fn plan_asked(alloc: Global, graph: &Graph, query: &Query) -> Result<(Predicates, Plan), Fault>
     requires { IsUsable query.now }
-    ensures planned { (bytes : List ℕ) → Asks bytes query.now → IfOk result (λ made. IsPlanned graph.now bytes made.predicates made.plan) }
-    ensures predicates { IfOk result (λ made. IsPredicates graph.now made.predicates) }
-    ensures plan { IfOk result (λ made. IsPlanOver graph.now made.plan) }
-    ensures refused { (bytes : List ℕ) → Asks bytes query.now → IfErr result (λ fault. IfRefused fault (IsRefused graph.now bytes)) }
+    ensures answer { (bytes : List ℕ) → Asks bytes query.now → IsQueryAs graph.now bytes result }
+    ensures predicates { IfOk result (λ made. IsPredicates graph.now made.0) }
+    ensures plan { IfOk result (λ made. IsPlanOver graph.now made.1) }
 {
     let predicates = resolve(alloc, query, graph)?;
     let plan = plan_of(alloc, query, graph)?;
-    Ok(Planned { predicates, plan })
+    Ok((predicates, plan))
 }
 
 /// The predicates and the goals that the bytes ask for.
-pub fn plan_bytes(alloc: Global, graph: &Graph, bytes: &[u8]) -> Result<Planned, Fault>
-    ensures planned { IfOk result (λ made. IsPlanned graph.now bytes.now made.predicates made.plan) }
-    ensures predicates { IfOk result (λ made. IsPredicates graph.now made.predicates) }
-    ensures plan { IfOk result (λ made. IsPlanOver graph.now made.plan) }
-    ensures refused { IfErr result (λ fault. IfRefused fault (IsRefused graph.now bytes.now)) }
+pub fn plan_bytes(alloc: Global, graph: &Graph, bytes: &[u8]) -> Result<(Predicates, Plan), Fault>
+    ensures answer { IsQueryAs graph.now bytes.now result }
+    ensures predicates { IfOk result (λ made. IsPredicates graph.now made.0) }
+    ensures plan { IfOk result (λ made. IsPlanOver graph.now made.1) }
 {
     let query = read_query(alloc, bytes)?;
     plan_asked(alloc, graph, &query)
 }
 
-/// The predicates and the goals that a query asks for.
-pub fn plan_query(alloc: Global, graph: &Graph, query: &str) -> Result<Planned, Fault>
-    ensures planned { IfOk result (λ made. IsPlanned graph.now query.now made.predicates made.plan) }
-    ensures predicates { IfOk result (λ made. IsPredicates graph.now made.predicates) }
-    ensures plan { IfOk result (λ made. IsPlanOver graph.now made.plan) }
-    ensures refused { IfErr result (λ fault. IfRefused fault (IsRefused graph.now query.now)) }
+/// The entry of this name, with the predicates and the goals that the query's bytes ask for.
+pub fn plan_at<'a>(
+    alloc: Global,
+    automaton: &'a Automaton,
+    entry: &str,
+    query: &[u8],
+) -> Result<Planned<'a>, Fault>
+    ensures { IsPlannedAs automaton.now.graph entry.now query.now result }
 {
-    plan_bytes(alloc, graph, query.as_bytes())
+    let entry = entry_named(automaton, entry)?;
+    let (predicates, plan) = plan_bytes(alloc, entry.graph, query)?;
+    Ok(Planned {
+        entry,
+        predicates,
+        plan,
+    })
 }

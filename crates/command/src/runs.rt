@@ -1,21 +1,31 @@
 // The runs of inputs, as they are listed.
-ghost use Rattle.std.specs.Prelude.{◌≡◌, List, ℕ, IfOk, IfErr, Some, slice_get};
+ghost use Rattle.std.specs.Prelude.{◌≡◌};
 ghost use Rattle.std.specs.List.{All};
 ghost use Rattle.c_meaning.specs.Starts.{CanStart};
+ghost use Rattle.command_words.specs.Request.{running};
+ghost use Rattle.command_words.specs.Request as asks;
+ghost use Rattle.command.specs.Answered.{IsTold};
 ghost use Rattle.command.specs.Entries.{seen};
-ghost use Rattle.command.specs.RunList.{most_listed, recorded};
-ghost use Rattle.fq_core.specs.Refusals.{IfRefused};
+ghost use Rattle.command.specs.Reads.{reads};
+ghost use Rattle.command.specs.Replies.{Tells};
+ghost use Rattle.command.specs.RunList.{IsRecorded, most_listed};
 ghost use Rattle.fq_core.specs.declared.refusal.Fault.TheVariants as fault;
 ghost use Rattle.fq_core.specs.declared.refusal.Place.TheVariants as place;
-ghost use Rattle.command.specs.Refusal.{said_by};
-ghost use Rattle.command.specs.Said.{answered};
+ghost use Rattle.command_words.specs.Reading.{Text};
+ghost use Rattle.std.specs.Prelude.{List};
 
-use crate::entry::Entry;
+use crate::entry::entry_named;
+use crate::given::{Entry, Steps};
+use crate::inputs::read_inputs;
 use crate::measure::run_of;
+use crate::reply::Reply;
+use crate::sources::automaton;
 use c_meaning::Input;
-use cfa::{Graph, Predicates};
+use cfa::Predicates;
+use command_words::Runs;
 use containers::Vector;
 use fq_core::{Fault, Place, Refusal};
+use fq_io::Files;
 use path_runner::RunEnd;
 use report::runs_text;
 use std::alloc::Global;
@@ -35,18 +45,11 @@ pub fn too_many_edges() -> Fault
     })
 }
 
-/// The list of the runs of these inputs, each cut after so many edges.
-pub fn list(
-    alloc: Global,
-    graph: &Graph,
-    entry: &Entry,
-    steps: u32,
-    inputs: &[Input],
-) -> Result<Vec<u8>, Fault>
-    requires number { slice_get graph.now.functions entry.now.number ≡ Some entry.now.function.now }
-    requires start { All (λ input. CanStart entry.now.function.now input.words) inputs.now }
-    ensures ok { IfOk result (λ text. recorded graph.now (seen entry.now) steps inputs.now ≡ answered text.items) }
-    ensures err { IfErr result (λ fault. IfRefused fault (λ refusal. (names : List (List ℕ)) → recorded graph.now (seen entry.now) steps inputs.now ≡ said_by names refusal)) }
+// The list of the runs of these inputs, each cut after so many edges.
+fn list(alloc: Global, entry: &Entry, steps: u32, inputs: &[Input]) -> Result<Reply, Fault>
+    requires { All (λ input. CanStart entry.now.function.now input.words) inputs.now }
+    ensures { (names : List Text) →
+        Tells (IsRecorded entry.now.graph.now (seen entry.now) steps inputs.now) names result }
 {
     let none = Predicates {
         texts: Vector::new(alloc),
@@ -54,14 +57,30 @@ pub fn list(
     };
     let mut runs = Vec::new(alloc);
     let mut listed = 0u64;
+    let limit = Steps {
+        edges: steps as u64,
+    };
     for input in inputs {
-        let run = run_of(alloc, graph, entry, &none, steps as u64, input)?;
+        let run = run_of(alloc, entry, &none, limit, input)?;
         listed += run.edges.len() as u64;
         if listed > MOST_LISTED {
             return Err(too_many_edges());
         }
         runs.push((run.end, run.edges))?;
     }
-    let text = runs_text(alloc, graph, entry.number, &runs)?;
-    Ok(text)
+    let text = runs_text(alloc, entry.graph, entry.number, &runs)?;
+    Ok(Reply::Answer {
+        text,
+        left_open: false,
+    })
+}
+
+/// What is due of `runs`.
+pub fn runs<F: Files>(alloc: Global, request: &Runs, files: &mut F) -> Result<Reply, Fault>
+    ensures { IsTold (reads F.Files files.old files.new) (asks.runs (running request.now)) result }
+{
+    let automaton = automaton(alloc, files, &request.sources)?;
+    let entry = entry_named(&automaton, request.entry)?;
+    let inputs = read_inputs(alloc, files, request.inputs, &entry)?;
+    list(alloc, &entry, request.steps, &inputs)
 }

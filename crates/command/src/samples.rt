@@ -1,23 +1,19 @@
 // A program that is made from a number, and what is found of it.
-ghost use Rattle.std.specs.Prelude.{◌≡◌, ◌≤◌, ◌∷◌, [], IfErr, IfOk, Some, slice_get};
+ghost use Rattle.std.specs.Prelude.{◌∷◌, [], IfErr, IfOk};
 ghost use Rattle.c_front.specs.Automata.{IsAutomatonOf, IsRefused};
-ghost use Rattle.c_meaning.specs.declared.ends.Ends.TheVariants as counted;
 ghost use Rattle.cfa.specs.Contexts.{IsOnce};
-ghost use Rattle.cfa.specs.Predicates.{IsPredicates};
 ghost use Rattle.fq_core.specs.Refusals.{IfRefused};
-ghost use Rattle.goals.specs.Over.{IsPlanOver};
-ghost use Rattle.report.specs.Generated.{sample_text};
+ghost use Rattle.command_words.specs.Request as asks;
 ghost use Rattle.command.specs.Asked.{sample_file};
-ghost use Rattle.command.specs.Entries.{seen};
-ghost use Rattle.command.specs.Generate.{IsGeneration};
+ghost use Rattle.command.specs.Parts.{IsSampleFor};
+ghost use Rattle.command.specs.Ranges.{IsInRange};
 ghost use Rattle.command.specs.Replies.{Gives};
-ghost use Rattle.command.specs.Sample.{IsDueOfSample, IsSampled, default_bounds, default_budget, sample_source};
+ghost use Rattle.command.specs.Sample.{IsDueOfSample, sample_source};
 ghost use Rattle.command.specs.Watched.{watched};
 
-use crate::entry::{Entry, entry_named};
-use crate::generate::is_open;
-use crate::query::{Planned, plan_bytes};
-use crate::refusal::nowhere;
+use crate::generate::{is_open, make_inputs};
+use crate::given::{Automaton, Given};
+use crate::query::plan_at;
 use crate::reply::Reply;
 use c_front::automaton_of_texts;
 use c_lex::SourceText;
@@ -30,7 +26,6 @@ use report::sample_text;
 use sample::{program, sample_query};
 use search::Watch;
 use std::alloc::Global;
-use suite::generate;
 
 /// The bounds where no option is given.
 const BOUNDS: Bounds = Bounds {
@@ -43,12 +38,12 @@ const BOUNDS: Bounds = Bounds {
 const BUDGET: u64 = 5_000_000;
 
 // The automaton of the program.
-fn sample_automaton(alloc: Global, number: u32) -> Result<Graph, Fault>
-    requires least { 1 ≤ number }
-    requires most { number ≤ 200 }
+fn sample_graph(alloc: Global, number: u32) -> Result<Graph, Fault>
+    requires { IsInRange (asks.sample number) }
     ensures accepted { IfOk result (λ graph. IsAutomatonOf (sample_source number ∷ []) graph) }
     ensures once { IfOk result IsOnce }
-    ensures refused { IfErr result (λ fault. IfRefused fault (λ refusal. IsRefused (sample_source number ∷ []) refusal.code refusal.place)) }
+    ensures refused { IfErr result (λ fault. IfRefused fault (λ refusal.
+        IsRefused (sample_source number ∷ []) refusal.code refusal.place)) }
 {
     let bytes = program(alloc, number)?;
     // A place in a source has 32 bits.
@@ -69,63 +64,41 @@ fn sample_automaton(alloc: Global, number: u32) -> Result<Graph, Fault>
 fn generation<W: Watch>(
     alloc: Global,
     number: u32,
-    graph: &Graph,
-    entry: &Entry,
-    planned: &Planned,
+    given: &Given,
     watch: &mut W,
 ) -> Result<Reply, Fault>
-    requires once { IsOnce graph.now }
-    requires number { slice_get graph.now.functions entry.now.number ≡ Some entry.now.function.now }
-    requires startable { entry.now.function.now.arrays ≡ [] }
-    requires predicates { IsPredicates graph.now planned.now.predicates }
-    requires plan { IsPlanOver graph.now planned.now.plan }
-    ensures { Gives (IsGeneration (sample_file ∷ []) graph.now (seen entry.now) planned.now.predicates planned.now.plan default_bounds counted.Returned default_budget
-        (λ made. sample_text number graph.now planned.now.plan made.answers)) (sample_file ∷ []) (watched W.Watch watch.old watch.new) result }
+    ensures { Gives (IsSampleFor given.now number) (sample_file ∷ [])
+        (watched W.Watch watch.old watch.new) result }
 {
-    let made = generate(
+    let made = make_inputs(alloc, given, BUDGET, watch)?;
+    let planned = &given.planned;
+    let text = sample_text(
         alloc,
-        graph,
-        entry.number,
+        number,
+        planned.entry.graph,
         &planned.plan,
-        &planned.predicates,
-        BOUNDS,
-        Ends::Returned,
-        BUDGET,
-        watch,
+        &made.answers,
     )?;
-    let text = sample_text(alloc, number, graph, &planned.plan, &made.answers)?;
     Ok(Reply::Answer {
         text,
         left_open: is_open(&made.answers),
     })
 }
 
-// What is due of `sample` over the program's automaton.
-fn sample_graph<W: Watch>(
-    alloc: Global,
-    number: u32,
-    graph: &Graph,
-    watch: &mut W,
-) -> Result<Reply, Fault>
-    requires least { 1 ≤ number }
-    requires most { number ≤ 200 }
-    requires once { IsOnce graph.now }
-    ensures { Gives (IsSampled number graph.now) (sample_file ∷ []) (watched W.Watch watch.old watch.new) result }
-{
-    let Some(entry) = entry_named(graph, b"f") else {
-        return Err(Fault::Refused(nowhere(36)));
-    };
-    let query = sample_query(alloc, number)?;
-    let planned = plan_bytes(alloc, graph, &query)?;
-    generation(alloc, number, graph, &entry, &planned, watch)
-}
-
 /// What is due of `sample`.
 pub fn sample<W: Watch>(alloc: Global, number: u32, watch: &mut W) -> Result<Reply, Fault>
-    requires least { 1 ≤ number }
-    requires most { number ≤ 200 }
-    ensures { Gives (IsDueOfSample number) (sample_file ∷ []) (watched W.Watch watch.old watch.new) result }
+    requires { IsInRange (asks.sample number) }
+    ensures { Gives (IsDueOfSample number) (sample_file ∷ [])
+        (watched W.Watch watch.old watch.new) result }
 {
-    let graph = sample_automaton(alloc, number)?;
-    sample_graph(alloc, number, &graph, watch)
+    let graph = sample_graph(alloc, number)?;
+    let automaton = Automaton { graph };
+    let query = sample_query(alloc, number)?;
+    let planned = plan_at(alloc, &automaton, "f", &query)?;
+    let given = Given {
+        planned,
+        bounds: BOUNDS,
+        ends: Ends::Returned,
+    };
+    generation(alloc, number, &given, watch)
 }

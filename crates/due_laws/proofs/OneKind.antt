@@ -218,7 +218,7 @@ module _ (count : OneCount) (size : OneSize) (few : NotTooMany) where
   one_generation names graph entry p plan bounds ends budget text x y (inl a) (inr b) = absurd (no_fault count size few graph entry.function p plan bounds ends b.1.1.limits a.0 a.1)
   one_generation names graph entry p plan bounds ends budget text x y (inr a) (inl b) = absurd (no_fault count size few graph entry.function p plan bounds ends a.1.1.limits b.0 b.1)
   one_generation names graph entry p plan bounds ends budget text x y (inr a) (inr b) =
-      inr (is_answered x a.0 a.1.0 a.1.2, is_answered y b.0 b.1.0 b.1.2)
+      inr (is_answered x a.0 a.1.0 a.1.3, is_answered y b.0 b.1.0 b.1.3)
     where
       is_answered : (said : Said) (made : Generated) (shown : List Shown) → said ≡ concluded made (text made) shown → IsTrue (answers said.status)
       is_answered said made shown e = subst (λ (s : Said). IsTrue (answers s.status)) (sym e) (open_or_done (is_open made.answers))
@@ -238,7 +238,7 @@ module _ (count : OneCount) (size : OneSize) (few : NotTooMany) where
   one_proof graph entry p plan bounds ends number goal names budget x y (inl a) (inr b) = absurd (not_goal_refused count size few graph entry.function p plan bounds ends goal b.0 a.0 a.1)
   one_proof graph entry p plan bounds ends number goal names budget x y (inr a) (inl b) = absurd (not_goal_refused count size few graph entry.function p plan bounds ends goal a.0 b.0 b.1)
   one_proof graph entry p plan bounds ends number goal names budget x y (inr a) (inr b) =
-      inr (answer_said graph entry p plan bounds ends number goal a.1.0 x a.1.2, answer_said graph entry p plan bounds ends number goal b.1.0 y b.1.2)
+      inr (answer_said graph entry p plan bounds ends number goal a.1.0 x a.1.3, answer_said graph entry p plan bounds ends number goal b.1.0 y b.1.3)
 
   -- ---- what is said of the least input of a goal
 

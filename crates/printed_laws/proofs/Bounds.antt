@@ -17,18 +17,18 @@ use Rattle.report.specs.Made.{arguments_text}
 use Rattle.report.specs.Suffice.{suffice_text}
 use Rattle.command_words.specs.Request as asks
 use Rattle.command_words.specs.Request.{CheckingBounds, Sufficing}
-use Rattle.command.proofs.CertifiedLaws.{bounds_at_sources}
-use Rattle.command.specs.CheckingBounds.{IsCheckedBounds}
-use Rattle.command.specs.Comparing.{IsCompared, said_of_verdict}
+use Rattle.command.proofs.AcceptedLaws.{bounds_at_sources}
+use Rattle.command.specs.CheckBounds.{IsCheckedBounds}
+use Rattle.command.specs.Comparison.{IsCompared, said_of_verdict}
 use Rattle.command.specs.Due.{IsDueOf}
 use Rattle.command.specs.Ranges.{within}
 use Rattle.command.specs.Reads.{Reads}
 use Rattle.command.specs.Runs.{EntryFunction}
 use Rattle.command.specs.Said.{Said, answered}
 use Rattle.command.specs.Stages.{OfCertificate, OfSources}
-use Rattle.command.specs.declared.sufficing.Form.{Form}
-use Rattle.command.specs.declared.sufficing.Form.TheVariants as form
-use Rattle.command.specs.Sufficing.{IsAskedOfBounds, IsDueOfBounds, said_of_bounds}
+use Rattle.command.specs.declared.bounds.Form.{Form}
+use Rattle.command.specs.declared.bounds.Form.TheVariants as form
+use Rattle.command.specs.Bounds.{IsAskedOfBounds, IsDueOfBounds, said_of_bounds}
 use Rattle.printed_laws.specs.Bounds.{BoundsLinesAreTrue, SaysLeft, SaysSuffice}
 use Rattle.printed_laws.specs.Named.{Begins, NamedEntry}
 use Rattle.printed_laws.proofs.Graphs.{entry_kinds}

@@ -24,12 +24,12 @@ use Rattle.suite.specs.declared.decided.Decided.{Decided}
 use Rattle.suite.specs.declared.decided.Decided.TheVariants as decided
 use Rattle.command_words.specs.Request as asks
 use Rattle.command_words.specs.Request.{Checking, Proving}
-use Rattle.command.proofs.CertifiedLaws.{at_sources}
-use Rattle.command.specs.Checking.{IsChecked, accepted_text}
-use Rattle.command.specs.Comparing.{IsCompared, said_of_verdict}
+use Rattle.command.proofs.AcceptedLaws.{at_sources}
+use Rattle.command.specs.Check.{IsChecked, accepted_text}
+use Rattle.command.specs.Comparison.{IsCompared, said_of_verdict}
 use Rattle.command.specs.Due.{IsDueOf}
-use Rattle.command.specs.Lowering.{IsLowered, said_of_least}
-use Rattle.command.specs.Proving.{IsProved, IsSaidOf}
+use Rattle.command.specs.Least.{IsLowered, said_of_least}
+use Rattle.command.specs.Prove.{IsProved, IsSaidOf}
 use Rattle.command.specs.Ranges.{within}
 use Rattle.command.specs.Reads.{Reads}
 use Rattle.command.specs.Said.{Said, answered}

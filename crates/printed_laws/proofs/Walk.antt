@@ -12,7 +12,7 @@ use Rattle.fq_core.specs.declared.refusal.Refusal.{Refusal}
 use Rattle.goals.specs.GoalForm.{GoalForm}
 use Rattle.goals.specs.declared.plan.Plan.{Plan}
 use Rattle.command_words.specs.Reading.{Text}
-use Rattle.command.specs.Certificates.{AreCertificateOf}
+use Rattle.command.specs.CertificateFile.{AreCertificateOf}
 use Rattle.command.specs.Queries.{IsPlanned}
 use Rattle.command.specs.Reads.{Reads}
 use Rattle.command.specs.Refusal.{said_by}

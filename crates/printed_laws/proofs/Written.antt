@@ -2,7 +2,7 @@
 use Rattle.std.proofs.Common.{◌≡◌, ℕ, List, ◌++◌, Option, Some, sym, subst}
 use Rattle.std.specs.Io.KnownBytes.{Appends}
 use Rattle.std.proofs.lemmas.List.{append_cancel_left}
-use Rattle.command.specs.Run.{Gains, Writes}
+use Rattle.command.specs.Outcome.{Gains, Writes}
 use Rattle.printed_laws.specs.Written.{Gained, WrittenIsDue}
 
 same_gain : (w : Writes) (said bytes : List ℕ) → Gains w said → Gained w bytes → said ≡ bytes

@@ -4,7 +4,7 @@ use Rattle.command_words.specs.Reading.{Text}
 use Rattle.command.specs.declared.status.Status.TheVariants as status
 use Rattle.command.specs.Due.{IsDue}
 use Rattle.command.specs.Reads.{Reads}
-use Rattle.command.specs.Run.{Ends, Writes}
+use Rattle.command.specs.Outcome.{Ends, Writes}
 use Rattle.command.specs.Said.{Said}
 use Rattle.command.specs.Watched.{Watched}
 

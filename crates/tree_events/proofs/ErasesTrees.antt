@@ -198,7 +198,7 @@ module _ (n : Nameable) (t : Typed) (a : Activation) (calls : Calls) (plain : ca
     all_values [] = tt
     all_values (y ∷ ys) = (g y, all_values ys)
 
-  value_erased : (x : TypedExpr) → ValueErased x
+  pub value_erased : (x : TypedExpr) → ValueErased x
   value_erased x = ind-TypedExpr FormErased CallErased ValueErased PlaceIs
       (λ x'. elim [
         | TypedExprForm-F.Constant v ↦ λ e. subst (λ z. FormErased (roll-TypedExprForm z)) e (constant_at v)

@@ -149,7 +149,7 @@ module _ (d : ℕ) (t : Typed) (a : Activation) (n n' : ℕ) (calls calls' : Cal
     all_values [] = tt
     all_values (y ∷ ys) = (g y, all_values ys)
 
-  value_grows : (x : TypedExpr) → ValueGrows x
+  pub value_grows : (x : TypedExpr) → ValueGrows x
   value_grows x = ind-TypedExpr FormGrows CallGrows ValueGrows PlaceGrows
       (λ x'. elim [
         | TypedExprForm-F.Constant v ↦ λ e. subst (λ z. FormGrows (roll-TypedExprForm z)) e (constant_at v)

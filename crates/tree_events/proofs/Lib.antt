@@ -6,3 +6,4 @@ pub mod ErasesRows
 pub mod ErasesTrees
 pub mod Grows
 pub mod GrowTrees
+pub mod Rests

@@ -1,7 +1,7 @@
 use Rattle.std.proofs.Common.{inl, inr, refl, arith}
 use Rattle.std.proofs.lemmas.Result.{err_from_is_err_and}
-use Rattle.command_words.specs.Request.{checking}
-use Rattle.command.specs.Check.{IsChecked, accepted_text}
+use Rattle.report.specs.Generated.{refuted_text}
+use Rattle.command.specs.Check.{IsCheckedAt}
 use Rattle.command.specs.Comparison.{IsCompared}
 use Rattle.command.specs.Entries.{seen}
 use Rattle.command.proofs.GivesLaws.{tells_map, tells_refused}
@@ -11,46 +11,43 @@ use Rattle.command.proofs.StageLaws.{goal_found}
 use Rattle.command.proofs.check.checked.Goals as goal
 
 pub returns-in_err-unwound : goal.returns-in_err-unwound
-returns-in_err-unwound c = λ one is.
-    let m = checking c.args.request.now in
-    let why = rw c.within.ensures at (c.in_err-unwound.ensures.refused c.args.entry.now.function.now c.requires.number) in
+returns-in_err-unwound c = λ names one is.
+    let why = (c.in_err-unwound.ensures.refused c.args.goal.now.given.planned.entry.function.now c.args.goal.now.given.planned.entry.there) in
     let p = err_from_is_err_and c.from_residual.result c.from_residual.ensures.1 in
-    rw (p.1, p.2) (tells_refused (IsChecked m c.args.graph.now (seen c.args.entry.now) c.args.planned.now.predicates c.args.planned.now.plan one c.args.theirs.now c.args.derivation.now) m.sources
+    rw (p.1, p.2) (tells_refused (IsCheckedAt names c.args.goal.now.given.planned.entry.graph.now (seen c.args.goal.now.given.planned.entry) c.args.goal.now.given.planned.predicates c.args.goal.now.given.planned.plan c.args.goal.now.given.bounds c.args.goal.now.given.ends c.args.goal.now.number one c.args.theirs.now.formula c.args.theirs.now.derivation) names
     c.in_err-unwound.field-0.0
-    (refused_map c.in_err-unwound.field-0.0 (unwind_refused c.args.graph.now c.args.entry.now.function.now c.args.planned.now.predicates c.args.planned.now.plan _ one c.in_err-unwound.field-0.0 why)
+    (refused_map c.in_err-unwound.field-0.0 (unwind_refused c.args.goal.now.given.planned.entry.graph.now c.args.goal.now.given.planned.entry.function.now c.args.goal.now.given.planned.predicates c.args.goal.now.given.planned.plan c.args.goal.now.given.bounds one c.in_err-unwound.field-0.0 why)
     (λ x cause. inl (x, cause, refl))))
 
 pub formula-requires-clause-unwound : goal.formula-requires-clause-unwound
 formula-requires-clause-unwound c =
-    unwound_some _ _ _ _ _ _ _ (c.in_ok-unwound.ensures.accepted c.args.entry.now.function.now c.requires.number) c.requires.number
+    unwound_some _ _ _ _ _ _ _ (c.in_ok-unwound.ensures.accepted c.args.goal.now.given.planned.entry.function.now c.args.goal.now.given.planned.entry.there) c.args.goal.now.given.planned.entry.there
 
 pub returns-in_err-ours : goal.returns-in_err-ours
-returns-in_err-ours c = λ one is.
-    let m = checking c.args.request.now in
-    let unwound = rw c.within.ensures at (c.in_ok-unwound.ensures.accepted c.args.entry.now.function.now c.requires.number) in
+returns-in_err-ours c = λ names one is.
+    let unwound = (c.in_ok-unwound.ensures.accepted c.args.goal.now.given.planned.entry.function.now c.args.goal.now.given.planned.entry.there) in
     let why = c.in_err-ours.ensures.refused one is in
     let p = err_from_is_err_and c.from_residual-in_err-ours.result c.from_residual-in_err-ours.ensures.1 in
-    rw (p.1, p.2) (tells_refused (IsChecked m c.args.graph.now (seen c.args.entry.now) c.args.planned.now.predicates c.args.planned.now.plan one c.args.theirs.now c.args.derivation.now) m.sources
+    rw (p.1, p.2) (tells_refused (IsCheckedAt names c.args.goal.now.given.planned.entry.graph.now (seen c.args.goal.now.given.planned.entry) c.args.goal.now.given.planned.predicates c.args.goal.now.given.planned.plan c.args.goal.now.given.bounds c.args.goal.now.given.ends c.args.goal.now.number one c.args.theirs.now.formula c.args.theirs.now.derivation) names
     c.in_err-ours.field-0.0
-    (refused_map c.in_err-ours.field-0.0 (goal_refused _ _ _ _ _ _ _ unwound c.args.planned.now.plan one c.in_err-ours.field-0.0 why)
+    (refused_map c.in_err-ours.field-0.0 (goal_refused _ _ _ _ _ _ _ unwound c.args.goal.now.given.planned.plan one c.in_err-ours.field-0.0 why)
     (λ x cause. inl (x, cause, refl))))
 
-pub compared-requires-clause-ours : goal.compared-requires-clause-ours
-compared-requires-clause-ours c =
-    let unwound = c.in_ok-unwound.ensures.accepted c.args.entry.now.function.now c.requires.number in
-    let found = goal_found c.args.planned.now.plan c.args.request.now.goal (λ _ _. ⊥) c.requires.some c.requires.there in
-    let exact = c.in_ok-ours.ensures.accepted c.args.entry.now.function.now found.0 (there_still _ _ _ _ _ _ _ unwound c.requires.number) found.1 in
+pub compared-requires : goal.compared-requires
+compared-requires c =
+    let unwound = c.in_ok-unwound.ensures.accepted c.args.goal.now.given.planned.entry.function.now c.args.goal.now.given.planned.entry.there in
+    let found = goal_found c.args.goal.now.given.planned.plan c.args.goal.now.number (λ _ _. ⊥) c.args.goal.now.some c.args.goal.now.there in
+    let exact = c.in_ok-ours.ensures.accepted c.args.goal.now.given.planned.entry.function.now found.0 (there_still _ _ _ _ _ _ _ unwound c.args.goal.now.given.planned.entry.there) found.1 in
     omega (arith, exact.few_clauses, c.in_ok-ours.ensures.small)
 
 pub returns : goal.returns
-returns c = λ one is.
-    let m = checking c.args.request.now in
-    let unwound = rw c.within.ensures at (c.in_ok-unwound.ensures.accepted c.args.entry.now.function.now c.requires.number) in
-    let exact = c.in_ok-ours.ensures.accepted c.args.entry.now.function.now one (there_still _ _ _ _ _ _ _ unwound c.requires.number) is in
-    tells_map (IsCompared (accepted_text m) c.args.theirs.now c.in_ok-ours.ours.formula c.args.derivation.now)
-    (IsChecked m c.args.graph.now (seen c.args.entry.now) c.args.planned.now.predicates c.args.planned.now.plan one c.args.theirs.now c.args.derivation.now) m.sources c.compared.result
+returns c = λ names one is.
+    let unwound = (c.in_ok-unwound.ensures.accepted c.args.goal.now.given.planned.entry.function.now c.args.goal.now.given.planned.entry.there) in
+    let exact = c.in_ok-ours.ensures.accepted c.args.goal.now.given.planned.entry.function.now one (there_still _ _ _ _ _ _ _ unwound c.args.goal.now.given.planned.entry.there) is in
+    tells_map (IsCompared (refuted_text c.args.goal.now.number c.args.goal.now.given.bounds c.args.goal.now.given.ends) c.args.theirs.now.formula c.in_ok-ours.ours.formula c.args.theirs.now.derivation)
+    (IsCheckedAt names c.args.goal.now.given.planned.entry.graph.now (seen c.args.goal.now.given.planned.entry) c.args.goal.now.given.planned.predicates c.args.goal.now.given.planned.plan c.args.goal.now.given.bounds c.args.goal.now.given.ends c.args.goal.now.number one c.args.theirs.now.formula c.args.theirs.now.derivation) names c.compared.result
     (λ said due. inr (
-      goal_is_within _ _ _ _ _ _ _ unwound c.args.planned.now.plan one (c.in_ok-ours.ensures.size one is),
-      (c.in_ok-ours.ours, exact_at _ _ _ _ _ _ _ unwound c.args.planned.now.plan one _ exact, due),
+      goal_is_within _ _ _ _ _ _ _ unwound c.args.goal.now.given.planned.plan one (c.in_ok-ours.ensures.size one is),
+      (c.in_ok-ours.ours, exact_at _ _ _ _ _ _ _ unwound c.args.goal.now.given.planned.plan one _ exact, due),
     ))
-    (rw c.within-2.ensures at (rw c.in_ok-text.ensures at (c.compared.ensures m.sources)))
+    (rw c.in_ok-text.ensures at (c.compared.ensures names))

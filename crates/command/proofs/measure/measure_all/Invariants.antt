@@ -6,7 +6,7 @@ use Rattle.command.proofs.measure.measure_all.Given as goal
 
 abbrev pub invariant-loop-input : goal.invariant-loop-input
 invariant-loop-input l = record {
-  ends : l.run_ends.items ≡ ends_of (runs_of l.graph l.entry.function.now l.planned.predicates l.steps (take l.input-index l.inputs));
+  ends : l.run_ends.items ≡ ends_of (runs_of l.planned.entry.graph.now l.planned.entry.function.now l.planned.predicates l.steps.edges (take l.input-index l.inputs));
   plan : IsMadeFor l.planned.plan l.measurer;
-  hits : AreAllHits l.planned.plan l.fn.ends (runs_of l.graph l.entry.function.now l.planned.predicates l.steps (take l.input-index l.inputs)) (hits_of l.measurer);
+  hits : AreAllHits l.planned.plan l.fn.ends (runs_of l.planned.entry.graph.now l.planned.entry.function.now l.planned.predicates l.steps.edges (take l.input-index l.inputs)) (hits_of l.measurer);
 }

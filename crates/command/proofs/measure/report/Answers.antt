@@ -5,7 +5,7 @@ use Rattle.command.proofs.measure.report.Goals as goal
 
 pub reduce-requires : goal.reduce-requires
 reduce-requires c =
-    let many = hits_many _ _ _ _ c.args.inputs.now _ _ _ c.in_ok-made.ensures.hits in
+    let many = hits_many _ _ _ _ c.args.inputs.now _ _ _ c.in_ok-made.ensures.1 in
     omega (arith, ap length c.hits.ensures, many, c.requires.few)
 
 pub measured_json-requires : goal.measured_json-requires

@@ -1,0 +1,5 @@
+pub mod Follows
+pub mod Flows
+pub mod Parts
+pub mod Calls
+pub mod ValueTrees

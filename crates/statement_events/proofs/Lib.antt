@@ -1,0 +1,5 @@
+pub mod Rows
+pub mod Assigns
+pub mod Arrays
+pub mod Switches
+pub mod StatementTrees
