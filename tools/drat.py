@@ -29,6 +29,7 @@ def parser_of_words() -> usage.Parser:
 
 
 def main() -> int:
+    """Writes both files; a failure where the certificate is none."""
     given = parser_of_words().parse_args()
     try:
         dimacs, drat = forms(program.read(given.certificate).decode("ascii"))

@@ -172,6 +172,7 @@ def parser_of_words() -> usage.Parser:
 
 
 def words() -> argparse.Namespace:
+    """The words that are given."""
     parser = parser_of_words()
     given = parser.parse_intermixed_args()
     if given.inputs and not given.entry:

@@ -106,6 +106,7 @@ def parser_of_words() -> usage.Parser:
 
 
 def words() -> argparse.Namespace:
+    """The words that are given."""
     return parser_of_words().parse_intermixed_args()
 
 

@@ -187,6 +187,7 @@ def parser_of_words() -> usage.Parser:
 
 
 def words() -> argparse.Namespace:
+    """The words that are given."""
     parser = parser_of_words()
     given = parser.parse_intermixed_args()
     if given.to in ("traces", "named") and not (given.entry and given.source):

@@ -152,6 +152,7 @@ def parser_of_words() -> usage.Parser:
 
 
 def parsed() -> argparse.Namespace:
+    """The words that are given."""
     return parser_of_words().parse_intermixed_args()
 
 

@@ -34,6 +34,7 @@ class Mapped:
 
 
 def sum_of(data: bytes) -> str:
+    """The SHA-256 sum of bytes."""
     return hashlib.sha256(data).hexdigest()
 
 

@@ -20,6 +20,7 @@ class Terminal(io.StringIO):
     """A terminal that keeps what is written."""
 
     def isatty(self):
+        """It is one."""
         return True
 
 
@@ -95,6 +96,7 @@ def many(count):
 
 
 def generated(folder, name):
+    """What the first generate of a campaign answered."""
     with open(os.path.join(folder, name, "generated.json"), encoding="utf-8") as file:
         return json.load(file)
 
