@@ -110,7 +110,9 @@ class Assignments(Calls):
         if node.op == "=":
             return given
         level = LEVELS[node.op[:-1]]
-        return Value(f"{own.within(level)} {node.op[:-1]} {given.within(level + 1)}", kinds.common(own.kind, given.kind), level)
+        return Value(
+            f"{own.within(level)} {node.op[:-1]} {given.within(level + 1)}", kinds.common(own.kind, given.kind), level
+        )
 
     def not_twice(self, node: Any, place: Place, value: Any) -> None:
         """An object that isn't an element may not be assigned once more by the value."""
@@ -193,7 +195,9 @@ class Assignments(Calls):
 
     def step_part(self, node: Any, place: Place) -> None:
         assert isinstance(place.type, Int)
-        self.assign_part(place, lambda own: Value(f"{own.within(9)} {node.op[-1]} 1", kinds.promoted(own.kind), 9), place.type)
+        self.assign_part(
+            place, lambda own: Value(f"{own.within(9)} {node.op[-1]} 1", kinds.promoted(own.kind), 9), place.type
+        )
 
     def kind_has_width(self, node: Any) -> bool:
         of = self.constants.type_of(node)

@@ -202,7 +202,12 @@ class Calls(ModelCalls, OutsideCalls):
                 self.emit(one)
             return
         text, after = self.call(node)
-        if function.definition is not None or isinstance(function.result, Int) or model_of(function) or heap_call(function):
+        if (
+            function.definition is not None
+            or isinstance(function.result, Int)
+            or model_of(function)
+            or heap_call(function)
+        ):
             self.emit(text + ";")
         for one in after:
             self.emit(one)

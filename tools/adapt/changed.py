@@ -36,10 +36,18 @@ def handed(places: Any, function: Function, number: int, argument: Any) -> Optio
         return None
     of = places.names.constants.type_of(argument)
     whole = isinstance(argument, c_ast.UnaryOp) and argument.op == "&"
-    if not isinstance(of, (Pointer, Array)) or not (whole or isinstance(of, Array) or isinstance(kinds.element(of.to), Struct)):
+    if not isinstance(of, (Pointer, Array)) or not (
+        whole or isinstance(of, Array) or isinstance(kinds.element(of.to), Struct)
+    ):
         return None
     try:
-        place = places.place(argument.expr) if whole else places.place(argument) if isinstance(of, Array) else places.pointed(argument)
+        place = (
+            places.place(argument.expr)
+            if whole
+            else places.place(argument)
+            if isinstance(of, Array)
+            else places.pointed(argument)
+        )
     except Refused:
         return None
     leaves = list(kinds.leaves(place.type))

@@ -114,7 +114,9 @@ class Comparison:
         # (main is the comparison's own)
         self.entries = [one for one in functions if plain(one) and one.name != "main"]
         if writer.registers:
-            raise Stop(f"{writer.registers[0].name} is an input of what was written, and an object of the original, so nothing can be compared")
+            raise Stop(
+                f"{writer.registers[0].name} is an input of what was written, and an object of the original, so nothing can be compared"
+            )
         if writer.outer_values:
             name = next(iter(writer.outer_values))[0].name
             raise Stop(f"what {name} writes is an input of what was written, so nothing can be compared")
@@ -126,7 +128,11 @@ class Comparison:
         self.shared = [
             one
             for one in writer.names.variables
-            if one.home == "file" and not isinstance(one.coord, Spot) and one.defined and not one.const and not kinds.fault_of(one.type)
+            if one.home == "file"
+            and not isinstance(one.coord, Spot)
+            and one.defined
+            and not one.const
+            and not kinds.fault_of(one.type)
         ]
         self.original(sources, flags, outer)
         self.adapted(made, outer)
@@ -151,7 +157,9 @@ class Comparison:
             for text, path, index, kind in parts(variable.type):
                 own = unmarked(self.writer.leaf(self.writer.placed(variable, path, index))[0])
                 own = self.writer.large.rewritten(own)
-                lines.append(f"  adapt_tell((long long) {f'({kinds.c_words(kind)}) {own}' if ours else variable.name + text});")
+                lines.append(
+                    f"  adapt_tell((long long) {f'({kinds.c_words(kind)}) {own}' if ours else variable.name + text});"
+                )
         return "\n".join(lines)
 
     def calls(self) -> str:
@@ -185,8 +193,12 @@ class Comparison:
         self.compile("original", [*texts, head + DRIVER % (self.calls(), dumps)], flags + WATCHED)
 
     def adapted(self, made: dict[str, str], outer: list[Function]) -> None:
-        own = [one.out for one in self.writer.names.functions if isinstance(one.coord, Spot) and one.definition is not None]
-        apart, again = ["".join(line.format(one) for one in own) for line in ("#define {0} adapt_own_{0}\n", "#undef {0}\n")]
+        own = [
+            one.out for one in self.writer.names.functions if isinstance(one.coord, Spot) and one.definition is not None
+        ]
+        apart, again = [
+            "".join(line.format(one) for one in own) for line in ("#define {0} adapt_own_{0}\n", "#undef {0}\n")
+        ]
         text = f"#include <stdint.h>\n#include <stddef.h>\n#include <assert.h>\n{apart}{self.copied(made)}{again}"
         text += "long long adapt_answer(void);\nvoid adapt_tell(long long);\n"
         for one in outer:

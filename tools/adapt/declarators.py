@@ -187,7 +187,9 @@ class Declarators:
         self.expression(node.bitsize)
         width = self.constants.value(node.bitsize)
         if not isinstance(of, Int) or width is None or 32 < width < of.bits:
-            cause = "a bit-field of more than 32 bits" if isinstance(of, Int) and width else "a bit-field of no known width"
+            cause = (
+                "a bit-field of more than 32 bits" if isinstance(of, Int) and width else "a bit-field of no known width"
+            )
             made.fault = made.fault or (node.coord, cause, "use a member of its own")
             return []
         made.declared.append((node.name or "", of, width))

@@ -80,9 +80,9 @@ class Heap:
         if "fails" not in self.texts:
             self.asked = self.writer.spelling.fresh("malloc_fails", True)
             mask, known, calls = [self.name(stem, stem) for stem in ("malloc_mask", "malloc_known", "malloc_calls")]
-            self.texts["asked"] = (
-                f"unsigned int {self.asked}(void); static unsigned int {mask}; static int {known}; static int {calls};"
-            )
+            self.texts[
+                "asked"
+            ] = f"unsigned int {self.asked}(void); static unsigned int {mask}; static int {known}; static int {calls};"
             self.texts["fails"] = (
                 f"static int {self.name('fails', 'heap_fails')}(void) {{ if (!{known}) {{ {mask} = {self.asked}(); {known} = 1; }} "
                 f"int bit = {mask} >> ({calls} & 31) & 1; {calls}++; return bit; }}"
@@ -118,7 +118,11 @@ class Heap:
         for one in given[len(old) :]:
             known = writer.constants.value(one)
             value = writer.value(one) if known is None else Value(str(known), kinds.SIZE, PRIMARY)
-            values.append(value if number(value) is not None else Value(writer.temporary(kinds.SIZE, value.text), kinds.SIZE, PRIMARY))
+            values.append(
+                value
+                if number(value) is not None
+                else Value(writer.temporary(kinds.SIZE, value.text), kinds.SIZE, PRIMARY)
+            )
         name = self.function(called, pool, region)
         text = f"{name}({', '.join([*old, *(one.text for one in values)])})"
         index = Value(writer.temporary(kinds.INT, text, "pointer"), kinds.INT, PRIMARY)
@@ -166,7 +170,9 @@ class Heap:
             name = self.writer.spelling.leaf(variable, inside)
             for at in range(leaf.count):
                 plain = factor == 1 and add + at == 0
-                to, of = [f"{name}[{one} + i]" if plain else f"{name}[({one} + i) * {factor} + {add + at}]" for one in "qp"]
+                to, of = [
+                    f"{name}[{one} + i]" if plain else f"{name}[({one} + i) * {factor} + {add + at}]" for one in "qp"
+                ]
                 moves.append(f"{to} = {of};")
         loop = f"for (int i = 0; i + 1 < {sizes}[p] & i < {whole}; i++) {{ {' '.join(moves)} }}"
         return f"if (p != {NIL}) {{ assert({sizes}[p] > 0); {loop} {sizes}[p] = 0; }} "
@@ -186,14 +192,17 @@ class Heap:
             return ""
         key = ("free", region)
         name = self.name(key, "free")
-        self.texts[key] = (
-            f"static void {name}(int p) {{ if (p != {NIL}) {{ assert({sizes}[p] > 0); {sizes}[p] = 0; }} }}"
-        )
+        self.texts[
+            key
+        ] = f"static void {name}(int p) {{ if (p != {NIL}) {{ assert({sizes}[p] > 0); {sizes}[p] = 0; }} }}"
         return f"{name}({index.text})"
 
     def front(self) -> list[str]:
         """What stands in front of all else."""
         rank = {"asked": 0, "fails": 1, "sizes": 2}
-        return [text for _, text in sorted(self.texts.items(), key=lambda one: rank.get(one[0] if isinstance(one[0], str) else one[0][0], 3))]
-
-
+        return [
+            text
+            for _, text in sorted(
+                self.texts.items(), key=lambda one: rank.get(one[0] if isinstance(one[0], str) else one[0][0], 3)
+            )
+        ]

@@ -13,7 +13,9 @@ from .reading import Unit
 
 FOLDER = os.path.join(os.path.dirname(os.path.abspath(__file__)), "models")
 FILES = ("ctype.c", "stdlib.c", "builtin.c")
-OUTPUT = set("printf fprintf vprintf vfprintf puts fputs putchar putc fputc fflush perror setbuf setvbuf syslog".split())
+OUTPUT = set(
+    "printf fprintf vprintf vfprintf puts fputs putchar putc fputc fflush perror setbuf setvbuf syslog".split()
+)
 # what models use, and what the compiler's builtin functions are written as
 KNOWN = """void *malloc(unsigned long); void *calloc(unsigned long, unsigned long); void *realloc(void *, unsigned long); void free(void *);
 void assert(int); int errno; int printf(const char *, ...); int puts(const char *); int putchar(int);
@@ -76,7 +78,9 @@ class Library:
         if "errno" in self.declared and not self.is_defined("errno"):
             self.add("errno", known()["errno"])
         front = units[0].files[0] if units else ""
-        self.line = min((one.coord.line for one in trees[0].ext if one.coord and str(one.coord.file) == front), default=1)
+        self.line = min(
+            (one.coord.line for one in trees[0].ext if one.coord and str(one.coord.file) == front), default=1
+        )
         for item in self.added:
             for node in walk(item):
                 self.count += 1
@@ -89,21 +93,32 @@ class Library:
         return isinstance(node.type, c_ast.FuncDecl)
 
     def is_defined(self, name: str) -> bool:
-        items = [item for unit in self.units for item in unit.tree.ext if isinstance(item, c_ast.Decl) and item.name == name]
+        items = [
+            item for unit in self.units for item in unit.tree.ext if isinstance(item, c_ast.Decl) and item.name == name
+        ]
         return any("extern" not in item.storage for item in items)
 
     def expand(self, nodes: list[Any]) -> None:
         """Finds the uses of models in a tree's nodes, and adds these."""
         called = {id(node.name) for node in nodes if isinstance(node, c_ast.FuncCall)}
         for node in nodes:
-            if isinstance(node, c_ast.ID) and node.name in self.missing and (node.name in self.declared or id(node) in called):
+            if (
+                isinstance(node, c_ast.ID)
+                and node.name in self.missing
+                and (node.name in self.declared or id(node) in called)
+            ):
                 model = models()[node.name]
                 if id(node) in called and has_pointers(model):
                     self.anew(node, model)
                 elif node.name not in self.wanted:
                     self.wanted[node.name] = model
                     self.add(node.name, model)
-            elif id(node) in called and isinstance(node, c_ast.ID) and node.name in known() and node.name not in self.names:
+            elif (
+                id(node) in called
+                and isinstance(node, c_ast.ID)
+                and node.name in known()
+                and node.name not in self.names
+            ):
                 self.names.add(node.name)
                 self.added.insert(0, copy.deepcopy(known()[node.name]))
 

@@ -12,6 +12,7 @@ from .pointer_effects import PointerEffects
 from .refusals import Refused
 from .values import PRIMARY, Value
 
+
 class OutsideCalls(PointerEffects):
     def outer_call(self, node: Any, function: Function) -> tuple[str, list[str]]:
         """A call of a function that no source defines: an input function, or one that was named as such. Behind it stand the

@@ -24,7 +24,9 @@ class At(c_ast.Node):  # type: ignore[misc]
 
     def __init__(self, pointer: Any, index: Any, stride: int, coord: Any, raw: bool = False) -> None:
         self.pointer, self.index, self.stride, self.coord, self.raw = pointer, index, stride, coord, raw
-        self.tests: Any = None  # where it points to bytes, what makes the index bad, and where its object ends and begins
+        self.tests: Any = (
+            None  # where it points to bytes, what makes the index bad, and where its object ends and begins
+        )
         self.ends: Any = None
 
     def children(self) -> tuple[tuple[str, Any], ...]:
@@ -86,7 +88,9 @@ class Places:
         region = self.columns.home(variable) if self.columns else None
         if region is not None and region.column is not None:
             whole = (kinds.size(variable.type) or 0) if region.raw else 0
-            return Place(region.column, (), (), variable.type, self.columns.begin(region, variable), region, whole=whole)
+            return Place(
+                region.column, (), (), variable.type, self.columns.begin(region, variable), region, whole=whole
+            )
         return Place(variable, (), (), variable.type, 0, region)
 
     def member(self, base: Place, name: str, node: Any) -> Place:
@@ -137,7 +141,7 @@ class Places:
         """The kind of the integer of which a place is a part."""
         of: Any = place.variable.type
         for name in place.path:
-            of = kinds.element(of).type_of(name)
+            of = getattr(kinds.element(of), "type_of")(name)
         found = kinds.element(of)
         assert isinstance(found, Int)
         return found

@@ -84,7 +84,9 @@ class PointsTo(Unification):
         known = all(one is not None and kinds.has_bytes(one) for one in elems)
         sizes = {kinds.size(one) for one in elems if one is not None}
         alike = not any(one.raw for one in regions) and not any(self.differ(elems[0], one) for one in elems[1:])
-        whole = known and alike and len(sizes) == 1 and model.name in WHOLE and self.is_whole(node, model, sizes.pop() or 1)
+        whole = (
+            known and alike and len(sizes) == 1 and model.name in WHOLE and self.is_whole(node, model, sizes.pop() or 1)
+        )
         if model.name == "memset" and self.constants.value(arguments(node)[1]) != 0:
             whole = False
         if known and not whole:
@@ -127,7 +129,11 @@ class PointsTo(Unification):
             of = self.constants.type_of(node)
             return of, Region(of)
         if isinstance(node, (c_ast.ExprList, c_ast.Assignment, c_ast.TernaryOp)):
-            parts = [node.iftrue] if isinstance(node, c_ast.TernaryOp) else [node.exprs[-1] if isinstance(node, c_ast.ExprList) else node.lvalue]
+            parts = (
+                [node.iftrue]
+                if isinstance(node, c_ast.TernaryOp)
+                else [node.exprs[-1] if isinstance(node, c_ast.ExprList) else node.lvalue]
+            )
             return self.place(parts[0])
         raise Refused(node.coord, "what is no named object", "use a variable")
 
@@ -387,7 +393,9 @@ class PointsTo(Unification):
 
     def called_heap(self, node: Any, name: str) -> None:
         if len(arguments(node)) != TAKES[name]:
-            raise Refused(node.coord, f"{name} is declared otherwise than in the library", "declare it as stdlib.h does")
+            raise Refused(
+                node.coord, f"{name} is declared otherwise than in the library", "declare it as stdlib.h does"
+            )
         of = self.value(arguments(node)[0] if name == "free" else node)
         if isinstance(of, Pointer):
             of.region.root().freed = of.region.root().freed or name == "free"

@@ -23,7 +23,8 @@ class Raw:
 
     def array(self, place: Place) -> str:
         """The name of what has the integers of a place's kind: the column, or an array that there isn't."""
-        kind, column = place.type, self.writer.spelling.leaf(place.variable, ())
+        kind: Any = place.type
+        column: str = self.writer.spelling.leaf(place.variable, ())
         assert isinstance(kind, Int)
         if kind.bits == 8:
             return column
@@ -32,7 +33,9 @@ class Raw:
             stem = f"{column}_{'i' if kind.signed else 'u'}{kind.bits}"
             name = self.writer.spelling.fresh(stem, True)
             self.names[key] = name
-            reads, sets = self.writer.spelling.fresh(f"{name}_at", True), self.writer.spelling.fresh(f"{name}_set", True)
+            reads, sets = self.writer.spelling.fresh(f"{name}_at", True), self.writer.spelling.fresh(
+                f"{name}_set", True
+            )
             self.writer.large.known[name] = Large(name, kind, 0, reads, sets)
             self.texts[key] = self.functions(column, kind, reads, sets, bool(place.variable.const))
         return self.names[key]
@@ -42,7 +45,9 @@ class Raw:
         count = kind.bits // 8
 
         word = {32: "unsigned int", 64: "unsigned long"}.get(kind.bits, "unsigned int")
-        parts = [f"({word}) {column}[i{f' + {at}' if at else ''}]{f' << {8 * at}' if at else ''}" for at in range(count)]
+        parts = [
+            f"({word}) {column}[i{f' + {at}' if at else ''}]{f' << {8 * at}' if at else ''}" for at in range(count)
+        ]
         text = f"static {kind.text} {reads}(long i) {{ return ({kind.text}) ({' | '.join(parts)}); }}"
         if const:
             return text
@@ -56,7 +61,8 @@ class Raw:
 
     def index(self, place: Place, stable: bool = False, checked: bool = True) -> Value:
         """The number of a place's first byte in its column; -1 where the place isn't within its object."""
-        writer, tests = self.writer, []
+        writer = self.writer
+        tests: list[str] = []
         at = place.indexes[0][0] if len(place.indexes) == 1 and isinstance(place.indexes[0][0], At) else None
         base = Value("0", kinds.INT, PRIMARY)
         for node, length in place.shifted():
@@ -88,7 +94,9 @@ class Raw:
         """An index as an `int`, with the test that no array has it."""
         if number(value) is None and value.kind.bits > 8 and value.kind != kinds.Int(16, True, ""):
             low = value.kind.signed and value.kind.bits == 64
-            tests.append(f"(unsigned long) {value.within(UNARY)} + 16384 > 32767" if low else f"{value.within(8)} > 16383")
+            tests.append(
+                f"(unsigned long) {value.within(UNARY)} + 16384 > 32767" if low else f"{value.within(8)} > 16383"
+            )
         if value.kind.bits == 64 and number(value) is None:
             return Value(f"(int) {value.within(UNARY)}", kinds.INT, UNARY, calls=value.calls)
         return value

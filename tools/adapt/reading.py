@@ -64,7 +64,12 @@ ATTRIBUTE = re.compile(r"\b__attribute(?:__)?\b\s*\(((?:[^()]|\((?:[^()]|\((?:[^
 RANGE = re.compile(r"\bcase\s+(-?\w+|'[^'\\]')\s*\.\.\.\s*(-?\w+|'[^'\\]')\s*:")
 MOST_CASES = 300
 # builtin functions of the compiler, by what they say in C; the others that have a model stand in models/
-BUILTINS = ["__builtin_expect(e, c)=(e)", "__builtin_constant_p(e)=0", "__builtin_unreachable()=abort()", "__builtin_trap()=abort()"]
+BUILTINS = [
+    "__builtin_expect(e, c)=(e)",
+    "__builtin_constant_p(e)=0",
+    "__builtin_unreachable()=abort()",
+    "__builtin_trap()=abort()",
+]
 BUILTINS += ["__builtin_prefetch(...)=((void) 0)", "__builtin_assume_aligned(p, ...)=(p)", "__builtin_LINE()=__LINE__"]
 BUILTINS += [
     f"__builtin_{name}={name}"
@@ -126,7 +131,9 @@ def told_errors(path: str, told: str, refusals: Refusals) -> None:
 
 def decoration(inner: str, refusals: Refusals, at: Any) -> str:
     """An attribute, which is left out; one that changes what the program means is refused."""
-    told = [word.strip("_") for word in re.findall(r"[A-Za-z_]\w*", QUOTED.sub("", inner)) if word.strip("_") in TELLING]
+    told = [
+        word.strip("_") for word in re.findall(r"[A-Za-z_]\w*", QUOTED.sub("", inner)) if word.strip("_") in TELLING
+    ]
     if told:
         cause = f"the attribute {told[0]}, which changes a layout or a meaning"
         refusals.add(at, cause, "hide it by a macro, with -D '__attribute__(x)=', where it doesn't matter")

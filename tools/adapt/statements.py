@@ -303,7 +303,11 @@ class Statements(Expressions):
         for one in parts:
             self.check_outlives(one, taken)
         meaning = self.names.meaning.get(id(node)) if isinstance(node, c_ast.ID) else None
-        if isinstance(meaning, Variable) and meaning.home == "local" and (taken or isinstance(meaning.type, kinds.Array)):
+        if (
+            isinstance(meaning, Variable)
+            and meaning.home == "local"
+            and (taken or isinstance(meaning.type, kinds.Array))
+        ):
             raise Refused(node.coord, f"the address of the local {meaning.name} as a result", "make it static")
 
     def hand_back(self) -> None:

@@ -135,9 +135,13 @@ class States:
         plain = known and values and not any(isinstance(one, c_ast.NamedInitializer) for one in values)
         count = int(of.dim.value) if known else 0
         inner = of.type if known else None
-        words = isinstance(inner, (c_ast.ArrayDecl, c_ast.PtrDecl)) or isinstance(getattr(inner, "type", None), c_ast.IdentifierType)
+        words = isinstance(inner, (c_ast.ArrayDecl, c_ast.PtrDecl)) or isinstance(
+            getattr(inner, "type", None), c_ast.IdentifierType
+        )
         if not plain or count > MOST_LISTED or (len(values) < count and not words):
-            raise Refused(at, f"the list of first values of {target_name(target)}, in a function with goto back", "assign them")
+            raise Refused(
+                at, f"the list of first values of {target_name(target)}, in a function with goto back", "assign them"
+            )
         made = []
         for number in range(count):
             element = c_ast.ArrayRef(copy.deepcopy(target), c_ast.Constant("int", str(number), at), at)

@@ -44,7 +44,16 @@ class Units(Checks):
         front, end = written(self, self.places.choosers)
         gives = [f"{text} {name}(void);" for (_, text), name in self.outer_values.items()]
         outer = [*gives, *(self.heading(one) + ";" for one in self.names.functions if self.is_outer(one))]
-        made = [(self.begin[1], text) for text in [*outer, *self.heap.front(), *self.raw.front(), *front, *(text for _, text in self.written_models.values())]]
+        made = [
+            (self.begin[1], text)
+            for text in [
+                *outer,
+                *self.heap.front(),
+                *self.raw.front(),
+                *front,
+                *(text for _, text in self.written_models.values()),
+            ]
+        ]
         if end:
             last = self.files.setdefault(self.names.items[-1][0].path, File(self.names.items[-1][0].path))
             last.pieces += [(last.pieces[-1][0] if last.pieces else 1, text) for text in end]

@@ -53,7 +53,9 @@ class Writer:
         self.large = LargeArrays(spelling.fresh)
         self.raw = Raw(self)
         self.inputs: set[str] = set()
-        self.outer_values: dict[tuple[Function, str], str] = {}  # the inputs that objects get by functions that no source defines
+        self.outer_values: dict[
+            tuple[Function, str], str
+        ] = {}  # the inputs that objects get by functions that no source defines
         self.outer_used: set[Function] = set()  # whose values are used
 
     def value(self, node: Any) -> Value:
@@ -162,7 +164,11 @@ class Writer:
         mask, sign = (1 << kind.width) - 1, 1 << (kind.width - 1)
         text = f"{value.within(6)} & {hex(mask)}"
         if kind.below_zero:
-            text = f"(int) (({text} ^ {hex(sign)}) - {hex(sign)})" if value.kind.bits > 32 else f"(int) (({text}) ^ {hex(sign)}) - {sign}"
+            text = (
+                f"(int) (({text} ^ {hex(sign)}) - {hex(sign)})"
+                if value.kind.bits > 32
+                else f"(int) (({text}) ^ {hex(sign)}) - {sign}"
+            )
         return Value(text, kinds.INT, 0, calls=value.calls)
 
     def steady(self, node: Any, value: Value) -> Value:
@@ -244,7 +250,12 @@ class Writer:
         """The kind of the integers that a place's column has, which may have another sign than those of the access."""
         if place.stored is not None:
             return place.stored
-        if isinstance(place.type, Int) and place.type.bits != 8 and place.region is not None and place.region.root().raw:
+        if (
+            isinstance(place.type, Int)
+            and place.type.bits != 8
+            and place.region is not None
+            and place.region.root().raw
+        ):
             return place.type
         if place.variable.home != "column" or place.path:
             return place.type
