@@ -3,7 +3,7 @@ was written. Each test is a process of its own, so that all objects have their f
 
 from typing import Any
 
-from tools import harness, inputs, program
+from tools import harness, inputs
 
 from .compare import answering, plain, undefined
 from .kinds import Int
