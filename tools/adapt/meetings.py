@@ -92,8 +92,21 @@ def called_by_pointer(points: Any, node: Any) -> None:
     if not isinstance(of, Pointer) or not isinstance(of.to, Signature):
         raise Refused(node.coord, "a call of what is no function", "call a function")
     points.pointer_calls.append((points.function, node))
-    for argument, to in zip(arguments(node), of.to.parameters):
-        points.tried(argument, to)
+    for argument in arguments(node):
+        try:
+            points.value(argument)
+        except Refused:
+            pass  # (told where it is written)
+
+
+def handed_by_pointer(points: Any, done: set[int]) -> None:
+    """What calls by pointers hand over reaches parameters where the pointer meets a function."""
+    for _, node in points.pointer_calls:
+        of = points.value(node.name)
+        if id(node) not in done and of.region.root().targets:
+            done.add(id(node))
+            for argument, to in zip(arguments(node), of.to.parameters):
+                points.tried(argument, to)
 
 
 def of_model(points: Any, node: Any) -> None:

@@ -5,7 +5,7 @@ from typing import Any
 
 from . import kinds
 from .kinds import Int, Pointer
-from .meetings import differ
+from .meetings import differ, handed_by_pointer
 from .models import WHOLE, Model, element_count
 from .places import arguments
 from .refusals import Refused
@@ -17,9 +17,10 @@ def settle(points: Any) -> None:
     for variable in points.names.variables:
         if kinds.is_mixed(variable.type):
             points.home(variable)
-    before = -1
-    while before != raws(points):
-        before = raws(points)
+    before, done = -1, set[int]()
+    while before != raws(points) + len(done):
+        before = raws(points) + len(done)
+        handed_by_pointer(points, done)
         for made, region, at in points.parts:
             if made.root().pointed and made.root() is not region.root():
                 made.root().fault = None
