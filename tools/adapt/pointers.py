@@ -7,7 +7,7 @@ from pycparser import c_ast
 
 from . import kinds
 from .declarators import Function, Variable
-from .effects import STEPS, objects
+from .effects import STEPS
 from .heap import heap_call
 from .kinds import Array, Pointer, Signature
 from .models import Model, model_of
@@ -15,7 +15,7 @@ from .places import At, Place
 from .output import unmarked
 from .refusals import Refused
 from .regions import BEGIN, END, INDEX, NIL
-from .values import PRIMARY, UNARY, Value, number, plus, times
+from .values import PRIMARY, UNARY, Value, minus, number, plus, times
 from .writer import Writer
 
 MOST = 16383  # no index of a column is greater
@@ -299,7 +299,3 @@ class Pointers(Writer):
             return index
         text = " | ".join([index.within(4), *(f"-({unmarked(one)})" for one in tests)])
         return Value(text, index.kind if index.kind.bits == 32 else kinds.INT, 3)
-
-
-def minus(known: int) -> Value:
-    return Value(str(-known), kinds.INT, UNARY)
