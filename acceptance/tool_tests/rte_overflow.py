@@ -146,7 +146,7 @@ def words_that_go_together(folder):
     yield not os.path.exists(os.path.join(folder, "ad"))
     put(folder, {"b.c": "int f(unsigned x) { return x / 2; }\n"})
     yield run(folder, ["adapt", "b.c", "-o", "new", "--check-overflow"]).returncode == 0
-    yield os.listdir(os.path.join(folder, "new")) == ["b.c"]  # (nothing can overflow)
+    yield not {"overflow.h", "overflow.json"} & set(os.listdir(os.path.join(folder, "new")))  # (nothing can overflow)
 
 
 def a_broken_table_is_told(folder):
