@@ -75,6 +75,7 @@ def instances(case: Case) -> list[Case]:
 
 
 def make_files(folder: str, files: dict[str, Any]) -> None:
+    """Writes the files of a case into a folder; one may be a folder."""
     for name, content in files.items():
         path = os.path.join(folder, name)
         if isinstance(content, dict) and content.get("folder"):
@@ -142,9 +143,11 @@ def run(case: Case) -> tuple[int, bytes | None, bytes | None]:
             stdin=subprocess.DEVNULL,
             timeout=programs.SECONDS,
             preexec_fn=streams.before,
-            **streams.targets,
+            stdout=streams.targets["stdout"],
+            stderr=streams.targets["stderr"],
         )
-        return ended.returncode, streams.written(ended.stdout), ended.stderr
+        told = ended.returncode, streams.written(ended.stdout), ended.stderr
+    return told
 
 
 def differences(case: Case) -> list[str]:

@@ -13,21 +13,23 @@ import os
 import re
 import subprocess
 import tempfile
+from collections.abc import Callable, Iterator
 from typing import NamedTuple
 
 import programs
+from side_by_side import Outcome
 
 NEVER = "int f(int x) {\n  if (x > 10 && x < 5) {\n    return 1;\n  }\n  return 0;\n}\n"
 COUNT = "int f(int n) {\n  int i = 0;\n  while (i < n) {\n    i = i + 1;\n  }\n  if (i == 3) {\n    return 1;\n  }\n  return 0;\n}\n"
 TWICE = "#include <stdint.h>\nint f(uint8_t x) {\n  if (x + x == 3) {\n    return 1;\n  }\n  return 0;\n}\n"
 
 # a source, a query, the number of its goal, and bounds
-GOALS = [
+GOALS: list[tuple[str, str, str, list[str]]] = [
     (NEVER, "cover EDGES(@CONDITIONEDGE)", "3", []),
     (COUNT, "cover @LINE(7)", "1", ["--turns", "2"]),
     (NEVER, "cover @LINE(3)", "1", []),
     (TWICE, "cover @LINE(4)", "1", []),
-    (COUNT, "cover {i == 2}.\"ID*\".{i == 1}", "1", ["--turns", "2"]),
+    (COUNT, 'cover {i == 2}."ID*".{i == 1}', "1", ["--turns", "2"]),
 ]
 
 THREE = "int f(int x) {\n  int s = 0;\n  for (int i = 0; i < 3; i++) {\n    s = s + x;\n  }\n  return s;\n}\n"
@@ -35,7 +37,7 @@ FEW = "int f(int n) {\n  assume(n < 5);\n  int i = 0;\n  while (i < n) {\n    i 
 READS = "#include <stdint.h>\nint8_t in(void);\nint f(uint8_t x) {\n  int s = 0;\n  while (in() > 0 && s < 3) {\n    s = s + 1;\n  }\n  return s + x;\n}\n"
 
 # a source and bounds that suffice for it
-BOUNDS = [
+BOUNDS: list[tuple[str, list[str]]] = [
     (NEVER, []),
     (FEW, ["--turns", "4"]),
     (THREE, ["--turns", "3"]),
@@ -55,13 +57,17 @@ class Case(NamedTuple):
 
 
 CASES = [Case(query, "prove", "check", ["f", query, goal], bounds, source) for source, query, goal, bounds in GOALS]
-CASES += [Case(f"bounds {' '.join(bounds)}", "prove-bounds", "check-bounds", ["f"], bounds, source) for source, bounds in BOUNDS]
+CASES += [
+    Case(f"bounds {' '.join(bounds)}", "prove-bounds", "check-bounds", ["f"], bounds, source)
+    for source, bounds in BOUNDS
+]
 
+Numbers = list[int]
 NUMBER = r"(?:0|[1-9][0-9]*)"
 
 
-def parsed(text):
-    """The variables, the clauses and the derivation's lines of a certificate, or None where it is none."""
+def parsed(text: str) -> tuple[list[Numbers], list[tuple[Numbers, Numbers]]] | None:
+    """The clauses and the derivation's lines of a certificate, each a clause with a step, or None where it is none."""
     lines = text.split("\n")
     head = re.fullmatch(rf"p cnf ({NUMBER}) ({NUMBER})", lines[1]) if len(lines) > 1 else None
     if lines[0] != "fshell certificate 1" or not head or lines[-1] != "":
@@ -70,18 +76,22 @@ def parsed(text):
     middle = re.fullmatch(rf"derivation ({NUMBER})", lines[2 + count]) if len(lines) > 2 + count else None
     if not middle or len(lines) != 2 + count + 1 + int(middle.group(1)) + 1:
         return None
-    parts = [[int(word) for word in line.split(" ")] if re.fullmatch(rf"(?:-?{NUMBER} )*0", line) else None
-             for line in lines[2:2 + count] + lines[3 + count:-1]]
-    if None in parts or any(0 in part[:-1] for part in parts[:count]) or any(part.count(0) != 2 for part in parts[count:]):
+    written = lines[2 : 2 + count] + lines[3 + count : -1]
+    parts = [[int(word) for word in line.split(" ")] for line in written if re.fullmatch(rf"(?:-?{NUMBER} )*0", line)]
+    if (
+        len(parts) != len(written)
+        or any(0 in part[:-1] for part in parts[:count])
+        or any(part.count(0) != 2 for part in parts[count:])
+    ):
         return None
-    steps = [(part[:part.index(0)], part[part.index(0) + 1:-1]) for part in parts[count:]]
+    steps = [(part[: part.index(0)], part[part.index(0) + 1 : -1]) for part in parts[count:]]
     clauses = [part[:-1] for part in parts[:count]]
     if any(abs(literal) > variables for clause in clauses + [clause for clause, _ in steps] for literal in clause):
         return None
     return clauses, steps
 
 
-def is_refutation(clauses, steps):
+def is_refutation(clauses: list[Numbers], steps: list[tuple[Numbers, Numbers]]) -> bool:
     """Whether each line is what its resolutions make of earlier clauses, and the last one is empty."""
     known = [frozenset(clause) for clause in clauses]
     for clause, step in steps:
@@ -100,17 +110,17 @@ def is_refutation(clauses, steps):
     return bool(steps) and not known[-1]
 
 
-def is_right(text):
+def is_right(text: str) -> bool:
     """Whether a text is a certificate whose formula has no model."""
     found = parsed(text)
     return found is not None and is_refutation(*found)
 
 
-def follows(clauses, clause):
+def follows(clauses: list[Numbers], clause: Numbers) -> bool:
     """Whether unit propagation over clauses refutes the negation of a clause (reverse unit propagation)."""
     true = {-literal for literal in clause}
     while True:
-        found = set()
+        found = set[int]()
         for known in clauses:
             if not any(literal in true for literal in known):
                 left = [literal for literal in known if -literal not in true]
@@ -125,7 +135,7 @@ def follows(clauses, clause):
         true |= found
 
 
-def is_drat(folder, text):
+def is_drat(folder: str, text: str) -> bool:
     """Whether bin/drat writes the certificate's formula, and lines that follow one by one and end with the empty clause."""
     path = os.path.join(folder, "drat.cert")
     with open(path, "w", encoding="ascii") as file:
@@ -143,45 +153,56 @@ def is_drat(folder, text):
     return bool(lines) and not lines[-1] and dimacs in text
 
 
-def run(program, folder, words):
-    done = subprocess.run([program, *words], cwd=folder, stdin=subprocess.DEVNULL, capture_output=True, text=True, timeout=programs.SECONDS)
+def run(program: str, folder: str, words: list[str]) -> tuple[int, str, str]:
+    """How a program ends in a folder: its status and both texts."""
+    done = subprocess.run(
+        [program, *words],
+        cwd=folder,
+        stdin=subprocess.DEVNULL,
+        capture_output=True,
+        text=True,
+        timeout=programs.SECONDS,
+    )
     return done.returncode, done.stdout, done.stderr
 
 
-def changes(text):
+def changes(text: str) -> Iterator[str]:
     """The text with one digit or sign being another one, at some sixty places."""
     places = [place for place, letter in enumerate(text) if letter.isdigit() or letter == "-"]
-    for place in places[::max(1, len(places) // 60)]:
-        yield text[:place] + ("7" if text[place] != "7" else "2") + text[place + 1:]
+    for place in places[:: max(1, len(places) // 60)]:
+        yield text[:place] + ("7" if text[place] != "7" else "2") + text[place + 1 :]
 
 
 class Written:
     """The source and the certificates of a case in a folder, and what the program says of them."""
 
-    def __init__(self, folder, case):
+    def __init__(self, folder: str, case: Case) -> None:
         self.program, self.folder, self.case = programs.program(), folder, case
         self.write("s.c", case.source)
 
-    def write(self, name, text):
+    def write(self, name: str, text: str) -> None:
+        """Writes a file of the folder."""
         with open(os.path.join(self.folder, name), "w", encoding="ascii") as file:
             file.write(text)
 
-    def proved(self):
+    def proved(self) -> tuple[int, str]:
         """The status and the text of the command that writes the certificate."""
         return run(self.program, self.folder, [self.case.prove, *self.case.bounds, *self.case.asked, "s.c"])[:2]
 
-    def checked(self, text):
+    def checked(self, text: str) -> tuple[int, str, str]:
         """What the command that reads a certificate says of this one."""
         self.write("some.cert", text)
-        return run(self.program, self.folder, [self.case.check, *self.case.bounds, *self.case.asked, "some.cert", "s.c"])
+        return run(
+            self.program, self.folder, [self.case.check, *self.case.bounds, *self.case.asked, "some.cert", "s.c"]
+        )
 
 
-def of_case(case):
+def of_case(case: Case) -> Outcome:
     """How many certificates of a case were checked, and a line for each answer that is wrong."""
     with tempfile.TemporaryDirectory() as folder:
         written = Written(folder, case)
         status, text = written.proved()
-        count, wrong = 2, []
+        count, wrong = 2, list[str]()
         if status != 0 or not is_right(text):
             wrong.append(f"{case.name}: what {case.prove} wrote isn't right")
         if status == 0 and not is_drat(folder, text):
@@ -195,7 +216,7 @@ def of_case(case):
     return count, wrong
 
 
-def of_another(case, before):
+def of_another(case: Case, before: Case) -> Outcome:
     """What is wrong with what is said of the certificate of the case before, which is of another formula: of another goal, or of
     a goal and of bounds."""
     with tempfile.TemporaryDirectory() as folder:
@@ -205,6 +226,7 @@ def of_another(case, before):
     return 1, [] if is_due else [f"{case.name}: {status} {out!r} {err!r} for the certificate of the case before"]
 
 
-def parts():
-    return [functools.partial(of_case, case) for case in CASES] + [
-        functools.partial(of_another, case, CASES[place - 1]) for place, case in enumerate(CASES)]
+def parts() -> list[Callable[[], Outcome]]:
+    """The certificates, and each with another one's, a part each."""
+    alone: list[Callable[[], Outcome]] = [functools.partial(of_case, case) for case in CASES]
+    return alone + [functools.partial(of_another, case, CASES[place - 1]) for place, case in enumerate(CASES)]

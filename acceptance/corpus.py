@@ -12,43 +12,79 @@ import random
 import re
 import subprocess
 import tempfile
+from collections.abc import Callable, Sequence
+from typing import TypeVar
 
 import programs
+from side_by_side import Outcome
+
+T = TypeVar("T")
 
 COUNT = 400
 CHUNK = 50
 LATER = re.compile(r"error (29|3\d|41|72) ")  # refused by its types, by its automaton's size, or since it has no edge
-TYPES = ["int", "char", "signed char", "short", "unsigned short int", "long", "long long", "long unsigned int long",
-         "unsigned", "int8_t", "uint64_t", "size_t"]
-INFIX = [["||"], ["&&"], ["|"], ["^"], ["&"], ["==", "!="], ["<", "<=", ">", ">="], ["<<", ">>"], ["+", "-"], ["*", "/", "%"]]
+TYPES = [
+    "int",
+    "char",
+    "signed char",
+    "short",
+    "unsigned short int",
+    "long",
+    "long long",
+    "long unsigned int long",
+    "unsigned",
+    "int8_t",
+    "uint64_t",
+    "size_t",
+]
+INFIX = [
+    ["||"],
+    ["&&"],
+    ["|"],
+    ["^"],
+    ["&"],
+    ["==", "!="],
+    ["<", "<=", ">", ">="],
+    ["<<", ">>"],
+    ["+", "-"],
+    ["*", "/", "%"],
+]
 ASSIGN = ["=", "+=", "-=", "*=", "/=", "%=", "<<=", ">>=", "&=", "^=", "|="]
 NUMBERS = ["0", "7", "017", "0x1f", "1u", "2L", "3ull", "'a'", "'\\n'", "4294967296", "00"]
 
 
 class Grammar:
-    def __init__(self, seed):
+    """Texts of the grammar of docs/C_PROFILE.md that are drawn, each of its methods the rule of its name."""
+
+    def __init__(self, seed: int) -> None:
         self.random = random.Random(seed)
 
-    def one(self, of):
+    def one(self, of: Sequence[T]) -> T:
+        """One of some things."""
         return self.random.choice(of)
 
-    def some(self, make, least=0):
+    def some(self, make: Callable[[], str], least: int = 0) -> list[str]:
+        """So many things of one rule, none to four beside the least number."""
         return [make() for _ in range(self.one([0, 1, 2, 3, 4]) + least)]
 
-    def perhaps(self, make):
+    def perhaps(self, make: Callable[[], str]) -> str:
+        """A thing of a rule, or nothing."""
         return make() if self.random.random() < 0.5 else ""
 
-    def name(self):
+    def name(self) -> str:
+        """A name."""
         return self.one("abcxyz") + self.one(["", "1", "_q"])
 
     # ---- expressions
 
-    def choice(self, depth=2):
+    def choice(self, depth: int = 2) -> str:
+        """An expression with `?:`, so deep at most."""
         if depth > 0 and self.random.random() < 0.2:
             return f"{self.level(0, depth - 1)} ? {self.choice(depth - 1)} : {self.choice(depth - 1)}"
         return self.level(0, depth)
 
-    def level(self, level, depth):
+    def level(self, level: int, depth: int) -> str:
+        """Operands with the operators of a level."""
         if level == len(INFIX):
             return self.unary(depth)
         parts = [self.level(level + 1, depth)]
@@ -57,13 +93,15 @@ class Grammar:
                 parts += [self.one(INFIX[level]), self.level(level + 1, depth - 1)]
         return " ".join(parts)
 
-    def unary(self, depth):
+    def unary(self, depth: int) -> str:
+        """An operand with signs before it."""
         if depth > 0 and self.random.random() < 0.25:
             mark = self.one(["+", "-", "~", "!", f"({self.one(TYPES)})"])
             return f"{mark} {self.unary(depth - 1)}"
         return self.primary(depth)
 
-    def primary(self, depth):
+    def primary(self, depth: int) -> str:
+        """A number, a name, an element, a call or brackets."""
         form = self.one(["number", "name", "element", "call", "parens"]) if depth > 0 else self.one(["number", "name"])
         if form == "number":
             return self.one(NUMBERS)
@@ -77,48 +115,82 @@ class Grammar:
 
     # ---- declarations
 
-    def declarator(self):
+    def declarator(self) -> str:
+        """A name with its length and first values."""
         length = self.perhaps(lambda: f"[{self.choice(1)}]")
         last = self.perhaps(lambda: ",")
-        first = self.one(["", f" = {self.choice(1)}", f" = {{{', '.join(self.some(lambda: self.choice(1), 1))}{last}}}"])
+        first = self.one(
+            ["", f" = {self.choice(1)}", f" = {{{', '.join(self.some(lambda: self.choice(1), 1))}{last}}}"]
+        )
         return self.name() + length + first
 
-    def declarators(self):
+    def declarators(self) -> str:
+        """Declarators up to the `;`."""
         return ", ".join(self.some(self.declarator, 1)) + ";"
 
-    def consts(self):
+    def consts(self) -> str:
+        """Words `const`, perhaps none."""
         return "const " * self.one([0, 0, 1, 3])
 
-    def local(self):
+    def local(self) -> str:
+        """A variable of a block."""
         return f"{self.consts()}{self.one(TYPES)} {self.declarators()}"
 
     # ---- statements
 
-    def place(self):
+    def place(self) -> str:
+        """A place that is assigned."""
         return self.name() + self.perhaps(lambda: f"[{self.choice(1)}]")
 
-    def simple(self):
-        return self.one([
-            f"{self.place()} {self.one(ASSIGN)} {self.choice()}", f"{self.place()}{self.one(['++', '--'])}",
-            f"{self.one(['++', '--'])}{self.place()}", f"{self.name()}({', '.join(self.some(self.choice))})"])
+    def simple(self) -> str:
+        """An assignment, a step or a call."""
+        return self.one(
+            [
+                f"{self.place()} {self.one(ASSIGN)} {self.choice()}",
+                f"{self.place()}{self.one(['++', '--'])}",
+                f"{self.one(['++', '--'])}{self.place()}",
+                f"{self.name()}({', '.join(self.some(self.choice))})",
+            ]
+        )
 
-    def body(self, depth):
-        return " ".join(self.some(lambda: self.one([self.local, lambda: self.statement(depth)])()))
+    def body(self, depth: int) -> str:
+        """Statements and variables."""
 
-    def block(self, depth):
+        def part() -> str:
+            makers: list[Callable[[], str]] = [self.local, lambda: self.statement(depth)]
+            return self.one(makers)()
+
+        return " ".join(self.some(part))
+
+    def block(self, depth: int) -> str:
+        """A block."""
         return f"{{ {self.body(depth)} }}"
 
-    def labels(self):
+    def labels(self) -> str:
+        """Labels of a switch."""
         return " ".join(self.some(lambda: self.one([f"case {self.choice(1)}:", "default:"]), 1))
 
-    def groups(self, depth):
+    def groups(self, depth: int) -> str:
+        """Groups of a switch."""
         groups = self.some(lambda: f"{self.labels()} {self.statement(depth)} {self.body(depth)}")
         return " ".join(groups) + self.perhaps(lambda: " " + self.labels())
 
-    def statement(self, depth):
+    def statement(self, depth: int) -> str:
+        """A statement with others within it, so deep at most."""
         if depth == 0:
-            return self.one([";", f"{self.simple()};", "break;", "continue;", "return;", f"return {self.choice()};",
-                             f"assert({self.choice()});", f"assume({self.choice()});", "{}"])
+            return self.one(
+                [
+                    ";",
+                    f"{self.simple()};",
+                    "break;",
+                    "continue;",
+                    "return;",
+                    f"return {self.choice()};",
+                    f"assert({self.choice()});",
+                    f"assume({self.choice()});",
+                    "{}",
+                ]
+            )
         inner = depth - 1
         form = self.one(["leaf", "block", "if", "while", "do", "for", "switch", "label"])
         if form == "block":
@@ -142,11 +214,13 @@ class Grammar:
 
     # ---- items
 
-    def parameter(self):
+    def parameter(self) -> str:
+        """A parameter."""
         named = self.perhaps(lambda: self.name() + self.perhaps(lambda: f"[{self.choice(1)}]"))
         return f"{self.consts()}{self.one(TYPES)} {named}"
 
-    def item(self):
+    def item(self) -> str:
+        """A function, variables or constants."""
         before = " ".join(self.some(lambda: self.one(["static", "const"])))
         form = self.one(["function", "function", "variables", "constants"])
         if form == "variables":
@@ -161,7 +235,7 @@ class Grammar:
         return f"{before} {more} {self.one(TYPES + ['void'])} {self.name()}({parameters}) {end}"
 
 
-def source(number):
+def source(number: int) -> tuple[str, int]:
     """A source with the number of its items; the last one has as many tokens as are allowed, but for a few."""
     if number == COUNT:
         return "int f(void) { return 1; }\n" * 18_000 + "int x;\n" * 6_000, 24_000
@@ -170,13 +244,13 @@ def source(number):
     return "\n".join(items) + "\n", len(items)
 
 
-def answer(program, folder, name):
+def answer(program: str, folder: str, name: str) -> tuple[int, str]:
     """What the program answers of a source: its status and its line on standard error."""
     ended = subprocess.run([program, "goals", "cover EDGES(ID)", name], cwd=folder, capture_output=True, text=True)
     return ended.returncode, ended.stderr.strip()
 
 
-def fault(program, folder, source):
+def fault(program: str, folder: str, source: str) -> str | None:
     """What is wrong with the answers of a source, and of the source with a bracket too many on a line behind, if anything is."""
     for name, text in (("a.c", source), ("b.c", source + ")\n")):
         with open(os.path.join(folder, name), "w") as file:
@@ -189,27 +263,34 @@ def fault(program, folder, source):
     return None if line == due else f"with a bracket too many: {line}, not {due}"
 
 
-def counts(folder, sources):
+def counts(folder: str, sources: list[str]) -> list[str]:
     """What count_items says of each source."""
     names = [f"{number}.c" for number in range(len(sources))]
     for name, source in zip(names, sources):
         with open(os.path.join(folder, name), "w") as file:
             file.write(source)
-    lines = subprocess.run([programs.COUNT_ITEMS, *names], cwd=folder, capture_output=True, text=True).stdout.split("\n")
+    lines = subprocess.run([programs.COUNT_ITEMS, *names], cwd=folder, capture_output=True, text=True).stdout.split(
+        "\n"
+    )
     return lines + [""] * len(names)
 
 
-def tried(numbers):
+def tried(numbers: Sequence[int]) -> Outcome:
     """The number of sources, and a line for each that isn't read, or whose items aren't counted."""
     made, program = [source(number) for number in numbers], programs.program()
     with tempfile.TemporaryDirectory() as folder:
         found = [fault(program, folder, source) for source, _ in made]
         if os.path.exists(programs.COUNT_ITEMS):
             lines = counts(folder, [source for source, _ in made])
-            found = [fault or (None if line == str(count) else f"{line} items, not {count}")
-                     for fault, line, (_, count) in zip(found, lines, made)]
+            found = [
+                fault or (None if line == str(count) else f"{line} items, not {count}")
+                for fault, line, (_, count) in zip(found, lines, made)
+            ]
     return len(made), [f"corpus: source {number}: {wrong}" for number, wrong in zip(numbers, found) if wrong]
 
 
-def parts():
-    return [functools.partial(tried, range(first, min(first + CHUNK, COUNT + 1))) for first in range(0, COUNT + 1, CHUNK)]
+def parts() -> list[Callable[[], Outcome]]:
+    """The sources, in rows, a part each."""
+    return [
+        functools.partial(tried, range(first, min(first + CHUNK, COUNT + 1))) for first in range(0, COUNT + 1, CHUNK)
+    ]

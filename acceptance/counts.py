@@ -23,6 +23,7 @@ import replays
 import tool_tests
 import tree_ends
 from command_cases import every
+from pages import put, text_of
 from tool_tests.every import TOOLS
 
 HOME = os.path.join(programs.HERE, "README.md")
@@ -50,25 +51,20 @@ def rows() -> Iterator[tuple[str, str]]:
 
 
 def table() -> str:
+    """The table of acceptance/README.md, as it is due."""
     return "| Group | How many |\n|---|---|\n" + "".join(f"| {group} | {number} |\n" for group, number in rows())
 
 
 def wrong() -> list[str]:
     """A line where the table of acceptance/README.md isn't the one that is due."""
-    with open(HOME, encoding="utf-8") as file:
-        found = TABLE.search(file.read())
+    found = TABLE.search(text_of(HOME))
     is_due = found is not None and found[0] == table()
     return [] if is_due else ["acceptance/README.md: its counts are others; bin/test --write puts them right"]
 
 
 def write() -> None:
-    """Puts the table into its place, in a new file that is then moved there."""
-    with open(HOME, encoding="utf-8") as file:
-        text = file.read()
-    new = HOME + ".new"
-    with open(new, "w", encoding="utf-8") as file:
-        file.write(TABLE.sub(lambda _: table(), text))
-    os.replace(new, HOME)
+    """Puts the table into its place."""
+    put(HOME, TABLE.sub(lambda _: table(), text_of(HOME)))
 
 
 if __name__ == "__main__":

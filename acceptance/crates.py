@@ -16,6 +16,7 @@ import sys
 from collections.abc import Callable, Iterator
 
 import programs
+from pages import put, text_of
 
 ARCHITECTURE = os.path.join(programs.ROOT, "docs", "ARCHITECTURE.md")
 PROVED = os.path.join(programs.ROOT, "docs", "PROVED.md")
@@ -35,16 +36,13 @@ class Crate:
 
     @property
     def layer(self) -> str:
+        """The layer whose heading stands above it."""
         return self.heading.partition(":")[0]
 
     @property
     def is_of_tests(self) -> bool:
+        """Whether it has tests, or what they share."""
         return self.name.endswith("_tests") or self.name.startswith("test_")
-
-
-def text_of(path: str) -> str:
-    with open(path, encoding="utf-8") as file:
-        return file.read()
 
 
 def crates() -> list[Crate]:
@@ -127,20 +125,19 @@ def wrong() -> Iterator[str]:
 
 
 def tried() -> tuple[int, list[str]]:
+    """How many things were looked at, and a line for each that is wrong."""
     found = list(wrong())
     return max(1, len(found)), found
 
 
 def parts() -> list[Callable[[], tuple[int, list[str]]]]:
+    """One part, of all."""
     return [tried]
 
 
 def write() -> None:
-    """Puts the tables into docs/ARCHITECTURE.md, in a new file that is then moved there."""
-    text = made(crates(), text_of(ARCHITECTURE))
-    with open(ARCHITECTURE + ".new", "w", encoding="utf-8") as file:
-        file.write(text)
-    os.replace(ARCHITECTURE + ".new", ARCHITECTURE)
+    """Puts the tables into docs/ARCHITECTURE.md."""
+    put(ARCHITECTURE, made(crates(), text_of(ARCHITECTURE)))
 
 
 if __name__ == "__main__":

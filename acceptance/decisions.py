@@ -1,59 +1,88 @@
 #!/usr/bin/env python3
-"""The index at the head of docs/DECISIONS.md: its parts, each with how many decisions it has.
+"""The decisions of docs/DECISIONS.md: their form, and the index at the page's head.
 
-    acceptance/decisions.py            prints it
+    acceptance/decisions.py            prints the index
     acceptance/decisions.py --write    puts it there
 
-bin/test fails where the index there is another one.
+A decision is a heading `###` and, behind an empty line, four lines: `- Context (DAY): `, `- Choice: `, `- Reason: ` and
+`- Would change it: `. Read at 120 columns it has at most ten lines. Each part, a heading `##`, has the newest first, and no two
+decisions have one title. bin/test fails where the page is of another form or has another index.
 """
 
 import os
 import re
 import sys
+import textwrap
 
 import programs
+from pages import anchor, put, text_of
 
 HOME = os.path.join(programs.ROOT, "docs", "DECISIONS.md")
-INDEX = re.compile(r"(?<=^## The parts\n\n)(?:- \[.*\n)*", re.MULTILINE)
+INDEX = re.compile(r"(?<=^## The parts\n\n)(?: *- \[.*\n)*", re.MULTILINE)
+FORM = re.compile(r"\n- Context \((\d{4}-\d\d-\d\d)\): \S.*\n- Choice: \S.*\n- Reason: \S.*\n- Would change it: \S.*\n")
+MOST_LINES, COLUMNS = 10, 120
 
 
-def anchor(heading: str) -> str:
-    """The anchor that a page of headings gives to one."""
-    return re.sub(r"[^\w -]", "", heading.lower()).replace(" ", "-")
+def parts(text: str) -> list[tuple[str, list[tuple[str, str]]]]:
+    """The parts of a page but the index, each with its decisions: title and what stands below it."""
+    found = re.split(r"^## (.*)$", text, flags=re.MULTILINE)
+    answer = []
+    for heading, part in zip(found[1::2], found[2::2]):
+        decisions = re.split(r"^### (.*)\n", part, flags=re.MULTILINE)
+        if heading != "The parts":
+            answer.append((heading, list(zip(decisions[1::2], decisions[2::2]))))
+    return answer
 
 
 def index(text: str) -> str:
     """The index of a page."""
-    found = re.split(r"^## (.*)$", text, flags=re.MULTILINE)
-    parts = [(heading, part) for heading, part in zip(found[1::2], found[2::2]) if heading != "The parts"]
-    return "".join(
-        f"- [{name}](#{anchor(name)}): {len(re.findall('^- ', part, re.MULTILINE))}\n" for name, part in parts
-    )
+    lines = []
+    for heading, decisions in parts(text):
+        lines.append(f"- [{heading}](#{anchor(heading)})")
+        lines += [f"  - [{title}](#{anchor(title)})" for title, _ in decisions]
+    return "".join(line + "\n" for line in lines)
 
 
-def text_of() -> str:
-    with open(HOME, encoding="utf-8") as file:
-        return file.read()
+def faults(text: str) -> list[str]:
+    """What is wrong in the form of a page's decisions, a line each."""
+    wrong, titles = [], [title for _, decisions in parts(text) for title, _ in decisions]
+    wrong += [f"two decisions are called {title}" for title in sorted({t for t in titles if titles.count(t) > 1})]
+    for heading, decisions in parts(text):
+        days = []
+        for title, body in decisions:
+            found = FORM.fullmatch(body.rstrip("\n") + "\n")
+            if found is None:
+                wrong.append(
+                    f"{title}: it isn't a line each for context with its day, choice, reason, what would change it"
+                )
+                continue
+            days.append(found[1])
+            lines = [line for part in body.strip().splitlines() for line in textwrap.wrap(part, COLUMNS)]
+            if len(lines) > MOST_LINES:
+                wrong.append(f"{title}: {len(lines)} lines of {COLUMNS} columns, more than {MOST_LINES}")
+        if days != sorted(days, reverse=True):
+            wrong.append(f"{heading}: the newest decision isn't first")
+    return wrong
 
 
 def wrong() -> list[str]:
-    """A line where the page has another index than the one that is due."""
-    text = text_of()
+    """A line for each fault of form, and one where the page has another index than the one that is due."""
+    text = text_of(HOME)
     found = INDEX.search(text)
-    is_due = found is not None and found[0] == index(text)
-    return [] if is_due else ["docs/DECISIONS.md: its index is another one; bin/test --write puts it right"]
+    lines = [f"docs/DECISIONS.md: {fault}" for fault in faults(text)]
+    if found is None or found[0] != index(text):
+        lines.append("docs/DECISIONS.md: its index is another one; bin/test --write puts it right")
+    return lines
 
 
 def write() -> None:
-    """Puts the index into its place, in a new file that is then moved there."""
-    text = text_of()
-    with open(HOME + ".new", "w", encoding="utf-8") as file:
-        file.write(INDEX.sub(lambda _: index(text), text, count=1))
-    os.replace(HOME + ".new", HOME)
+    """Puts the index into its place."""
+    text = text_of(HOME)
+    put(HOME, INDEX.sub(lambda _: index(text), text, count=1))
 
 
 if __name__ == "__main__":
     if sys.argv[1:] == ["--write"]:
         write()
     else:
-        print(index(text_of()), end="")
+        print(index(text_of(HOME)), end="")

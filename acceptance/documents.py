@@ -9,10 +9,13 @@ by a shell in a copy of the examples, one behind the other, up to the document's
 standard output gets, where something follows. A line `..` stands for any lines. What needs a program that isn't there is left
 out.
 
+A heading that a document refers to, as `PAGE`, "HEADING" or as a link, is there.
+
 A path is a text between backquotes that begins as one from the top of the repository does, or the target of a link. In
 docs/PROVED.md those that begin with specs/ or src/ are of the crate whose section it is. The counts in acceptance/README.md must be
-those that counts.py makes, and those in docs/THEOREM.md those of tools/believed.py; so must the
-index of docs/DECISIONS.md, by decisions.py.
+those that counts.py makes, and those in docs/THEOREM.md those of tools/believed.py; docs/DECISIONS.md
+must have the form and the index of decisions.py and docs/PROVED.md the form and the names of proved.py; the sums in
+bench/RESULTS.md must be right (figures.py), and CHANGELOG.md has releases (releases.py).
 """
 
 import functools
@@ -24,49 +27,60 @@ import shutil
 import subprocess
 import sys
 import tempfile
+from collections.abc import Callable, Iterator
 
 import crates
 import programs
+import tool_tests
+from pages import anchor, text_of
+from side_by_side import Outcome
 
 PLACES = ("README.md", "CHANGELOG.md", "docs/*.md", "acceptance/*.md", "bench/*.md")
 FOLDERS = "acceptance|bench|bin|crates|docs|examples|tools"
 
 
-def texts():
+def texts() -> Iterator[tuple[str, str]]:
     """The documents from the top, with what they hold."""
     for place in PLACES:
         for path in sorted(glob.glob(os.path.join(programs.ROOT, place))):
-            with open(path, encoding="utf-8") as file:
-                yield os.path.relpath(path, programs.ROOT), file.read()
+            yield os.path.relpath(path, programs.ROOT), text_of(path)
 
 
-def begun(line):
+def begun(line: str) -> tuple[str, list[str]] | None:
     """The folder and the words of a line that begins an example, if it does."""
     found = re.fullmatch(r"(examples/\S+)\$ fshell (.*)", line) or re.fullmatch(r"()\$ bin/fshell (.*)", line)
-    return found and (found.group(1), shlex.split(found.group(2)))
+    return (found.group(1), shlex.split(found.group(2))) if found else None
 
 
-def examples(text):
+def examples(text: str) -> Iterator[list[tuple[str, list[str], str]]]:
     """Each block of a document that begins an example: its runs, each with its folder, its words and the expected text."""
     for block in re.findall(r"(?:^ {4}.*\n)+", text, re.MULTILINE):
         lines = [line[4:] for line in block.splitlines()]
-        runs = []
+        runs = list[tuple[str, list[str], list[str]]]()
         for line in lines if begun(lines[0]) else []:
-            if begun(line):
-                runs.append((*begun(line), []))
+            if first := begun(line):
+                runs.append((*first, []))
             else:
                 runs[-1][2].append(line + "\n")
         if runs:
             yield [(folder, words, "".join(expected)) for folder, words, expected in runs]
 
 
-def outcome(folder, words, kept):
+def outcome(folder: str, words: list[str], kept: str) -> str | tuple[int, str, str]:
     """What the program answers to an example's words, where the files of earlier runs are kept in a folder."""
     target = os.path.join(kept, words[-1]) if words[-2:-1] == [">"] else None
-    words = [os.path.join(kept, word) if word in os.listdir(kept) else word for word in (words[:-2] if target else words)]
+    words = [
+        os.path.join(kept, word) if word in os.listdir(kept) else word for word in (words[:-2] if target else words)
+    ]
     try:
-        ended = subprocess.run([programs.LAUNCHER] + words, cwd=os.path.join(programs.ROOT, folder), stdin=subprocess.DEVNULL,
-                               capture_output=True, text=True, timeout=programs.SECONDS)
+        ended = subprocess.run(
+            [programs.LAUNCHER] + words,
+            cwd=os.path.join(programs.ROOT, folder),
+            stdin=subprocess.DEVNULL,
+            capture_output=True,
+            text=True,
+            timeout=programs.SECONDS,
+        )
     except subprocess.TimeoutExpired:
         return f"no end within {programs.SECONDS} seconds"
     if target:
@@ -75,10 +89,10 @@ def outcome(folder, words, kept):
     return ended.returncode, "" if target else ended.stdout, ended.stderr
 
 
-def tool_examples(text):
+def tool_examples(text: str) -> Iterator[tuple[str, str, list[str]]]:
     """The lines of a document that run tools, each with its folder, what the shell runs, and the lines that are due."""
     for block in re.findall(r"(?:^ {4}.*\n)+", text, re.MULTILINE):
-        runs = []
+        runs = list[tuple[str, str, list[str]]]()
         for line in (line[4:] for line in block.splitlines()):
             found = re.fullmatch(r"(examples/\S+)\$ (\.\./\.\./bin/.*)", line)
             if found:
@@ -90,15 +104,21 @@ def tool_examples(text):
         yield from runs
 
 
-def matches(due, got):
+def matches(due: list[str], got: str) -> bool:
     """Whether a text has the lines that are due, `..` being any lines."""
     pattern = "".join("(?:.*\n)*" if line == ".." else re.escape(line) + "\n" for line in due)
     return not due or re.fullmatch(pattern, got) is not None
 
 
-def wrong_tool_examples(text):
+def can_run(line: str) -> bool:
+    """Whether what an example's line needs is there."""
+    adapts = "/adapt " in line or "adapted/" in line
+    return ("/campaign " not in line or shutil.which("parallel") is not None) and (not adapts or all(map(tool_tests.is_there, ("pycparser", "gcc"))))
+
+
+def wrong_tool_examples(text: str) -> Outcome:
     """How many examples of tools a document has, and a line for each that isn't as it says."""
-    runs = [run for run in tool_examples(text) if "/campaign " not in run[1] or shutil.which("parallel")]
+    runs = [run for run in tool_examples(text) if can_run(run[1])]
     wrong = []
     with tempfile.TemporaryDirectory() as kept:
         if runs:
@@ -106,8 +126,14 @@ def wrong_tool_examples(text):
             os.symlink(os.path.join(programs.ROOT, "bin"), os.path.join(kept, "bin"))
         for folder, line, due in runs:
             try:
-                ended = subprocess.run(["sh", "-c", line], cwd=os.path.join(kept, folder), stdin=subprocess.DEVNULL,
-                                       capture_output=True, text=True, timeout=programs.SECONDS)
+                ended = subprocess.run(
+                    ["sh", "-c", line],
+                    cwd=os.path.join(kept, folder),
+                    stdin=subprocess.DEVNULL,
+                    capture_output=True,
+                    text=True,
+                    timeout=programs.SECONDS,
+                )
             except subprocess.TimeoutExpired:
                 wrong.append(f"{line}: no end within {programs.SECONDS} seconds")
                 continue
@@ -116,7 +142,7 @@ def wrong_tool_examples(text):
     return len(runs), wrong
 
 
-def paths(document, text):
+def paths(document: str, text: str) -> Iterator[str]:
     """The paths that a document names, from the top."""
     for path in re.findall(rf"`((?:{FOLDERS})/[\w./-]+)`", text):
         yield path
@@ -124,21 +150,49 @@ def paths(document, text):
         yield os.path.normpath(os.path.join(os.path.dirname(document), path))
 
 
-def paths_of_crates(text):
+def paths_of_crates(text: str) -> Iterator[str]:
     """The paths that the sections of docs/PROVED.md name of their crates, from the top."""
     for crate, section in crates.sections(text):
         for path in re.findall(r"`((?:specs|src)/[\w./-]+)`", section):
             yield f"crates/{crate}/{path}"
 
 
-def is_built(path):
+def headings(path: str) -> set[str]:
+    """The headings of a page, from the top of the repository; none where there is no such page."""
+    whole = os.path.join(programs.ROOT, path)
+    return set(re.findall(r"^#+ (.*)$", text_of(whole), re.MULTILINE)) if os.path.exists(whole) else set()
+
+
+def references(document: str, text: str) -> Iterator[tuple[str, str]]:
+    """The headings that a document refers to, each with its page: `PAGE`, "HEADING", and ("HEADING") of its own."""
+    for path, heading in re.findall(r'`([\w/]+\.md)`, "([^"]+)"', text):
+        is_whole = os.path.exists(os.path.join(programs.ROOT, path))
+        yield path if is_whole else os.path.join(os.path.dirname(document), path), heading
+    yield from ((document, heading) for heading in re.findall(r'\("([A-Z][^"]+)"\)', text))
+
+
+def wrong_headings(document: str, text: str) -> list[str]:
+    """A line for each heading that a document refers to and that isn't there, and for each link to no heading of its own."""
+    own = set(re.findall(r"^#+ (.*)$", text, re.MULTILINE))
+    wrong = [
+        f'{document}: there is no "{heading}" in {path}'
+        for path, heading in references(document, text)
+        if heading not in (own if path == document else headings(path))
+    ]
+    anchors = set(map(anchor, own))
+    return wrong + [
+        f"{document}: there is no #{one}" for one in re.findall(r"\]\(#([^)]*)\)", text) if one not in anchors
+    ]
+
+
+def is_built(path: str) -> bool:
     """Whether a path is in a folder that rt makes."""
     return "/out/" in path
 
 
-def wrong_examples(document, text):
+def wrong_examples(document: str, text: str) -> Outcome:
     """How many examples of the program a document has, and a line for each that isn't as it says."""
-    count, wrong = 0, []
+    count, wrong = 0, list[str]()
     for runs in examples(text):
         with tempfile.TemporaryDirectory() as kept:
             for folder, words, expected in runs:
@@ -149,30 +203,39 @@ def wrong_examples(document, text):
     return count, wrong
 
 
-def wrong_paths(document, text):
-    """How many paths a document names, and a line for each that isn't there."""
+def wrong_paths(document: str, text: str) -> Outcome:
+    """How many paths and headings a document names, and a line for each that isn't there."""
     named = set(paths(document, text)) | (set(paths_of_crates(text)) if document == "docs/PROVED.md" else set())
     there = {path for path in named if is_built(path) or os.path.exists(os.path.join(programs.ROOT, path))}
-    return len(named), [f"{document}: there is no {path}" for path in sorted(named - there)]
+    lost = [f"{document}: there is no {path}" for path in sorted(named - there)]
+    return len(named) + len(list(references(document, text))), lost + wrong_headings(document, text)
 
 
-def of_counts():
+def of_counts() -> Outcome:
+    """How many made parts of pages were looked at, and a line for each that is another one."""
     import counts  # which reads this module
     import decisions
+    import figures
+    import proved
+    import releases
 
     sys.path.insert(0, programs.ROOT)
     from tools import believed
 
-    wrong = counts.wrong() + decisions.wrong() + believed.wrong()
+    wrong = counts.wrong() + decisions.wrong() + figures.wrong() + proved.wrong() + releases.wrong() + believed.wrong()
     return max(1, len(wrong)), wrong
 
 
-def of_tools(document, text):
+def of_tools(document: str, text: str) -> Outcome:
+    """How many examples of tools a document has, and a line for each that isn't as it says."""
     count, wrong = wrong_tool_examples(text)
     return count, [f"{document}: {line}" for line in wrong]
 
 
-def parts():
+def parts() -> list[Callable[[], Outcome]]:
     """The examples of the program, those of tools and the paths of each document, and the order of crates."""
-    return [of_counts] + [functools.partial(of_part, document, text)
-                         for document, text in texts() for of_part in (wrong_examples, of_tools, wrong_paths)]
+    return [of_counts] + [
+        functools.partial(of_part, document, text)
+        for document, text in texts()
+        for of_part in (wrong_examples, of_tools, wrong_paths)
+    ]

@@ -16,7 +16,9 @@ NOBODY = 65534
 # It writes down what it was called for, and "builds" a program that names its version and words.
 RT = """#!/bin/sh
 [ "$1" != version ] || exec cat "$TREE/kit"
+[ "$1" != help ] || [ ! -e "$TREE/help-on-output" ] || exec cat "$TREE/help"
 [ "$1" != help ] || { cat "$TREE/help" >&2; exit 2; }
+[ ! -e "$TREE/silent" ] || exec >/dev/null
 [ "$1" != must-fail ] || { echo "$*: $(echo crates/*/*/*.edit)" >>"$TREE/calls"; exit; }
 echo "$*:" crates/* $(ls crates/*/must-fail/*.edit 2>/dev/null) >>"$TREE/calls"
 [ "$#" -eq 1 ] || grep -q "rt ci NAME" "$TREE/help" || { echo "rt ci takes no words"; exit 2; }
@@ -44,6 +46,9 @@ KEEPS_NOTHING = """usage
 
 
 class Tree:
+    """A copy of the scripts of bin/ over two small crates, with a kit that is a script (tools/rt) and notes how it
+    was called."""
+
     def __init__(self, folder):
         self.root = os.path.join(folder, "a tree")
         self.elsewhere = os.path.join(folder, "elsewhere")
@@ -64,14 +69,17 @@ class Tree:
         shutil.copytree(SCRIPTS, self.path("bin"))
 
     def path(self, name):
+        """The path of a file in the tree."""
         return os.path.join(self.root, name)
 
     def write(self, name, text):
+        """Writes a file of the tree, with its folders."""
         os.makedirs(os.path.dirname(self.path(name)), exist_ok=True)
         with open(self.path(name), "w") as file:
             file.write(text)
 
     def text(self, name):
+        """The text of a file of the tree."""
         with open(self.path(name)) as file:
             return file.read()
 
@@ -93,13 +101,15 @@ class Tree:
         os.remove(self.path("calls"))
         return lines
 
-    def call(self, script, *words, user=None):
-        path = self.path("tools") + os.pathsep + os.environ["PATH"]
+    def call(self, script, *words, user=None, path=None):
+        """How a script ends that is called from another folder, perhaps by another user."""
+        path = path or self.path("tools") + os.pathsep + os.environ["PATH"]
         env = {**os.environ, "PATH": path, "TREE": self.root, "TMPDIR": self.elsewhere}  # (the log of a failed build is kept)
         return subprocess.run([script, *words], cwd=self.elsewhere, env=env, stdin=subprocess.DEVNULL, capture_output=True,
                               text=True, user=user)
 
     def run(self, launcher=None, user=None):
+        """How the launcher ends with two words."""
         return self.call(launcher or self.path("bin/fshell"), "a", "b c", user=user)
 
     def release(self):
@@ -180,7 +190,8 @@ def answers_of_the_launcher_on_a_full_device(tree):
 
 def nothing_is_looked_at_twice(tree):
     """Once bin/program has looked, bin/fshell sees by itself that nothing has changed; a change in place is seen, whatever time the
-    file says, and so are a new folder of proofs and a source that is gone."""
+    file says, and so are a new folder of proofs, a new file in a folder of a folder, and a source that is gone."""
+    tree.write("crates/low/specs/deep/er/Old.antt", "low\n")
     tree.run()
     time.sleep(1.1)
     tree.run()
@@ -190,7 +201,7 @@ def nothing_is_looked_at_twice(tree):
         yield tree.run().stdout == "one a b c\n"
     for name, text in (("crates/low/src/lib.rt", "other\n"), ("crates/low/specs/Low.antt", "other\n"), ("HANDLES", "other\n"),
                        ("crates.txt", "fshell:\n"), ("crates/fshell/out/fshell", "other\n"), ("crates/low/proofs/New.antt", "new\n"),
-                       ("crates/fshell/src/main.rt", None)):
+                       ("crates/low/specs/deep/er/New.antt", "new\n"), ("crates/fshell/src/main.rt", None)):
         before = tree.text(name) if os.path.exists(tree.path(name)) else ""
         tree.write(name, text) if text else os.remove(tree.path(name))
         if text:
@@ -204,6 +215,30 @@ def nothing_is_looked_at_twice(tree):
         tree.run()
         tree.write("bin/program", "#!/bin/sh\necho asked >&2\nexit 70\n")
     yield os.path.exists(tree.path("crates/fshell/out/looked-at"))
+
+
+def one_process_is_enough(tree):
+    """Where the program stands, the launcher needs one find, and no other command."""
+    tree.run()
+    time.sleep(1.1)
+    tree.run()
+    tree.write("bin/program", "#!/bin/sh\nexit 70\n")
+    find = tree.path("tools/find")
+    tree.write("tools/find", f'#!/bin/sh\necho find >>"$TREE/calls"\nexec {shutil.which("find")} "$@"\n')
+    os.chmod(find, 0o755)
+    tree.calls()
+    yield tree.call(tree.path("bin/fshell"), "a", "b c", path=tree.path("tools")).stdout == "one a b c\n"
+    yield tree.calls() == ["find"]
+
+
+def stack_grows_to_its_limit(tree):
+    """The program's stack may grow to 1 GiB, or to the hard limit where that is less."""
+    tree.run()
+    tree.write("crates/fshell/out/fshell", "#!/bin/sh\nulimit -S -s\n")
+    tree.set_time("crates/fshell/out/fshell", 5)
+    for hard, soft in (("65536", "65536\n"), ("2097152", "1048576\n")):
+        ran = tree.call("/bin/sh", "-c", 'ulimit -H -s "$1" && exec "$2"', "sh", hard, tree.path("bin/fshell"))
+        yield (ran.returncode, ran.stdout, ran.stderr) == (0, soft, "")
 
 
 def newer_source_is_built(tree):
@@ -439,11 +474,20 @@ def gate_runs_all(tree):
     yield status == 1 and "one accepted" not in lines and calls == all_crates
 
 
-def prove_by_a_kit_that_keeps_nothing(tree):
+def either_kit_builds_and_proves(tree):
+    """By a kit of either kind, wherever it writes its help, and whatever it says on its way: no word that it doesn't take is given."""
     tree.release()
-    tree.write("help", KEEPS_NOTHING)
-    proved = tree.call(tree.path("bin/prove"))
-    yield proved.returncode == 0 and "byte for byte" in proved.stdout and tree.calls() == PROVED
+    for text, anew in ((KEEPS, ANEW), (KEEPS_NOTHING, PROVED)):
+        tree.write("help", text)
+        for name in ("none", "help-on-output", "silent"):
+            tree.write(name, "")
+            proved = tree.call(tree.path("bin/prove"))
+            yield proved.returncode == 0 and "byte for byte" in proved.stdout and tree.calls() == anew
+            shutil.rmtree(tree.path("crates/fshell/out"))
+            os.rename(tree.path("release"), tree.path("put-by"))
+            yield tree.run().stdout == "one a b c\n" and tree.calls() == PROVED
+            os.rename(tree.path("put-by"), tree.path("release"))
+            os.remove(tree.path(name))
 
 
 class Gate:
@@ -463,10 +507,12 @@ class Gate:
         tree.write(".gitignore", "out/\n/tools\n/calls\n/help\n/kit\n/broken\n")
 
     def git(self, *words):
+        """What git prints in the tree."""
         who = ["-c", "user.name=a", "-c", "user.email=a@b", "-c", "init.defaultBranch=main", "-c", "commit.gpgsign=false"]
         return subprocess.run(["git", *who, *words], cwd=self.tree.root, check=True, capture_output=True, text=True).stdout.strip()
 
     def commit(self):
+        """Commits all, and answers the commit's name."""
         self.git("add", "-A")
         self.git("commit", "-q", "-m", "a change")
         return self.git("rev-parse", "HEAD")
@@ -608,13 +654,13 @@ def all_edits_are_tried(tree):
     yield ended.returncode == 1 and "two edits have one name" in ended.stderr and tree.calls() == []
 
 
-CASES = [first_run_builds, second_run_builds_nothing, nothing_is_looked_at_twice, newer_source_is_built, other_crates_are_left_alone,
-         old_program_is_not_run, links_are_followed, unwritable_tree_is_told, released_program_needs_no_kit,
+CASES = [first_run_builds, second_run_builds_nothing, nothing_is_looked_at_twice, one_process_is_enough,
+         stack_grows_to_its_limit, newer_source_is_built, other_crates_are_left_alone, old_program_is_not_run, links_are_followed, unwritable_tree_is_told, released_program_needs_no_kit,
          released_program_runs_in_unwritable_tree, released_program_is_taken_for_newer_sources,
          changed_sources_are_never_answered_by_the_release, what_is_no_source_leaves_the_release,
          damaged_release_is_never_run, release_that_cannot_start_is_not_run, release_without_its_sum_is_not_run,
          prove_compares_with_the_release, release_is_checked, release_by_another_kit_is_noted, old_program_is_not_released,
-         gate_runs_all, prove_by_a_kit_that_keeps_nothing, gate_is_whole_where_it_can_be, all_edits_are_tried, help_needs_no_program, refusals_are_explained,
+         gate_runs_all, either_kit_builds_and_proves, gate_is_whole_where_it_can_be, all_edits_are_tried, help_needs_no_program, refusals_are_explained,
          answers_of_the_launcher_on_a_full_device]
 if shutil.which("git"):
     CASES += [whole_gate_is_noted, part_of_the_gate, nothing_is_left_out_untold]
@@ -628,4 +674,5 @@ def tried(case):
 
 
 def parts():
+    """The cases, a part each."""
     return [functools.partial(tried, case) for case in CASES]

@@ -13,9 +13,10 @@ COUNT_ITEMS = os.path.join(ROOT, "crates", "count_items", "out", "count_items")
 
 
 @functools.cache
-def program():
+def program() -> str:
     """The path of the program that the launcher runs, which is made ready first; ends where there is none."""
-    found = subprocess.run([os.path.join(ROOT, "bin", "program")], stdin=subprocess.DEVNULL, stdout=subprocess.PIPE, text=True)
+    words = [os.path.join(ROOT, "bin", "program")]
+    found = subprocess.run(words, stdin=subprocess.DEVNULL, stdout=subprocess.PIPE, text=True)
     if found.returncode:
         sys.exit(1)
     return found.stdout.removesuffix("\n")

@@ -7,18 +7,24 @@ import os
 import re
 import subprocess
 import tempfile
+from collections.abc import Callable, Iterator, Sequence
 
 import cases
 import programs
 from command_cases import every
+from side_by_side import Outcome
 
 LIMIT = 16 * 2**20
-COUNTED = {"returned": ("returned",), "trapped": ("returned", "trapped"), "any": ("returned", "trapped", "blocked", "too-deep")}
+COUNTED = {
+    "returned": ("returned",),
+    "trapped": ("returned", "trapped"),
+    "any": ("returned", "trapped", "blocked", "too-deep"),
+}
 
 
-def parted(words):
+def parted(words: list[str]) -> tuple[dict[str, str | None], list[str]]:
     """The options of a command's words, each with its value, and the other words."""
-    options, others, waiting = {}, [], list(words)
+    options, others, waiting = dict[str, str | None](), list[str](), list(words)
     while waiting:
         word = waiting.pop(0)
         if word == "--":
@@ -33,18 +39,23 @@ def parted(words):
     return options, others
 
 
-def as_words(options, names):
+def as_words(options: dict[str, str | None], names: Sequence[str]) -> list[str]:
     """Those of the options that have one of the names."""
-    return [word for name, value in options.items() if name in names for word in ([name] if value is None else [name, value])]
+    return [
+        word
+        for name, value in options.items()
+        if name in names
+        for word in ([name] if value is None else [name, value])
+    ]
 
 
-def new_numbers(ends, counted):
+def new_numbers(ends: list[str], counted: Sequence[str]) -> dict[int, int]:
     """The number that each input has among those that are counted, by its number."""
     kept = [number for number, end in enumerate(ends, 1) if end.split(" ")[0] in counted]
     return {number: place for place, number in enumerate(kept, 1)}
 
 
-def of_text(report, counted):
+def of_text(report: str, counted: Sequence[str]) -> str:
     """A report without the inputs that aren't counted."""
     lines = report.splitlines()
     ends = [line.split(" ", 2)[2] for line in lines if re.match(r"input \d", line)]
@@ -63,7 +74,7 @@ def of_text(report, counted):
     return "\n".join(kept) + "\n"
 
 
-def of_json(report, counted):
+def of_json(report: str, counted: Sequence[str]) -> str:
     """The same of a report as JSON."""
     value = json.loads(report)
     new = new_numbers([one["end"] for one in value["inputs"]], counted)
@@ -75,36 +86,47 @@ def of_json(report, counted):
     return json.dumps(value, separators=(",", ":"), sort_keys=True) + "\n"
 
 
-def run(words, folder):
-    ended = subprocess.run([programs.LAUNCHER, *words], cwd=folder, stdin=subprocess.DEVNULL, capture_output=True, timeout=programs.SECONDS)
+def run(words: list[str], folder: str) -> tuple[int, str, str]:
+    """How the launcher ends: its status and both texts."""
+    ended = subprocess.run(
+        [programs.LAUNCHER, *words], cwd=folder, stdin=subprocess.DEVNULL, capture_output=True, timeout=programs.SECONDS
+    )
     return ended.returncode, ended.stdout.decode(), ended.stderr.decode()
 
 
-def wrong(words, report, folder):
+def wrong(words: list[str], report: str, folder: str) -> str:
     """What is wrong with the traces of a measurement, or with what they are replayed as, if something is."""
     options, (_, entry, query, inputs, *sources) = parted(words)
-    counted = COUNTED[options.get("--ends", "returned")]
-    status, traces, err = run(["traces", *as_words(options, ("--steps", "--ends")), entry, inputs, "--", *sources], folder)
+    counted = COUNTED[options.get("--ends") or "returned"]
+    status, traces, err = run(
+        ["traces", *as_words(options, ("--steps", "--ends")), entry, inputs, "--", *sources], folder
+    )
     if status or err:
         return f"traces ends with {status}, {err!r}"
     with open(os.path.join(folder, "of.traces"), "w", encoding="ascii") as file:
         file.write(traces)
-    due = (0, (of_json if "--json" in options else of_text)(report, counted), "")
+    due: tuple[int, str, str] = (0, (of_json if "--json" in options else of_text)(report, counted), "")
     if len(traces) > LIMIT:
         due = (6, "", "error 16 FileTooLong of.traces\n")
     got = run(["replay", *as_words(options, ("--json", "--ends")), entry, query, "of.traces", "--", *sources], folder)
     return "" if got == due else f"replay: {got!r}, not {due!r}"[:600]
 
 
-def measurements():
+def measurements() -> Iterator[tuple[cases.Case, list[str], str]]:
     """The cases that end with a report of `measure`, each with its words and its report."""
     for case in every.CASES:
         words = [cases.text(word).decode("utf-8", "replace") for word in case["words"]]
-        if words[:1] == ["measure"] and case["status"] == 0 and "each" not in case and "stdout" in case and "stdout_room" not in case:
+        if (
+            words[:1] == ["measure"]
+            and case["status"] == 0
+            and "each" not in case
+            and "stdout" in case
+            and "stdout_room" not in case
+        ):
             yield case, words, cases.text(case["stdout"]).decode()
 
 
-def replayed(case, words, report):
+def replayed(case: cases.Case, words: list[str], report: str) -> Outcome:
     """One measurement, and a line where it differs."""
     with tempfile.TemporaryDirectory() as folder:
         cases.make_files(folder, case["files"])
@@ -115,5 +137,6 @@ def replayed(case, words, report):
     return 1, [f"{case['name']}: {line}"] if line else []
 
 
-def parts():
+def parts() -> list[Callable[[], Outcome]]:
+    """The measurements, a part each."""
     return [functools.partial(replayed, *measurement) for measurement in measurements()]

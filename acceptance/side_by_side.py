@@ -36,6 +36,7 @@ class Times:
     processors: float = 0.0
 
     def add(self, other: "Times") -> None:
+        """Adds what another part took."""
         self.clock += other.clock
         self.processors += other.processors
 
@@ -51,6 +52,7 @@ class Result:
     times: Times = dataclasses.field(default_factory=Times)
 
     def add(self, outcome: Outcome, times: Times) -> None:
+        """Adds what a part answered."""
         count, wrong = outcome
         self.left -= 1
         self.passed += count - len(wrong)
@@ -59,7 +61,7 @@ class Result:
 
 
 def processor_seconds() -> float:
-    """What this process and those that it has waited for took so far."""
+    """What this process and those that it has waited for took so far. In seconds of a processor."""
     used = [resource.getrusage(of) for of in (resource.RUSAGE_SELF, resource.RUSAGE_CHILDREN)]
     return sum(one.ru_utime + one.ru_stime for one in used)
 
@@ -82,6 +84,7 @@ WORK: list[Callable[[Place], tuple[Outcome, Times]]] = []  # what a worker runs,
 
 
 def run_in_worker(place: Place) -> tuple[Outcome, Times]:
+    """The outcome of a part with what it took, in a process of its own."""
     return WORK[-1](place)
 
 

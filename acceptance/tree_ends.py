@@ -16,53 +16,75 @@ import re
 import subprocess
 import sys
 import tempfile
+from collections.abc import Callable, Iterator
+from typing import Any
 
 import all_inputs
 import cases
 import programs
 import replays
+from side_by_side import Outcome
 
 RANDOM = range(1001, 1025)
 FEW, MANY = (1, 2, 4, 9, 30), 20000
 MOST = "1000000"
+Differing = Callable[[str], list[str]]
 
 
-def said(words, folder):
-    """The lines of an answer, which must have the status 0."""
-    ended = subprocess.run([programs.program(), *words], cwd=folder, stdin=subprocess.DEVNULL, capture_output=True, text=True, timeout=programs.SECONDS)
+def said(words: list[str], folder: str) -> list[str]:
+    """The lines of an answer, which must have the status 0. Raises ValueError where the program refuses them."""
+    ended = subprocess.run(
+        [programs.program(), *words],
+        cwd=folder,
+        stdin=subprocess.DEVNULL,
+        capture_output=True,
+        text=True,
+        timeout=programs.SECONDS,
+    )
     if ended.returncode or ended.stderr:
         raise ValueError(f"{words[:4]} ends with {ended.returncode}, {ended.stderr!r}")
     return ended.stdout.splitlines()
 
 
-def by_trees(steps, entry, inputs, sources, folder):
-    """The end of each input by the trees, in order."""
+def by_trees(steps: int | str, entry: str, inputs: str, sources: list[str], folder: str) -> list[str]:
+    """The end of each input by the trees, in order. Raises ValueError for other lines than one an input."""
     lines = said(["trees", "--steps", str(steps), entry, inputs, "--", *sources], folder)
     ends = [re.fullmatch(r"input (\d+) (.+)", line) for line in lines]
-    if [end and int(end[1]) for end in ends] != list(range(1, len(lines) + 1)):
+    found = [end for end in ends if end]
+    if [int(end[1]) for end in found] != list(range(1, len(lines) + 1)):
         raise ValueError(f"trees: {lines[:3]}")
-    return [end[2] for end in ends]
+    return [end[2] for end in found]
 
 
-def by_edges(steps, entry, inputs, sources, folder):
+def by_edges(steps: int | str, entry: str, inputs: str, sources: list[str], folder: str) -> list[str]:
     """The end of each input by the automaton's run."""
-    return [line.split(" edges")[0].split(" ", 2)[2] for line in said(["runs", "--steps", str(steps), entry, inputs, "--", *sources], folder)]
+    return [
+        line.split(" edges")[0].split(" ", 2)[2]
+        for line in said(["runs", "--steps", str(steps), entry, inputs, "--", *sources], folder)
+    ]
 
 
-def differences(ends, trees):
+def differences(ends: list[str], trees: list[str]) -> list[str]:
     """What the trees tell other than the runs, with as many turns as edges."""
     wrong = [] if len(ends) == len(trees) else [f"{len(trees)} ends, not {len(ends)}"]
-    return wrong + [f"input {number}: {tree}, not {end}" for number, (end, tree) in enumerate(zip(ends, trees), 1) if tree != end != "cut"]
+    return wrong + [
+        f"input {number}: {tree}, not {end}"
+        for number, (end, tree) in enumerate(zip(ends, trees), 1)
+        if tree != end != "cut"
+    ]
 
 
-def of_measurement(words, report, folder):
+def of_measurement(words: list[str], report: str, folder: str) -> list[str]:
     """The same of a measurement's inputs."""
     options, (_, entry, _, inputs, *sources) = replays.parted(words)
     if "--json" in options:
-        ends = [" ".join([one["end"], *([str(one["value"])] if "value" in one else [])]) for one in json.loads(report)["inputs"]]
+        ends = [
+            " ".join([one["end"], *([str(one["value"])] if "value" in one else [])])
+            for one in json.loads(report)["inputs"]
+        ]
     else:
         ends = [line.split(" ", 2)[2] for line in report.splitlines() if re.match(r"input \d", line)]
-    trees = by_trees(options.get("--steps", 100000), entry, inputs, sources, folder)
+    trees = by_trees(options.get("--steps") or 100000, entry, inputs, sources, folder)
     late = [number for number, (end, tree) in enumerate(zip(ends, trees)) if end == "cut" != tree]
     if late:
         longer = by_edges(MOST, entry, inputs, sources, folder)
@@ -70,30 +92,34 @@ def of_measurement(words, report, folder):
     return differences(ends, trees)
 
 
-def all_of(name, folder):
+def all_of(name: str, folder: str) -> list[str]:
     """The same of all inputs of a program."""
     program = next(program for program in all_inputs.TABLE if program.name == name)
     with open(os.path.join(folder, "p.c"), "w", encoding="ascii") as file:
         file.write(all_inputs.SOURCES[name])
-    inputs, found = list(program.inputs()), []
+    inputs, found = list(program.inputs()), list[str]()
     for at in range(0, len(inputs), all_inputs.CHUNK):
         with open(os.path.join(folder, "all.json"), "w", encoding="ascii") as file:
-            json.dump([{"args": words, "answers": answers} for words, answers in inputs[at:at + all_inputs.CHUNK]], file)
+            json.dump(
+                [{"args": words, "answers": answers} for words, answers in inputs[at : at + all_inputs.CHUNK]], file
+            )
         found += differences(*(one(400, "f", "all.json", ["p.c"], folder) for one in (by_edges, by_trees)))
     return found[:3]
 
 
-def generator():
+def generator() -> Any:
     """What makes random programs."""
     path = os.path.join(programs.HERE, "with_gcc", "program_runs")
     loader = importlib.machinery.SourceFileLoader("program_runs", path)
-    made = importlib.util.module_from_spec(importlib.util.spec_from_loader("program_runs", loader))
+    spec = importlib.util.spec_from_loader("program_runs", loader)
+    assert spec
+    made = importlib.util.module_from_spec(spec)
     sys.dont_write_bytecode = True
     loader.exec_module(made)
     return made.Program
 
 
-def of_random(program, folder):
+def of_random(program: Any, folder: str) -> list[str]:
     """The same of a random program, and what changes with more turns though it was no cut."""
     for name, content in (("p.c", "\n".join(program.ours) + "\n"), ("in.json", json.dumps(program.inputs()))):
         with open(os.path.join(folder, name), "w", encoding="ascii") as file:
@@ -102,14 +128,17 @@ def of_random(program, folder):
     found = differences(ends, by_trees(MANY, program.entry, "in.json", ["p.c"], folder))
     for turns in FEW:
         few = by_trees(turns, program.entry, "in.json", ["p.c"], folder)
-        found += [f"input {number} with {turns} turns: {early}, not {end}"
-                  for number, (early, end) in enumerate(zip(few, ends), 1) if early not in ("cut", end) and end != "cut"]
+        found += [
+            f"input {number} with {turns} turns: {early}, not {end}"
+            for number, (early, end) in enumerate(zip(few, ends), 1)
+            if early not in ("cut", end) and end != "cut"
+        ]
         edges = by_edges(turns, program.entry, "in.json", ["p.c"], folder)
         found += [f"{line}, with {turns} turns" for line in differences(edges, few)]
     return found
 
 
-def told(name, differing):
+def told(name: str, differing: Differing) -> Outcome:
     """One source, and a line where the trees tell another end; `differing` looks at it in a folder."""
     with tempfile.TemporaryDirectory() as folder:
         try:
@@ -119,18 +148,18 @@ def told(name, differing):
     return 1, [f"{name}: {'; '.join(lines)}"[:600]] if lines else []
 
 
-def of_case(case, words, report, folder):
+def of_case(case: cases.Case, words: list[str], report: str, folder: str) -> list[str]:
     """The same of a measurement of the cases."""
     cases.make_files(folder, case["files"])
     return of_measurement(words, report, folder)
 
 
-def of_seed(seed, folder):
+def of_seed(seed: int, folder: str) -> list[str]:
     """The same of the random program with this number."""
     return of_random(generator()(seed), folder)
 
 
-def sources():
+def sources() -> Iterator[tuple[str, Differing]]:
     """A name for each source that is tried, with what looks at it in a folder."""
     for case, words, report in replays.measurements():
         yield case["name"], functools.partial(of_case, case, words, report)
@@ -140,5 +169,6 @@ def sources():
         yield f"random program {seed}", functools.partial(of_seed, seed)
 
 
-def parts():
+def parts() -> list[Callable[[], Outcome]]:
+    """The sources, a part each."""
     return [functools.partial(told, name, differing) for name, differing in sources()]

@@ -31,8 +31,8 @@ TYPE = re.compile(r"pub (?:enum|struct) (\w+)")
 
 # each row: what it is of, and the definitions in which it begins, by crate and file of specs/
 ENDS = (
-    "command/Run:Ends",
-    "command/Run:writes",
+    "command/Outcome:Ends",
+    "command/Outcome:writes",
     "command/Reads:reads",
     "command/Watched:watched",
     "command_words/Request:request_of",
@@ -42,25 +42,25 @@ ROWS = {
     "the whole theorem": (
         *ENDS,
         "command/Due:IsDue",
-        "command/Certified:Certifies",
-        "command/Certified:CertifiesBounds",
+        "command/Accepted:Certifies",
+        "command/Accepted:CertifiesBounds",
     ),
-    "a certificate that `check` accepted": ("command/Certified:Certifies",),
-    "one that `check-bounds` accepted": ("command/Certified:CertifiesBounds",),
+    "a certificate that `check` accepted": ("command/Accepted:Certifies",),
+    "one that `check-bounds` accepted": ("command/Accepted:CertifiesBounds",),
     "`measure`": (*RUN, "command/Due:IsDueOfMeasure"),
     "`goals`": (*RUN, "command/Due:IsDueOfGoals"),
     "`graph`": (*RUN, "command/Due:IsDueOfGraph"),
     "`runs`": (*RUN, "command/Due:IsDueOfRuns"),
     "`trees`": (*ENDS, "command/Stages:OfTrees", "command/Due:IsDueOfTrees"),
-    "`generate`": (*RUN, "command/Generating:IsDueOfGenerate"),
-    "`prove`": (*RUN, "command/Proving:IsDueOfProve"),
-    "`check`": (*RUN, "command/Checking:IsDueOfCheck"),
-    "`bounds`, `prove-bounds`": (*RUN, "command/Sufficing:IsDueOfBounds"),
-    "`check-bounds`": (*RUN, "command/CheckingBounds:IsDueOfCheckBounds"),
-    "`least`": (*RUN, "command/Lowering:IsDueOfLeast"),
+    "`generate`": (*RUN, "command/Generate:IsDueOfGenerate"),
+    "`prove`": (*RUN, "command/Prove:IsDueOfProve"),
+    "`check`": (*RUN, "command/Check:IsDueOfCheck"),
+    "`bounds`, `prove-bounds`": (*RUN, "command/Bounds:IsDueOfBounds"),
+    "`check-bounds`": (*RUN, "command/CheckBounds:IsDueOfCheckBounds"),
+    "`least`": (*RUN, "command/Least:IsDueOfLeast"),
     "`traces`": (*RUN, "command/Due:IsDueOfTraces"),
     "`replay`": (*RUN, "command/Due:IsDueOfReplay"),
-    "`sample`": (*ENDS, "command/Sampling:IsDueOfSample"),
+    "`sample`": (*ENDS, "command/Sample:IsDueOfSample"),
     "what a run is": ("c_meaning/Runs:IsRun",),
     "what it means that a run hits a goal": ("hits/Hits:Hits",),
     "which sources have which automaton": ("c_front/Automata:IsAutomatonOf",),
@@ -78,6 +78,7 @@ class Definition:
 
     @property
     def lines(self) -> int:
+        """How many lines have text; comments are gone from it."""
         return sum(1 for line in self.text.splitlines() if line.strip())
 
 
@@ -91,6 +92,7 @@ class File:
 
 
 def without_comments(text: str, mark: str) -> str:
+    """A text without what stands behind a comment's mark, line by line."""
     return "\n".join(re.split(rf"(?:^|\s){mark}", line)[0] for line in text.splitlines())
 
 
@@ -212,7 +214,7 @@ def rests_on(roots: list[Definition]) -> set[Definition]:
 
 
 def row(name: str) -> set[Definition]:
-    """The definitions of a row."""
+    """The definitions of a row. Raises SystemExit where no crate has one of its roots."""
     roots = []
     for root in ROWS[name]:
         crate, _, rest = root.partition("/")
@@ -225,6 +227,7 @@ def row(name: str) -> set[Definition]:
 
 
 def table() -> str:
+    """The table of docs/THEOREM.md, as it is due."""
     lines = ["| Of | Definitions | Lines |", "|---|---|---|"]
     for name in ROWS:
         found = row(name)
@@ -250,6 +253,7 @@ def write() -> None:
 
 
 def main() -> int:
+    """Prints the table, puts it into its place, or lists a row; the status is 0."""
     parser = argparse.ArgumentParser(
         description="Counts the definitions on which the clauses of the main theorem rest."
     )

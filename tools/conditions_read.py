@@ -24,6 +24,7 @@ class Conditions:
 
     @property
     def tally(self) -> Tally:
+        """How many verdicts of each kind there are."""
         return verdicts.tally(self.verdicts)
 
     def report(self) -> Report:

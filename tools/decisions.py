@@ -23,6 +23,7 @@ class Test:
     guards: tuple[Edge, Edge]
 
     def outcomes(self) -> list[Edge]:
+        """Those of its guards that decide the decision."""
         return [guard for guard in self.guards if guard.outcome]
 
 
@@ -59,6 +60,7 @@ class Decision:
 
     @property
     def first(self) -> Edge:
+        """The guard of truth of its first condition, whose place is the decision's."""
         return self.tests[0].guards[0]
 
     def guards(self) -> set[int]:
@@ -156,7 +158,7 @@ class Decisions:
         self.found.append(decision)
 
     def node_of_truth(self, targets: set[int], tests: list[Test]) -> int:
-        """The outcome node to which a decision leads where it holds."""
+        """The outcome node to which a decision leads where it holds. The node is given by its number."""
         last = next(test for test in reversed(tests) if len(test.outcomes()) == 2)
         if self.is_within(targets, tests):
             return min(targets)

@@ -14,7 +14,7 @@ import sys
 from collections.abc import Iterator
 
 from tools import graph as graphs
-from tools import inputs, leaving, program, verdicts
+from tools import inputs, leaving, program, usage, verdicts
 from tools.graph import Graph, Letter, Node
 from tools.program import Failure
 from tools.reports import Goal, Input, Report, Run, report_of_json, report_of_text
@@ -30,7 +30,8 @@ def is_query(word: str) -> bool:
 
 
 def report_of(word: str) -> Report:
-    """The report in a file or on standard input; one that isn't read is a failure."""
+    """The report in a file or on standard input; one that isn't read is a failure. Raises Failure; a ValueError of
+    what reads it is told so."""
     try:
         text = (sys.stdin.buffer.read() if word == "-" else program.read(word)).decode()
         if text.startswith("fshell traces 1"):
@@ -53,9 +54,10 @@ def letter_line(faces: Faces, letter: Letter) -> str:
         return f"e{letter.edge.number} {faces.face(letter.edge)}"
     if letter.node:
         return f"n{letter.node.number} {node_line(faces, letter.node)}"
-    if letter.text.startswith("!"):
-        return f"{letter.text[1:]} doesn't hold"
-    return f"{letter.text} holds" if letter.text.startswith("{") else f"a row of steps that match {letter.text}"
+    text = " ".join(letter.text.split())  # (a query may have line breaks)
+    if text.startswith("!"):
+        return f"{text[1:]} doesn't hold"
+    return f"{text} holds" if text.startswith("{") else f"a row of steps that match {text}"
 
 
 def node_line(faces: Faces, node: Node) -> str:
@@ -64,8 +66,8 @@ def node_line(faces: Faces, node: Node) -> str:
     if node.number in (function.entry, function.exit):
         what = "the entry" if node.number == function.entry else "the exit"
     else:
-        what = f"control before {faces.sources[node.file].line_text(node.line)}"
-    return f"{node.place} {node.function}: {what}"
+        what = f"control before {faces.node_text(node)}"
+    return f"{faces.node_place(node)} {faces.name(node.function)}: {what}"
 
 
 def end_line(faces: Faces, run: Run, entry: str) -> str:
@@ -76,7 +78,7 @@ def end_line(faces: Faces, run: Run, entry: str) -> str:
         return node_line(faces, faces.graph.nodes[last])
     edge = leaving[0]
     test = f"{faces.condition(edge)}, in " if edge.is_guard else ""
-    return f"{faces.place(edge)} {faces.graph.owner(edge)}: {test}{faces.statement(edge)}"
+    return f"{faces.place(edge)} {faces.name(faces.graph.owner(edge))}: {test}{faces.statement(edge)}"
 
 
 class Explained:
@@ -90,7 +92,7 @@ class Explained:
         self.runs = runs
 
     def goal(self, goal: Goal) -> Iterator[str]:
-        """The lines of a goal."""
+        """The lines of a goal. Raises Failure where the report names an edge or node that the automaton hasn't."""
         verdict = verdicts.of_word(goal.verdict, self.limits) if goal.verdict else ""
         verdict += f" by input {goal.input}" if goal.input else ""
         yield f"goal {goal.number}: {verdict}" if verdict else f"goal {goal.number}:"
@@ -103,7 +105,8 @@ class Explained:
             yield f"  input {goal.input}: {self.inputs[goal.input - 1].told()}"
 
     def run(self, run: Run) -> Iterator[str]:
-        """The line of a run, where it was trapped, blocked or too deep."""
+        """The line of a run, where it was trapped, blocked or too deep. Raises Failure where the run takes an edge
+        that the automaton hasn't."""
         if run.end.split(" ")[0] not in OPENED:
             return
         entry = self.entry or (
@@ -114,6 +117,8 @@ class Explained:
         yield f"input {run.number} {run.end} at {end_line(self.faces, run, entry)}"
 
     def lines(self) -> Iterator[str]:
+        """What is said of the report, a line each: its goals, its runs, and a hint where runs were lost and no
+        inputs are given."""
         for goal in self.report.goals:
             yield from self.goal(goal)
         for run in self.runs:
@@ -150,10 +155,11 @@ def is_of(goal: Goal, limits: Limits, mark: str) -> bool:
     return bool(goal.verdict) and verdicts.of_word(goal.verdict, limits).mark == mark
 
 
-def words() -> argparse.Namespace:
-    parser = argparse.ArgumentParser(prog="explain", description=__doc__, formatter_class=argparse.RawTextHelpFormatter)
-    parser.add_argument("what", metavar="WHAT")
-    parser.add_argument("sources", nargs="+", metavar="SOURCE")
+def parser_of_words() -> usage.Parser:
+    """What reads the words."""
+    parser = usage.parser("explain", __doc__, "the goals are told")
+    parser.add_argument("what", metavar="WHAT", help="a query, a file with a report, or - for standard input")
+    parser.add_argument("sources", nargs="+", metavar="SOURCE", help="the sources, in their order")
     parser.add_argument("--entry", default="", help="the function in which runs begin")
     parser.add_argument("--inputs", metavar="FILE", help="the inputs of the runs")
     parser.add_argument(
@@ -162,6 +168,11 @@ def words() -> argparse.Namespace:
         help="goals of this verdict alone; of refuted ones those that aren't unreachable",
     )
     parser.add_argument("--steps", type=program.in_range("steps"), metavar="N", help="as for runs")
+    return parser
+
+
+def words() -> argparse.Namespace:
+    parser = parser_of_words()
     given = parser.parse_intermixed_args()
     if given.inputs and not given.entry:
         parser.error("--inputs needs --entry")
@@ -169,6 +180,7 @@ def words() -> argparse.Namespace:
 
 
 def main() -> int:
+    """Explains a report or a query and answers the exit status, as the module says."""
     given = words()
     automaton: Graph = graphs.of_sources(given.sources)
     report = graphs.goals_of(automaton, given.what, given.sources) if is_query(given.what) else report_of(given.what)

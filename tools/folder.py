@@ -18,7 +18,7 @@ import json
 import os
 import sys
 
-from tools import conditions_read, inputs, program
+from tools import conditions_read, inputs, program, split
 from tools.asked import Asked, sum_of
 from tools.conditions_read import Conditions
 from tools.program import Failure
@@ -39,12 +39,14 @@ class Folder:
         self.path = path
 
     def at(self, *names: str) -> str:
+        """The path of a file in the folder."""
         return os.path.join(self.path, *names)
 
     # ---- what was asked
 
     def begin(self, asked: Asked, given: list[Input]) -> None:
-        """Makes the folder of a campaign, or goes on with the same one."""
+        """Makes the folder of a campaign, or goes on with the same one. Raises Failure where it is another
+        campaign's."""
         before = self.asked() if os.path.exists(self.at("campaign.json")) else None
         if before and before.differs(asked):
             raise Failure(
@@ -99,6 +101,7 @@ class Folder:
             raise Failure(f"{self.at('campaign.json')} isn't a campaign's") from None
 
     def given(self) -> list[Input]:
+        """The inputs with which the campaign began."""
         return inputs.of_file(self.at("given.json"))
 
     def clean(self) -> None:
@@ -115,16 +118,15 @@ class Folder:
         names = [name.removesuffix(ending) for name in os.listdir(self.at(kind)) if name.endswith(ending)]
         return sorted(int(name) for name in names if name.isdigit())
 
-    def generated(self, asked: Asked) -> Report | None:
+    def generated(self, asked: Asked, jobs: int = 1, tell: split.Tell = lambda done, total: None) -> Report | None:
         """What one `generate` over all goals answers, once it is asked; None where it is refused. Where its formulas are
-        too large, `prove` says of each goal whether that one is."""
+        too large, `prove` says of each goal whether that one is. `tell` hears how many goals are done, where there are many.
+        """
         known, path = self.known_generated(), self.at("generated.json")
         if not os.path.exists(path):
-            budget = str(min(asked.budget, FIRST_BUDGET))
-            words = ["generate", asked.entry, asked.query, *asked.sources, *asked.words(), "--budget", budget]
-            ended = program.run(program.with_json(words), asked.place)
+            ended = split.generate(asked, min(asked.budget, FIRST_BUDGET), jobs, tell)
             is_refused = ended.stderr.startswith(TOO_LARGE)
-            program.write_whole(path, ended.stderr if is_refused else program.text_of(words, ended))
+            program.write_whole(path, ended.stderr if is_refused else program.text_of(["generate"], ended))
             known = self.known_generated()
         return known
 
@@ -144,7 +146,8 @@ class Folder:
         return {goal.number for goal in made.goals if goal.verdict == "refuted"} if made else set()
 
     def found(self) -> dict[int, Input]:
-        """The input of each goal for which one was found; a file that isn't whole is removed."""
+        """The input of each goal for which one was found; a file that isn't whole is removed. Its ValueError doesn't
+        come out."""
         known = {}
         for goal in self.numbers("found"):
             path = self.at("found", str(goal))
@@ -158,7 +161,8 @@ class Folder:
         return known
 
     def open(self, budget: int) -> dict[int, str]:
-        """What prove said of each goal that it left open with no less than this budget."""
+        """What prove said of each goal that it left open with no less than this budget. A budget is in moves of the
+        search."""
         known = {}
         for goal in self.numbers("open"):
             tried, _, said = program.read(self.at("open", str(goal))).decode().strip().partition(" ")
@@ -166,7 +170,13 @@ class Folder:
                 known[goal] = said
         return known
 
+    def known(self) -> int:
+        """How many files there are that each say of a goal what is known of it."""
+        certificates = [name for name in os.listdir(self.at("certificates")) if name.endswith(".cert")]
+        return len(certificates) + len(self.numbers("found")) + len(self.numbers("open"))
+
     def certificate(self, goal: int) -> str:
+        """The path of a goal's certificate, by its number from 1."""
         return self.at("certificates", f"{goal}.cert")
 
     def refuted(self, asked: Asked) -> list[int]:
@@ -174,6 +184,8 @@ class Folder:
         return [goal for goal in self.numbers("certificates", ".cert") if self.is_checked(asked, goal)]
 
     def is_checked(self, asked: Asked, goal: int) -> bool:
+        """Whether a goal's certificate is accepted by `check`, or was with the sum that is noted; one that isn't
+        accepted is removed."""
         path, noted = self.certificate(goal), self.at("certificates", f"{goal}.sum")
         if os.path.exists(noted) and program.read(noted).decode().strip() == sum_of(path):
             return True
@@ -209,7 +221,8 @@ class Folder:
     # ---- one goal
 
     def decide_all(self, goals: list[int]) -> None:
-        """Has goals decided one after the other; where some aren't, that is told behind the last."""
+        """Has goals decided one after the other; where some aren't, that is told behind the last. The first of the
+        failures is raised then."""
         failures = []
         refuted = self.known_refuted()
         for goal in goals:
@@ -248,7 +261,7 @@ class Folder:
                 os.remove(path)
 
     def keep(self, asked: Asked, goal: int, path: str, status: int, refusal: str) -> None:
-        """Keeps what prove answered of a goal."""
+        """Keeps what prove answered of a goal. Raises Failure where it answered something else."""
         with open(path, "rb") as file:
             line = file.readline(1_000_000).decode()
         if status == program.DONE and line == "fshell certificate 1\n":

@@ -28,6 +28,7 @@ class Node:
 
     @property
     def place(self) -> str:
+        """`FILE:LINE` of its statement, as `graph` tells it."""
         return f"{self.file}:{self.line}"
 
 
@@ -54,10 +55,12 @@ class Edge:
 
     @property
     def place(self) -> str:
+        """`FILE:LINE:COLUMN` of its span's first byte, the column in bytes from 1."""
         return f"{self.file}:{self.line}:{self.column}"
 
     @property
     def is_guard(self) -> bool:
+        """Whether it is taken where a condition holds, or doesn't."""
         return self.operation.startswith("guard")
 
     @property
@@ -68,6 +71,8 @@ class Edge:
 
 @dataclass(frozen=True)
 class Function:
+    """A function by its name, with the numbers of its entry node and its exit node."""
+
     name: str
     entry: int
     exit: int
@@ -158,7 +163,7 @@ def of_text(text: str) -> Graph:
 
 
 def of_sources(sources: Sequence[str], folder: str | None = None) -> Graph:
-    """The automaton of sources, as the program tells it."""
+    """The automaton of sources, as the program tells it. Raises Failure where it refuses them."""
     program.check_names(sources)
     if not program.has_command("graph"):
         raise program.Failure("the program has no command graph; a newer one is needed (FSHELL names another)")
@@ -169,8 +174,9 @@ def of_sources(sources: Sequence[str], folder: str | None = None) -> Graph:
 
 
 def goals_of(graph: Graph, query: str, sources: Sequence[str], folder: str | None = None) -> Report:
-    """The goals of a query. Where it has line breaks, their texts may have some, and then they are taken from a measurement of
-    no input, which is written as JSON, for the first function that may be an entry."""
+    """The goals of a query. Where it has line breaks, their texts may have some, and then they are taken from a
+    measurement of no input, which is written as JSON, for the first function that may be an entry. Raises Failure
+    where the program refuses it."""
     if not re.search(r"[\r\n]", query):
         return program.report(["goals", query, *sources], folder)
     with program.as_file("[]\n") as none:

@@ -1,109 +1,19 @@
 """bin/harness: writes a C file that runs inputs on another compiler, and compares what the entry returns.
 
 The file has the sources within it, so it is compiled alone, with -fwrapv (overflow wraps) and, where plain char has no sign,
--fsigned-char. Run, it prints TAP: for each input whether the entry returned what FShell recorded. A test whose run FShell says
+-fsigned-char. Run, it prints TAP, or JUnit's XML with --junit: for each input whether the entry returned what FShell recorded. A test whose run FShell says
 to trap, to be blocked by an assumption, to be too deep or to be cut is skipped, with that reason. Before each test the variables
 of the file have their first values again; input functions give the input's answers, and then 0.
 """
 
 import argparse
+import os
 from collections.abc import Iterator
 
-from tools import inputs, items, program
+from tools import inputs, items, program, source_map, usage
+from tools.harness_text import HEAD, TESTS
 from tools.reports import Input, Run
 from tools.sources import Source
-
-HEAD = """/* Written by FShell's bin/harness: {count} tests of {entry}.
-   Compile it with -fwrapv; run, it prints TAP and ends with 1 where a test fails. */
-#include <stddef.h>
-#include <stdint.h>
-#include <setjmp.h>
-
-static jmp_buf fshell_back;
-static const char *fshell_failure;
-static const unsigned long long *fshell_answers;
-static int fshell_left;
-
-static void fshell_stop(const char *why) {{
-  fshell_failure = why;
-  longjmp(fshell_back, 1);
-}}
-
-static unsigned long long fshell_answer(void) {{
-  if (fshell_left == 0) {{
-    return 0;
-  }}
-  fshell_left--;
-  return *fshell_answers++;
-}}
-
-#undef assert
-#undef assume
-#define assert(holds) ((holds) ? (void) 0 : fshell_stop("an assert failed"))
-#define assume(holds) ((holds) ? (void) 0 : fshell_stop("an assume failed"))
-#define main fshell_main
-"""
-TESTS = """
-struct fshell_test {{
-  const char *name, *skip;
-  int has_value, first, answers;
-  unsigned long long value;
-}};
-
-static const unsigned long long fshell_words[] = {{{words}0}};
-
-static const struct fshell_test fshell_tests[] = {{
-{tests}  {{0, 0, 0, 0, 0, 0}}
-}};
-
-static void fshell_copy(unsigned char *to, const unsigned char *from, size_t size) {{
-  while (size-- > 0) {{
-    *to++ = *from++;
-  }}
-}}
-
-/* keeps the first values of the variables, or gives them back */
-static void fshell_values(int keep) {{
-{values}  (void) keep;
-  (void) fshell_copy, (void) fshell_answer, (void) fshell_stop;
-}}
-
-static unsigned long long fshell_call(const unsigned long long *given) {{
-  (void) given;
-{call}
-}}
-
-extern int printf(const char *, ...);
-
-/* runs a test; says what is wrong, if anything */
-static const char *fshell_run(const struct fshell_test *test, unsigned long long *value) {{
-  fshell_values(0);
-  fshell_answers = fshell_words + test->first + {arity};
-  fshell_left = test->answers;
-  if (setjmp(fshell_back)) {{
-    return fshell_failure;
-  }}
-  *value = fshell_call(fshell_words + test->first);
-  return test->has_value && *value != test->value ? "another value" : 0;
-}}
-
-int main(void) {{
-  int failed = 0;
-  fshell_values(1);
-  printf("1..%d\\n", {count});
-  for (int i = 0; i < {count}; i++) {{
-    const struct fshell_test *test = &fshell_tests[i];
-    unsigned long long value = 0;
-    const char *wrong = test->skip ? 0 : fshell_run(test, &value);
-    printf("%sok %d - %s%s%s\\n", wrong ? "not " : "", i + 1, test->name, test->skip ? " # SKIP " : "", test->skip ? test->skip : "");
-    if (wrong) {{
-      printf("# %s, returned %lld\\n", wrong, (long long) value);
-      failed = 1;
-    }}
-  }}
-  return failed;
-}}
-"""
 
 
 def literal(text: str) -> str:
@@ -116,13 +26,18 @@ def word(number: int) -> str:
     return f"{number % 2**64}ULL"
 
 
-def source_text(source: Source, heads: list[tuple[str, str]]) -> str:
-    """A source with the input functions that it declares, between lines that keep its places and end its macros."""
+def source_text(source: Source, heads: list[tuple[str, str]], out: str | None) -> str:
+    """A source with the input functions that it declares, between lines that keep its places and end its macros. Its name is as
+    it was given, or that of the original of which it was written; in place of a whole path that from the file's folder stands.
+    """
     text = items.without_includes(source).encode("latin-1").decode(errors="surrogateescape")
     macros = list(items.replacements(source))
     undefined = "".join(f"#undef {name}\n" for name in macros)
     given = "".join(f"{kind} {name}(void) {{ return fshell_answer(); }}\n" for name, kind in heads)
-    return f"{undefined}#line 1 {literal(source.name)}\n{text}{undefined}{given}"
+    mapped = source_map.of_source(source.name)
+    name = mapped.original if mapped else source.name
+    name = os.path.relpath(name, os.path.dirname(out or "") or ".") if os.path.isabs(name) else name
+    return f"{undefined}#line 1 {literal(name)}\n{text}{undefined}{given}"
 
 
 def tests(entry: str, given: list[Input], runs: list[Run]) -> Iterator[str]:
@@ -161,40 +76,47 @@ def values(sources: list[Source]) -> str:
     return "".join(sorted(rows, key=lambda row: "static" not in row))
 
 
-def text_of(entry: str, given: list[Input], runs: list[Run], sources: list[Source]) -> str:
+def text_of(entry: str, given: list[Input], runs: list[Run], sources: list[Source], out: str | None) -> str:
     """The whole file."""
     words = "".join(f"{word(number)}, " for one in given for number in (*one.args, *one.answers))
-    parts = [HEAD.format(count=len(given), entry=entry)]
+    parts = [HEAD.format(by="bin/harness", count=len(given), entry=entry)]
     heads = items.input_heads(sources)
     for number, source in enumerate(sources):
-        parts.append(source_text(source, [(name, kind) for name, (first, kind) in heads.items() if first == number]))
-    parts += ['#undef main\n#line 1 "harness"\n']
-    parts += [
-        TESTS.format(
-            words=words, tests="".join(tests(entry, given, runs)), values=values(sources), count=len(given),
-            call=call(entry, given, runs), arity=len(given[0].args) if given else 0,
-        )
-    ]  # fmt: skip
-    return "".join(parts)
+        mine = [(name, kind) for name, (first, kind) in heads.items() if first == number]
+        parts.append(source_text(source, mine, out))
+    before = "".join(parts)
+    tests_of = TESTS.format(
+        words=words, tests="".join(tests(entry, given, runs)), values=values(sources), count=len(given), entry=literal(entry),
+        call=call(entry, given, runs), arity=len(given[0].args) if given else 0, run="fshell_run", runner="",
+    )  # fmt: skip
+    # (the lines behind the sources are the file's own again)
+    own = f"#undef main\n#line {before.count(chr(10)) + 3} {literal(os.path.basename(out or 'tests.c'))}\n"
+    return before + own + tests_of
+
+
+def parser_of_words() -> usage.Parser:
+    """What reads the words."""
+    parser = usage.parser("harness", __doc__, "the file is written")
+    parser.add_argument("entry", metavar="ENTRY", help="the function in which runs begin")
+    parser.add_argument("inputs", metavar="INPUTS", help="a file of inputs, in any form that bin/inputs reads")
+    parser.add_argument("sources", nargs="+", metavar="SOURCE", help="the sources, in their order")
+    parser.add_argument("-o", metavar="OUT", dest="out", help="the C file that is written; else standard output")
+    parser.add_argument("--steps", type=program.in_range("steps"), metavar="N", help="as for runs")
+    return parser
 
 
 def words() -> argparse.Namespace:
-    parser = argparse.ArgumentParser(prog="harness", description=__doc__, formatter_class=argparse.RawTextHelpFormatter)
-    parser.add_argument("entry", metavar="ENTRY")
-    parser.add_argument("inputs", metavar="INPUTS")
-    parser.add_argument("sources", nargs="+", metavar="SOURCE")
-    parser.add_argument("-o", metavar="OUT", dest="out", help="the C file that is written; else standard output")
-    parser.add_argument("--steps", type=program.in_range("steps"), metavar="N", help="as for runs")
-    return parser.parse_intermixed_args()
+    return parser_of_words().parse_intermixed_args()
 
 
 def main() -> int:
+    """Writes a harness, as the module says; the status is 0."""
     given = words()
     program.check_names(given.sources)
     steps = ["--steps", str(given.steps)] if given.steps else []
     read, runs = inputs.runs_of(given.entry, given.inputs, given.sources, steps)
     sources = [Source(name, program.read(name)) for name in given.sources]
-    program.give(text_of(given.entry, read, runs, sources), given.out)
+    program.give(text_of(given.entry, read, runs, sources, given.out), given.out)
     if given.out is not None:
         skipped = sum(run.end != "returned" for run in runs)
         print(f"{given.out}: {len(runs)} tests, {skipped} of them skipped")

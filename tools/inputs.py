@@ -13,7 +13,7 @@ import sys
 from collections.abc import Iterator, Sequence
 
 from tools import graph as graphs
-from tools import naming, program
+from tools import naming, program, usage
 from tools.program import Failure
 from tools.reports import ENDS, Input, Report, Run, input_of, number, report_of_json, report_of_text
 
@@ -24,7 +24,7 @@ _TRACE = re.compile(r"(args(?: -?\d+)*(?: answers(?: -?\d+)+)?) edges(?: \d+)*")
 
 
 def of_object(value: object) -> Input:
-    """The input that an object of the JSON form is."""
+    """The input that an object of the JSON form is. Raises ValueError where it is none, with what is wrong of it."""
     if not isinstance(value, dict) or not isinstance(value.get("args"), list):
         raise ValueError("an input has no list args")
     answers = value.get("answers", [])
@@ -35,12 +35,12 @@ def of_object(value: object) -> Input:
 
 
 def no_constant(word: str) -> object:
-    """What JSON doesn't have, as NaN."""
+    """What JSON doesn't have, as NaN. Raises ValueError always."""
     raise ValueError(f"{word} is no JSON")
 
 
 def of_json(text: str, kept: bool) -> list[Input]:
-    """The inputs of a JSON file, or of a report of `generate` as JSON."""
+    """The inputs of a JSON file, or of a report of `generate` as JSON. Raises ValueError where it has none."""
     value = json.loads(text, parse_constant=no_constant)
     if isinstance(value, list):
         return [of_object(one) for one in value]
@@ -50,14 +50,15 @@ def of_json(text: str, kept: bool) -> list[Input]:
 
 
 def of_report(report: Report, kept: bool) -> list[Input]:
-    """The inputs of a report of `generate`, or those of its suite alone."""
+    """The inputs of a report of `generate`, or those of its suite alone. Raises ValueError where the report is of
+    another command."""
     if report.command != "generate":
         raise ValueError(f"it is an answer of {report.command}, which has no inputs")
     return [report.inputs[one - 1] for one in report.suite] if kept else report.inputs
 
 
 def of_lines(lines: list[str]) -> Iterator[Input]:
-    """The inputs of a file in lines."""
+    """The inputs of a file in lines. Raises ValueError, which names the line, where one has another form."""
     for line in lines:
         words = re.split(r"[ \t\r]+", line.strip(" \t\r"))
         if words != [""]:
@@ -68,7 +69,7 @@ def of_lines(lines: list[str]) -> Iterator[Input]:
 
 
 def matched(form: re.Pattern[str], lines: list[str]) -> Iterator[Input]:
-    """The inputs of lines of one form."""
+    """The inputs of lines of one form. Raises ValueError at the first line of another form."""
     for line in lines:
         found = form.fullmatch(line)
         if found:
@@ -78,7 +79,7 @@ def matched(form: re.Pattern[str], lines: list[str]) -> Iterator[Input]:
 
 
 def of_text(text: str, kept: bool) -> list[Input]:
-    """The inputs of a file's text, whichever form it has."""
+    """The inputs of a file's text, whichever form it has. Raises ValueError where it has none of them."""
     if text.lstrip(" \t\r\n")[:1] in ("[", "{"):
         return of_json(text, kept)
     lines = text.removesuffix("\n").split("\n")
@@ -135,7 +136,7 @@ def is_line(one: Input) -> bool:
 
 
 def lines_text(inputs: list[Input]) -> str:
-    """A file in lines."""
+    """A file in lines. Raises Failure where an input has keys of a user's own, which lines can't hold."""
     if not all(map(is_line, inputs)):
         raise Failure("an input with answers, without arguments or with other keys is no line; --to json writes it")
     return "".join(" ".join(map(str, one.args)) + "\n" for one in inputs)
@@ -172,15 +173,21 @@ def named_text(inputs: list[Input], entry: str, sources: list[str]) -> str:
     return "[" + ",\n ".join(json.dumps(one, ensure_ascii=False) for one in told) + "]\n"
 
 
-def words() -> argparse.Namespace:
-    parser = argparse.ArgumentParser(prog="inputs", description=__doc__, formatter_class=argparse.RawTextHelpFormatter)
-    parser.add_argument("files", nargs="+", metavar="FILE")
+def parser_of_words() -> usage.Parser:
+    """What reads the words."""
+    parser = usage.parser("inputs", __doc__, "the inputs are written")
+    parser.add_argument("files", nargs="+", metavar="FILE", help="a report, a trace file, or a file of inputs")
     parser.add_argument("-o", metavar="OUT", dest="out", help="the file that is written; else standard output")
     parser.add_argument("--to", choices=FORMS, help="the form; else lines where they are enough, or JSON")
     parser.add_argument("--suite", action="store_true", help="of a report, the inputs of its suite alone")
     parser.add_argument("--entry", help="for traces and names: the function in which runs begin")
     parser.add_argument("--source", action="append", default=[], help="for traces and names: a source, in their order")
     parser.add_argument("--ends", choices=ENDS, default="returned", help="for traces: the ends of runs that count")
+    return parser
+
+
+def words() -> argparse.Namespace:
+    parser = parser_of_words()
     given = parser.parse_intermixed_args()
     if given.to in ("traces", "named") and not (given.entry and given.source):
         parser.error(f"--to {given.to} needs --entry and --source")
@@ -188,6 +195,7 @@ def words() -> argparse.Namespace:
 
 
 def main() -> int:
+    """Writes inputs in the form that is asked for, as the module says; the status is 0."""
     given = words()
     has_entry = given.entry and given.source
     read = [

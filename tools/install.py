@@ -4,31 +4,16 @@ PREFIX/bin gets `fshell`, and each tool as `fshell-NAME`; they need PREFIX/lib/f
 tools need are there.
 """
 
-import argparse
 import importlib.util
 import os
 import shutil
 import subprocess
 import sys
 
-from tools import manual, program
+from tools import completion, manual, program, usage
 from tools.campaign import has_parallel
 from tools.program import ROOT, Failure
 
-NAMES = (
-    "inputs",
-    "explain",
-    "lcov",
-    "harness",
-    "campaign",
-    "page",
-    "mcdc",
-    "order",
-    "rte",
-    "adapt",
-    "driver",
-    "project",
-)
 # what fshell --help and fshell --explain answer from, beside the documents
 ANSWERED_FROM = ("bin/help.awk", "bin/refusal.awk", "crates/fq_core/specs/Code.antt", "README.md")
 PROGRAM = """#!/bin/sh
@@ -56,7 +41,7 @@ def needs() -> list[tuple[str, bool, str, str]]:
 
 
 def check() -> int:
-    """Says what is there."""
+    """Says what is there. The exit status is 1 where something is missing."""
     for name, is_there, package, purpose in needs():
         print(
             f"{'there  ' if is_there else 'missing'}  {name}, for {purpose}"
@@ -66,6 +51,7 @@ def check() -> int:
 
 
 def text_of(*names: str) -> str:
+    """The text of a file of the repository, by the names of its folders."""
     return program.read(os.path.join(ROOT, *names)).decode()
 
 
@@ -77,7 +63,7 @@ def put(text: str, path: str, is_program: bool = False) -> None:
 
 
 def copy(source: str, path: str) -> None:
-    """Copies a file into its place, with its mode."""
+    """Copies a file into its place, with its mode. Raises Failure where it can't be written."""
     try:
         shutil.copy(source, path + ".new")
         os.replace(path + ".new", path)
@@ -107,7 +93,7 @@ def link(target: str, path: str) -> None:
 
 
 def built() -> str:
-    """The path of the program that is installed."""
+    """The path of the program that is installed. Raises Failure where it isn't built."""
     if os.environ.get("FSHELL"):
         return program.program()
     found = subprocess.run([os.path.join(ROOT, "bin", "program")], capture_output=True, text=True, check=False)
@@ -118,11 +104,13 @@ def built() -> str:
 
 def folders(prefix: str) -> dict[str, str]:
     """The folders that are made."""
-    names = {"bin": "bin", "lib": "lib/fshell", "scripts": "lib/fshell/bin", "tools": "lib/fshell/tools", "man": "share/man/man1",
+    names = {"bin": "bin", "lib": "lib/fshell", "scripts": "lib/fshell/bin", "tools": "lib/fshell/tools", "docs": "lib/fshell/docs", "man": "share/man/man1",
              "completion": "share/bash-completion/completions", "doc": "share/doc/fshell"}  # fmt: skip
     found = {name: os.path.join(prefix, path) for name, path in names.items()}
     for path in found.values():
         try:
+            if os.path.islink(path):  # (as an older installation had the documents)
+                os.remove(path)
             os.makedirs(path, exist_ok=True)
         except OSError as fault:
             raise Failure(f"{path}: {fault.strerror}") from None
@@ -141,28 +129,25 @@ def install(prefix: str) -> int:
         made = os.path.join(at["lib"], name)
         os.makedirs(os.path.dirname(made), exist_ok=True)
         copy(os.path.join(ROOT, name), made)
-    link("../../share/doc/fshell", os.path.join(at["lib"], "docs"))
-    for name in ("fshell", *NAMES):
+    for name in ("fshell", *usage.TOOLS):
         copy(os.path.join(ROOT, "bin", name), os.path.join(at["scripts"], name))
         link(f"../lib/fshell/bin/{name}", os.path.join(at["bin"], name if name == "fshell" else f"fshell-{name}"))
-    for folder, kept, endings in (("tools", "tools", (".py", ".html", ".css", ".h")), ("docs", "doc", (".md",))):
-        copy_tree(os.path.join(ROOT, folder), at[kept], endings)
+    for folder, endings in (("tools", (".py", ".html", ".css", ".c", ".h")), ("docs", (".md",))):
+        copy_tree(os.path.join(ROOT, folder), at[folder], endings)
+    # (what is under share may be left out of a machine, and the program's help is made of the documents)
+    for name in sorted(os.listdir(at["docs"])):
+        link(f"../../../lib/fshell/docs/{name}", os.path.join(at["doc"], name))
     for name, page in pages.items():
         put(page, os.path.join(at["man"], f"{name}.1"))
-    helps = {f"fshell-{name}": help_of(name) for name in NAMES}
-    for name in ("fshell", *helps):
-        put(manual.completion(commands, helps), os.path.join(at["completion"], name))
+    put(completion.completion(commands), os.path.join(at["completion"], "fshell"))
+    for name in usage.TOOLS:
+        link("fshell", os.path.join(at["completion"], f"fshell-{name}"))
     return len(pages)
 
 
-def help_of(name: str) -> str:
-    return subprocess.run(
-        [os.path.join(ROOT, "bin", name), "--help"], capture_output=True, text=True, check=True
-    ).stdout
-
-
 def main() -> int:
-    parser = argparse.ArgumentParser(prog="install", description=__doc__, formatter_class=argparse.RawTextHelpFormatter)
+    done, missing = "all is put there, or is there", "something is missing that tools need (--check)"
+    parser = usage.parser("install", __doc__, done, missing)
     parser.add_argument("prefix", nargs="?", metavar="PREFIX", help="such as /usr/local or ~/.local")
     parser.add_argument("--check", action="store_true", help="says which of the things that tools need are there")
     given = parser.parse_args()
@@ -171,5 +156,5 @@ def main() -> int:
     if not given.prefix:
         parser.error("PREFIX or --check")
     count = install(given.prefix)
-    print(f"{given.prefix}: the program, {len(NAMES)} tools, {count} manual pages, and completion for bash")
+    print(f"{given.prefix}: the program, {len(usage.TOOLS)} tools, {count} manual pages, and completion for bash")
     return program.DONE

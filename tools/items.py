@@ -71,6 +71,7 @@ def outer(tokens: tuple[str, ...]) -> list[str]:
 
 
 def is_name(text: str) -> bool:
+    """Whether a text is a name of C (ISO/IEC 9899:2011, 6.4.2.1)."""
     return re.fullmatch(r"[A-Za-z_]\w*", text) is not None
 
 

@@ -15,7 +15,7 @@ from collections.abc import Iterator
 from dataclasses import dataclass, field
 
 from tools import graph as graphs
-from tools import inputs, leaving, program
+from tools import inputs, leaving, program, usage
 from tools.explain import report_of
 from tools.graph import Edge, Graph
 from tools.program import Failure
@@ -53,11 +53,11 @@ class Coverage:
         passed: dict[int, Counter[int]] = {}
         reached = set()
         for edge in self.steps(file):
-            line = self.faces.shown(edge).line
+            line = self.faces.line(edge)
             passed.setdefault(line, Counter())[edge.source] += self.taken[edge.number]
             if edge.number not in self.refuted:
                 reached.add(line)
-        self.excluded += [f"{file}:{line}" for line in sorted(passed) if line not in reached]
+        self.excluded += [f"{self.faces.own(file).name}:{line}" for line in sorted(passed) if line not in reached]
         return {line: max(passed[line].values()) for line in sorted(passed) if line in reached}
 
     def branches(self, file: str) -> list[tuple[int, int, int, int | None]]:
@@ -71,15 +71,16 @@ class Coverage:
             is_made = any(self.taken[edge.number] for edge in pair)
             for branch, edge in enumerate(pair):
                 if edge.number in self.refuted:
-                    self.excluded.append(f"{edge.place} {'true' if edge.truth else 'false'}")
+                    self.excluded.append(f"{self.faces.place(edge)} {'true' if edge.truth else 'false'}")
                 else:
-                    found.append((edge.line, number, branch, self.taken[edge.number] if is_made else None))
+                    found.append((self.faces.line(edge), number, branch, self.taken[edge.number] if is_made else None))
         return found
 
     def functions(self, file: str) -> list[tuple[int, str, int]]:
         """The line, the name and the number of entries of each function of a file."""
         places = [(self.graph.nodes[one.entry], one.name) for one in self.graph.functions]
-        return [(node.line, name, self.entered[name]) for node, name in places if node.file == file]
+        at = [(self.faces.node_line(node), name) for node, name in places if node.file == file]
+        return [(line, self.faces.name(name), self.entered[name]) for line, name in at]
 
 
 class Totals:
@@ -97,6 +98,7 @@ class Totals:
         return numbers
 
     def text(self) -> str:
+        """The counts of lines, functions and branches, those that were hit first."""
         return ", ".join(
             f"{what} {self.hit[what]} of {self.found[what]}" for what in ("lines", "functions", "branches")
         )
@@ -106,7 +108,7 @@ def record(coverage: Coverage, file: str, totals: Totals) -> Iterator[str]:
     """The lines of a source's record."""
     functions, branches, lines = coverage.functions(file), coverage.branches(file), coverage.lines(file)
     yield "TN:"
-    yield f"SF:{os.path.abspath(file)}"
+    yield f"SF:{os.path.abspath(coverage.faces.own(file).name)}"
     yield from (f"FN:{line},{name}" for line, name, _ in functions)
     yield from (f"FNDA:{count},{name}" for _, name, count in functions)
     found, hit = totals.add("functions", [count for _, _, count in functions])
@@ -173,21 +175,27 @@ def left_out(given: argparse.Namespace, graph: Graph, runs: list[Run]) -> LeftOu
     return LeftOut(edges, why, f"# what is refuted within {bounds} is left out: --bounds-are-enough\n")
 
 
-def words() -> argparse.Namespace:
-    parser = argparse.ArgumentParser(prog="lcov", description=__doc__, formatter_class=argparse.RawTextHelpFormatter)
-    parser.add_argument("entry", metavar="ENTRY")
-    parser.add_argument("inputs", metavar="INPUTS")
-    parser.add_argument("sources", nargs="+", metavar="SOURCE")
+def parser_of_words() -> usage.Parser:
+    """What reads the words."""
+    parser = usage.parser("lcov", __doc__, "the tracefile is written")
+    parser.add_argument("entry", metavar="ENTRY", help="the function in which runs begin")
+    parser.add_argument("inputs", metavar="INPUTS", help="a file of inputs, in any form that bin/inputs reads")
+    parser.add_argument("sources", nargs="+", metavar="SOURCE", help="the sources, in their order")
     parser.add_argument("-o", metavar="OUT", dest="out", help="the tracefile that is written; else standard output")
     parser.add_argument("--ends", choices=ENDS, default="returned", help="the ends of runs that count")
     parser.add_argument("--steps", type=program.in_range("steps"), metavar="N", help="as for runs")
     parser.add_argument("--refuted", metavar="FILE", help="leaves out what is unreachable by this report")
     enough = "leaves out what the report refutes, though a run may leave its bounds"
     parser.add_argument("--bounds-are-enough", action="store_true", help=enough)
-    return parser.parse_intermixed_args()
+    return parser
+
+
+def words() -> argparse.Namespace:
+    return parser_of_words().parse_intermixed_args()
 
 
 def main() -> int:
+    """Writes a tracefile, as the module says; the status is 0."""
     given = words()
     graph = graphs.of_sources(given.sources)
     steps = ["--steps", str(given.steps)] if given.steps else []

@@ -1,7 +1,10 @@
-"""Manual pages and completion, made of docs/COMMANDS.md and docs/TOOLS.md."""
+"""Manual pages, made of docs/COMMANDS.md, of docs/TOOLS.md, and of what tools say of their own words (usage.py)."""
 
+import argparse
 import re
 from collections.abc import Iterator
+
+from tools import usage
 
 OPTIONS = re.compile(r"`(--[a-z]+)(?: ([A-Z]+))?`")
 
@@ -114,13 +117,46 @@ def command_pages(commands: str) -> dict[str, str]:
     return found
 
 
+def rows_of(tool: argparse.ArgumentParser, is_option: bool) -> Iterator[str]:
+    """A row for each option of a tool or a command of it, or for each other word."""
+    for action in tool._actions:
+        if bool(action.option_strings) != is_option or isinstance(action, argparse._SubParsersAction):
+            continue
+        value = usage.value_of(action)
+        name = ", ".join(action.option_strings) or str(action.metavar or action.dest)
+        yield f"| `{name}`{f' {value}' if is_option and value else ''} | {action.help or ''} |\n"
+
+
+def table(lines: list[str]) -> str:
+    """A table of two columns."""
+    return "| Word | Meaning |\n|---|---|\n" + "".join(lines) if lines else ""
+
+
+def parts_of(name: str, about: str) -> dict[str, str]:
+    """The sections of a tool's page."""
+    tool = usage.of_tool(name)
+    parts = {"DESCRIPTION": about.replace("`bin/", "`fshell-")}
+    arguments, options = list(rows_of(tool, False)), list(rows_of(tool, True))
+    commands = usage.commands_of(tool)
+    if commands:
+        helps = usage.helps_of(tool)
+        parts["COMMANDS"] = table([f"| `{one}` | {helps[one]} |\n" for one in commands])
+    if arguments:
+        parts["ARGUMENTS"] = table(arguments)
+    parts["OPTIONS"] = table(options) + "".join(
+        f"\n### Of {one}\n\n{table([*rows_of(its, False), *rows_of(its, True)])}" for one, its in commands.items()
+    )
+    parts["EXIT STATUS"] = table([f"| {number} | {text} |\n" for number, text in tool.statuses.items()])
+    parts["ENVIRONMENT"] = table(["| `FSHELL` | the program that is run in place of the installed one |\n"])
+    parts["SEE ALSO"] = "`fshell`(1); the documents in the folder `docs` beside the program\n"
+    return parts
+
+
 def tool_pages(tools: str) -> dict[str, str]:
     """The pages of the tools, by their names."""
     found = {}
-    for cells in rows(tools.split("## ", 1)[0]):
-        name = cells[0].strip("`").removeprefix("bin/")
-        if name == "install":
-            continue
+    whats = {cells[0].strip("`").removeprefix("bin/"): cells[1] for cells in rows(tools.split("## ", 1)[0])}
+    for name in usage.TOOLS:
         text = sections(tools)[f"bin/{name}"].strip("\n")
         head, _, rest = text.partition("\n\n")
         forms = re.sub(
@@ -131,44 +167,5 @@ def tool_pages(tools: str) -> dict[str, str]:
         synopsis = [
             re.split(r"\s{3,}", line.strip())[0].removeprefix(f"bin/{name}").strip() for line in forms.splitlines()
         ]
-        found[f"fshell-{name}"] = page(
-            f"fshell-{name}", cells[1], synopsis, {"DESCRIPTION": rest.replace("`bin/", "`fshell-")}
-        )
+        found[f"fshell-{name}"] = page(f"fshell-{name}", whats[name], synopsis, parts_of(name, rest))
     return found
-
-
-# ---- completion
-
-
-def completion(commands: str, helps: dict[str, str]) -> str:
-    """Completion for bash: of the program's commands with their options, and of each tool's options; else files."""
-    table = [cells for cells in rows(commands) if len(cells) == 3 and re.fullmatch(r"`[a-z-]+`", cells[0])]
-    cases = "\n".join(
-        f"    {cells[0].strip('`')}) options='{' '.join(one[0] for one in OPTIONS.findall(cells[1]))}' ;;"
-        for cells in table
-    )
-    tools = "\n".join(
-        f"    {name}) options='{' '.join(sorted(set(re.findall(r'--[a-z-]+', text))))}' ;;"
-        for name, text in helps.items()
-    )
-    names = " ".join(cells[0].strip("`") for cells in table)
-    return f"""# completion of FShell for bash
-_fshell() {{
-  local word=${{COMP_WORDS[COMP_CWORD]}} options=
-  if [ "${{COMP_WORDS[0]##*/}}" = fshell ] && [ "$COMP_CWORD" -eq 1 ]; then
-    mapfile -t COMPREPLY < <(compgen -W '{names}' -- "$word")
-    return
-  fi
-  case ${{COMP_WORDS[0]##*/}} in
-  fshell) case ${{COMP_WORDS[1]}} in
-{cases}
-    esac ;;
-{tools}
-  esac
-  case $word in
-  -*) mapfile -t COMPREPLY < <(compgen -W "$options" -- "$word") ;;
-  *) mapfile -t COMPREPLY < <(compgen -f -- "$word") ;;
-  esac
-}}
-complete -o filenames -F _fshell fshell {" ".join(helps)}
-"""

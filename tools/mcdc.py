@@ -14,7 +14,7 @@ import os
 import sys
 
 from tools import graph as graphs
-from tools import inputs, leaving, program, verdicts
+from tools import inputs, leaving, program, progress, usage, verdicts
 from tools.conditions import Found, Text, json_text
 from tools.decisions import Decision, Decisions
 from tools.folder import STEPS
@@ -22,6 +22,7 @@ from tools.graph import Graph
 from tools.leaving import Left
 from tools.masking import MOST_ARROWS, NONE, Asked, goals_of, query_of, shown, take
 from tools.program import Failure
+from tools.progress import Progress
 from tools.reports import Report
 from tools.sources import Faces
 from tools.verdicts import Limits
@@ -35,13 +36,12 @@ OF_ONE = tuple(f"error {code} " for code in (63, 71, 72, 73, 82))
 
 
 def options(given: argparse.Namespace) -> list[str]:
+    """The options of the program for the bounds that are given."""
     return [word for name in BOUNDS for word in (f"--{name}", str(getattr(given, name)))]
 
 
-def ask(given: argparse.Namespace, graph: Graph, decision: Decision, count: int) -> Asked:
-    """Has inputs made for the paths of a decision; on a terminal it says which."""
-    if sys.stderr.isatty():
-        print(f"decision {decision.number} of {count}", file=sys.stderr)
+def ask(given: argparse.Namespace, graph: Graph, decision: Decision) -> Asked:
+    """Has inputs made for the paths of a decision."""
     for arrows in range(MOST_ARROWS, -1, -1):
         query = query_of(graph, decision, arrows)
         words = ["generate", given.entry, query, *given.sources, *options(given), "--budget", str(given.budget)]
@@ -54,6 +54,16 @@ def ask(given: argparse.Namespace, graph: Graph, decision: Decision, count: int)
     asked = Asked(decision, query, program.report_of(words, ended))
     asked.goals = goals_of(graph, asked)
     return asked
+
+
+def ask_all(given: argparse.Namespace, graph: Graph, decisions: list[Decision]) -> list[Asked]:
+    """Has inputs made for the paths of all decisions."""
+    found: list[Asked] = []
+    with progress.shown(Progress("mcdc: decisions", len(decisions))) as tell:
+        for decision in decisions:
+            tell.at(len(found), f"{decision.function}, line {decision.first.line}")
+            found.append(ask(given, graph, decision))
+    return found
 
 
 def certify(given: argparse.Namespace, all_asked: list[Asked]) -> int:
@@ -73,10 +83,16 @@ def certify(given: argparse.Namespace, all_asked: list[Asked]) -> int:
     return count
 
 
-def words() -> argparse.Namespace:
-    parser = argparse.ArgumentParser(prog="mcdc", description=__doc__, formatter_class=argparse.RawTextHelpFormatter)
-    parser.add_argument("entry", metavar="ENTRY")
-    parser.add_argument("sources", nargs="+", metavar="SOURCE")
+def parser_of_words() -> usage.Parser:
+    """What reads the words."""
+    parser = usage.parser(
+        "mcdc",
+        __doc__,
+        "each condition is decided, and the gate of --at-least passes",
+        "a condition is undecided, or the gate fails",
+    )
+    parser.add_argument("entry", metavar="ENTRY", help="the function in which runs begin")
+    parser.add_argument("sources", nargs="+", metavar="SOURCE", help="the sources, in their order")
     for name, value in BOUNDS.items():
         parser.add_argument(
             f"--{name}", type=program.in_range(name), default=value, metavar="N", help=f"as for generate ({value})"
@@ -92,7 +108,11 @@ def words() -> argparse.Namespace:
     parser.add_argument("--json", action="store_true", help="the report is one line of JSON")
     gate = "the status is 1 where less than P percent of the conditions are covered"
     parser.add_argument("--at-least", type=verdicts.percent, metavar="P", help=gate)
-    return parser.parse_intermixed_args()
+    return parser
+
+
+def words() -> argparse.Namespace:
+    return parser_of_words().parse_intermixed_args()
 
 
 def bounds_of(given: argparse.Namespace, graph: Graph, all_asked: list[Asked]) -> Left:
@@ -106,13 +126,15 @@ def bounds_of(given: argparse.Namespace, graph: Graph, all_asked: list[Asked]) -
 
 
 def main() -> int:
+    """Decides all conditions and answers the exit status, as the module says. Raises Failure where there is no
+    decision."""
     given = words()
     graph = graphs.of_sources(given.sources)
     faces = Faces(graph, given.sources)
     decisions = [one for one in Decisions(graph, faces).found if not given.function or one.function in given.function]
-    all_asked = [ask(given, graph, decision, len(decisions)) for decision in decisions]
-    if not all_asked:
+    if not decisions:
         raise Failure("there is no decision")
+    all_asked = ask_all(given, graph, decisions)
     made = inputs.of_entry(given.inputs, given.entry, given.sources) if given.inputs else []
     made = inputs.once(made + [one for asked in all_asked for one in asked.report.inputs])
     with program.as_file(inputs.json_text(made)) as path:

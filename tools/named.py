@@ -30,6 +30,7 @@ class Signature:
 
     @property
     def names(self) -> list[str]:
+        """The names of the parameters, in their order."""
         return [name for _, name in self.parameters]
 
     def __str__(self) -> str:
@@ -55,7 +56,7 @@ def _parameters(tokens: Sequence[str]) -> tuple[tuple[str, str], ...]:
 
 
 def signature(sources: Iterable[Source], function: str) -> Signature:
-    """The signature of a function that a source defines; a failure where none does."""
+    """The signature of a function that a source defines; a failure where none does. The failure is a Failure."""
     defined = []
     for source in sources:
         for item in items(source):
@@ -80,6 +81,7 @@ class Named:
 
     @property
     def numbers(self) -> tuple[tuple[int, ...], tuple[int, ...]]:
+        """The arguments and the answers, without names."""
         return self.args, self.answers
 
     def value(self) -> dict[str, Any]:
@@ -110,7 +112,7 @@ def _numbers(values: object, what: str) -> tuple[int, ...]:
 
 
 def keys_of(value: dict[str, Any], taken: tuple[str, ...]) -> dict[str, Any]:
-    """The id, the requirements and the own keys of an object."""
+    """The id, the requirements and the own keys of an object. Raises ValueError where one has another form."""
     name, needed = value.get("id", ""), value.get("requirements", [])
     if not isinstance(name, str):
         raise ValueError("id is no text")
@@ -127,7 +129,8 @@ def plain(value: dict[str, Any]) -> Named:
 
 
 def arguments(value: dict[str, Any], entry: Signature) -> tuple[int, ...]:
-    """The arguments of an object with names, in the order of the entry's parameters."""
+    """The arguments of an object with names, in the order of the entry's parameters. Raises ValueError for a name
+    that is no parameter, and for a parameter without a number."""
     given = value.get("arguments", {})
     if not isinstance(given, dict):
         raise ValueError(f"arguments is no object; the entry is {entry}")
@@ -141,7 +144,8 @@ def arguments(value: dict[str, Any], entry: Signature) -> tuple[int, ...]:
 
 
 def answers(value: dict[str, Any], known: Sequence[str], entry: Signature) -> dict[str, tuple[int, ...]]:
-    """The answers of an object with names, by their input functions."""
+    """The answers of an object with names, by their input functions. Raises ValueError for a name that is no input
+    function, and for what is no list of numbers."""
     given = value.get("answers", {})
     if not isinstance(given, dict):
         raise ValueError(f"answers is no object of input functions; the entry is {entry}")
@@ -167,8 +171,9 @@ def row(given: dict[str, tuple[int, ...]], asked: list[str]) -> tuple[int, ...]:
 
 
 def in_order(given: list[tuple[tuple[int, ...], dict[str, tuple[int, ...]]]], asks: Asks) -> list[tuple[int, ...]]:
-    """The answers of inputs in the order in which their runs ask for them. Which function is asked next depends on the answers
-    before, so each try is right for one answer more at least."""
+    """The answers of inputs in the order in which their runs ask for them. Which function is asked next depends on
+    the answers before, so each try is right for one answer more at least. Raises Failure where a run asks a
+    function that has no answer left."""
     found: list[tuple[int, ...]] = [() for _ in given]
     waiting = [number for number, (_, answered) in enumerate(given) if any(answered.values())]
     for _ in range(MOST_TRIES):

@@ -41,7 +41,8 @@ class Reader:
         return asked, runs
 
     def of_text(self, text: str, shown: str) -> list[Named]:
-        """The inputs of a JSON text; `shown` is how its file is named in what is told."""
+        """The inputs of a JSON text; `shown` is how its file is named in what is told. Raises Failure where it isn't
+        read."""
         try:
             values = json.loads(text)
         except (ValueError, RecursionError) as fault:
@@ -49,7 +50,7 @@ class Reader:
         return self.of_values(values, shown)
 
     def of_values(self, values: list[Any], shown: str) -> list[Named]:
-        """The inputs of objects, with names or in the program's form."""
+        """The inputs of objects, with names or in the program's form. Raises Failure for one that is none."""
         found: list[Named] = []
         for number, value in enumerate(values, 1):
             name = (

@@ -20,7 +20,7 @@ import sys
 from collections.abc import Iterable, Sequence
 from dataclasses import dataclass
 
-from tools import order_items, order_tokens, program
+from tools import order_items, order_tokens, originals, program, usage
 from tools.order_rule import told
 from tools.order_tree import Unit
 from tools.program import Failure
@@ -46,10 +46,18 @@ class Warned:
 
     @property
     def place(self) -> str:
+        """`FILE:LINE:COLUMN`, the column in bytes from 1, of the token as it stands, also within a macro's line."""
         return f"{self.file}:{self.line}:{self.column}"
+
+    def shown(self, sources: Sequence[str]) -> "Warned":
+        """The same as the user wrote it, where the source was written of another one."""
+        file, line, column = originals.place_of(self.file, self.line, self.column, None).rsplit(":", 2)
+        why = originals.words_of(self.why, sources, None)
+        return Warned(self.kind, file, int(line), int(column), self.function, why)
 
     @property
     def text(self) -> str:
+        """The line of the warning."""
         return f"{self.place}: warning: {self.kind}: {self.why}"
 
 
@@ -73,7 +81,8 @@ def deep() -> None:
 
 
 def unit_of(sources: Sequence[str], folder: str | None = None) -> tuple[Unit, list[order_tokens.Word]]:
-    """The unit of sources that the program accepts, and its tokens."""
+    """The unit of sources that the program accepts, and its tokens. Raises Failure where the program refuses them,
+    or where they can't be read here."""
     program.check_names(sources)
     program.answer(["graph", *sources], folder)
     words = order_tokens.of_sources(sources, folder or ".")
@@ -92,8 +101,8 @@ def warnings(
     watch: Iterable[str] = (),
     folder: str | None = None,
 ) -> list[Warned]:
-    """All that is told of what an entry reaches, in the order of the sources; each place once for each class. Where the query
-    isn't known, its predicates may read anything."""
+    """All that is told of what an entry reaches, in the order of the sources; each place once for each class. Where
+    the query isn't known, its predicates may read anything. Raises Failure as unit_of does."""
     unit, words = unit_of(sources, folder)
     function = unit.functions.get(entry)
     if not function or any(one.length for one in function.parameters):
@@ -121,27 +130,36 @@ def restriction(entry: str, sources: Sequence[str], query: str | None, ends: str
     except Failure as failure:
         return f"whether its order of evaluation matters isn't known: {failure}"
     told_of = [one for one in found if one.kind in needed(query, ends)]
-    places = list(dict.fromkeys(one.place for one in told_of))
+    places = list(dict.fromkeys(originals.place_of(one.file, one.line, one.column, folder) for one in told_of))
     if not places:
         return ""
     more = f" and at {len(places) - 1} more places, which bin/order tells" if len(places) > 1 else ""
     return f"C leaves the order of evaluation open at {places[0]} ({told_of[0].kind}){more}"
 
 
-def parsed() -> argparse.Namespace:
-    parser = argparse.ArgumentParser(prog="order", description=__doc__, formatter_class=argparse.RawTextHelpFormatter)
-    parser.add_argument("entry", metavar="ENTRY")
-    parser.add_argument("sources", nargs="+", metavar="SOURCE")
+def parser_of_words() -> usage.Parser:
+    """What reads the words."""
+    parser = usage.parser(
+        "order", __doc__, "nothing is told: each order of evaluation gives the same", "places are told"
+    )
+    parser.add_argument("entry", metavar="ENTRY", help="the function in which runs begin")
+    parser.add_argument("sources", nargs="+", metavar="SOURCE", help="the sources, in their order")
     parser.add_argument("--ends", choices=ENDS, default="returned", help="as for generate: which runs count")
     parser.add_argument("--query", default="", help="a query, whose predicates watch the variables that they read")
     parser.add_argument("--watch", action="append", default=[], metavar="NAME", help="a variable that is watched")
     parser.add_argument("--json", action="store_true", help="one line of JSON")
-    return parser.parse_intermixed_args()
+    return parser
+
+
+def parsed() -> argparse.Namespace:
+    return parser_of_words().parse_intermixed_args()
 
 
 def main() -> int:
+    """Prints the warnings; the status is 1 where there are some."""
     given = parsed()
-    found = warnings(given.entry, given.sources, given.query, given.ends, given.watch)
+    told_of = warnings(given.entry, given.sources, given.query, given.ends, given.watch)
+    found = [one.shown(given.sources) for one in told_of]
     if given.json:
         rows = [{**vars(one)} for one in found]
         text = json.dumps({"classes": classes(given.query, given.ends, given.watch), "warnings": rows}) + "\n"

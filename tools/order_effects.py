@@ -35,6 +35,7 @@ class Effects:
     nodes: bool = False
 
     def add(self, other: "Effects") -> None:
+        """Adds the effects of what is evaluated before or behind."""
         self.reads |= other.reads
         self.writes |= other.writes
         self.ends |= other.ends
@@ -101,6 +102,7 @@ class Walk(Seen):
             made.add(self.expression(node))
 
     def loop(self, node: Loop, made: Effects) -> None:
+        """Walks over a loop; its effects go into `made`."""
         self.scopes.append({})
         if node.first:
             self.statement(node.first, made)
@@ -116,6 +118,7 @@ class Walk(Seen):
         self.scopes.pop()
 
     def declaration(self, node: Variable, made: Effects) -> None:
+        """Walks over a variable and its first values; its effects go into `made`."""
         mine = self.scopes[-1][node.name] = self.variable(node, ("local", node.name, str(node.at)))
         if node.listed is not None:  # an element is set before, between or behind the others' values (6.7.9p23)
             parts = [self.expression(one) for one in node.listed]
@@ -124,6 +127,7 @@ class Walk(Seen):
             made.add(self.expression(node.value))
 
     def assignment(self, node: Assign, made: Effects) -> None:
+        """Walks over an assignment, whose two sides C leaves in no order (6.5.16p3); its effects go into `made`."""
         target = node.target
         if isinstance(target, Element) and not node.operator:
             left = self.place(target)
@@ -140,6 +144,7 @@ class Walk(Seen):
     # ---- expressions
 
     def expression(self, node: Expression) -> Effects:
+        """The effects of an expression; what is told of it goes to what is found."""
         if isinstance(node, Name):  # what is local to an activation no call can write
             known = self.known(node.name)
             return Effects({known.thing} if known and known.thing[0] == "global" else set())
@@ -181,6 +186,8 @@ class Walk(Seen):
         return set() if is_safe else {"trap"}
 
     def call(self, node: Call) -> Effects:
+        """The effects of a call: those of its arguments, which C leaves in no order (6.5.2.2p10), and behind them
+        the function's."""
         if node.name not in self.functions:
             return Effects(answers=True, nodes=True)
         parts, lent = [], dict[Object, Object]()
@@ -212,6 +219,7 @@ class Walk(Seen):
         return made
 
     def compare(self, at: int, one: Effects, two: Effects) -> None:
+        """Tells of two parts without an order what one does that the other would see."""
         for a, b in ((one, two), (two, one)):
             written = [w for w in sorted(a.writes) if any(self.same(w, other) for other in b.reads | b.writes)]
             if written:
@@ -228,6 +236,7 @@ class Walk(Seen):
             self.tell(at, "end", f"two parts may end the run, and in several ways ({listed(one.ends | two.ends)})")
 
     def tell(self, at: int, kind: str, why: str) -> None:
+        """Notes a class at a token, once, where something is looked for."""
         if self.found is not None:
             self.found.setdefault((at, kind), Told(at, kind, why, self.here.name))
 
@@ -244,6 +253,7 @@ class Walk(Seen):
         return not self.meant(one).isdisjoint(self.meant(two))
 
     def is_watched(self, thing: Object) -> bool:
+        """Whether a predicate may read an object."""
         if self.named is None or self.face(thing) in self.named:
             return True
         return not self.watched.isdisjoint(self.meant(thing))
@@ -254,4 +264,5 @@ class Walk(Seen):
 
 
 def listed(ends: set[str]) -> str:
+    """The ends of runs, as a list of words in order."""
     return ", ".join(sorted(ends))

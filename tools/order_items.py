@@ -13,6 +13,7 @@ class Items(Expressions):
     """Reads statements and items from a place in the tokens on."""
 
     def declarator(self, kind: Kind) -> Variable:
+        """The next declarator with its length and first values."""
         at = self.at
         made = Variable(at, self.word(), kind)
         if self.take("["):
@@ -32,6 +33,7 @@ class Items(Expressions):
         return found
 
     def declarators(self, kind: Kind) -> list[Variable]:
+        """The next declarators, up to the `;`."""
         found = [self.declarator(kind)]
         while self.take(","):
             found.append(self.declarator(kind))
@@ -39,9 +41,11 @@ class Items(Expressions):
         return found
 
     def begins_declaration(self) -> bool:
+        """Whether a declaration begins at the next token."""
         return self.text == "const" or self.text in TYPE_WORDS
 
     def declaration(self) -> Statement:
+        """The next declaration of a block."""
         at = self.at
         while self.take("const"):
             pass
@@ -56,6 +60,7 @@ class Items(Expressions):
         return made
 
     def assignment(self) -> Assign | Call:
+        """The next assignment, step or call statement. Raises ValueError where none stands there."""
         at, before = self.at, ""
         if self.text in ("++", "--"):
             before, self.at = self.text, self.at + 1
@@ -73,6 +78,7 @@ class Items(Expressions):
         return made
 
     def in_brackets(self) -> Expression:
+        """The next expression between brackets, as a condition."""
         self.need("(")
         found = self.tested()
         self.need(")")
@@ -85,6 +91,7 @@ class Items(Expressions):
         return found
 
     def block(self) -> Parts:
+        """The next block."""
         at = self.at
         self.need("{")
         found: list[Statement] = []
@@ -97,11 +104,13 @@ class Items(Expressions):
         return Parts(self.at, [self.statement()], opens=True)
 
     def statement(self) -> Statement:
+        """The next statement, whose first token is noted."""
         at, made = self.at, self.any_statement()
         self.note("statement", at, at)
         return made
 
     def any_statement(self) -> Statement:
+        """The next statement, of whichever kind."""
         at = self.at
         if self.text == "{":
             return self.block()
@@ -143,6 +152,7 @@ class Items(Expressions):
         return Parts(at, parts)
 
     def loop(self) -> Statement:
+        """The next loop."""
         at, word = self.at, self.word()
         if word == "while":
             test = self.in_brackets()
@@ -167,6 +177,7 @@ class Items(Expressions):
         return Loop(at, word, first, condition, step, self.body())
 
     def parameter(self) -> Variable:
+        """The next parameter; one without a name has the empty one."""
         while self.take("const"):
             pass
         kind, at = self.kind(), self.at
@@ -177,6 +188,7 @@ class Items(Expressions):
         return made
 
     def item(self, unit: Unit) -> None:
+        """Reads the next function, variable, constant or prototype into a unit."""
         at = self.at
         while self.take(*BEFORE_TYPES):
             pass
@@ -198,6 +210,7 @@ class Items(Expressions):
             unit.functions[name] = Function(at, name, parameters, body, self.calls)
 
     def constants(self, unit: Unit) -> None:
+        """Reads the constants of an enum into a unit."""
         if self.text != "{":
             self.word()
         self.need("{")

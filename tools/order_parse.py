@@ -35,6 +35,7 @@ class Expressions:
 
     @property
     def text(self) -> str:
+        """The next token's text."""
         return self.texts[self.at]
 
     def note(self, form: str, first: int, mark: int) -> None:
@@ -49,11 +50,12 @@ class Expressions:
         return found
 
     def need(self, text: str) -> None:
+        """Goes past a token. Raises ValueError where another one stands there."""
         if not self.take(text):
             raise ValueError(f"{text} is missing")
 
     def word(self) -> str:
-        """The next token, which is a word."""
+        """The next token, which is a word. Raises ValueError where it is none."""
         found = self.text
         if not found or not (found[0].isalpha() or found[0] == "_"):
             raise ValueError("a name is missing")
@@ -71,7 +73,7 @@ class Expressions:
         return found
 
     def kind(self) -> Kind:
-        """The kind that the next words name."""
+        """The kind that the next words name. Raises ValueError where they name none."""
         words = []
         while self.text in TYPE_WORDS:
             words.append(self.word())
@@ -82,6 +84,7 @@ class Expressions:
         return Kind(next((WIDTHS[word] for word in words if word in WIDTHS), 32), "unsigned" not in words)
 
     def expression(self) -> Expression:
+        """The next expression, with its choices (6.5.15)."""
         at = start = self.at
         parts = [self.either()]
         while self.text == "?":
@@ -97,9 +100,11 @@ class Expressions:
         return Ordered(at, "?:", parts) if len(parts) > 1 else parts[0]
 
     def either(self) -> Expression:
+        """The next expression with `||` and `&&` (6.5.13, 6.5.14)."""
         return self.ordered("||", lambda: self.ordered("&&", lambda: self.level(0)))
 
     def ordered(self, operator: str, read: Callable[[], Expression]) -> Expression:
+        """The next row of operands of an operator that has an order, each read by a function."""
         at, parts = self.at, [read()]
         while self.text == operator:
             if len(parts) == 1:
@@ -139,6 +144,7 @@ class Expressions:
         return found
 
     def operand(self) -> Expression:
+        """The next operand: a bracket, a number, a call, an element or a name."""
         at = self.at
         if self.take("("):
             found = self.expression()

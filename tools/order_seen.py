@@ -41,12 +41,14 @@ class Seen:
         self.constants: dict[str, Bounds | None] = {}
 
     def known(self, name: str) -> Known | None:
+        """What a name stands for, the innermost scope first, or None."""
         for scope in reversed(self.scopes):
             if name in scope:
                 return scope[name]
         return None
 
     def variable(self, one: Variable, thing: Object) -> Known:
+        """What a declared variable is: the object, its kind and its length (0 where that isn't constant here)."""
         bounds = self.bounds(one.length) if one.length else None
         length = None if one.length is None else bounds[0] if bounds else 0
         return Known(thing, one.kind, length)

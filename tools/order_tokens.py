@@ -27,6 +27,7 @@ class Word:
 
     @property
     def place(self) -> str:
+        """`FILE:LINE:COLUMN`, the column in bytes from 1."""
         return f"{self.file}:{self.line}:{self.column}"
 
 

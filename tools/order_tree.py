@@ -6,11 +6,14 @@ from typing import Union
 
 @dataclass(frozen=True)
 class Kind:
+    """An integer type by its width in bits and its sign; void has width 0."""
+
     width: int
     signed: bool
 
     @property
     def range(self) -> tuple[int, int]:
+        """The least and the greatest number."""
         half = 1 << self.width - 1
         return (-half, half - 1) if self.signed else (0, 2 * half - 1)
 
@@ -23,18 +26,24 @@ INT = Kind(32, True)
 
 @dataclass
 class Number:
+    """A number at a token."""
+
     at: int
     value: int
 
 
 @dataclass
 class Name:
+    """A variable or constant at a token."""
+
     at: int
     name: str
 
 
 @dataclass
 class Element:
+    """An element of an array at a token."""
+
     at: int
     name: str
     index: "Expression"
@@ -42,6 +51,8 @@ class Element:
 
 @dataclass
 class Call:
+    """A call at a token."""
+
     at: int
     name: str
     arguments: list["Expression"]
@@ -49,6 +60,8 @@ class Call:
 
 @dataclass
 class Unary:
+    """An operator with one operand at a token."""
+
     at: int
     operator: str
     inner: "Expression"
@@ -56,6 +69,8 @@ class Unary:
 
 @dataclass
 class Cast:
+    """A conversion at a token."""
+
     at: int
     kind: Kind
     inner: "Expression"

@@ -51,7 +51,8 @@ class Ended:
 
 @functools.cache
 def program() -> str:
-    """The path of the program, which may use as much stack from here on as bin/fshell lets it use."""
+    """The path of the program, which may use as much stack from here on as bin/fshell lets it use. Raises Failure
+    where there is none."""
     hard = resource.getrlimit(resource.RLIMIT_STACK)[1]
     resource.setrlimit(resource.RLIMIT_STACK, (1 << 30 if hard == resource.RLIM_INFINITY else hard, hard))
     given = os.environ.get("FSHELL", "")
@@ -65,7 +66,8 @@ def program() -> str:
 
 
 def started(words: Sequence[str], folder: str | None, stdout: int | IO[bytes]) -> subprocess.CompletedProcess[bytes]:
-    """The program's process, at its end. A write past a limit of the file's size is a fault of the write, as by bin/fshell."""
+    """The program's process, at its end. A write past a limit of the file's size is a fault of the write, as by
+    bin/fshell. Raises Failure where it can't be started."""
     try:
         return subprocess.run([program(), *words], cwd=folder, stdin=subprocess.DEVNULL, stdout=stdout, stderr=subprocess.PIPE,
                               check=False, restore_signals=False)  # fmt: skip
@@ -108,7 +110,7 @@ def report(words: Sequence[str], folder: str | None = None) -> Report:
 
 
 def report_of(words: Sequence[str], ended: Ended) -> Report:
-    """The report that the program answered to these words."""
+    """The report that the program answered to these words. Raises Failure where it refuses them."""
     text = text_of(words, ended)
     try:
         return report_of_json(json.loads(text)) if text.startswith("{") else report_of_text(text)
@@ -126,7 +128,7 @@ def check_names(sources: Sequence[str]) -> None:
 
 
 def read(path: str) -> bytes:
-    """A file's bytes."""
+    """A file's bytes. Raises Failure where it can't be read."""
     try:
         with open(path, "rb") as file:
             return file.read()
@@ -135,8 +137,8 @@ def read(path: str) -> bytes:
 
 
 def write_whole(path: str, text: str) -> None:
-    """Writes a file whole or not at all: a new file is moved into its place, where a link leads to. What is there and is no
-    file, as /dev/stdout or a pipe, is written into."""
+    """Writes a file whole or not at all: a new file is moved into its place, where a link leads to. What is there
+    and is no file, as /dev/stdout or a pipe, is written into. Raises Failure where it can't be written."""
     place = os.path.realpath(path)
     name = ""
     try:
@@ -160,7 +162,8 @@ def _write(descriptor: int, text: str) -> None:
 
 
 def in_range(name: str) -> Callable[[str], int]:
-    """What reads the number of an option: one to ten digits, and in the range that the program has for it."""
+    """What reads the number of an option: one to ten digits, and in the range that the program has for it. What it
+    makes raises argparse.ArgumentTypeError for another text."""
     least, greatest = RANGES[name]
 
     def read_number(word: str) -> int:

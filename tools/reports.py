@@ -87,7 +87,7 @@ def number(value: object) -> int:
 
 
 def input_of(words: str) -> Input:
-    """The input that `args .. answers ..` stands for."""
+    """The input that `args .. answers ..` stands for. Raises ValueError where it is none."""
     found = re.fullmatch(r"args((?: -?\d+)*)(?: answers((?: -?\d+)+))?", words)
     if not found:
         raise ValueError(words)
@@ -95,7 +95,7 @@ def input_of(words: str) -> Input:
 
 
 def run_of(number: int, words: str) -> Run:
-    """The run that `END [edges ..]` stands for."""
+    """The run that `END [edges ..]` stands for. Raises ValueError where it is none."""
     found = re.fullmatch(r"(returned|trapped [a-z-]+|blocked|too-deep|cut)(?: (-?\d+))?( edges((?: \d+)*))?", words)
     if not found:
         raise ValueError(words)

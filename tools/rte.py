@@ -11,7 +11,7 @@ fails                    the input that is told ends there
 not reached              no run comes there, by certificates
 open                     the budget was spent, or another operation of the same step fails
 
-DIR gets rte.json, the certificates and the inputs. Where it is there, of the same question, what it holds is checked again and
+DIR gets rte.json, rte.sarif, the certificates, the inputs, and failures.c, which repeats the runs that fail. Where it is there, of the same question, what it holds is checked again and
 what is missing is made. The status is 0 where all are never, and 1 else.
 """
 
@@ -21,21 +21,27 @@ import json
 import os
 
 from tools import graph as graphs
-from tools import inputs, leaving, program, rte_items
+from tools import inputs, leaving, program, rte_apart, rte_items, rte_order, rte_repeat, rte_sites, rte_told, usage
 from tools.asked import Asked, read_sums
-from tools.campaign import DEFAULTS, locked, measured
+from tools.campaign import DEFAULTS, jobs, locked, measured
 from tools.folder import Folder
 from tools.graph import Graph
 from tools.leaving import Left
+from tools.order import Warned
 from tools.program import Failure
+from tools.rte_items import Finder
 from tools.rte_rows import Row, Rows, Verdict, is_clean, tally
 from tools.rte_search import ENDINGS, has_bounds_certificates, known, not_reached, prove_bounds
+from tools.verdicts import Limits
 
 
-def words() -> argparse.Namespace:
-    parser = argparse.ArgumentParser(prog="rte", description=__doc__, formatter_class=argparse.RawTextHelpFormatter)
-    parser.add_argument("entry", metavar="ENTRY")
-    parser.add_argument("sources", nargs="+", metavar="SOURCE")
+def parser_of_words() -> usage.Parser:
+    """What reads the words."""
+    parser = usage.parser(
+        "rte", __doc__, "each row is `never`, and the bounds suffice", "a row is another, or the bounds don't suffice"
+    )
+    parser.add_argument("entry", metavar="ENTRY", help="the function in which runs begin")
+    parser.add_argument("sources", nargs="+", metavar="SOURCE", help="the sources, in their order")
     parser.add_argument("-o", metavar="DIR", dest="folder", required=True, help="the folder of what is found")
     for name, value in DEFAULTS.items():
         number = program.in_range(name)
@@ -44,7 +50,15 @@ def words() -> argparse.Namespace:
     parser.add_argument("--budget", type=program.in_range("budget"), default=5_000_000, metavar="N", help=budget)
     ends = "trapped (the default): runs that trap; any: also runs that are blocked or too deep"
     parser.add_argument("--ends", choices=("trapped", "any"), default="trapped", help=ends)
-    return parser.parse_intermixed_args()
+    confirm = "compiles DIR/failures.c by gcc with its sanitizers, runs each failure, and tells what they say"
+    parser.add_argument("--confirm", action="store_true", help=confirm)
+    told = "how many searches at a time, which is kept (as many as there are processors)"
+    parser.add_argument("--jobs", type=jobs, metavar="N", help=told)
+    return parser
+
+
+def words() -> argparse.Namespace:
+    return parser_of_words().parse_intermixed_args()
 
 
 def asked_by(given: argparse.Namespace) -> Asked:
@@ -62,14 +76,52 @@ def bounds_of(graph: Graph, folder: Folder, asked: Asked) -> Left:
     return leaving.of_answer(said, *words, query=asked.query, ends=asked.ends)
 
 
-def rows_of(graph: Graph, folder: Folder, asked: Asked, left: Left) -> list[Row]:
-    """The rows of all operations."""
-    operations = rte_items.of_sources(graph, asked.entry, asked.sources, asked.ends)
-    found = known(graph, folder, asked, graph.function(asked.entry).exit)
-    made = Rows(graph, operations, found, left.limits)
-    if left.limits.make_unreachable and operations:
-        made.unreached = not_reached(graph, folder.path, asked, made.all_never())
-    return made.rows()
+def rows_of(graph: Graph, folder: Folder, asked: Asked, limits: Limits, warned: list[Warned], jobs: int) -> list[Row]:
+    """The rows of all operations, in the order of the sources."""
+    finder = rte_items.finder_of(graph, asked.sources)
+    table = rte_sites.table_of(asked.sources, graph)
+    hidden = {node.number for node in graph.nodes if node.function in table.functions}
+    found = known(graph, folder, asked, hidden | {graph.function(asked.entry).exit}, jobs)
+    all_of = rte_items.of_finder(graph, finder, asked.entry, asked.ends)
+    operations = [one for one in all_of if one.file != table.header]
+    made = Rows(graph, operations, found, limits)
+    steps = rte_apart.Steps(graph, folder.path, asked, operations, jobs)
+    made.apart = {node: steps.of_node(node) for node in found.failed}
+    written = rte_sites.of_finder(graph, finder, table, asked.entry)
+    sites = rte_sites.Sites(graph, folder.path, asked, written, jobs) if written else None
+    if limits.make_unreachable and (operations or sites):
+        nodes = made.all_never() | {node for site in written for node in site.operation.nodes}
+        made.unreached = not_reached(graph, folder.path, asked, nodes, jobs)
+    rows = [(tokens_of(finder, row), row) for row in made.rows()]
+    if sites:
+        for site in written:
+            rows.append((set(finder.at.get((site.file, *site.spot), [])), sites.row(site, limits, made.unreached)))
+        rows.sort(key=lambda one: min(one[0], default=len(finder.words)))
+    return [row for _, row in rte_order.Regions(graph, finder, warned).restricted(rows)]
+
+
+def tokens_of(finder: Finder, row: Row) -> set[int]:
+    """The tokens of the marks of a row's operations."""
+    return {token for one in row.operations for token in finder.at.get((one.file, one.line, one.column), [])}
+
+
+def repeated(folder: Folder, asked: Asked, rows: list[Row], is_confirmed: bool) -> list[Row]:
+    """The rows with the numbers of their inputs, which are written with a C file that repeats their runs, and with what gcc
+    says of these, where it is asked."""
+    found = inputs.once([row.input for row in rows if row.input])
+    program.write_whole(folder.at("inputs.json"), inputs.json_text(found))
+    if not found:
+        return rows
+    header = rte_sites.header_of(asked.sources)
+    text = rte_repeat.text_of(asked.entry, found, asked.sources, header, folder.path)
+    program.write_whole(folder.at(rte_repeat.NAME + ".c"), text)
+    said = list(rte_repeat.confirmed(folder.path, header, len(found))) if is_confirmed else [""] * len(found)
+    return [
+        dataclasses.replace(row, number=found.index(row.input) + 1, gcc=said[found.index(row.input)])
+        if row.input
+        else row
+        for row in rows
+    ]
 
 
 def json_of(asked: Asked, left: Left, rows: list[Row]) -> str:
@@ -101,11 +153,18 @@ def main() -> int:
     with locked(folder):
         folder.clean()
         left = bounds_of(graph, folder, asked)
-        rows = rows_of(graph, folder, asked, left)
-        program.write_whole(
-            folder.at("inputs.json"), inputs.json_text(inputs.once([row.input for row in rows if row.input]))
-        )
+        limits, warned = rte_order.limits_of(left.limits, asked)
+        left = dataclasses.replace(left, limits=limits)
+        rows = rows_of(graph, folder, asked, limits, warned, folder.jobs(given.jobs))
+        rows = repeated(folder, asked, rows, given.confirm)
         program.write_whole(folder.at("rte.json"), json_of(asked, left, rows))
-    said = [*(row.line() for row in rows), *left.lines(), tally(rows)]
+        program.write_whole(folder.at("rte.sarif"), rte_told.sarif_of(rows, asked))
+    lines = [line for row in rows for line in row.lines(given.folder)]
+    how = (
+        [f"failures are repeated by {' '.join(rte_repeat.command(given.folder, rte_sites.header_of(asked.sources)))}"]
+        if any(row.input for row in rows)
+        else []
+    )
+    said = [*lines, *left.lines(), *how, tally(rows)]
     program.give("".join(line + "\n" for line in said), None)
     return program.DONE if is_clean(rows, left.limits) else program.OPEN

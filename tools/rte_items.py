@@ -54,6 +54,11 @@ class Operation:
     column: int
     text: str
     nodes: frozenset[int]
+    span: tuple[int, int] = (0, 0)  # its first and its last token
+
+    def has(self, other: "Operation") -> bool:
+        """Whether another operation stands within it."""
+        return self != other and self.span[0] <= other.span[0] and other.span[1] <= self.span[1]
 
     @property
     def place(self) -> str:
@@ -150,13 +155,19 @@ class Finder:
         return nodes
 
     def of_call(self, call: Form) -> set[int]:
-        """The node of a call's edge: the calls of a statement and its edges of calls have one order."""
+        """The node of a call's edge, where it is known."""
+        edges = self.edges_of_call(call)
+        return {edge.source for edge in edges} if len(edges) == 1 else set()
+
+    def edges_of_call(self, call: Form) -> list[Edge]:
+        """The edge of a call: the calls of a statement and its edges of calls have one order. Where they haven't, those of
+        the same name."""
         place = self.statement_place(call.mark)
         made = [one for one in self.edges.get(place, []) if one.operation in ("call", "answer")]
         written = self.calls[place]
         if [one.name for one in made] != [self.words[one.mark].text for one in written]:
-            return set()
-        return {made[written.index(call)].source}
+            return [one for one in made if one.name == self.words[call.mark].text]
+        return [made[written.index(call)]]
 
     def touching(self, form: Form, edges: list[Edge]) -> list[Edge]:
         """Those of some edges that read or write all variables that a form names, if there are any. A form with parts that are
@@ -208,8 +219,8 @@ class Finder:
             if not kind or not any(one.has(form.mark) for one in bodies) or (owner and owner.name == "constant"):
                 continue
             word, nodes = self.words[form.mark], self.nodes(kind, form)
-            made = Operation(kind, word.file, word.line, word.column, self.text(form), frozenset(nodes))
-            yield made
+            span = (form.first, form.last)
+            yield Operation(kind, word.file, word.line, word.column, self.text(form), frozenset(nodes), span)
 
 
 def reached_from(graph: Graph, entry: str) -> set[str]:
@@ -224,8 +235,8 @@ def reached_from(graph: Graph, entry: str) -> set[str]:
     return found
 
 
-def of_sources(graph: Graph, entry: str, sources: Sequence[str], ends: str) -> list[Operation]:
-    """The operations of sources that the program accepts, as far as the entry may come to them."""
+def finder_of(graph: Graph, sources: Sequence[str]) -> Finder:
+    """Finds the operations of sources that the program accepts."""
     words = order_tokens.of_sources(sources)
     order.deep()
     reader = Reader(words)
@@ -233,5 +244,14 @@ def of_sources(graph: Graph, entry: str, sources: Sequence[str], ends: str) -> l
         reader.read()
     except (ValueError, IndexError) as fault:
         raise program.Failure(f"the sources aren't read as the program reads them: {fault}") from None
-    finder = Finder(graph, sources, words, reader)
+    return Finder(graph, sources, words, reader)
+
+
+def of_sources(graph: Graph, entry: str, sources: Sequence[str], ends: str) -> list[Operation]:
+    """The operations of sources that the program accepts, as far as the entry may come to them."""
+    return of_finder(graph, finder_of(graph, sources), entry, ends)
+
+
+def of_finder(graph: Graph, finder: Finder, entry: str, ends: str) -> list[Operation]:
+    """The operations that are found, as far as the entry may come to them."""
     return list(dict.fromkeys(finder.operations(reached_from(graph, entry), ends == "any")))

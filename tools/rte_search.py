@@ -57,15 +57,15 @@ def goals_of(graph: Graph, asked: Asked) -> dict[int, int]:
     return {node_of(graph, goal.text): goal.number for goal in measured(asked, []).goals}
 
 
-def side_by_side() -> ThreadPoolExecutor:
+def side_by_side(jobs: int) -> ThreadPoolExecutor:
     program.program()
-    return ThreadPoolExecutor(os.cpu_count() or 1)
+    return ThreadPoolExecutor(jobs)
 
 
-def decide(folder: Folder, asked: Asked, wanted: Iterable[int]) -> dict[int, Input]:
+def decide(folder: Folder, asked: Asked, wanted: Iterable[int], jobs: int) -> dict[int, Input]:
     """Has goals decided, and gives the inputs of those that are hit. Certificates that are there are checked again."""
     folder.forget_checks()
-    with side_by_side() as pool:
+    with side_by_side(jobs) as pool:
         list(pool.map(lambda goal: folder.is_checked(asked, goal), folder.numbers("certificates", ".cert")))
     made, found = folder.generated(asked), folder.found()
     for goal in made.goals if made else ():
@@ -73,7 +73,7 @@ def decide(folder: Folder, asked: Asked, wanted: Iterable[int]) -> dict[int, Inp
             found.setdefault(goal.number, made.inputs[goal.input - 1])
     known = set(folder.numbers("certificates", ".cert")) | set(found) | set(folder.open(asked.budget))
     easy = folder.known_refuted()
-    with side_by_side() as pool:
+    with side_by_side(jobs) as pool:
         list(pool.map(lambda goal: folder.decide(goal, goal in easy), sorted(set(wanted) - known)))
     return folder.found() | found
 
@@ -86,10 +86,10 @@ def runs_of(asked: Asked, found: list[Input]) -> list[Run]:
         return program.report(["runs", asked.entry, path, *asked.sources, "--steps", STEPS], asked.place).runs
 
 
-def known(graph: Graph, folder: Folder, asked: Asked, exit_node: int) -> Known:
-    """What is known of all ends but the entry's exit; an input is kept only where its run ends at its node."""
-    goals = {node: goal for node, goal in goals_of(graph, asked).items() if node != exit_node}
-    found = decide(folder, asked, goals.values())
+def known(graph: Graph, folder: Folder, asked: Asked, left_out: set[int], jobs: int) -> Known:
+    """What is known of all ends but those at some nodes; an input is kept only where its run ends at its node."""
+    goals = {node: goal for node, goal in goals_of(graph, asked).items() if node not in left_out}
+    found = decide(folder, asked, goals.values(), jobs)
     refuted = set(folder.refuted(asked))
     shown = {node: found[goal] for node, goal in goals.items() if goal in found}
     start = graph.function(asked.entry).entry
@@ -104,14 +104,14 @@ def known(graph: Graph, folder: Folder, asked: Asked, exit_node: int) -> Known:
     return Known(goals, {node for node, goal in goals.items() if goal in refuted}, failed, left)
 
 
-def not_reached(graph: Graph, path: str, asked: Asked, nodes: set[int]) -> set[int]:
+def not_reached(graph: Graph, path: str, asked: Asked, nodes: set[int], jobs: int) -> set[int]:
     """Which of some nodes no run comes to within the bounds, by certificates in the folder `reached`."""
     ours = replace(asked, query=REACHED, ends="any")
     goals = {node: goal for node, goal in goals_of(graph, ours).items() if node in nodes}
     folder = Folder(os.path.join(path, "reached"))
     folder.begin(ours, [])
     folder.clean()
-    decide(folder, ours, goals.values())
+    decide(folder, ours, goals.values(), jobs)
     refuted = set(folder.refuted(ours))
     return {node for node, goal in goals.items() if goal in refuted}
 

@@ -52,7 +52,7 @@ class Shown:
 
 
 def of_campaign(path: str) -> Shown:
-    """The report in a campaign's folder."""
+    """The report in a campaign's folder. Raises Failure where it has none."""
     folder = Folder(path)
     asked = folder.asked()
     try:
@@ -70,7 +70,7 @@ def of_campaign(path: str) -> Shown:
 
 
 def shown(name: str, query: str, given: argparse.Namespace) -> Shown:
-    """A report that is named, with what the words say of it."""
+    """A report that is named, with what the words say of it. Raises Failure where it isn't read."""
     if os.path.isdir(name):
         return of_campaign(name)
     conditions = conditions_read.of_file(name)

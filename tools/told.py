@@ -41,6 +41,7 @@ class Told:
         )
 
     def verdict(self, goal: Goal) -> Verdict:
+        """The verdict of a goal: undecided, unless an input was found or a certificate accepted."""
         if goal.verdict == "covered":
             return Verdict.COVERED
         if goal.number in self.refuted:
@@ -66,6 +67,7 @@ class Told:
         return leaving.no_run(asked.entry, asked.sources, asked.bounds, asked.budget, asked.ends, asked.place)
 
     def lines(self) -> Iterator[str]:
+        """What is told of the campaign, a line each."""
         asked = self.asked
         first = self.first()
         if first:
@@ -85,6 +87,7 @@ class Told:
             yield f"MC/DC: {self.conditions.tally.line('conditions')}"
 
     def text(self) -> str:
+        """The same as a text."""
         return "".join(line + "\n" for line in self.lines())
 
     # ---- as JSON
@@ -107,6 +110,7 @@ class Told:
         return {"limits": dataclasses.asdict(limits) | {"left": left, "next": self.left.options}}
 
     def json(self) -> str:
+        """The same as a line of JSON."""
         asked = self.asked
         named = {name: getattr(asked, name) for name in ("entry", "query", "sources", "bounds", "ends", "budget")}
         goals = list(map(self.goal_value, self.report.goals, self.verdicts))

@@ -68,6 +68,7 @@ class Tally:
 
     @property
     def goals(self) -> int:
+        """How many goals were counted."""
         return sum(self.counts.values())
 
     @property
@@ -77,6 +78,7 @@ class Tally:
 
     @property
     def is_open(self) -> bool:
+        """Whether some are undecided."""
         return self.counts[Verdict.UNDECIDED] > 0
 
     def line(self, what: str = "goals") -> str:
@@ -104,7 +106,7 @@ def percentage(part: int, whole: int) -> str:
 
 
 def percent(word: str) -> float:
-    """The number of percent of `--at-least`, from 0 to 100."""
+    """The number of percent of `--at-least`, from 0 to 100. Raises argparse.ArgumentTypeError for another text."""
     try:
         if 0 <= float(word) <= 100:
             return float(word)

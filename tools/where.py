@@ -44,6 +44,7 @@ def files(*patterns: str) -> list[str]:
 
 
 def folded(name: str) -> str:
+    """A name's letters and digits, in small letters."""
     return re.sub(r"\W|_", "", name).lower()
 
 
@@ -61,9 +62,13 @@ def refusals() -> dict[str, str]:
 
 
 def of_documents(word: str, wanted: str) -> Iterator[tuple[str, str]]:
-    """Lines of documents that speak of a word alone: a heading, or a row of a table or of a list that begins with it."""
+    """Lines of documents that speak of a word alone: a heading, a row of a table or of a list that begins with names of which it
+    is one, or a line of a grammar in which it stands between quotation marks."""
     quoted = re.escape(word)
-    begins = re.compile(rf"(?:\| |- )(?:\d+ \| )?`?{quoted}(?:`|[({{, ]| \|)|\| {quoted} \||#+ (?:bin/)?{quoted}$")
+    begins = re.compile(
+        rf"(?:\| |- )(?:\d+ \| )?(?:`[^`|]*`, )*`?{quoted}(?:`|[({{, ]| \|)|\| {quoted} \||#+ (?:bin/)?{quoted}$"
+        rf'|\w+ +=.* "{quoted}"'
+    )
     for path in files("README.md", "docs/*.md", "acceptance/README.md"):
         for number, line in enumerate(text_of(path).splitlines(), 1):
             if begins.match(line) or (line.startswith("### ") and folded(line) == wanted):
@@ -131,7 +136,8 @@ def rooms_of(word: str) -> Rooms:
 
 
 def main() -> int:
-    """Prints the rooms of a word; status 1 where none is found."""
+    """Prints the rooms of a word; status 1 where none is found. Raises Failure for a word without letters and
+    digits."""
     parser = argparse.ArgumentParser(
         prog="where", description="Says in which rooms of the repository a word is at home."
     )

@@ -40,6 +40,7 @@ def case(name, words, files, stdout="", status=0, stderr="", **more):
 
 
 def refused(name, words, files, line, status):
+    """A case of words that are refused with a line and a status."""
     return case(name, words, files, "", status, line + "\n")
 
 

@@ -4,10 +4,12 @@ from command_cases import (A, CALLEE, CALLER, COUNT, NESTED, QUOTIENTS, RECURSIO
 
 
 def said(name, options, source, text, entry="f", status=0):
+    """A case of bounds with what is said of them."""
     return case(name, ["bounds", *options, entry, "k.c"], {"k.c": source}, f"bounds {text}\n", status)
 
 
 def suffice(turns=4, frames=8, answers=16):
+    """What is said where bounds suffice."""
     return f"suffice turns {turns} frames {frames} answers {answers}"
 
 

@@ -7,6 +7,7 @@ CERTIFICATE = "fshell certificate 1\np cnf 1 2\n1 0\n-1 0\nderivation 1\n0 1 2 1
 
 
 def rejected(name, words, files, line, status=10):
+    """A case of a certificate that isn't accepted."""
     return refused(name, ["check-bounds", *words], {"c.cert": CERTIFICATE} | files, line, status)
 
 

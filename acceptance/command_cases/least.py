@@ -7,14 +7,17 @@ HIT = "cover @LINE(3)"
 
 
 def said(name, source, text, query=HIT, options=(), entry="f", goal="1", status=0):
+    """A case of a goal with what is said of it."""
     return case(name, ["least", *options, entry, query, goal, "k.c"], {"k.c": source}, f"goal {goal} {text}\n", status)
 
 
 def args(*words, answers=()):
+    """What is said of a least input."""
     return " ".join(["least args", *map(str, words), *(["answers", *map(str, answers)] if answers else [])])
 
 
 def refuted(turns=4, frames=8, answers=16, ends=""):
+    """What is said of a goal that no input hits."""
     return f"refuted turns {turns} frames {frames} answers {answers}" + (f" ends {ends}" if ends else "")
 
 

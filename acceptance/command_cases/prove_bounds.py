@@ -5,6 +5,7 @@ from command_cases.bounds import FEW, KINDS, answers
 
 
 def said(name, options, source, text, status=0):
+    """A case of bounds with what is said of them."""
     return case(name, ["prove-bounds", *options, "f", "k.c"], {"k.c": source}, f"bounds {text}\n", status)
 
 

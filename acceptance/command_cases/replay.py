@@ -14,6 +14,7 @@ AS_JSON = ('{"covered":4,"goals":[{"answer":"covered","input":2,"text":"e0@a.c:2
 
 
 def said(name, text, report, source=A, query=ALL, options=()):
+    """A case of traces with the report that they give."""
     return case(name, ["replay", *options, "f", query, "t.txt", "k.c"], {"t.txt": text, "k.c": source}, report)
 
 
@@ -56,10 +57,12 @@ def at_the_limit():
 
 
 def form(name, text, line):
+    """A case of a text that is no trace file, with the line that is wrong."""
     return refused(name, ["replay", "f", ALL, "t.txt", "k.c"], {"t.txt": text, "k.c": A}, f"error 55 TraceForm line {line}", 5)
 
 
 def not_the_run(name, text, line, source=A, options=()):
+    """A case of traces of which one isn't its input's run, with its line."""
     words = ["replay", *options, "f", ALL, "t.txt", "k.c"]
     return refused(name, words, {"t.txt": text, "k.c": source}, f"error 56 NotTheRun line {line}", 5)
 

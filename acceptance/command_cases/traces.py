@@ -4,10 +4,12 @@ from command_cases import A, BOTH, CALLEE, CALLER, ELEMENT, FOREVER, TITLE, WAIT
 
 
 def said(name, source, inputs, lines, options=()):
+    """A case of inputs with the lines of their traces."""
     return case(name, ["traces", *options, "f", "in.txt", "k.c"], {"in.txt": inputs, "k.c": source}, TITLE + lines)
 
 
 def wrong(name, inputs, line, status, source=A):
+    """A case of inputs that are refused."""
     return refused(name, ["traces", "f", "in.txt", "k.c"], {"in.txt": inputs, "k.c": source}, line, status)
 
 

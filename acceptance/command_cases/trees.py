@@ -18,6 +18,7 @@ def turns(name, source, given, enough, end, entry="f"):
 
 
 def wrong(name, inputs, line, status):
+    """A case of inputs that are refused."""
     return refused(name, ["trees", "f", "in.txt", "k.c"], {"in.txt": inputs, "k.c": A}, line, status)
 
 

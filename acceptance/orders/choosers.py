@@ -10,17 +10,22 @@ class Profile:
     """The profile's order: calls, && || ?: first, from left to right, then the rest."""
 
     def flip(self):
+        """Whether an element of a list is set behind all values."""
         return False  # each element is set as its value comes
 
     def of(self, root, leaves, machine):
+        """The part that is done next of an expression."""
         return self.first(root, machine) or self.rest(root)
 
     def rest(self, part):
+        """The first part from the left that can be done, or None."""
         leaves = []
         part.ready(leaves)
         return leaves[0] if leaves else None
 
     def first(self, part, machine):
+        """The first call, logical operator or choice from the left that this profile does before all others, or
+        None. Raises Stop at a call too deep, whose words FShell leaves alone."""
         if part.done:
             return None
         for one in part.needs:
@@ -43,6 +48,7 @@ class Picker:
         self.way, self.random, self.script, self.made = way, random.Random(seed), list(script), []
 
     def number(self, many):
+        """A number below `many`, by the way of choosing, which is noted."""
         if self.way == "left":
             return 0
         if self.way == "right":
@@ -55,9 +61,11 @@ class Picker:
         return chosen
 
     def flip(self):
+        """One of two."""
         return bool(self.number(2))
 
     def of(self, root, leaves, machine):
+        """The part that is done next: any of those that can be, where a call is left."""
         if len(leaves) == 1 or not root.calls():
             return leaves[0]
         return leaves[self.number(len(leaves))]

@@ -10,6 +10,7 @@ class Expressions:
     """What a machine does with expressions; a chooser picks one of the parts that are ready."""
 
     def full(self, node, env):
+        """The value of a full expression with its kind. Raises Stop where a trap ends the run."""
         if not has_call(node):  # nothing is done, so its order can't be told
             return self.direct(node, env)
         root = self.part(node, env)
@@ -17,6 +18,7 @@ class Expressions:
         return root.value
 
     def direct(self, node, env):
+        """The value of an expression without calls, whose order nothing can tell. Raises Stop at a trap."""
         if isinstance(node, c_ast.ID):
             cell = self.find(node.name, env)
             return cell.values[0], cell.kind
@@ -45,6 +47,7 @@ class Expressions:
         return value
 
     def finish(self, root):
+        """Does the parts of an expression, one after the other as the chooser says. Raises Stop at a trap."""
         self.settle(root)
         while not root.done:
             leaves = []
@@ -60,6 +63,7 @@ class Expressions:
             self.settle(root)
 
     def step_call(self, leaf):
+        """Does a call: an answer that is read, or a function's run."""
         name = leaf.node.name.name
         if name in self.inputs and name not in self.functions:
             answer = self.answers[self.taken] if self.taken < len(self.answers) else 0
@@ -71,12 +75,14 @@ class Expressions:
         leaf.done = True
 
     def find(self, name, env):
+        """The cell of a name, the innermost scope first, or None."""
         for scope in reversed(env):
             if name in scope:
                 return scope[name]
         return None
 
     def target(self, node, env, read):
+        """The part that a place is, read or not."""
         if isinstance(node, c_ast.ID):
             cell = self.find(node.name, env)
             return Part("read" if read and cell in self.globals.values() else "place", node, [], cell, read)
@@ -85,6 +91,7 @@ class Expressions:
         )
 
     def part(self, node, env):
+        """The part that an expression is, with those that it needs."""
         if isinstance(node, c_ast.ID):
             cell = self.find(node.name, env)
             made = Part("read" if cell in self.globals.values() else "pure", node, [], cell)
@@ -151,6 +158,7 @@ class Expressions:
             part.done, part.trap = part.value is not None, part.value is None
 
     def pure(self, node, values, keep):
+        """The value of an operator or a conversion of values, by 6.3 and 6.5; None where it traps."""
         if keep:  # the whole of an assignment
             op, of = keep
             return values[1] if not op else binary(op, values[0], values[1])
@@ -168,6 +176,7 @@ class Expressions:
         return fit({"-": -value, "+": value, "~": ~value}[node.op], of), of
 
     def kind(self, node, env):
+        """The kind of an expression."""
         if isinstance(node, (c_ast.ID, c_ast.ArrayRef)):
             return self.find(node.name if isinstance(node, c_ast.ID) else node.name.name, env).kind
         if isinstance(node, c_ast.FuncCall):

@@ -8,6 +8,8 @@ from orders.values import INT, binary, fit, kind_of, number, promoted
 
 
 class Machine(Expressions):
+    """A unit whose functions are run, one order of evaluation at a time."""
+
     def __init__(self, unit, chooser):
         self.choose, self.functions, self.inputs, self.enums, self.globals = chooser, {}, {}, {}, {}
         for item in unit.ext:
@@ -19,6 +21,7 @@ class Machine(Expressions):
                 self.declare(item, self.globals, {})
 
     def run(self, entry, args, answers):
+        """How a run ends, its value, the globals at its end and how many answers it took."""
         self.answers, self.taken, self.turns, self.depth, self.views = answers, 0, 0, 0, []
         for _, cell in sorted(self.globals.items()):
             cell.values = list(cell.first)
@@ -30,9 +33,11 @@ class Machine(Expressions):
         return end, value, self.view(), self.taken
 
     def view(self):
+        """The values of all globals, by their names' order."""
         return tuple(tuple(cell.values) for _, cell in sorted(self.globals.items()))
 
     def declare(self, item, scope, env):
+        """Puts a variable with its first values into a scope."""
         array = isinstance(item.type, c_ast.ArrayDecl)
         length = number(item.type.dim.value) if array else None
         cell = scope[item.name] = Cell(kind_of(item.type), length)
@@ -51,7 +56,7 @@ class Machine(Expressions):
     # calls and statements
 
     def call(self, name, args):
-        """args: numbers, and cells for arrays."""
+        """args: numbers, and cells for arrays. Raises Stop at the 65th activation."""
         if self.depth >= DEPTH:
             raise Stop("deep")
         self.turn()
@@ -75,11 +80,13 @@ class Machine(Expressions):
         return result, of
 
     def turn(self):
+        """Takes a turn. Raises Stop past the last one."""
         self.turns += 1
         if self.turns > TURNS:
             raise Stop("endless")
 
     def statement(self, node, env):
+        """Runs a statement. Raises Jump where control leaves it, and Stop where the run ends."""
         name = type(node).__name__
         if name == "Compound":
             env = env + [{}]
@@ -106,6 +113,7 @@ class Machine(Expressions):
             self.effect(node, env)
 
     def loop(self, node, env, name):
+        """Runs a loop. A return within it comes out as a Jump."""
         if name == "For" and node.init:
             self.statement(node.init, env)
         first = name == "DoWhile"
@@ -123,6 +131,7 @@ class Machine(Expressions):
                 self.effect(node.next, env)
 
     def switch(self, node, env):
+        """Runs a switch; what is no break of its own comes out as a Jump."""
         value, of = self.full(node.cond, env)
         groups = node.stmt.block_items or []
         fits = [
@@ -140,6 +149,7 @@ class Machine(Expressions):
                 raise
 
     def effect(self, node, env):
+        """Runs an assignment, a step, a call, an assert or an assume. Raises Stop where the run ends."""
         if isinstance(node, c_ast.FuncCall) and node.name.name in ("assert", "assume"):
             if not self.full(node.args.exprs[0], env)[0]:
                 raise Stop("trap" if node.name.name == "assert" else "blocked")

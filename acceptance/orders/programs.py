@@ -2,17 +2,22 @@
 
 
 def last_of(name):
+    """Whether a function is the entry."""
     return name == "k"
 
 
 class Programs:
+    """Programs that are drawn, by a source of random numbers."""
+
     def __init__(self, random):
         self.r = random
 
     def pick(self, *things):
+        """One of some things."""
         return self.r.choice(things)
 
     def program(self):
+        """The text of the next program, whose entry is k."""
         r = self.r
         self.scalars = ["g%d" % n for n in range(r.randint(1, 3))]
         self.arrays = [("a%d" % n, r.choice((2, 2, 3))) for n in range(r.randint(1, 2))]
@@ -38,6 +43,7 @@ class Programs:
         return "\n".join(text) + "\n"
 
     def function(self, name, last=False):
+        """The text of a function; the last one is the entry."""
         r = self.r
         every = self.scalars + [a for a, _ in self.arrays]
         words = ["x", "y"][: 2 if last else r.randint(0, 2)]
@@ -83,6 +89,7 @@ class Programs:
         return "int %s(%s) { %s }" % (name, ", ".join(head) or "void", " ".join(body))
 
     def target(self):
+        """A place that the function may write."""
         may = [one for one in self.scalars if one in self.may[1]]
         arrays = (
             [one for one in self.arrays if one[0] in self.may[1]] + self.local + (self.lent if self.writes_lent else [])
@@ -92,6 +99,7 @@ class Programs:
         return self.pick(*may) if may and self.r.random() < 0.8 else "t"
 
     def statement(self, deep):
+        """A statement with others within it, so many deep."""
         r, form = self.r, self.r.random()
         if form < 0.5 or deep == 0:
             return "%s %s %s;" % (
@@ -115,6 +123,7 @@ class Programs:
         return self.pick("assert(%s);", "assume(%s);", "assume(%s);", "while (%s) { }") % self.expression(1)
 
     def element(self, array, deep):
+        """An element of an array, its index within it or seldom not."""
         if deep <= 0 or self.r.random() < 0.4:
             index = self.pick("0", "1")
         else:
@@ -123,9 +132,11 @@ class Programs:
         return "%s[%s]" % (array[0], index)
 
     def scalars_read(self):
+        """The globals that the function may read."""
         return [one for one in self.scalars if one in self.may[0]]
 
     def leaf(self):
+        """An operand without a call."""
         may = self.scalars_read()
         arrays = [one for one in self.arrays if one[0] in self.may[0]] + self.local + self.lent
         form = self.r.random()
@@ -136,6 +147,7 @@ class Programs:
         return self.pick(*self.words) if form < 0.85 else str(self.r.randint(0, 4))
 
     def call(self, deep):
+        """A call of an earlier function or an input, or an operand where there is none."""
         fits = []
         for name, words, lent, may, takes in self.functions:
             visible = self.arrays + self.local + self.lent
@@ -157,6 +169,7 @@ class Programs:
         return "%s(%s)" % (name, ", ".join(args))
 
     def expression(self, deep):
+        """An expression, so many operators deep."""
         form = self.r.random()
         if deep <= 0 or form < 0.2:
             return self.leaf()

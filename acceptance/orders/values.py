@@ -16,6 +16,7 @@ NAMED = {
 
 
 def kind(names):
+    """The kind that words of a type name, as width in bits and sign."""
     words = [word for word in names if word not in ("const", "int", "signed")]
     if len(words) == 1 and words[0] in NAMED:
         return NAMED[words[0]][:2]
@@ -24,16 +25,19 @@ def kind(names):
 
 
 def reach(of):
+    """The least and the greatest number of a kind."""
     return (-(1 << of[0] - 1), (1 << of[0] - 1) - 1) if of[1] else (0, (1 << of[0]) - 1)
 
 
 def kind_of(decl):
+    """The kind of what a declaration declares, its elements' of an array."""
     while not isinstance(decl, c_ast.TypeDecl):
         decl = decl.type
     return kind(decl.type.names) if isinstance(decl.type, c_ast.IdentifierType) else (32, 1)
 
 
 def number(text):
+    """The number of a constant of C (6.4.4)."""
     if text[0] == "'":
         return {"n": 10, "t": 9, "r": 13, "0": 0}.get(text[2], ord(text[2])) if text[1] == "\\" else ord(text[1])
     text = text.rstrip("uUlL")
@@ -44,15 +48,18 @@ INT = (32, 1)
 
 
 def fit(value, of):
+    """The one number of a kind's range that equals a value modulo 2 to the width (6.3.1.3)."""
     value &= (1 << of[0]) - 1
     return value - (1 << of[0]) if of[1] and value >> of[0] - 1 else value
 
 
 def promoted(of):
+    """The kind after the integer promotions (6.3.1.1)."""
     return INT if of[0] < 32 else of
 
 
 def common(one, two):
+    """The kind of two operands after the usual arithmetic conversions (6.3.1.8)."""
     one, two = promoted(one), promoted(two)
     return max(one, two, key=lambda of: (of[0], not of[1]))
 

@@ -11,15 +11,20 @@ import os
 import shutil
 import subprocess
 import tempfile
+from collections.abc import Callable, Iterable, Iterator, Sequence
+from types import ModuleType
+from typing import Any
 
 import programs
 import side_by_side
 
 SECONDS = programs.SECONDS
+PACKAGES = ("jinja2", "pycparser", "yaml", "jsonschema")  # of Python
 EXAMPLES = os.path.join(programs.ROOT, "examples")
+Wrong = Callable[[], list[str]]  # a line for each thing that is wrong
 
 
-def example(path):
+def example(path: str) -> str:
     """The text of a file of examples/."""
     with open(os.path.join(EXAMPLES, path), encoding="utf-8") as file:
         return file.read()
@@ -31,29 +36,37 @@ class Case:
     stand afterwards beside the given ones, or `written` is None."""
 
     name: str
-    words: list
-    files: dict = dataclasses.field(default_factory=dict)
+    words: list[str]
+    files: dict[str, str] = dataclasses.field(default_factory=dict)
     status: int = 0
     stdout: str | None = ""
     stderr: str | None = ""
-    written: dict | None = dataclasses.field(default_factory=dict)
-    needs: tuple = ()
+    written: dict[str, str] | None = dataclasses.field(default_factory=dict[str, str])
+    needs: tuple[str, ...] = ()
 
 
-def run(folder, words, **more):
+def run(folder: str, words: Sequence[str], **more: Any) -> subprocess.CompletedProcess[str]:
     """How a tool ends that is run in a folder."""
-    return subprocess.run([os.path.join(programs.ROOT, "bin", words[0]), *words[1:]], cwd=folder, stdin=subprocess.DEVNULL,
-                          capture_output=True, text=True, timeout=SECONDS, **more)
+    return subprocess.run(
+        [os.path.join(programs.ROOT, "bin", words[0]), *words[1:]],
+        cwd=folder,
+        stdin=subprocess.DEVNULL,
+        capture_output=True,
+        text=True,
+        timeout=SECONDS,
+        **more,
+    )
 
 
-def put(folder, files):
+def put(folder: str, files: dict[str, str]) -> None:
+    """Writes files into a folder, by their names."""
     for name, text in files.items():
         os.makedirs(os.path.dirname(os.path.join(folder, name)), exist_ok=True)
         with open(os.path.join(folder, name), "w", encoding="utf-8", newline="") as file:
             file.write(text)
 
 
-def held(folder):
+def held(folder: str) -> dict[str, str]:
     """The texts of all files of a folder by their names."""
     found = {}
     for name in sorted(os.listdir(folder)):
@@ -62,7 +75,7 @@ def held(folder):
     return found
 
 
-def differences(case):
+def differences(case: Case) -> list[str]:
     """What differs from what is due, a line each."""
     with tempfile.TemporaryDirectory() as folder:
         put(folder, case.files)
@@ -77,17 +90,17 @@ def differences(case):
 
 
 @functools.cache
-def is_there(need):
+def is_there(need: str) -> bool:
     """Whether something is there that cases need: the program's command graph, a Python package, or a command."""
     if need == "graph":
         return "Usage" not in subprocess.run([programs.LAUNCHER, "graph", "/no"], capture_output=True, text=True).stderr
-    return importlib.util.find_spec(need) is not None if need in ("jinja2", "pycparser") else shutil.which(need) is not None
+    return importlib.util.find_spec(need) is not None if need in PACKAGES else shutil.which(need) is not None
 
 
-def tried(function):
+def tried(function: Callable[[str], Iterable[bool]]) -> list[str]:
     """What is wrong of a case that is a function: it yields, or answers, whether each thing that it looks at is right."""
     with tempfile.TemporaryDirectory() as folder:
-        wrong = []
+        wrong = list[int]()
         try:
             wrong += [number for number, right in enumerate(function(folder), 1) if not right]
         except Exception as fault:  # so that the other cases are run
@@ -95,7 +108,7 @@ def tried(function):
     return [f"wrong at {wrong}"] if wrong else []
 
 
-def cases(module):
+def cases(module: ModuleType) -> Iterator[tuple[str, Sequence[str], Wrong]]:
     """The cases of a module: the name of each, what it needs, and what tells what is wrong of it."""
     for case in getattr(module, "CASES", []):
         yield case.name, case.needs, functools.partial(differences, case)
@@ -103,15 +116,15 @@ def cases(module):
         yield function.__name__, needs, functools.partial(tried, function)
 
 
-def told(tool, name, of_case):
+def told(tool: str, name: str, of_case: Wrong) -> side_by_side.Outcome:
     """One case of a tool, and a line for each thing that is wrong of it."""
     return 1, [f"{tool}: {name}: {line}" for line in of_case()]
 
 
-def group(tool, module, alone=False):
+def group(tool: str, module: ModuleType, alone: bool = False) -> side_by_side.Group:
     """The cases of a tool, and of those that are skipped a line for each need. Alone are those that need nothing but Python and
     the program."""
-    parts, skipped = [], {}
+    parts, skipped = list[side_by_side.Part](), dict[str, int]()
     for name, needs, of_case in cases(module):
         if alone and set(needs) - {"graph"}:
             continue

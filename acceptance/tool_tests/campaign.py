@@ -49,15 +49,18 @@ def campaign(folder, *words, **more):
 
 
 def report(folder):
+    """The JSON report of the campaign `new`."""
     with open(os.path.join(folder, "new", "report.json"), encoding="utf-8") as file:
         return json.load(file)
 
 
 def verdicts(folder):
+    """The answer of each goal of the campaign `new`."""
     return [goal["answer"] for goal in report(folder)["goals"]]
 
 
 def due(known):
+    """The answers that are due of the first goals, so many."""
     return ["refuted within the bounds" if number in REFUTED else "covered" for number in range(1, known + 1)]
 
 

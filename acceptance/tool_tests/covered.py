@@ -217,15 +217,25 @@ EXAMPLES = {
 LABEL = re.compile(r"\s*(case\b[^:]*|default|\w+)\s*:\s*(/\*.*)?$")
 
 
-def gcov(folder, name):
-    """gcc's counts of a source by its harness: of each line, and the counts of its branches in order of size."""
-    subprocess.run(["gcc", "-O0", "--coverage", "-fwrapv", "-fno-builtin", "-w", "-o", "tests", "tests.c"], cwd=folder, check=True)
+def gcov_of_all(folder, tests="tests.c", flags=()):
+    """gcc's counts of all sources of a harness, by their names: of each line, and the counts of its branches in order of size."""
+    command = ["gcc", "-O0", "--coverage", "-fwrapv", "-fno-builtin", "-w", *flags, "-o", "tests", tests]
+    subprocess.run(command, cwd=folder, check=True)
     subprocess.run(["./tests"], cwd=folder, capture_output=True)
     made = next(one for one in os.listdir(folder) if one.endswith(".gcda"))
     subprocess.run(["gcov", "-b", "-c", made], cwd=folder, capture_output=True, check=True)
     os.remove(os.path.join(folder, made))
+    found = {}
+    for name in [one for one in os.listdir(folder) if one.endswith(".gcov")]:
+        found[name.removesuffix(".gcov")] = counts_of_gcov(os.path.join(folder, name))
+        os.remove(os.path.join(folder, name))
+    return found
+
+
+def counts_of_gcov(path):
+    """The counts of a file that gcov wrote."""
     lines, branches, at = {}, {}, 0
-    with open(os.path.join(folder, name + ".gcov"), encoding="utf-8") as file:
+    with open(path, encoding="utf-8") as file:
         for line in file:
             count = re.match(r" *(\d+|#####|-)\*?: *(\d+):", line)
             if count:
@@ -256,7 +266,7 @@ def both(folder, entry, name, others=()):
     with open(os.path.join(folder, "out"), encoding="utf-8") as file:
         record = next(part for part in file.read().split("end_of_record") if f"/{name}\n" in part)
     heads = {int(line) for line in re.findall(r"^FN:(\d+),", record, re.MULTILINE)}
-    return ours(record), gcov(folder, name), heads
+    return ours(record), gcov_of_all(folder)[name], heads
 
 
 def may_differ(name, line, text, heads, in_ours, in_gcov):

@@ -7,6 +7,7 @@ CNF = "p cnf 2 4\n1 2 0\n-1 2 0\n1 -2 0\n-1 -2 0\n"
 
 
 def wrong(name, text):
+    """A case of a text that is no certificate."""
     return Case(f"drat: {name}", ["drat", "a.cert", "new"], {"a.cert": text}, 2, "", "drat: a.cert: it is no certificate\n")
 
 

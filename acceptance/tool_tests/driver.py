@@ -118,6 +118,7 @@ int32_t write_frame(int port, const frame_t *frame, uint8_t *written)
 
 
 def refused(name, words, line):
+    """A case of words that are refused, with the line."""
     return Case(f"driver: {name}", ["driver", *words], BUS, 2, "", f"driver: {line}\n", needs=NEEDS)
 
 

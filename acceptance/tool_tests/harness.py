@@ -1,8 +1,10 @@
 """The cases of bin/harness: what its file prints as gcc and clang compile it, by hand and from docs/COMMANDS.md."""
 
 import os
+import re
 import shutil
 import subprocess
+import xml.etree.ElementTree as ET
 
 from tool_tests import Case, example, put, run
 
@@ -48,7 +50,7 @@ def compilers():
 
 def printed(folder, compiler, level):
     """What the harness in a folder prints, and its status, or what the compiler says of it."""
-    words = [compiler, level, "-Wall", "-Werror", "-fwrapv", "-o", "tests", "tests.c"]
+    words = [compiler, level, "-Wall", "-Wextra", "-Werror", "-fwrapv", "-o", "tests", "tests.c"]
     compiled = subprocess.run(words, cwd=folder, capture_output=True, text=True)
     if compiled.returncode:
         return compiled.stderr, None
@@ -136,6 +138,66 @@ def inputs_of_any_form(folder):
     yield "ok" in made[0] and made[1:] == made[:1] * 2
 
 
+def junit(folder, compiler="gcc"):
+    """The report of a harness in a folder as JUnit's XML, and its status."""
+    subprocess.run([compiler, "-Wall", "-Wextra", "-Werror", "-fwrapv", "-o", "tests", "tests.c"], cwd=folder, check=True)
+    ran = subprocess.run([os.path.join(folder, "tests"), "--junit"], cwd=folder, capture_output=True, text=True, timeout=20)
+    return ET.fromstring(ran.stdout), ran.returncode
+
+
+def junit_is_printed_beside_tap(folder):
+    """A case an input; names of a user's own with marks of XML, a skipped one, and one that fails."""
+    source = "int f(int x) { assert(x != 3); return x > 4 ? 1 : 0; }\n"
+    put(folder, {"a.c": source, "in": '[{"args": [3]}, {"args": [4], "id": "<\\"&ä"}, {"args": [5]}]'})
+    run(folder, ["harness", "f", "in", "a.c", "-o", "tests.c"])
+    top, status = junit(folder)
+    (suite,) = top
+    yield status == 0 and {name: suite.get(name) for name in ("name", "tests", "failures", "errors", "skipped")} == {
+        "name": "f", "tests": "3", "failures": "0", "errors": "0", "skipped": "1"}
+    yield [one.get("name") for one in suite] == ["f(3)", 'f(4) returns 0 {"id": "<\\"&\\u00e4"}', "f(5) returns 1"]
+    yield [[(part.tag, part.get("message")) for part in one] for one in suite] == [[("skipped", "trapped assert")], [], []]
+    with open(os.path.join(folder, "tests.c"), encoding="utf-8") as file:
+        text = file.read()
+    put(folder, {"tests.c": text.replace("x > 4", "x > 5")})
+    top, status = junit(folder)
+    yield status == 1 and top[0].get("failures") == "1"
+    yield [(one.get("name"), one[0].get("message")) for one in top[0] if one.find("failure") is not None] == [
+        ("f(5) returns 1", "another value, returned 0")]
+    told = subprocess.run([os.path.join(folder, "tests"), "--xml"], capture_output=True, text=True)
+    yield told.returncode == 2 and told.stdout.startswith("usage: ")
+
+
+def counted(folder, source):
+    """The counts of a source's lines by gcov, for the run of the harness in a folder."""
+    subprocess.run(["gcc", "--coverage", "-O0", "-fwrapv", "-o", "tests", "tests.c"], cwd=folder, check=True)
+    subprocess.run([os.path.join(folder, "tests")], cwd=folder, check=False, capture_output=True)
+    subprocess.run(["gcov", "tests.gcda"], cwd=folder, check=True, capture_output=True)
+    with open(os.path.join(folder, f"{source}.gcov"), encoding="utf-8") as file:
+        rows = [line.split(":", 2) for line in file]
+    return {int(line): 0 if "#" in count else int(count.strip(" *")) for count, line, _ in rows if count.strip() != "-" and int(line)}
+
+
+def gcc_counts_the_lines_of_the_source(folder):
+    """They are what bin/lcov says, where both count a line."""
+    put(folder, {"tri.c": example("triangle/tri.c"), "sides.txt": example("triangle/sides.txt")})
+    run(folder, ["harness", "classify", "sides.txt", "tri.c", "-o", "tests.c"])
+    theirs = counted(folder, "tri.c")
+    traced = run(folder, ["lcov", "classify", "sides.txt", "tri.c"]).stdout
+    ours = {int(line): int(count) for line, count in re.findall(r"^DA:(\d+),(\d+)", traced, re.MULTILINE)}
+    both = set(ours) & set(theirs)
+    yield len(both) >= 15 and all(ours[line] == theirs[line] for line in both) and any(ours[line] for line in both)
+
+
+def no_path_is_absolute(folder):
+    """A source by its whole path is named from the file's folder."""
+    put(folder, {"in": "1\n", "src/a.c": "int f(int x) { return x; }\n", "out/none": ""})
+    ended = run(folder, ["harness", "f", "in", os.path.join(folder, "src", "a.c"), "-o", "out/tests.c"])
+    with open(os.path.join(folder, "out", "tests.c"), encoding="utf-8") as file:
+        text = file.read()
+    yield ended.returncode == 0 and folder not in text and '#line 1 "../src/a.c"' in text and ' "tests.c"\n' in text
+
+
 TRIED = [(("gcc",), function) for function in (
     examples_pass, a_changed_constant_fails, an_assert_or_assume_that_fails_is_told, variables_have_their_first_values_again,
-    two_sources_with_macros_and_answers, values_of_all_widths, entries_without_a_value_and_runs_without_an_end)] + [((), inputs_of_any_form)]
+    two_sources_with_macros_and_answers, values_of_all_widths, entries_without_a_value_and_runs_without_an_end,
+    junit_is_printed_beside_tap)] + [((), inputs_of_any_form), ((), no_path_is_absolute), (("gcc", "gcov"), gcc_counts_the_lines_of_the_source)]

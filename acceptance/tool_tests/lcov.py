@@ -4,7 +4,7 @@ import os
 import re
 import subprocess
 
-from tool_tests import Case, covered, example, put, run
+from tool_tests import Case, covered, covered_modules, example, put, run
 from tool_tests.explain import NEVER, ONE, TWO
 
 GRAPH = ("graph",)
@@ -187,4 +187,4 @@ def a_comment_is_read_by_genhtml(folder):
 
 
 TRIED = [(GRAPH, counts_are_those_by_hand), (GRAPH, refuted_goals_are_left_out), (("graph", "genhtml"), genhtml_has_these_totals),
-         (GRAPH, what_may_be_reached_isnt_left_out), (("graph", "genhtml"), a_comment_is_read_by_genhtml), *covered.TRIED]
+         (GRAPH, what_may_be_reached_isnt_left_out), (("graph", "genhtml"), a_comment_is_read_by_genhtml), *covered.TRIED, *covered_modules.TRIED]

@@ -32,6 +32,7 @@ STRICT = "int a[4]; int in(void); int k(int x) { a[x & 7] = in(); return 0; }\n"
 
 
 def told(*lines):
+    """Lines as a text."""
     return "".join(line + "\n" for line in lines)
 
 
@@ -188,6 +189,7 @@ def rows_by_all_orders(folder):
 
 
 def some_inputs(seed, count):
+    """Inputs that are drawn, so many, each with twelve answers."""
     made = random.Random(seed)
     return [([made.randint(-1, 4), made.randint(-2, 3)], [made.randint(0, 3) for _ in range(12)]) for _ in range(count)]
 
@@ -236,7 +238,8 @@ def watched_by_all_orders(folder):
 
 
 def fails(folder, text, inputs, compiler):
-    """Whether a compiler gives another result than FShell on one of the inputs."""
+    """Whether a compiler gives another result than FShell on one of the inputs. Raises ValueError where no harness
+    is written."""
     put(folder, {"a.c": text, "in": json.dumps([{"args": args, "answers": answers} for args, answers in inputs])})
     made = run(folder, ["harness", "k", "in", "a.c", "-o", "t.c"])
     if made.returncode:

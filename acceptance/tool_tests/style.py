@@ -1,4 +1,5 @@
-"""Layout and types of the Python of tools/ and of the newer modules of acceptance/, by Debian's black, mypy and pyflakes.
+"""Layout and types of the Python of tools/ and of the newer modules of acceptance/, by Debian's black, mypy and pyflakes, and its
+docstrings, by docstrings.py.
 
 pyflakes is asked of all. The modules of acceptance/ that are older have no type hints; `TYPED` has those that are typed.
 """
@@ -7,10 +8,36 @@ import glob
 import os
 import subprocess
 
+import docstrings
 import programs
 
 RULES = os.path.join(programs.ROOT, "tools", "pyproject.toml")
-TYPED = ("side_by_side.py", "cases.py", "counts.py", "crates.py", "decisions.py")
+TYPED = (
+    "all_inputs.py", "cases.py", "certificates.py", "corpus.py", "counts.py", "crates.py", "decisions.py", "docstrings.py", "documents.py",
+    "figures.py", "pages.py", "programs.py", "proved.py", "releases.py", "replays.py", "side_by_side.py", "tool_tests/__init__.py",
+    "tree_ends.py",
+)  # fmt: skip
+ROW = '''"""A text."""
+def bare(): pass
+def _own(): pass
+def case(folder): yield True
+def helper(folder): pass
+class Open:
+    """A class."""
+    def shut(self): pass
+def raises():
+    """Raises."""
+    raise Fault("so")
+def told():
+    """Raises Fault."""
+    raise Fault("so")
+def many() -> int:
+    """As it is."""
+'''
+FAULTS = [
+    "a:bare has no docstring", "a:helper has no docstring", "a:Open.shut has no docstring", "a:raises: its docstring doesn't name Fault",
+    "a:many: its docstring doesn't say what its number is of",
+]  # fmt: skip
 
 
 def passes(folder, *words):
@@ -24,6 +51,8 @@ def passes(folder, *words):
 
 def types_are_strict(folder):
     yield passes(folder, "mypy", "--strict", "--config-file", RULES, "tools")
+    words = ["mypy", "--strict", "--follow-imports", "silent", "--config-file", RULES]  # what they import may be without types
+    yield passes(folder, *words, *(os.path.join("acceptance", name) for name in TYPED))
 
 
 def layout_is_black(folder):
@@ -35,9 +64,19 @@ def nothing_is_unused_or_undefined(folder):
     yield passes(folder, "pyflakes3", "tools", "acceptance", os.path.join("acceptance", "run"), *scripts)
 
 
+def what_it_is_for_is_said(folder):
+    """Each docstring that is missing, or doesn't name an error, is printed; so are faults that are put into a small text."""
+    wrong = docstrings.wrong()
+    print(*wrong, sep="\n", end="\n" if wrong else "", flush=True)
+    yield wrong == []
+    tree = docstrings.ast.parse(ROW)
+    yield list(docstrings.faults_of(tree, "a")) == FAULTS
+
+
 def first_line(path):
+    """The first line of a file."""
     with open(path, encoding="utf-8") as file:
         return file.readline().strip()
 
 
-TRIED = [(("mypy",), types_are_strict), (("black",), layout_is_black), (("pyflakes3",), nothing_is_unused_or_undefined)]
+TRIED = [((), what_it_is_for_is_said), (("mypy",), types_are_strict), (("black",), layout_is_black), (("pyflakes3",), nothing_is_unused_or_undefined)]

@@ -10,6 +10,7 @@ from .constants import LOGICAL
 from .effects import STEPS
 from .jumps import walk
 from .kinds import Int, Pointer, Struct
+from .output import unmarked
 from .places import Place
 from .refusals import Refused
 from .regions import INDEX
@@ -43,18 +44,83 @@ class Assignments(Calls):
         self.unsequenced(node, [index, node.rvalue])
         self.not_twice(node, place, node.rvalue)
         kind = place.type
+        if place.variable.is_input:
+            return self.assign_register(node, place, kind)
+        if place.view is not None:
+            return self.assign_part(place, lambda own: self.combined(own, node), kind)
         other = self.kind_at(place) != kind and node.op in ("/=", "%=", ">>=")
-        twice = (kind.boolean or other) and node.op != "="
-        target, _ = self.leaf(place, stable or twice)
+        twice = (kind.boolean or other or kind.width > 0) and node.op != "="
+        target, _ = self.leaf(place, stable or twice or (node.op != "=" and self.is_large(place)))
         given = self.value(node.rvalue)
-        if twice:
-            level = LEVELS[node.op[:-1]]
-            own = f"({kind.text}) {target}" if other else target
-            whole = Value(f"{own} {node.op[:-1]} {given.within(level + 1)}", kinds.INT, level)
-            self.emit(f"{target} = {whole.text if other else self.truth(whole).text};")
-        else:
-            self.emit(f"{target} {node.op} {self.converted(given, kind).text};")
+        self.emit(self.assignment(node, target, kind, given, other))
         return target, kind
+
+    def assignment(self, node: Any, target: str, kind: Int, given: Value, other: bool) -> str:
+        """The statement of an assignment; `other` says that the column has integers of the other sign."""
+        if node.op == "=" or not (kind.boolean or other or kind.width > 0):
+            return f"{target} {node.op} {self.converted(given, kind).text};"
+        level = LEVELS[node.op[:-1]]
+        own = f"({kind.text}) {target}" if other else target
+        whole = Value(f"{own} {node.op[:-1]} {given.within(level + 1)}", kinds.common(kind, given.kind), level)
+        return f"{target} = {whole.text if other else self.converted(whole, kind).text};"
+
+    def stepping(self, node: Any, target: str, kind: Int) -> str:
+        """The statement of `++` or `--`."""
+        if not kind.width:
+            return f"{target}{node.op[-2:]};"
+        return f"{target} = {self.converted(Value(f'{target} {node.op[-1]} 1', kinds.INT, 9), kind).text};"
+
+    def assign_register(self, node: Any, place: Place, kind: Int) -> tuple[str, Int]:
+        """Writes an assignment to a register, which keeps nothing; the value that it was given."""
+        value = self.combined(Value(f"{place.variable.out}()", kind, PRIMARY, calls=True), node)
+        return self.temporary(kind, value.text), kind
+
+    # ---- parts of an integer
+
+    def part_shift(self, place: Place) -> str:
+        """By how many bits a part stands above the lowest; a bad index ends the run."""
+        view = place.view
+        assert view is not None
+        if view.index is None:
+            return ""
+        step, index = view.kind.bits.bit_length() - 1, self.steady(view.index, self.value(view.index))
+        known = self.constants.value(view.index)
+        if known is not None and 0 <= known < (view.length or 0):
+            return str(known << step) if known else ""
+        wide = "unsigned long" if index.kind.bits == 64 else "unsigned int"
+        return f"({index.within(9)} << {step} | -(({wide}) {index.within(UNARY)} >= {view.length}))"
+
+    def part(self, place: Place, whole: str) -> Value:
+        """The value of a part."""
+        view, shift = place.view, self.part_shift(place)
+        assert view is not None
+        text = f"({view.kind.text}) ({whole} >> {shift})" if shift else f"({view.kind.text}) {whole}"
+        return Value(text, view.kind, UNARY)
+
+    def assign_part(self, place: Place, value: Callable[[Value], Value], kind: Int) -> tuple[str, Int]:
+        """Writes an assignment to a part; the text that reads it."""
+        assert place.view is not None and place.view.kind == kind
+        whole, _ = self.leaf(place, True)
+        of, shift = self.places.carrier_kind(place), self.part_shift(place)
+        word, own = kinds.FIXED[f"uint{of.bits}_t"].text, kinds.FIXED[f"uint{kind.bits}_t"].text
+        given = unmarked(value(self.part(place, whole)).within(UNARY))
+        if kind.bits == of.bits:
+            self.emit(f"{whole} = {given};")
+            return self.part(place, whole).text, kind
+        mask = hex((1 << kind.bits) - 1) + ("ul" if kind.bits == 64 else "u")
+        up = f" << {shift}" if shift else ""
+        self.emit(f"{whole} = {whole} & ~(({word}) {mask}{up}) | ({word}) ({own}) {given}{up};")
+        return self.part(place, whole).text, kind
+
+    def combined(self, own: Value, node: Any) -> Value:
+        """What an assignment gives its target."""
+        given = self.value(node.rvalue)
+        return given if node.op == "=" else self.operated(node, node.op[:-1], own, given)
+
+    def operated(self, node: Any, op: str, own: Value, given: Value) -> Value:
+        """What an operation makes of a part and a value."""
+        level = LEVELS[op]
+        return Value(f"{own.within(level)} {op} {given.within(level + 1)}", kinds.common(own.kind, given.kind), level)
 
     def not_twice(self, node: Any, place: Place, value: Any) -> None:
         """An object that isn't an element may not be assigned once more by the value."""
@@ -72,12 +138,17 @@ class Assignments(Calls):
         place = self.places.place(node.expr)
         if not isinstance(place.type, Int) or place.type.boolean:
             raise Refused(node.coord, "a step of what is no integer", "assign its value")
-        return self.leaf(place, stable)[0], place.type
+        return self.leaf(place, stable or self.is_large(place))[0], place.type
 
     def stepped(self, node: Any) -> Value:
         """`++` and `--` as a value: the old one, which is kept, or the new one, which is read (6.5.2.4, 6.5.3.1)."""
+        place = self.places.place(node.expr)
+        if place.view is not None and isinstance(place.type, Int):
+            old = self.temporary(place.type, self.part(place, self.leaf(place, True)[0]).text)
+            self.step_part(node, place)
+            return Value(old, place.type, PRIMARY) if node.op.startswith("p") else self.part(place, self.leaf(place)[0])
         target, kind = self.step(node, True)
-        step, before = f"{target}{node.op[-2:]};", not node.op.startswith("p")
+        step, before = self.stepping(node, target, kind), not node.op.startswith("p")
         if before or id(node) in self.behind:
             self.emit(step) if before else self.after.append(step)
             if self.kind_at(self.places.place(node.expr)) != kind:
@@ -103,7 +174,13 @@ class Assignments(Calls):
             place = self.places.place(node.expr)
             self.emit(self.step_text(node, self.parts_at(place, self.index(place, False))[INDEX].text))
         elif isinstance(node, c_ast.UnaryOp) and node.op in STEPS:
-            self.emit(f"{self.step(node)[0]}{node.op[-2:]};")
+            place = self.places.place(node.expr)
+            if place.view is not None:
+                self.step_part(node, place)
+                return
+            if place.variable.is_input:
+                raise Refused(node.coord, f"a step of the register {place.variable.name}", "assign its value")
+            self.emit(self.stepping(node, *self.step(node, self.kind_has_width(node.expr))))
         elif isinstance(node, c_ast.FuncCall):
             self.call_effect(node)
         elif isinstance(node, c_ast.TernaryOp):
@@ -116,6 +193,15 @@ class Assignments(Calls):
             left = self.pointer(node)[INDEX] if self.is_pointer(node) else self.value(node)
             if left.calls:
                 self.temporary(left.kind, left.text)
+
+    def step_part(self, node: Any, place: Place) -> None:
+        assert isinstance(place.type, Int)
+        one = Value("1", kinds.INT, PRIMARY)
+        self.assign_part(place, lambda own: self.operated(node, node.op[-1], own, one), place.type)
+
+    def kind_has_width(self, node: Any) -> bool:
+        of = self.constants.type_of(node)
+        return isinstance(of, Int) and of.width > 0
 
     def has_calls(self, node: Any) -> bool:
         return any(isinstance(one, c_ast.FuncCall) for one in walk(node))

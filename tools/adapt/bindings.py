@@ -9,12 +9,13 @@ from pycparser import c_ast
 
 from .declarators import Function, Variable
 from .jumps import walk
-from .kinds import VOID, Array, Pointer, Type
+from .kinds import VOID, Array, Pointer, Signature, Type
 from .places import Place, Places, arguments
 from .refusals import Refused
 
 Key = tuple[str, int, int, str]  # a parameter by its place and name, over several readings
 SOMEWHERE = Variable("", VOID, None, "local")  # an object of which no more is known
+MOST_LENT = 1024
 CONDITIONS = (c_ast.If, c_ast.While, c_ast.DoWhile, c_ast.For, c_ast.TernaryOp)
 
 
@@ -38,7 +39,9 @@ class Bindings:
         self.of: dict[Variable, tuple[Function, int]] = {}
         for function in self.names.functions:
             for at, one in enumerate(function.parameters):
-                if isinstance(one.type, (Pointer, Array)):
+                if isinstance(one.type, Pointer) and isinstance(one.type.to, Signature):
+                    one.binding = "pointer"
+                elif isinstance(one.type, (Pointer, Array)):
                     self.types[one], self.of[one] = one.type, (function, at)
 
     def bind(self) -> None:
@@ -227,6 +230,8 @@ class Bindings:
         lengths = {t.type.length for t in targets if isinstance(t.type, Array)}
         if not called and isinstance(parameter.type, Array) and parameter.type.length:
             lengths = {parameter.type.length}
+        if any((length or 0) > MOST_LENT for length in lengths):
+            raise Refused(parameter.coord, "an array that is large", "hand over a smaller one")
         if len(lengths) != 1 or not all(isinstance(t.type, Array) for t in targets):
             if len(targets) > 1 or not called:
                 raise Refused(parameter.coord, "no array of one length", "hand over whole arrays of one length")

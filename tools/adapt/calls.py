@@ -7,9 +7,12 @@ from pycparser import c_ast
 
 from . import kinds
 from .bindings import key
+from .constants import is_offset
 from .effects import Effects, Object, may_be, objects, pointee
 from .initialisers import filled, none_of
+from .heap import heap_call
 from .kinds import Array, Int, Leaf, Pointer, Struct
+from .library import OUTPUT
 from .declarators import Function, Variable
 from .output import unmarked
 from .places import Place, arguments
@@ -30,9 +33,10 @@ class Calls(ModelCalls, OutsideCalls):
         raise NotImplementedError
 
     def called(self, node: Any) -> Function:
-        function = self.names.meaning.get(id(node))
+        function = self.places.choosers.called(node)
         if not isinstance(function, Function):
-            raise Refused(node.coord, "a call by a pointer", "call functions by their names, in a switch over a number")
+            self.pointer(node.name)
+            raise Refused(node.coord, "a call of what is no function", "call functions by their names")
         return function
 
     def call(self, node: Any) -> tuple[str, list[str]]:
@@ -41,8 +45,10 @@ class Calls(ModelCalls, OutsideCalls):
         model = model_of(function)
         if model is not None and self.takes_model(node, model):
             return self.model_parts(node, model)[INDEX].text, []
+        if heap_call(function):
+            return self.heap.freed(node) if function.name == "free" else self.pointer(node)[INDEX].text, []
         if function.definition is None:
-            return self.outer_call(node, function), []
+            return self.outer_call(node, function)
         given = arguments(node)
         if len(given) != len(function.parameters) and not function.variadic:
             raise Refused(
@@ -54,12 +60,20 @@ class Calls(ModelCalls, OutsideCalls):
         self.unsequenced(node, [argument for argument, wanted in zip(given, own) if wanted])
         with self.else_apart(function.parameters):
             self.apart(node, function)
-        texts: list[str] = []
+        texts = self.chosen_by(node, function)
         after: list[str] = []
         for argument, parameter in zip(given, function.parameters):
             with self.else_apart([parameter]):
                 self.argument(argument, parameter, function, texts, after)
         return f"{self.at(node)}{function.out}({', '.join(texts)})", after
+
+    def chosen_by(self, node: Any, function: Function) -> list[str]:
+        """Of a call by a pointer the number of the function, which is its first argument."""
+        if self.places.choosers.targets(function) is None:
+            return []
+        function.out = function.out or self.spelling.fresh(function.name)
+        self.unsequenced(node, [node.name, *arguments(node)])
+        return [self.pointer(node.name)[INDEX].text]
 
     @contextmanager
     def else_apart(self, parameters: list[Variable]) -> Iterator[None]:
@@ -122,7 +136,7 @@ class Calls(ModelCalls, OutsideCalls):
 
     def apart(self, node: Any, function: Function) -> None:
         """Refuses a call in which a copied object has a second name, and one of both is written."""
-        summary = self.effected.of_function[function]
+        summary = self.effected.summary_of(function)
         seen: list[tuple[Object, bool, bool]] = []
         for argument, parameter in zip(arguments(node), function.parameters):
             if (
@@ -162,7 +176,10 @@ class Calls(ModelCalls, OutsideCalls):
                 )
 
     def call_value(self, node: Any) -> Value:
+        if is_offset(node):
+            return Value(self.at(node) + f"{self.constants.value(node)}ul", kinds.SIZE, PRIMARY)
         function = self.called(node)
+        self.outer_used.add(function)
         if not isinstance(function.result, Int):
             raise Refused(
                 node.coord, f"the value of {function.name} is no integer", "assign it whole, in a statement of its own"
@@ -180,8 +197,17 @@ class Calls(ModelCalls, OutsideCalls):
         if function.name in ("assert", "assume") and function.definition is None:
             self.emit(f"{self.at(node)}{function.name}({self.value(arguments(node)[0]).text});")
             return
+        if function.definition is None and function.name in OUTPUT:
+            for one in self.outer_call(node, function)[1]:
+                self.emit(one)
+            return
         text, after = self.call(node)
-        if function.definition is not None or isinstance(function.result, Int) or model_of(function):
+        if (
+            function.definition is not None
+            or isinstance(function.result, Int)
+            or model_of(function)
+            or heap_call(function)
+        ):
             self.emit(text + ";")
         for one in after:
             self.emit(one)
@@ -192,6 +218,11 @@ class Calls(ModelCalls, OutsideCalls):
         """Writes the assignment of a struct, member by member."""
         if isinstance(source, c_ast.TernaryOp):
             self.either(source, lambda one: self.assign_whole(target, one, node))
+            return
+        if isinstance(source, c_ast.ExprList):
+            for one in source.exprs[:-1]:
+                self.effect(one)
+            self.assign_whole(target, source.exprs[-1], node)
             return
         if sum(leaf.count for leaf in kinds.leaves(target.type)) > MOST_COPIED:
             raise Refused(node.coord, f"a struct of more than {MOST_COPIED} integers is copied", "copy what is needed")
@@ -204,6 +235,22 @@ class Calls(ModelCalls, OutsideCalls):
         for (_, to), (_, of) in zip(self.integers(target, index), values):
             for one, value in zip(to, of):
                 self.emit(f"{one} = {value};")
+
+    def kept_whole(self, node: Any) -> Any:
+        """A member of a struct that is no object (6.5.2.3p3), as one of an object that is written before and has it."""
+        if isinstance(node, (c_ast.StructRef, c_ast.ArrayRef)):
+            base = self.kept_whole(node.name)
+            if isinstance(node, c_ast.ArrayRef):
+                return c_ast.ArrayRef(base, node.subscript, node.coord)
+            return c_ast.StructRef(base, ".", node.field, node.coord)
+        of = self.constants.type_of(node)
+        local = Variable("whole", of, node.coord, "local", out=self.spelling.fresh("whole"))
+        self.declared(local)
+        self.assign_whole(Place(local, (), (), of), node, node)
+        made = c_ast.ID(local.out, node.coord)
+        self.names.meaning[id(made)] = local
+        self.kept_nodes.append(made)
+        return made
 
     def whole(self, source: Any, target: Place) -> tuple[Place, Optional[Value]]:
         """The object in which a struct's value stands."""

@@ -4,6 +4,7 @@ import re
 from typing import Any
 
 from . import kinds
+from .bindings import key
 from .calls import MOST_ELEMENTS
 from .declarators import Function, Variable
 from .effects import pointee
@@ -11,6 +12,7 @@ from .initialisers import Part, filled, none_of
 from .kinds import Int, Path, Pointer
 from .output import File, unmarked
 from .places import Place
+from .pointers import MOST
 from .refusals import Refused
 from .regions import Region
 from .statements import Statements
@@ -57,14 +59,16 @@ class ColumnItems(Statements):
         for leaf in kinds.leaves(column.type):
             if self.places.columns.is_apart(region, leaf.path):
                 continue
-            if leaf.count > MOST_ELEMENTS:
-                advice = (
-                    f"the profile takes {MOST_ELEMENTS} at most, also of all objects together that one pointer meets"
-                )
-                raise Refused(column.coord, f"{column.out} has {leaf.count} elements", advice)
             values = [none_of(leaf)] * leaf.count
             for at, text in given.get((column, leaf.path), {}).items():
                 values[at] = text
+            if leaf.count > MOST + 1:
+                advice = f"at most {MOST + 1}, of all objects together that one pointer meets"
+                raise Refused(column.coord, f"{column.out} has {leaf.count} elements", advice)
+            if leaf.count > MOST_ELEMENTS:
+                name = self.spelling.leaf(column, leaf.path)
+                self.emit(self.large.declared(name, leaf.kind, leaf.count, values, column.const, column.coord))
+                continue
             while len(values) > 1 and values[-1] == "0":
                 values.pop()
             first = "" if values == ["0"] else f" = {{{', '.join(values)}}}"
@@ -89,7 +93,12 @@ class ColumnItems(Statements):
                         spot = [at // product(leaf.dims[n + 1 :]) % length for n, length in enumerate(leaf.dims)]
                         place = self.placed(variable, leaf.path, tuple(spot))
                         index = self.index(place, False)
-                        if place.variable.home == "column" and index is not None:
+                        if self.places.is_raw(place) and index is not None and isinstance(place.type, Int):
+                            word = int(self.first_number(node, place.type))
+                            for byte in range(place.type.bits // 8):
+                                spot_at = int(index.text) + byte
+                                found.setdefault((place.variable, ()), {})[spot_at] = str(word >> (8 * byte) & 255)
+                        elif place.variable.home == "column" and index is not None:
                             text = self.first_number(node, leaf.kind)
                             found.setdefault((place.variable, place.path), {})[int(index.text)] = text
         return found
@@ -117,6 +126,7 @@ class ColumnItems(Statements):
                 continue
             with self.names.refusals.gathered():
                 if one.is_bound and isinstance(one.type, Pointer):
+                    self.names.refusals.apart.add(key(one))
                     raise Refused(one.coord, f"the address of what {one.name} points to", "hand over the object itself")
                 for leaf, texts in self.each_integer(place, self.index(place, True) if place.shifted() else None):
                     if place.variable.home == "column" or self.places.columns.is_apart(region, leaf.path):

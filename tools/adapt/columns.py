@@ -3,7 +3,9 @@
 from typing import Any, Optional, Union
 
 from . import kinds
+from .clones import learn
 from .declarators import Variable
+from .heap import bytes_asked, call_key, heap_call
 from .kinds import Array, Path, Pointer, Type
 from .names import Names
 from .points_to import PointsTo
@@ -15,8 +17,17 @@ Owner = Union[Variable, tuple[Region, str]]  # an object, or the member of all e
 
 
 class Columns:
-    def __init__(self, names: Names) -> None:
-        self.names, self.points = names, PointsTo(names)
+    def __init__(self, names: Names, learned: set[Any]) -> None:
+        self.names, self.points = names, PointsTo(names, learned)
+        self.pools = {pool.variable: pool for pool in self.points.pools.values()}
+        for caller, node in self.points.pointer_calls:
+            targets = self.pointer(node.name).region.root().targets
+            heap = {heap_call(target) for target in targets}
+            if len(heap) == 1 and "" not in heap and node.coord:
+                names.refusals.apart.add(call_key(node, heap.pop()))
+            for target in targets:
+                target.calls.append((caller, node))
+        learn(names, self.points, names.refusals.apart)
         self.begins: dict[tuple[Region, Owner], int] = {}
         self.counts: dict[Region, Optional[int]] = {}
         self.inner: dict[Region, list[tuple[Region, str]]] = {}
@@ -45,7 +56,7 @@ class Columns:
 
     @staticmethod
     def is_function(region: Region) -> bool:
-        return bool(region.elem == kinds.FUNCTION)
+        return region.is_code
 
     # ---- layout
 
@@ -57,10 +68,13 @@ class Columns:
                 raise Refused(None, "an object that lies within itself by a pointer", "use objects apart")
             return count
         self.counts[region] = None
+        if region.elem is None or region.elem == kinds.VOID or self.points.is_open(region.elem):
+            region.elem = kinds.Int(8, False, "unsigned char")
         end, objects = 0, 0
         owners: list[Owner] = [*region.objects, *self.inner.get(region, [])]
         for owner in owners:
-            count, each = self.extent(owner)
+            count, each = self.pool(owner, region) if owner in self.pools else self.extent(owner)
+            end = -(-end // 8) * 8 if region.raw else end  # (as aligned as their objects are, so that a test of it tells the same)
             self.begins[(region, owner)] = end
             end += count + 1
             objects += each
@@ -71,19 +85,29 @@ class Columns:
         self.column(region, end, alone)
         return end
 
+    def pool(self, owner: Any, region: Region) -> tuple[int, int]:
+        """How many elements the memory of a call of malloc has, and how many objects."""
+        pool, size = self.pools[owner], kinds.size(region.elem) or 1
+        try:
+            asked = bytes_asked(self.names.constants, pool.node, pool.called)
+        except Refused:
+            asked = None  # (told where it is written)
+        pool.count = self.names.pool[1] if asked is None else max(1, asked // size)
+        owner.type = Array(region.elem, pool.slots * pool.count)
+        return pool.slots * pool.count, pool.slots
+
     def extent(self, owner: Owner) -> tuple[int, int]:
         """How many elements an owner has, and how many objects these are."""
         if isinstance(owner, Variable):
             of = owner.type.to if owner.is_bound and isinstance(owner.type, Pointer) else owner.type
-            return kinds.elements(of), 1
+            return self.points.count(of, self.points.home(owner)), 1
         outer, name = owner
-        of = dict(outer.elem.members or [])[name]
-        count = self.lay_out(outer) if outer.pointed else sum(self.extent(one)[0] for one in outer.objects)
-        return count * kinds.elements(of), count
+        of = outer.elem.type_of(name)
+        owners: list[Owner] = [*outer.objects, *self.inner.get(outer, [])]
+        count = self.lay_out(outer) if outer.pointed else sum(self.extent(one)[0] for one in owners)
+        return count * self.points.count(of, outer.member(name, kinds.element(of))), count
 
     def column(self, region: Region, count: int, alone: Optional[Variable]) -> None:
-        if region.elem is None or region.elem == kinds.VOID:
-            region.elem = kinds.Int(8, False, "unsigned char")
         coord = region.objects[0].coord if region.objects else None
         made = Variable(alone.name if alone else "r", Array(region.elem, count), coord, "column", defined=True)
         made.const = bool(region.objects) and all(one.const for one in region.objects) and not self.inner.get(region)
@@ -124,6 +148,10 @@ class Columns:
             raise Refused(node.coord, "what is no pointer", "use a pointer")
         return of
 
+    def number(self, region: Region) -> int:
+        """The number of a region among all."""
+        return self.regions.index(region) if region in self.regions else len(self.regions)
+
     def in_column(self, variable: Variable) -> bool:
         """Whether the whole of a variable lies in a column."""
         return self.points.home(variable).column is not None
@@ -144,7 +172,7 @@ class Columns:
         variable, factor, add = region.column, 1, 0
         at: Optional[Region] = region
         for name in path:
-            of = dict(at.root().elem.members or [])[name] if at is not None and not name.startswith("@") else None
+            of = at.root().elem.type_of(name) if at is not None and not name.startswith("@") else None
             inner = at.root().members.get(name) if at is not None else None
             count = kinds.elements(of) if of is not None else 1
             factor, add = factor * count, add * count
@@ -157,6 +185,8 @@ class Columns:
         return variable, inside, factor, add
 
     def any_apart(self, region: Optional[Region], of: Type) -> bool:
+        if region is not None and region.root().raw:
+            return True
         return any(self.is_apart(region, leaf.path) for leaf in kinds.leaves(of))
 
     def named(self, spelling: Spelling) -> None:

@@ -9,9 +9,11 @@ from typing import Any, Iterator
 from pycparser import c_generator
 
 from . import kinds
+from .heap import heap_call
 from .kinds import Array, Int, Path, Struct, Type
+from .library import OUTPUT, Spot
 from .declarators import Function, Variable
-from .reading import compiler
+from .reading import compiler, is_system
 from .refusals import Stop
 from .models import model_of
 from .output import FELL, unmarked
@@ -24,12 +26,15 @@ DRIVER = """
 #include <stdlib.h>
 #include <unistd.h>
 void adapt_fell(void) { _exit(77); }
+static FILE *adapt_told; /* (what the sources print goes nowhere) */
+void adapt_tell(long long value) { fprintf(adapt_told, " %%lld", value); }
 static long long adapt_answers[64]; static int adapt_answer_count, adapt_answer_taken;
 long long adapt_answer(void) { return adapt_answer_taken < adapt_answer_count ? adapt_answers[adapt_answer_taken++] : 0; }
 static char **adapt_words;
 static long long adapt_word(void) { return strtoll(*adapt_words++, 0, 10); }
 int main(int adapt_argc, char **adapt_argv) {
-  alarm(2); setvbuf(stdout, 0, _IOLBF, 0); adapt_words = adapt_argv + 1;
+  alarm(2); adapt_told = stdout; setvbuf(adapt_told, 0, _IOLBF, 0); adapt_words = adapt_argv + 1;
+  stdout = fopen("/dev/null", "w");
   adapt_answer_count = (int) adapt_word();
   for (int adapt_i = 0; adapt_i < adapt_answer_count; adapt_i++) adapt_answers[adapt_i] = adapt_word();
   while (adapt_words < adapt_argv + adapt_argc) {
@@ -37,7 +42,7 @@ int main(int adapt_argc, char **adapt_argv) {
 %s
     }
 %s
-    printf(" %%d\\n", adapt_answer_taken);
+    fprintf(adapt_told, " %%d\\n", adapt_answer_taken);
   }
   return 0;
 }
@@ -50,7 +55,7 @@ WATCHED = [
     "-fsanitize-undefined-trap-on-error",
 ]
 GUARDS = "char adapt_guard_{0}[64] = {{1}}, adapt_other_guard_{0}[64];\n"
-QUIET = "detect_leaks=0:abort_on_error=0:exitcode=70"
+QUIET = "max_malloc_fill_size=65536:malloc_fill_byte=0:detect_leaks=0:abort_on_error=0:exitcode=70"
 ENDED, FAILED, FELL_OFF = 0, -6, 77  # a run to its end, one whose assert failed, one off the end of a function
 TELLING = [0, 1, -1, 2, 3, 4, 5, 7, 8, 10, 16, 31, 64, 100, 127, 128, 200, 255, 256, -128, 32767, 65535]
 TELLING += [2**31 - 1, -(2**31), 2**32 - 1, 2**63 - 1]
@@ -58,16 +63,17 @@ TELLING += [2**31 - 1, -(2**31), 2**32 - 1, 2**63 - 1]
 
 def parts(
     of: Type, text: str = "", path: Path = (), index: tuple[int, ...] = ()
-) -> Iterator[tuple[str, Path, tuple[int, ...]]]:
-    """The integers of an object: how C reaches each, and the members and indexes that lead to it."""
+) -> Iterator[tuple[str, Path, tuple[int, ...], Int]]:
+    """The integers of an object: how C reaches each, the members and indexes that lead to it, and its type."""
     if isinstance(of, Int):
-        yield text, path, index
+        yield text, path, index, of
     elif isinstance(of, Array):
         for at in range(of.length or 0):
             yield from parts(of.of, f"{text}[{at}]", path, index + (at,))
     elif isinstance(of, Struct):
-        for name, member in of.members or []:
-            yield from parts(member, f"{text}.{name}", path + (name,), index)
+        for name, member in of.held if not of.is_parts() else []:
+            own = text if name.startswith("?") else f"{text}.{name}"
+            yield from parts(member, own, path + (name,), index)
 
 
 def plain(function: Function) -> bool:
@@ -81,7 +87,13 @@ def undefined(writer: Units) -> list[Function]:
     """The functions that are called and that no source defines."""
     known = ("assert", "assume", "__assert_fail")
     found = [one for one in writer.names.functions if one.definition is None and one.calls and one.name not in known]
-    return [one for one in found if model_of(one) is None]
+    found = [one for one in found if one.name not in OUTPUT or not is_in_library(one)]
+    return [one for one in found if model_of(one) is None and not heap_call(one)]
+
+
+def is_in_library(function: Function) -> bool:
+    """Whether a header of the system declares a function, so that the original is linked with the library's."""
+    return is_system(str(function.coord.file))
 
 
 def answering(writer: Units, function: Function, answer: str) -> str:
@@ -98,8 +110,14 @@ class Comparison:
     def __init__(self, writer: Units, sources: list[str], made: dict[str, str], flags: list[str], folder: str) -> None:
         self.writer, self.folder = writer, folder
         functions = [one for one in writer.names.functions if one.definition is not None and not one.static]
+        functions = [one for one in functions if not isinstance(one.coord, Spot)]
         # (main is the comparison's own)
         self.entries = [one for one in functions if plain(one) and one.name != "main"]
+        if writer.registers:
+            raise Stop(f"{writer.registers[0].name} is an input of what was written, and an object of the original, so nothing can be compared")
+        if writer.outer_values:
+            name = next(iter(writer.outer_values))[0].name
+            raise Stop(f"what {name} writes is an input of what was written, so nothing can be compared")
         if not self.entries:
             raise Stop(
                 "there is no function that isn't static, takes integers alone and gives one or nothing, so nothing can be compared"
@@ -108,7 +126,11 @@ class Comparison:
         self.shared = [
             one
             for one in writer.names.variables
-            if one.home == "file" and one.defined and not one.const and not kinds.fault_of(one.type)
+            if one.home == "file"
+            and not isinstance(one.coord, Spot)
+            and one.defined
+            and not one.const
+            and not kinds.fault_of(one.type)
         ]
         self.original(sources, flags, outer)
         self.adapted(made, outer)
@@ -130,9 +152,12 @@ class Comparison:
         """Prints each integer of the variables."""
         lines = []
         for variable in variables:
-            for text, path, index in parts(variable.type):
+            for text, path, index, kind in parts(variable.type):
                 own = unmarked(self.writer.leaf(self.writer.placed(variable, path, index))[0])
-                lines.append(f'  printf(" %lld", (long long) {own if ours else variable.name + text});')
+                own = self.writer.large.rewritten(own)
+                lines.append(
+                    f"  adapt_tell((long long) {f'({kinds.c_words(kind)}) {own}' if ours else variable.name + text});"
+                )
         return "\n".join(lines)
 
     def calls(self) -> str:
@@ -141,7 +166,7 @@ class Comparison:
             words = "".join(f" long long adapt_{at} = adapt_word();" for at in range(len(one.parameters)))
             given = ", ".join(f"({getattr(p.type, 'text', '')}) adapt_{at}" for at, p in enumerate(one.parameters))
             call = f"{one.out}({given})"
-            shown = f'printf("%lld", (long long) {call});' if isinstance(one.result, Int) else f"{call};"
+            shown = f"adapt_tell((long long) {call});" if isinstance(one.result, Int) else f"{call};"
             lines.append(f"    case {number}: {{{words} {shown} break; }}")
         return "\n".join(lines)
 
@@ -156,7 +181,7 @@ class Comparison:
             own = [one for one in self.shared if one.unit.path == path]
             defined = "".join(answering(self.writer, one, "adapt_answer()") for one in outer) if number == 0 else ""
             texts.append(
-                f"{GUARDS.format(number)}{self.text(path)}#include <stdio.h>\nlong long adapt_answer(void);\n{defined}void adapt_dump_{number}(void) {{\n{self.dump(own, False)}\n}}\n"
+                f"{GUARDS.format(number)}{self.text(path)}#include <stdio.h>\nlong long adapt_answer(void);\nvoid adapt_tell(long long);\n{defined}void adapt_dump_{number}(void) {{\n{self.dump(own, False)}\n}}\n"
             )
             dumps += f"    adapt_dump_{number}();\n"
         head = "".join(f"void adapt_dump_{number}(void);\n" for number in range(len(sources)))
@@ -166,11 +191,19 @@ class Comparison:
         self.compile("original", [*texts, head + DRIVER % (self.calls(), dumps)], flags + WATCHED)
 
     def adapted(self, made: dict[str, str], outer: list[Function]) -> None:
-        text = "#include <stdint.h>\n#include <stddef.h>\n#include <assert.h>\n" + self.copied(made)
-        text += "long long adapt_answer(void);\n"
+        own = [
+            one.out for one in self.writer.names.functions if isinstance(one.coord, Spot) and one.definition is not None
+        ]
+        apart, again = [
+            "".join(line.format(one) for one in own) for line in ("#define {0} adapt_own_{0}\n", "#undef {0}\n")
+        ]
+        text = f"#include <stdint.h>\n#include <stddef.h>\n#include <assert.h>\n{apart}{self.copied(made)}{again}"
+        text += "long long adapt_answer(void);\nvoid adapt_tell(long long);\n"
         for one in outer:
             if isinstance(one.result, Int):
                 text += f"{one.result.text} {one.out}(void) {{ return ({one.result.text}) adapt_answer(); }}\n"
+        if self.writer.heap.asked:
+            text += f"unsigned int {self.writer.heap.asked}(void) {{ return 0; }}\n"
         self.compile("adapted", [text + DRIVER % (self.calls(), self.dump(self.in_order(), True))], [])
 
     def in_order(self) -> list[Variable]:

@@ -5,7 +5,7 @@ from typing import Any, Callable, Optional
 
 from pycparser import c_ast
 
-from . import kinds
+from . import kinds, unions
 from .kinds import Array, Int, Struct, Type, fit
 from .refusals import Refused
 
@@ -35,13 +35,21 @@ SHIFTS = ("<<", ">>")
 LOGICAL = ("&&", "||")
 
 
+WIDE = {"L": kinds.INT, "u": kinds.FIXED["uint16_t"], "U": kinds.UINT}
+
+
+def character(text: str) -> Int:
+    """The type of a string's elements (6.4.5p6)."""
+    return WIDE.get(text[: text.index('"')], kinds.Int(8, True, "char"))
+
+
 def codes(text: str) -> list[int]:
-    """The values of the characters between the quotes of a constant or a string, each as a `char`."""
-    found = []
+    """The values of the characters between the quotes of a constant or a string, each as one of its elements."""
+    found, kind = [], character(text) if text.endswith('"') else kinds.Int(8, True, "char")
     for hexadecimal, octal, simple, plain in ESCAPE.findall(text[text.index(text[-1]) + 1 : -1]):
         code = ESCAPES[simple] if simple else ord(plain or "0")
         code = int(hexadecimal, 16) if hexadecimal else int(octal, 8) if octal else code
-        found.append(fit(code, kinds.Int(8, True, "char")))
+        found.append(fit(code, kind))
     return found
 
 
@@ -55,6 +63,8 @@ def number(node: Any) -> tuple[int, Int]:
         return found[0], kinds.INT
     if "int" not in node.type:
         raise Refused(node.coord, f"the constant {text}", "use integers in fixed point")
+    if text.startswith("-"):
+        return int(text), kinds.INT  # (a character of a string)
     whole = re.fullmatch(r"(0[xX][0-9a-fA-F]+|0[bB][01]+|\d+)([uUlL]*)", text)
     if not whole:
         raise Refused(node.coord, f"the constant {text}", "write its number")
@@ -67,6 +77,11 @@ def number(node: Any) -> tuple[int, Int]:
         if sign and (kind.bits == 64 or not long) and fit(value, kind) == value:
             return value, kind
     raise Refused(node.coord, f"the constant {text} is too large", "use at most 64 bits")
+
+
+def is_offset(node: Any) -> bool:
+    """Whether a call is `offsetof`."""
+    return isinstance(node, c_ast.FuncCall) and isinstance(node.name, c_ast.ID) and node.name.name == "offsetof"
 
 
 class Constants:
@@ -84,7 +99,10 @@ class Constants:
         if isinstance(node, c_ast.StructRef):
             of = self.type_of(node.name)
             of = getattr(of, "to", getattr(of, "of", of)) if node.type == "->" else of
-            return dict(of.members or []).get(node.field.name, kinds.VOID) if isinstance(of, Struct) else kinds.VOID
+            path = unions.found(of, node.field.name)
+            for name in path or []:
+                of = dict(of.members or [])[name]  # type: ignore[union-attr]
+            return of if path else kinds.VOID
         of = self.type_of(node.name if isinstance(node, c_ast.ArrayRef) else node.expr)
         if isinstance(node, c_ast.ArrayRef) and isinstance(of, Int):
             of = self.type_of(node.subscript)
@@ -94,7 +112,7 @@ class Constants:
         """The type of an expression before any conversion of arrays."""
         if isinstance(node, c_ast.Constant):
             return (
-                Array(kinds.Int(8, True, "char"), len(codes(node.value)) + 1)
+                Array(character(node.value), len(codes(node.value)) + 1)
                 if node.type == "string"
                 else number(node)[1]
             )
@@ -115,6 +133,9 @@ class Constants:
             return kinds.promoted(left) if node.op in SHIFTS else kinds.common(left, right)
         if isinstance(node, c_ast.TernaryOp):
             left, right = self.type_of(node.iftrue), self.type_of(node.iffalse)
+            if self.value(node.iftrue) == 0 and not isinstance(right, Int):
+                return kinds.adjusted(right)
+            left = kinds.adjusted(left)
             return kinds.common(left, right) if isinstance(left, Int) and isinstance(right, Int) else left
         if isinstance(node, c_ast.Assignment):
             return self.type_of(node.lvalue)
@@ -123,9 +144,18 @@ class Constants:
         if isinstance(node, (c_ast.Cast, c_ast.CompoundLiteral)):
             to: Type = self.names.types.get(id(node.to_type if isinstance(node, c_ast.Cast) else node.type), kinds.VOID)
             return to
-        called = self.names.meaning.get(id(node)) if isinstance(node, c_ast.FuncCall) else None
-        result: Type = called.result if called is not None else kinds.VOID
-        return result
+        if is_offset(node):
+            return kinds.SIZE
+        return self.called(node).result if isinstance(node, c_ast.FuncCall) else kinds.VOID
+
+    def called(self, node: Any) -> Any:
+        """The function, or the type of one, that a call calls."""
+        known = self.names.meaning.get(id(node))
+        if known is not None:
+            return known
+        of = self.type_of(node.name)
+        of = of.to if isinstance(of, kinds.Pointer) else of
+        return of if isinstance(of, kinds.Signature) else kinds.Signature(kinds.VOID, [])
 
     def type_of_unary(self, node: Any) -> Type:
         if node.op == "sizeof":
@@ -135,7 +165,8 @@ class Constants:
         if node.op == "&":
             return kinds.Pointer(self.type_of(node.expr))
         if node.op == "*":
-            return self.place_type(node)
+            of = self.type_of(node.expr)
+            return of if isinstance(of, kinds.Signature) else self.place_type(node)
         of = self.type_of(node.expr)
         return kinds.promoted(of) if isinstance(of, Int) and node.op in "+-~" else of
 
@@ -149,6 +180,22 @@ class Constants:
         if known is None:
             raise Refused(node.coord, "the size isn't known", "write its number")
         return known
+
+    def offset(self, node: Any, of: Type) -> tuple[int, Type]:
+        """Where a member lies in a struct, and its type (7.19p3)."""
+        at, inner = 0, of
+        if isinstance(node, c_ast.StructRef):
+            at, inner = self.offset(node.name, of)
+            node = node.field
+        elif isinstance(node, c_ast.ArrayRef):
+            at, inner = self.offset(node.name, of)
+            known, size = self.value(node.subscript), kinds.size(getattr(inner, "of", inner))
+            if known is not None and size is not None and isinstance(inner, Array):
+                return at + known * size, inner.of
+        own = kinds.offsets(inner) if isinstance(inner, Struct) else {}
+        if not isinstance(node, c_ast.ID) or node.name not in own:
+            raise Refused(node.coord, "an offset that isn't known", "write its number")
+        return at + own[node.name], dict(getattr(inner, "members", None) or [])[node.name]
 
     def length_of(self, init: Any, of: Type) -> int:
         """The length of an array that has none of its own, by its initialiser (6.7.9p22)."""
@@ -183,6 +230,8 @@ class Constants:
             return (fit(one[0], to), to) if one and isinstance(to, Int) else None
         if isinstance(node, c_ast.UnaryOp):
             return self.known_unary(node)
+        if is_offset(node):
+            return self.offset(node.args.exprs[1], self.names.types[id(node.args.exprs[0])])[0], kinds.SIZE
         if isinstance(node, c_ast.TernaryOp):
             test, of = self.known(node.cond), self.type_of(node)
             one = self.known(node.iftrue if test[0] else node.iffalse) if test else None

@@ -8,7 +8,7 @@ from pycparser import c_ast
 
 from . import kinds
 from .constants import Constants
-from .kinds import Array, Int, Other, Pointer, Struct, Type
+from .kinds import Array, Int, Other, Pointer, Signature, Struct, Type
 from .reading import Unit
 from .refusals import Refusals, Refused
 
@@ -31,6 +31,12 @@ class Variable:
     out: str = ""
     unit: Any = None
     number: int = 0  # of the item in which it is first declared
+    volatile: bool = False
+
+    @property
+    def is_input(self) -> bool:
+        """Whether it is a register: a volatile integer that no source defines, so that each read of it is an input."""
+        return self.volatile and self.home == "file" and not self.defined and isinstance(self.type, Int)
 
     @property
     def shared(self) -> bool:
@@ -56,6 +62,14 @@ class Function:
     calls: list[tuple[Optional["Function"], Any]] = field(default_factory=list)
     number: int = 0  # of the item that defines it
     taken: bool = False
+    own_type: Optional[Signature] = None
+
+    @property
+    def type(self) -> Signature:
+        """The type of the function, whose pointers have the regions of its parameters and of its result."""
+        if self.own_type is None:
+            self.own_type = Signature(self.result, [one.type for one in self.parameters], self.variadic)
+        return self.own_type
 
 
 @dataclass
@@ -80,6 +94,10 @@ class Declarators:
         self.enumerators: dict[str, Any] = {}
         self.constants = Constants(self)
         self.function: Optional[Function] = None
+        self.structs: list[Struct] = []
+        self.named_members: set[str] = set()
+        self.initialised: list[Type] = []  # types of objects that have lists of first values
+        self.pool = (4, 16)  # the slots of a call of malloc, and the elements of one whose number isn't constant
         self.scope: ChainMap[str, Any] = ChainMap()
         self.tags: ChainMap[str, Any] = ChainMap()
         self.items: list[tuple[Unit, Any]] = []
@@ -90,8 +108,6 @@ class Declarators:
     def type_of(self, node: Any) -> Type:
         """The type that a declarator or a Typename gives."""
         if isinstance(node, (c_ast.Typename, c_ast.TypeDecl)):
-            if "volatile" in node.quals:
-                raise Refused(node.coord, "a volatile object", "read it by an input function in its place")
             return self.type_of(node.type)
         if isinstance(node, c_ast.IdentifierType):
             return self.named(node)
@@ -106,18 +122,21 @@ class Declarators:
             return Array(of, length)
         if isinstance(node, c_ast.PtrDecl):
             to = node.type
-            if isinstance(to, c_ast.FuncDecl):
-                return Pointer(kinds.FUNCTION)
             return Pointer(self.type_of(to))
-        if isinstance(node, c_ast.Struct):
+        if isinstance(node, (c_ast.Struct, c_ast.Union)):
             return self.struct(node)
         if isinstance(node, c_ast.Enum):
             return self.enum(node)
-        if isinstance(node, c_ast.Union):
-            return self.union(node)
         if isinstance(node, c_ast.FuncDecl):
-            return kinds.FUNCTION
+            return self.signature(node)
         raise Refused(node.coord, f"a type ({type(node).__name__})", "use an integer, an array or a struct")
+
+    def signature(self, node: Any) -> Signature:
+        """The type of a function (6.7.6.3); its parameters are what they are adjusted to."""
+        listed = list(node.args.params) if node.args else []
+        own = [self.usable(one.type) for one in listed if isinstance(one, (c_ast.Decl, c_ast.Typename))]
+        taken = [kinds.adjusted(one) for one in own if one != kinds.VOID]
+        return Signature(self.usable(node.type), taken, any(isinstance(one, c_ast.EllipsisParam) for one in listed))
 
     def usable(self, node: Any) -> Type:
         """The type, or one that is refused where it is used."""
@@ -128,7 +147,7 @@ class Declarators:
 
     def named(self, node: Any) -> Type:
         found = self.scope.get(node.names[0]) if len(node.names) == 1 else None
-        if isinstance(found, (Int, Array, Struct, Pointer, Other)):
+        if isinstance(found, (Int, Array, Struct, Pointer, Signature, Other)):
             return kinds.renewed(found)
         if {"float", "double", "_Complex"} & set(node.names):
             return kinds.FLOATS[16 if "long" in node.names else 8 if "double" in node.names else 4]
@@ -140,32 +159,43 @@ class Declarators:
         tag = node.name or f"at line {node.coord.line}"
         made = self.tags.get(tag) if node.name else None
         if made is None or (node.decls is not None and node.name and tag not in self.tags.maps[0]):
-            made = Struct(tag)
+            made = Struct(tag, union=isinstance(node, c_ast.Union))
+            self.structs.append(made)
             if node.name:
                 self.tags[tag] = made
         if node.decls is None or made.members is not None:
             return made
         members = []
         for one in node.decls:
-            if not isinstance(one, c_ast.Decl) or one.bitsize is not None or one.name is None:
-                what = "a bit-field" if getattr(one, "bitsize", None) is not None else "a member without a name"
-                made.fault = made.fault or (one.coord or node.coord, what, "use a member of its own")
+            if isinstance(one, c_ast.Decl) and one.bitsize is not None:
+                members += self.bit_field(made, one)
+                continue
+            if isinstance(one, c_ast.Decl) and one.name is None and isinstance(one.type, (c_ast.Struct, c_ast.Union)):
+                one.name = f"?{len(members)}"
+            if not isinstance(one, c_ast.Decl) or one.name is None:
+                cause = (one.coord or node.coord, "a member without a name", "use a member of its own")
+                made.fault = made.fault or cause
                 continue
             members.append((one.name, self.usable(one.type)))
+            made.declared.append((*members[-1], None))
         made.members = members
         return made
 
-    def union(self, node: Any) -> Type:
-        """A union, which is refused where it is used; its size is known where those of its members are."""
-        if node.decls is None:
-            return self.tags.get(f"union {node.name}", Other(*kinds.UNION))
-        members = [self.usable(one.type) for one in node.decls if isinstance(one, c_ast.Decl)]
-        sizes, align = [kinds.size(one) for one in members], max(kinds.alignment(one) for one in members)
-        whole = max((one for one in sizes if one is not None), default=0)
-        made = Other(*kinds.UNION, None if None in sizes else -(-whole // align) * align, align)
-        if node.name:
-            self.tags[f"union {node.name}"] = made
-        return made
+    def bit_field(self, made: Struct, node: Any) -> list[tuple[str, Type]]:
+        """A bit-field, which is an integer of its own; one without a name only takes place (6.7.2.1p9 to p12)."""
+        of = self.usable(node.type)
+        self.expression(node.bitsize)
+        width = self.constants.value(node.bitsize)
+        if not isinstance(of, Int) or width is None or 32 < width < of.bits:
+            cause = (
+                "a bit-field of more than 32 bits" if isinstance(of, Int) and width else "a bit-field of no known width"
+            )
+            made.fault = made.fault or (node.coord, cause, "use a member of its own")
+            return []
+        made.declared.append((node.name or "", of, width))
+        if node.name is None:
+            return []
+        return [(node.name, of if width == of.bits else kinds.bit_field(of, width))]
 
     def enum(self, node: Any) -> Type:
         if node.values is None:

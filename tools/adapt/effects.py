@@ -5,6 +5,8 @@ from typing import Any, Optional
 
 from pycparser import c_ast
 
+from .changed import changed
+from .constants import is_offset
 from .kinds import Array, Int, Pointer, Struct, leaves
 from .declarators import Function, Variable
 from .models import Model, model_of
@@ -51,6 +53,8 @@ def may_be(one: Object, two: Object) -> bool:
 
 def objects(place: Place) -> list[Object]:
     inner = bool(place.indexes) or place.variable.home == "column"
+    if place.view is not None:
+        return [(place.variable, place.path, inner)]
     return [(place.variable, place.path + leaf.path, inner or bool(leaf.dims)) for leaf in leaves(place.type)]
 
 
@@ -83,6 +87,24 @@ class Effected:
                         ours[one] = True
         return made
 
+    def summary_of(self, function: Function) -> Effects:
+        """The effects of a call; of a function that chooses, those of all that it may call."""
+        targets = self.places.choosers.targets(function)
+        if targets is None:
+            return self.of_function[function]
+        made = Effects()
+        for one in targets:
+            if one.definition is None:
+                made.writes[OUTSIDE] = True
+            own: dict[Any, Variable] = dict(zip(one.parameters, function.parameters))
+            for ours, theirs in zip((made.reads, made.writes), self.parts(self.of_function[one])):
+                ours.update({(own.get(key[0], key[0]), *key[1:]): True for key in theirs})
+        return made
+
+    @staticmethod
+    def parts(effects: Effects) -> tuple[dict[Object, bool], dict[Object, bool]]:
+        return effects.reads, effects.writes
+
     def is_own(self, one: Object, function: Function) -> bool:
         """Whether a column has objects of this function alone, which end with its call."""
         region = self.places.columns.of_column.get(one[0]) if one[0] and one[0].home == "column" else None
@@ -104,7 +126,7 @@ class Effected:
 
     def made(self, node: Any) -> Effects:
         found = Effects()
-        if isinstance(node, c_ast.UnaryOp) and node.op == "sizeof":
+        if isinstance(node, c_ast.UnaryOp) and node.op == "sizeof" or is_offset(node):
             return found
         if isinstance(node, c_ast.Assignment):
             self.named(node.lvalue, found, True, node.op != "=")
@@ -129,16 +151,24 @@ class Effected:
         try:
             place = self.places.place(node)
         except Refused:
+            for _, child in node.children():
+                found.add(self.of(child))
             return
         for index, _ in place.indexes:
             found.add(self.of(index))
+        for index, _ in place.inside:
+            found.add(self.of(index))
+        if place.view is not None and place.view.index is not None:
+            found.add(self.of(place.view.index))
+        if place.variable.is_input:
+            found.writes[OUTSIDE] = True
         if read:
             found.add(Effects({one: False for one in objects(place)}))
         if written:
             found.add(Effects({}, {one: False for one in objects(place)}))
 
     def called(self, node: Any, found: Effects) -> None:
-        function = self.names.meaning.get(id(node))
+        function = self.places.choosers.called(node)
         model = model_of(function)
         if not isinstance(function, Function) or function.definition is None:
             for argument in arguments(node):
@@ -148,8 +178,12 @@ class Effected:
                 return
             if not isinstance(function, Function) or function.name not in ("assert", "assume"):
                 found.writes[OUTSIDE] = True
+            for place in changed(self.places, node, function, self.inputs):
+                found.add(Effects({}, {one: True for one in objects(place)}))
             return
-        summary = self.of_function[function]
+        if self.places.choosers.targets(function) is not None:
+            found.add(self.of(node.name))
+        summary = self.summary_of(function)
         shared = Effects(
             *(
                 {one: True for one in part if one[0] is None or one[0].shared}

@@ -53,15 +53,16 @@ class Jumps:
     def __init__(self, fresh: Callable[[str], str], refusals: Refusals) -> None:
         self.fresh, self.refusals = fresh, refusals
 
-    def function(self, body: Any) -> None:
+    def function(self, body: Any, parameters: set[str]) -> None:
         for block in reversed([one for one in walk(body) if isinstance(one, c_ast.Compound)]):
             for label in [one for one in block.block_items or [] if isinstance(one, c_ast.Label)]:
                 self.label(block, label)
-        for one in walk(body):
-            if isinstance(one, c_ast.Goto):
-                self.refusals.add(
-                    one.coord, f"goto {one.name}, which goes back, or into a block", "use a loop, or a flag"
-                )
+        names = goto_names(body)
+        if names:
+            from .states import States
+
+            with self.refusals.gathered():
+                States(self.fresh, names).function(body, parameters)
 
     def label(self, block: Any, label: Any) -> None:
         """Rewrites the jumps that come from earlier statements of the label's block."""
@@ -80,15 +81,7 @@ class Jumps:
         ]
         alone = len(region) == 1 and isinstance(region[0], LEFT_BY_BREAK)
         if late or (not alone and any(leaves_by(item) for item in region)):
-            first = next(one for one in walk(region[0]) if isinstance(one, c_ast.Goto) and one.name == name)
-            advice = (
-                f"declare {late[0].name or 'its types'} before the first goto"
-                if late
-                else "use a flag: a break or continue stands between it and its label"
-            )
-            self.refusals.add(first.coord, f"goto {name}", advice)
-            self.replaced(c_ast.Compound(region), name, None, 0)
-            return
+            return  # (by a state)
         flag = self.fresh(f"{name}_taken")
         inner = c_ast.Compound(region, coord=region[0].coord)
         flagged = self.replaced(inner, name, flag, 0 if alone else 1)

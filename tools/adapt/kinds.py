@@ -8,12 +8,15 @@ from .regions import Region
 
 @dataclass(frozen=True)
 class Int:
-    """An integer type: its bits, its sign, and the words of the profile for it."""
+    """An integer type: its bits, its sign, and the words of the profile for it. A bit-field has a `width`, and its bits and
+    its sign are those of the narrowest type that has its values and is promoted as it is (6.3.1.1p2)."""
 
     bits: int
     signed: bool
     text: str = field(compare=False)
     boolean: bool = False
+    width: int = 0
+    below_zero: bool = False  # of a bit-field, whether it has a sign
 
 
 @dataclass(frozen=True)
@@ -24,11 +27,37 @@ class Array:
 
 @dataclass(eq=False)
 class Struct:
-    """A struct by its tag. Its members are None until it is complete, and `fault` is why it can't be used, if so."""
+    """A struct or a union by its tag. Its members are None until it is complete, and `fault` is why it can't be used, if so.
+    What a union is written as is its `carrier`, and `dead` are members that are left out (unions.py)."""
 
     tag: str
     members: Optional[list[tuple[str, "Type"]]] = None
     fault: Optional[tuple[Any, str, str]] = None
+    declared: list[tuple[str, "Type", Optional[int]]] = field(default_factory=list)  # with the widths of bit-fields
+    union: bool = False
+    carrier: Optional[tuple[str, "Type"]] = None
+    dead: set[str] = field(default_factory=set)
+
+    @property
+    def held(self) -> list[tuple[str, "Type"]]:
+        """The members that are written."""
+        if self.union:
+            return [self.carrier] if self.carrier else []
+        return [one for one in self.members or [] if one[0] not in self.dead]
+
+    def path_of(self, name: str) -> str:
+        """The member as which one is written."""
+        return self.carrier[0] if self.union and self.carrier else name
+
+    def type_of(self, name: str) -> "Type":
+        """The type of a member, or of what a union is written as."""
+        if self.carrier and self.carrier[0] == name:
+            return self.carrier[1]
+        return dict(self.members or [])[name]
+
+    def is_parts(self) -> bool:
+        """Whether a union's members are parts of one integer."""
+        return bool(self.carrier and self.carrier[0] not in dict(self.members or []))
 
 
 @dataclass(eq=False)
@@ -39,8 +68,17 @@ class Pointer:
     region: Region = field(default_factory=Region)
 
     def __post_init__(self) -> None:
-        if self.region.elem is None and self.to not in (VOID, FUNCTION):
+        if self.region.elem is None and self.to != VOID:
             self.region.elem = element(self.to)
+
+
+@dataclass(eq=False)
+class Signature:
+    """The type of a function: what it gives and takes."""
+
+    result: "Type"
+    parameters: list["Type"]
+    variadic: bool = False
 
 
 @dataclass(frozen=True)
@@ -61,12 +99,11 @@ def c_words(kind: Int) -> str:
     return ("signed " if kind.signed else "unsigned ") + WORDS[kind.bits]
 
 
-Type = Union[Int, Array, Struct, Pointer, Other]
+Type = Union[Int, Array, Struct, Pointer, Signature, Other]
 VOID = Other("void")
 FLOATING = ("a floating point number", "use integers in fixed point")
 FLOATS = {size: Other(*FLOATING, size, size) for size in (4, 8, 16)}
 UNION = ("a union", "use a struct, or one object for each member")
-FUNCTION = Other("a function as an object", "call it by its name")
 INT, UINT = Int(32, True, "int"), Int(32, False, "unsigned int")
 LONG, SIZE = Int(64, True, "long"), Int(64, False, "size_t")
 BOOL = Int(8, False, "uint8_t", True)
@@ -92,7 +129,14 @@ def renewed(of: Type) -> Type:
     """The same type, in which pointers have regions of their own."""
     if isinstance(of, Array):
         return Array(renewed(of.of), of.length)
+    if isinstance(of, Signature):
+        return Signature(renewed(of.result), [renewed(one) for one in of.parameters], of.variadic)
     return Pointer(renewed(of.to)) if isinstance(of, Pointer) else of
+
+
+def adjusted(of: Type) -> Type:
+    """What the type of a parameter is adjusted to (6.7.6.3p7 and p8)."""
+    return Pointer(of.of) if isinstance(of, Array) else Pointer(of) if isinstance(of, Signature) else of
 
 
 def plain(words: list[str]) -> Optional[Int]:
@@ -121,13 +165,45 @@ def fit(value: int, kind: Int) -> int:
     """The number of the kind that is the value modulo 2^bits, or for `bool` whether it isn't 0."""
     if kind.boolean:
         return int(value != 0)
+    if kind.width:
+        value %= 1 << kind.width
+        return value - (1 << kind.width) if kind.below_zero and value >> (kind.width - 1) else value
     value %= 1 << kind.bits
     return value - (1 << kind.bits) if kind.signed and value >> (kind.bits - 1) else value
 
 
+def bit_field(declared: Int, width: int) -> Int:
+    """The type of a bit-field."""
+    if declared.boolean:
+        return declared
+    bits = 8 if width <= 8 else 16 if width <= 16 else 32
+    signed = declared.signed or 16 < width < 32
+    return Int(bits, signed, f"{'' if signed else 'u'}int{bits}_t", False, width, declared.signed)
+
+
+def has_bytes(of: Type) -> bool:
+    """Whether an object of the type may stand as its bytes: it has a known size, and no pointers or bit-fields."""
+    if isinstance(of, Array):
+        return of.length is not None and has_bytes(of.of)
+    if isinstance(of, Struct):
+        if of.members is None or of.fault or any(width is not None for _, _, width in of.declared):
+            return False
+        return all(has_bytes(member) for _, member in of.members)
+    return isinstance(of, Int) and not of.width or (isinstance(of, Other) and of != VOID and of.bytes is not None)
+
+
+def is_mixed(of: Type) -> bool:
+    """Whether a union in it has members that aren't one object in what is written but by their bytes."""
+    if isinstance(of, Array):
+        return is_mixed(of.of)
+    if not isinstance(of, Struct) or of.fault:
+        return False
+    return (of.union and of.members is not None and not of.carrier) or any(is_mixed(one) for _, one in of.held)
+
+
 def alignment(of: Type) -> int:
     if isinstance(of, Struct):
-        return max((alignment(member) for _, member in of.members or []), default=1)
+        return max((alignment(member) for name, member, width in of.declared if name or width is None), default=1)
     if isinstance(of, Other):
         return of.align
     return alignment(of.of) if isinstance(of, Array) else of.bits // 8 if isinstance(of, Int) else 8
@@ -141,14 +217,34 @@ def size(of: Type) -> Optional[int]:
         one = size(of.of)
         return None if one is None or of.length is None else one * of.length
     if isinstance(of, Struct) and of.members is not None and not of.fault:
-        end = 0
-        for _, member in of.members:
-            one, step = size(member), alignment(member)
-            if one is None:
-                return None
-            end = -(-end // step) * step + one
-        return -(-end // alignment(of)) * alignment(of)
+        end = laid_out(of)[1]
+        return None if end is None else -(-end // alignment(of)) * alignment(of)
     return 8 if isinstance(of, Pointer) else of.bytes if isinstance(of, Other) else None
+
+
+def offsets(of: Struct) -> dict[str, int]:
+    """Where the members of a struct lie, as gcc lays it out on x86-64; none where that isn't known."""
+    found, end = laid_out(of)
+    return found if end is not None and not of.fault else {}
+
+
+def laid_out(of: Struct) -> tuple[dict[str, int], Optional[int]]:
+    """Where the members of a struct lie, without bit-fields, and how many bytes they take before what is filled up."""
+    at, found = 0, {}  # (in bits)
+    if of.union:
+        sizes = [size(member) if width is None else -(-width // 8) for _, member, width in of.declared]
+        known = [one for one in sizes if one is not None]
+        return {name: 0 for name, _, _ in of.declared}, max(known, default=0) if len(known) == len(sizes) else None
+    for name, member, width in of.declared:
+        one, step = size(member), alignment(member) * 8
+        if one is None:
+            return {}, None
+        if width is None or width == 0 or at % (one * 8) + width > one * 8:
+            at = -(-at // step) * step
+        if width is None:
+            found[name] = at // 8
+        at += one * 8 if width is None else width
+    return found, -(-at // 8)
 
 
 Path = tuple[str, ...]
@@ -174,13 +270,13 @@ def leaves(of: Type, path: Path = (), dims: tuple[int, ...] = ()) -> Iterator[Le
     """The leaves of an object of the type, in order; none for what has no integers."""
     if isinstance(of, Int):
         yield Leaf(path, dims, of)
-    elif isinstance(of, Pointer) and of.to != FUNCTION:
+    elif isinstance(of, Pointer):
         for part in of.region.parts():
             yield Leaf(path + (part,), dims, INT)
     elif isinstance(of, Array) and of.length is not None:
         yield from leaves(of.of, path, dims + (of.length,))
     elif isinstance(of, Struct):
-        for name, member in of.members or []:
+        for name, member in of.held:
             yield from leaves(member, path + (name,), dims)
 
 
@@ -190,8 +286,8 @@ def fault_of(of: Type) -> Optional[tuple[str, str]]:
         if of.length == 0:
             return "an array without elements", "give it one at least"
         return ("an array without a length", "give its length") if of.length is None else fault_of(of.of)
-    if isinstance(of, Pointer) and of.to == FUNCTION:
-        return "a pointer to a function", "call functions by their names, in a switch over a number"
+    if isinstance(of, Signature):
+        return "a function as an object", "call it by its name"
     if isinstance(of, Pointer):
         fault = of.region.root().fault
         return (fault[1], fault[2]) if fault else None
@@ -200,5 +296,7 @@ def fault_of(of: Type) -> Optional[tuple[str, str]]:
             return of.fault[1], of.fault[2]
         if of.members is None:
             return f"struct {of.tag} isn't complete", "give its members before its use"
+        if of.union and not of.carrier:
+            return UNION
         return None  # (members that can't be written are left out, and refused where they are used)
     return (of.name, of.advice) if isinstance(of, Other) else None

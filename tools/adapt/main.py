@@ -5,7 +5,7 @@ import os
 import sys
 from typing import Any, Optional
 
-from tools import program
+from tools import program, source_map, usage
 
 from .output import FELL
 from .refusals import Refusals, Stop
@@ -20,13 +20,12 @@ def count(word: str) -> int:
     return int(word)
 
 
-def words(given: Optional[list[str]]) -> argparse.Namespace:
-    parser = argparse.ArgumentParser(
-        prog="bin/adapt",
-        description="Writes C sources again in the profile of C that FShell reads, every statement on its line. "
-        + FIRST
-        + ".",
-    )
+def parser_of_words() -> usage.Parser:
+    """What reads the words."""
+    about = f"Writes C sources again in the profile of C that FShell reads, every statement on its line. {FIRST}."
+    done = "the sources are written, and with --compare all runs agree"
+    refused = "sources are refused, with a line for each cause"
+    parser = usage.parser("bin/adapt", about, done, "runs of --compare differ", status_3=refused)
     parser.add_argument("sources", nargs="+", metavar="SOURCE", help="C sources, which together are one program")
     parser.add_argument("-I", action="append", default=[], metavar="DIR", dest="folders", help="a folder with headers")
     parser.add_argument("-D", action="append", default=[], metavar="NAME=VALUE", dest="macros", help="a macro")
@@ -42,8 +41,19 @@ def words(given: Optional[list[str]]) -> argparse.Namespace:
         help="a function that no source defines gives an input, or nothing; its arguments don't matter",
     )
     parser.add_argument(
+        "--pool",
+        type=pool,
+        default=(4, 16),
+        metavar="SLOTS[,ELEMENTS]",
+        help="how often each call of malloc gives memory, and how many elements where their number isn't constant (4,16)",
+    )
+    parser.add_argument(
         "--check", action="store_true", help="each index of an array in an array is tested by an assert"
     )
+    overflow = "each signed operation that can overflow is a call of a function of DIR/overflow.h, with an assert"
+    parser.add_argument("--check-overflow", action="store_true", help=overflow)
+    narrowing = "so is each implicit conversion that may lose a value"
+    parser.add_argument("--check-conversions", action="store_true", help=narrowing)
     parser.add_argument(
         "--harness",
         nargs=2,
@@ -53,7 +63,19 @@ def words(given: Optional[list[str]]) -> argparse.Namespace:
     parser.add_argument(
         "--compare", type=count, default=0, metavar="N", help="compile both with gcc and run both on N random inputs"
     )
-    return parser.parse_args(given)
+    return parser
+
+
+def words(given: Optional[list[str]]) -> argparse.Namespace:
+    return parser_of_words().parse_args(given)
+
+
+def pool(word: str) -> tuple[int, int]:
+    """How many slots a call of malloc has, and of how many elements."""
+    slots, _, elements = word.partition(",")
+    if not slots.isdecimal() or not (elements or "16").isdecimal() or not 1 <= int(slots) * int(elements or 16) <= 1024:
+        raise argparse.ArgumentTypeError(f"{word} is no SLOTS[,ELEMENTS] of 1 to 1024 elements together")
+    return int(slots), int(elements or 16)
 
 
 def flags_of(given: argparse.Namespace) -> list[str]:
@@ -68,6 +90,10 @@ def adapt(given: argparse.Namespace, refusals: Refusals) -> tuple[dict[str, str]
         tried = Refusals()
         texts, writer = written(given, tried, apart)
         if not tried.apart - apart:
+            copies = {one for one in apart if one[0] in ("copied", "direct")}
+            if tried.found and copies:  # (told in the words of the sources)
+                tried = Refusals()
+                written(given, tried, apart - copies)
             refusals.found |= tried.found
             return texts, writer
         apart |= tried.apart
@@ -75,16 +101,21 @@ def adapt(given: argparse.Namespace, refusals: Refusals) -> tuple[dict[str, str]
 
 def written(given: argparse.Namespace, refusals: Refusals, apart: set[Any]) -> tuple[dict[str, str], Any]:
     from .bindings import Bindings
+    from .cases import Cases
+    from .choosers import Choosers
+    from .clones import Clones
     from .columns import Columns
     from .effects import Effected
     from .gate import check
     from .jumps import Jumps, walk
+    from .library import OUTPUT, Library
     from .names import Names
     from .output import File
+    from .overflow import writer_of
     from .places import Places
     from .reading import read
     from .spelling import Spelling
-    from .units import Units
+    from .unions import settle
     from pycparser import c_ast
 
     units = [read(path, flags_of(given), refusals) for path in given.sources]
@@ -96,26 +127,33 @@ def written(given: argparse.Namespace, refusals: Refusals, apart: set[Any]) -> t
     def flag(stem: str) -> str:
         return next(name for name in (f"{stem}_{n}" for n in numbers) if name not in taken)
 
+    Clones(units, apart, flag)
+    Library(units, taken)
     names = Names(refusals)
+    names.pool = given.pool
     for unit in units:
         for item in unit.tree.ext:
             if isinstance(item, c_ast.FuncDef):
-                Jumps(flag, refusals).function(item.body)
+                Cases(flag).function(item.body)
+                listed = item.decl.type.args.params if item.decl.type.args else []
+                Jumps(flag, refusals).function(item.body, {getattr(one, "name", "") or "" for one in listed})
         taken.update(node.name for node in walk(unit.tree) if isinstance(node, c_ast.ID))
         names.unit(unit)
+    settle(names.structs, names.named_members, names.initialised)
     places = Places(names)
     Bindings(places, apart).bind()
-    places.columns = Columns(names)
-    inputs = set(given.inputs)
+    places.columns = Columns(names, apart)
+    places.choosers = Choosers(names, places.columns)
+    inputs = set(given.inputs) | OUTPUT
     effected = Effected(names, places, inputs)
-    writer = Units(names, places, effected, Spelling(names, taken), given.check)
+    writer = writer_of(given)(names, places, effected, Spelling(names, taken), given.check)
     writer.inputs = inputs
     files = writer.write()
     for path in given.sources:
         files.setdefault(path, File(path))  # (which has no code)
     order = dict.fromkeys(path for unit in units for path in unit.files)
     kept = [path for path in order if path in files and (files[path].pieces or path in given.sources)]
-    texts = {path: files[path].text(lines_of(path)) for path in kept}
+    texts = writer.finished({path: files[path].text(lines_of(path)) for path in kept})
     if not refusals.found:
         check(texts, refusals)
     return texts, writer
@@ -134,7 +172,7 @@ def put(folder: str, texts: dict[str, str]) -> list[str]:
         target = os.path.join(folder, os.path.basename(original))
         if target in paths:
             raise Stop(f"two files are named {os.path.basename(original)}")
-        if os.path.exists(target) and os.path.samefile(target, original):
+        if os.path.exists(target) and os.path.exists(original) and os.path.samefile(target, original):
             raise Stop(f"{target} is the original itself; name another folder (-o)")
         try:
             program.write_whole(target, text.replace(FELL, ""))
@@ -144,19 +182,30 @@ def put(folder: str, texts: dict[str, str]) -> list[str]:
     return paths
 
 
+def put_map(folder: str, texts: dict[str, str], writer: Any) -> None:
+    """Writes the map beside the files, by which tools show what the user wrote."""
+    from .mapping import text_of
+
+    units = list({unit.path: unit for unit, _ in writer.names.items}.values())
+    mapped = {path: text for path, text in texts.items() if path in writer.files}
+    try:
+        program.write_whole(os.path.join(folder, source_map.NAME), text_of(writer, units, mapped, folder))
+    except program.Failure as failure:
+        raise Stop(str(failure)) from None
+
+
 def write_harness(asked: argparse.Namespace, writer: Any, paths: list[str]) -> None:
     """Writes the tests of the original beside what was written."""
-    from .harness import text_of
+    from .harness import how_to_compile, text_of
 
-    if len(asked.sources) != 1:
-        raise Stop("--harness takes one source")
+    entry, given = asked.harness
     try:
-        text = text_of(writer, os.path.abspath(asked.sources[0]), paths, *asked.harness)
+        text, home = text_of(writer, paths, entry, given, asked.out)
     except program.Failure as failure:
         raise Stop(str(failure)) from failure
     name = os.path.join(asked.out, "tests.c")
     program.give(text, name)
-    print(f"wrote {name}: compile it with {' '.join(['-fwrapv', *flags_of(asked)])}")
+    print(f"wrote {name}: compile it with {how_to_compile(writer, asked.sources, home, flags_of(asked))}")
 
 
 def compare(asked: argparse.Namespace, writer: Any, texts: dict[str, str]) -> int:
@@ -175,6 +224,8 @@ def main(given: Optional[list[str]] = None) -> int:
     refusals = Refusals()
     try:
         program.check_names(asked.sources)
+        if asked.compare and (asked.check_overflow or asked.check_conversions):
+            raise Stop("--compare compares what is written without --check-overflow and --check-conversions")
         print(FIRST, flush=True)
         texts, writer = adapt(asked, refusals)
         if refusals.found:
@@ -182,6 +233,8 @@ def main(given: Optional[list[str]] = None) -> int:
             print("\n".join([*lines, f"{len(lines)} refused, nothing is written"]), file=sys.stderr)
             return 3
         paths = put(asked.out, texts)
+        writer.put_table(asked.out)
+        put_map(asked.out, texts, writer)
         print("wrote " + " ".join(paths))
         if asked.harness:
             write_harness(asked, writer, paths)

@@ -7,6 +7,7 @@ from pycparser import c_ast, c_generator
 
 
 from . import kinds
+from .constants import is_offset
 from .declarators import Declarators, Function, Variable
 from .kinds import Array, Other
 from .reading import Unit, is_system
@@ -84,8 +85,11 @@ class Names(Declarators):
             self.variables.append(made)
             if home == "file":
                 self.linked[key] = made
+        made.volatile = made.volatile or "volatile" in (node.quals or []) or "volatile" in self.quals(node.type)
         made.defined = made.defined or "extern" not in node.storage or node.init is not None
         self.scope[node.name] = made
+        if isinstance(node.init, c_ast.InitList):
+            self.initialised.append(of)
         if node.init is not None:
             made.init = node.init
             self.initialiser(node.init)
@@ -105,6 +109,7 @@ class Names(Declarators):
         elif isinstance(node, c_ast.NamedInitializer):
             for one in node.name:
                 if isinstance(one, c_ast.ID):  # (a member's name, or a constant)
+                    self.named_members.add(one.name)
                     self.meaning[id(one)] = self.scope.get(one.name)
                 else:
                     self.expression(one)
@@ -141,6 +146,7 @@ class Names(Declarators):
             of = self.usable(one.type)
             if of == kinds.VOID:
                 continue
+            of = kinds.Pointer(of) if isinstance(of, kinds.Signature) else of
             variable = Variable(one.name or "", of, one.coord or node.coord, "parameter")
             self.meaning[id(one)] = variable
             made.append(variable)
@@ -219,6 +225,7 @@ class Names(Declarators):
         elif isinstance(node, c_ast.FuncCall):
             self.call(node)
         elif isinstance(node, c_ast.StructRef):
+            self.named_members.add(node.field.name)
             self.expression(node.name)
         elif isinstance(node, c_ast.ArrayRef) and isinstance(node.name, c_ast.Constant) and node.name.type == "string":
             of = self.constants.type_of(node.name)
@@ -230,10 +237,16 @@ class Names(Declarators):
             self.types[id(node)] = self.type_of(node.type)
         elif isinstance(node, c_ast.InitList):
             self.initialiser(node)
+        elif isinstance(node, c_ast.CompoundLiteral):
+            self.children(node)
+            self.initialised.append(self.types[id(node.type)])
         else:
             self.children(node)
 
     def call(self, node: Any) -> None:
+        if is_offset(node):
+            self.expression(node.args.exprs[0])
+            return
         called = self.scope.get(node.name.name) if isinstance(node.name, c_ast.ID) else None
         if isinstance(called, Function):
             self.meaning[id(node)] = called

@@ -2,11 +2,11 @@
 indexes into columns (columns.py)."""
 
 from dataclasses import dataclass, field, replace
-from typing import Any, Iterator, Optional
+from typing import Any, Iterator, NamedTuple, Optional
 
 from pycparser import c_ast
 
-from . import kinds
+from . import kinds, unions
 from .kinds import Array, Int, Other, Path, Pointer, Struct, Type, fault_of
 from .declarators import Variable
 from .names import Names
@@ -19,17 +19,29 @@ USE = "name the object itself, or hand its address over as a parameter that is o
 class At(c_ast.Node):  # type: ignore[misc]
     """The number of the element that a pointer points to, or of one at an index from it; each step is of `stride` elements."""
 
-    __slots__ = ("pointer", "index", "stride", "coord", "__weakref__")
+    __slots__ = ("pointer", "index", "stride", "coord", "raw", "tests", "ends", "__weakref__")
     attr_names = ()
 
-    def __init__(self, pointer: Any, index: Any, stride: int, coord: Any) -> None:
-        self.pointer, self.index, self.stride, self.coord = pointer, index, stride, coord
+    def __init__(self, pointer: Any, index: Any, stride: int, coord: Any, raw: bool = False) -> None:
+        self.pointer, self.index, self.stride, self.coord, self.raw = pointer, index, stride, coord, raw
+        self.tests: Any = (
+            None  # where it points to bytes, what makes the index bad, and where its object ends and begins
+        )
+        self.ends: Any = None
 
     def children(self) -> tuple[tuple[str, Any], ...]:
         return tuple((name, one) for name, one in (("pointer", self.pointer), ("index", self.index)) if one is not None)
 
     def __iter__(self) -> Iterator[Any]:
         yield from (one for _, one in self.children())
+
+
+class View(NamedTuple):
+    """A part of an integer: its kind, and of one in an array the index and the array's length."""
+
+    kind: Int
+    index: Any
+    length: Optional[int]
 
 
 @dataclass(frozen=True)
@@ -46,6 +58,11 @@ class Place:
     region: Optional[Region] = field(default=None, compare=False)
     around: Optional["Place"] = field(default=None, compare=False)
     row: bool = field(default=False, compare=False)  # an array at a pointer to it
+    stored: Optional[Type] = field(default=None, compare=False)  # of what a union has as another member
+    view: Optional["View"] = field(default=None, compare=False)
+    inside: tuple[tuple[Any, int], ...] = field(default=(), compare=False)  # of bytes: indexes with their steps,
+    offset: int = field(default=0, compare=False)  # what is added to them,
+    whole: int = field(default=0, compare=False)  # and how many bytes the object has in which they lead
 
     def shifted(self) -> tuple[tuple[Any, int], ...]:
         """The indexes with what is added behind them."""
@@ -56,6 +73,7 @@ class Places:
     def __init__(self, names: Names) -> None:
         self.names = names
         self.columns: Any = None  # set once regions have columns
+        self.choosers: Any = None
         names.constants.place_type = self.type_at
         self.zero = c_ast.Constant("int", "0")
 
@@ -69,14 +87,33 @@ class Places:
         """The place of a variable, which may lie in a column."""
         region = self.columns.home(variable) if self.columns else None
         if region is not None and region.column is not None:
-            return Place(region.column, (), (), variable.type, self.columns.begin(region, variable), region)
+            whole = (kinds.size(variable.type) or 0) if region.raw else 0
+            return Place(
+                region.column, (), (), variable.type, self.columns.begin(region, variable), region, whole=whole
+            )
         return Place(variable, (), (), variable.type, 0, region)
 
     def member(self, base: Place, name: str, node: Any) -> Place:
         """The place of a member."""
-        of = dict(base.type.members or []).get(name) if isinstance(base.type, Struct) else None
-        if of is None:
+        path = unions.found(base.type, name)
+        if path is None or not isinstance(base.type, Struct):
+            if isinstance(base.type, Struct) and base.type.carrier and base.type.carrier[0] == name:
+                return Place(base.variable, base.path + (name,), base.shifted(), base.type.carrier[1])
             raise Refused(node.coord if node else None, f"the member {name}", "use a struct")
+        if len(path) > 1:
+            return self.member(self.member(base, path[0], node), name, node)
+        whole = base.type
+        of = whole.type_of(name)
+        if self.is_raw(base):
+            return replace(base, offset=base.offset + kinds.offsets(whole)[name], type=of)
+        if whole.fault:
+            raise Refused(node.coord if node else None, f"member {name}: {whole.fault[1]}", whole.fault[2])
+        if whole.is_parts():
+            kind = of.of if isinstance(of, Array) else of
+            view = View(kind, None, of.length if isinstance(of, Array) else None)  # type: ignore[arg-type]
+            return Place(base.variable, base.path + (whole.path_of(name),), base.shifted(), of, view=view)
+        stored = whole.type_of(whole.path_of(name))
+        name = whole.path_of(name)
         fault = fault_of(of)
         if fault:
             tag = base.type.tag if isinstance(base.type, Struct) else ""
@@ -85,8 +122,29 @@ class Places:
         inner = inner.root() if inner else None
         if inner is not None and inner.column is not None and base.region is not None:
             start = self.columns.begin(inner, (base.region.root(), name))
+            if inner.raw:
+                size = kinds.size(of) or 0
+                at = base.shifted() + (((self.zero, size),) if base.shifted() else ())
+                return Place(inner.column, (), at, of, start, inner, whole=size)
             return Place(inner.column, (), base.shifted(), of, start, inner)
-        return Place(base.variable, base.path + (name,), base.shifted(), of, 0, inner)
+        other = kinds.element(stored) if isinstance(kinds.element(of), Int) and stored != of else None
+        return Place(base.variable, base.path + (name,), base.shifted(), of, 0, inner, stored=other)
+
+    @staticmethod
+    def is_raw(place: Place) -> bool:
+        """Whether a place's object stands as its bytes."""
+        region = place.region.root() if place.region is not None else None
+        return region is not None and region.raw and place.variable is region.column
+
+    @staticmethod
+    def carrier_kind(place: Place) -> Int:
+        """The kind of the integer of which a place is a part."""
+        of: Any = place.variable.type
+        for name in place.path:
+            of = kinds.element(of).type_of(name)
+        found = kinds.element(of)
+        assert isinstance(found, Int)
+        return found
 
     def element(self, base: Place, index: Any) -> Place:
         """The place of an array's element."""
@@ -94,6 +152,14 @@ class Places:
             raise Refused(index.coord, "what is no array", USE)
         if base.row and isinstance(base.type.of, Array):
             raise Refused(index.coord, "a pointer to an array of arrays", "use indexes")
+        if base.view is not None:
+            return replace(base, view=base.view._replace(index=index), type=base.type.of)
+        if self.is_raw(base):
+            known, step = self.names.constants.value(index), kinds.size(base.type.of) or 1
+            made = replace(base, type=base.type.of, around=base.around or base)
+            if known is not None and (0 <= known < base.type.length or not base.whole):
+                return replace(made, offset=base.offset + known * step)
+            return replace(made, inside=base.inside + ((index, step),))
         length, around = 1 if base.row else base.type.length, base.around or base
         return replace(base, indexes=base.indexes + ((index, length),), type=base.type.of, around=around, row=False)
 
@@ -104,10 +170,11 @@ class Places:
                 raise Refused(node.coord, f"{node.name} is no object here", "use a variable")
             if isinstance(meaning.type, Pointer) and meaning.is_bound:
                 raise Refused(node.coord, f"the pointer {node.name}", USE)
-            fault = fault_of(meaning.type)
+            made = self.of_variable(meaning)
+            fault = None if self.is_raw(made) else fault_of(meaning.type)
             if fault:
                 raise Refused(node.coord, f"{node.name}: {fault[0]}", fault[1])
-            return self.of_variable(meaning)
+            return made
         if isinstance(node, c_ast.StructRef):
             base = self.pointed(node.name) if node.type == "->" else self.place(node.name)
             return self.member(base, node.field.name, node)
@@ -159,10 +226,12 @@ class Places:
             raise Refused(
                 node.coord, "an access by a pointer whose objects have no type", "name the type of the object"
             )
-        fault = fault_of(of.to)
+        fault = None if region.raw and kinds.size(of.to) is not None else fault_of(of.to)
         if fault:
             raise Refused(node.coord, f"what is pointed to: {fault[0]}", fault[1])
-        at = At(node, index, kinds.elements(of.to), node.coord)
+        at = At(node, index, self.columns.points.count(of.to, region), node.coord, region.raw)
+        if region.raw:
+            return Place(region.column, (), ((at, 1),), of.to, 0, region)
         return Place(region.column, (), ((at, 1),), of.to, 0, region, row=isinstance(of.to, Array))
 
     # ---- arguments

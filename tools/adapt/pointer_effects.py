@@ -14,7 +14,7 @@ from .places import Place
 from .pointers import Parts, Pointers
 from .refusals import Refused
 from .regions import INDEX
-from .values import UNARY, Known, Value, times
+from .values import PRIMARY, UNARY, Known, Value, plus, times
 
 
 class PointerEffects(Pointers):
@@ -83,6 +83,8 @@ class PointerEffects(Pointers):
         while names or numbers:
             if isinstance(place.type, Array) and numbers:
                 place = self.places.element(place, c_ast.Constant("int", str(numbers.pop(0))))
+            elif names and isinstance(place.type, kinds.Struct) and self.places.is_raw(place) and place.type.is_parts():
+                place = replace(place, type=place.type.type_of(names.pop(0)))
             elif names and names[0].startswith("@"):
                 return replace(place, path=place.path + (names.pop(0),), type=kinds.INT)
             else:
@@ -92,7 +94,14 @@ class PointerEffects(Pointers):
     def each_integer(self, place: Place, index: Optional[Value]) -> list[tuple[Any, list[str]]]:
         """The integers of an object of which some lie in columns of their own."""
         base = place
-        if index is not None:
+        if self.places.is_raw(place) and kinds.is_mixed(place.type):
+            begin, column = index or self.raw.index(place, True), self.spelling.leaf(place.variable, ())
+            count = kinds.size(place.type) or 0
+            ends = [plus(begin, Value(str(at), kinds.INT, PRIMARY)).text for at in range(count)]
+            return [(kinds.Leaf((), (count,), kinds.Int(8, False, "")), [f"{column}[{unmarked(one)}]" for one in ends])]
+        if self.places.is_raw(place):
+            base = self.raw.known(place, index or self.raw.index(place, True))
+        elif index is not None:
             base = replace(place, indexes=((Known(index, None), 1),), shift=0)
         found = []
         for leaf in kinds.leaves(place.type):

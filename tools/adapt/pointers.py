@@ -8,7 +8,8 @@ from pycparser import c_ast
 from . import kinds
 from .declarators import Function, Variable
 from .effects import STEPS, objects
-from .kinds import Array, Pointer
+from .heap import heap_call
+from .kinds import Array, Pointer, Signature
 from .models import Model, model_of
 from .places import At, Place
 from .output import unmarked
@@ -56,7 +57,7 @@ class Pointers(Writer):
         """Whether an expression is a pointer or an array that is one, but for parameters that stand for objects."""
         of = self.constants.type_of(node)
         meaning = self.names.meaning.get(id(node)) if isinstance(node, c_ast.ID) else None
-        return isinstance(of, (Pointer, Array)) and not (isinstance(meaning, Variable) and meaning.is_bound)
+        return isinstance(of, (Pointer, Array, Signature)) and not (isinstance(meaning, Variable) and meaning.is_bound)
 
     # ---- values
 
@@ -73,9 +74,10 @@ class Pointers(Writer):
             return NONE
         of = self.places.columns.pointer(node)
         fault = of.region.root().fault
-        if fault or of.to == kinds.FUNCTION:
-            cause, advice = fault[1:] if fault else kinds.fault_of(of) or ("", "")
-            raise Refused(node.coord, cause, advice)
+        if fault:
+            raise Refused(node.coord, fault[1], fault[2])
+        if isinstance(self.constants.type_of(node), Signature):
+            return self.code(node, of)
         if isinstance(node, c_ast.Cast):
             return self.pointer(node.expr)
         if isinstance(node, c_ast.UnaryOp) and node.op == "&":
@@ -99,6 +101,13 @@ class Pointers(Writer):
         if isinstance(self.constants.type_of(node), Array):
             return self.pointing_at_first(self.array(node))
         return self.loaded(node)
+
+    def code(self, node: Any, of: Pointer) -> Parts:
+        """A function's name, or what a pointer to one leads to, as a pointer."""
+        meaning = self.names.meaning.get(id(node)) if isinstance(node, c_ast.ID) else None
+        if not isinstance(meaning, Function):
+            return self.pointer(node.expr)
+        return {INDEX: Value(str(self.places.choosers.number(of.region, meaning)), kinds.INT, PRIMARY)}
 
     def array(self, node: Any) -> Place:
         if isinstance(node, c_ast.Constant):
@@ -131,16 +140,21 @@ class Pointers(Writer):
         """A pointer to a place within an object."""
         if place.variable.home != "column" or place.path:
             raise Refused(None, f"the address of {place.variable.name}", "name the object itself")
-        index = self.index(place, True)
+        raw = self.places.is_raw(place)
+        index = self.raw.index(place, True, False) if raw else self.index(place, True)
         assert index is not None
         begin = index
         if isinstance(around.type, Array):
-            begin = self.index(self.first_element(around), True) or index
-        end = plus(begin, Value(str(kinds.elements(around.type)), kinds.INT, PRIMARY))
+            first = self.first_element(around)
+            begin = self.raw.index(first, True, False) if raw else self.index(first, True) or index
+        count = self.places.columns.points.count(around.type, place.region) if raw else kinds.elements(around.type)
+        end = plus(begin, Value(str(count), kinds.INT, PRIMARY))
         return {INDEX: index, END: end, BEGIN: begin}
 
     def address(self, node: Any) -> Parts:
         inner = node.expr
+        if isinstance(self.constants.type_of(inner), Signature):
+            return self.pointer(inner)
         if isinstance(inner, c_ast.UnaryOp) and inner.op == "*" and self.is_pointer(inner.expr):
             return self.pointer(inner.expr)
         if isinstance(inner, c_ast.ArrayRef) and isinstance(self.constants.type_of(inner.name), Pointer):
@@ -168,7 +182,8 @@ class Pointers(Writer):
         )
 
     def stride(self, node: Any) -> int:
-        return kinds.elements(self.places.columns.pointer(node).to)
+        of = self.places.columns.pointer(node)
+        return (kinds.size(of.to) or 1) if of.region.root().raw else kinds.elements(of.to)
 
     def steady_value(self, value: Value) -> Value:
         return Value(self.temporary(value.kind, value.text), value.kind, PRIMARY) if value.calls else value
@@ -223,6 +238,8 @@ class Pointers(Writer):
     def given_back(self, node: Any, of: Pointer) -> Parts:
         """What a call gives."""
         function = self.called(node)
+        if heap_call(function):
+            return self.heap.allocated(node, function.name)
         model = model_of(function)
         if model is not None:
             parts = self.model_parts(node, model)
@@ -273,6 +290,9 @@ class Pointers(Writer):
             index = plus(index, times(by, node.stride))
         region = self.places.columns.pointer(node.pointer).region
         wanted = region.parts()
+        if node.raw:
+            node.tests, node.ends = tests, {name: parts[name] for name in wanted if name != INDEX}
+            return index
         tests += [f"{index.within(8)} >= {parts[END].within(8)}"] if END in wanted else []
         tests += [f"{index.within(8)} < {parts[BEGIN].within(8)}"] if BEGIN in wanted else []
         if not tests:

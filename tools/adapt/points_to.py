@@ -4,12 +4,14 @@ from typing import Any, Optional
 
 from pycparser import c_ast
 
-from . import kinds
-from .bindings import with_parents
+from . import kinds, unions
+from .bindings import key, with_parents
 from .declarators import Function, Variable
+from .constants import is_offset
+from .heap import GIVES, TAKES, Pool, heap_call, known_call
 from .initialisers import filled
-from .kinds import Array, Int, Pointer, Struct, Type
-from .models import model_of
+from .kinds import Array, Int, Pointer, Signature, Struct, Type
+from .models import WHOLE, Model, element_count, model_of
 from .names import Names
 from .places import Place, arguments
 from .refusals import Refused
@@ -18,12 +20,19 @@ from .unification import Unification
 
 
 class PointsTo(Unification):
-    def __init__(self, names: Names) -> None:
-        self.names, self.constants = names, names.constants
+    def __init__(self, names: Names, learned: set[Any]) -> None:
+        self.names, self.constants, self.learned = names, names.constants, learned
+        self.pools: dict[int, Pool] = {}
+        self.parts: list[tuple[Region, Region, Any]] = []
+        self.modelled: list[tuple[Any, Model]] = []
         super().__init__()
         self.texts: dict[int, tuple[Any, Variable]] = {}
         self.values: dict[int, tuple[Any, Type]] = {}
         self.function: Optional[Function] = None
+        self.pointer_calls: list[tuple[Optional[Function], Any]] = []
+        self.codes: dict[Function, Pointer] = {}
+        for function in names.functions:
+            function.own_type = None  # (parameters have got their types)
         for variable in list(names.variables):
             if variable.init is not None:
                 self.first_values(variable.type, variable.init)
@@ -32,6 +41,62 @@ class PointsTo(Unification):
                 self.function = function
                 for node, _ in with_parents(function.definition.body):
                     self.visit(node)
+        self.settle()
+
+    def settle(self) -> None:
+        """Lets objects stand as their bytes where something needs them: parts of a union that are pointed to, unions whose members
+        have no common form, and memory that is copied, set or compared by bytes."""
+        for variable in self.names.variables:
+            if kinds.is_mixed(variable.type):
+                self.home(variable)
+        before = -1
+        while before != self.raws():
+            before = self.raws()
+            for made, region, at in self.parts:
+                if made.root().pointed and made.root() is not region.root():
+                    made.root().fault = None
+                    self.as_bytes(region, [region.root().elem], at)
+                    self.as_bytes(made, [made.root().elem], at)
+                    self.unify(region, made, at)
+            for variable, region in list(self.homes.items()):
+                if kinds.is_mixed(variable.type) and not region.root().raw:
+                    self.as_bytes(region, [region.root().elem], variable.coord)
+            for of in self.pointers():
+                if kinds.is_mixed(of.to) and not of.region.root().raw:
+                    self.as_bytes(of.region, [of.to], None)
+            for node, model in self.modelled:
+                self.by_bytes(node, model)
+
+    def raws(self) -> int:
+        regions = {one.root() for one in self.homes.values()} | {of.region.root() for of in self.pointers()}
+        return sum(1 for one in regions if one.raw or one.fault)
+
+    def pointers(self) -> list[Pointer]:
+        return [of for _, of in self.values.values() if isinstance(of, Pointer)]
+
+    def by_bytes(self, node: Any, model: Model) -> None:
+        """A call of a library's function on objects that it doesn't take as whole elements."""
+        of = [self.value(one) for one in arguments(node) if not self.is_null(one)]
+        regions = [one.region.root() for one in of if isinstance(one, Pointer)]
+        elems = [one.elem for one in regions]
+        if all(isinstance(one, Int) and one.bits == 8 for one in elems) or any(one.fault for one in regions):
+            return
+        known = all(one is not None and kinds.has_bytes(one) for one in elems)
+        sizes = {kinds.size(one) for one in elems if one is not None}
+        alike = not any(one.raw for one in regions) and not any(self.differ(elems[0], one) for one in elems[1:])
+        whole = known and alike and len(sizes) == 1 and model.name in WHOLE and self.is_whole(node, model, sizes.pop() or 1)
+        if model.name == "memset" and self.constants.value(arguments(node)[1]) != 0:
+            whole = False
+        if known and not whole:
+            for one in regions:
+                self.as_bytes(one, [one.elem], node.coord)
+
+    def is_whole(self, node: Any, model: Model, size: int) -> bool:
+        try:
+            element_count(self.constants, arguments(node)[-1], size)
+        except Refused:
+            return False
+        return True
 
     # ---- types of expressions, with their regions
 
@@ -42,10 +107,12 @@ class PointsTo(Unification):
             return meaning.type, self.home(meaning)
         if isinstance(node, c_ast.StructRef):
             of, region = self.pointee(node.name) if node.type == "->" else self.place(node.name)
-            inner = dict(of.members or []).get(node.field.name) if isinstance(of, Struct) else None
-            if inner is None:
+            path = unions.found(of, node.field.name)
+            if path is None:
                 raise Refused(node.coord, f"the member {node.field.name}", "use a struct")
-            return inner, region.member(node.field.name, kinds.element(inner))
+            for name in path:
+                of, region = self.member(of, region, name, node)
+            return of, region
         if isinstance(node, c_ast.ArrayRef):
             base, index = node.name, node.subscript
             if isinstance(self.constants.type_of(base), Int):
@@ -59,7 +126,25 @@ class PointsTo(Unification):
         if isinstance(node, c_ast.FuncCall):
             of = self.constants.type_of(node)
             return of, Region(of)
+        if isinstance(node, (c_ast.ExprList, c_ast.Assignment, c_ast.TernaryOp)):
+            parts = [node.iftrue] if isinstance(node, c_ast.TernaryOp) else [node.exprs[-1] if isinstance(node, c_ast.ExprList) else node.lvalue]
+            return self.place(parts[0])
         raise Refused(node.coord, "what is no named object", "use a variable")
+
+    def member(self, of: Any, region: Region, name: str, node: Any) -> tuple[Type, Region]:
+        """The type and the region of a member. A part of an integer can't be pointed to."""
+        inner: Type = of.type_of(name)
+        if region.root().raw:
+            return inner, region.root()
+        if of.is_parts():
+            made = Region(kinds.element(inner))
+            made.fault = (node.coord, "a pointer to a part of a union", "read and write it by its name")
+            self.parts.append((made, region, node.coord))
+            return inner, made
+        own = region.member(of.path_of(name), kinds.element(inner))
+        if of.union and of.carrier:
+            self.same_type(own.elem, inner, node.coord, own)
+        return inner, own.root()
 
     def pointee(self, node: Any) -> tuple[Type, Region]:
         """What a pointer, or an array, leads to."""
@@ -78,7 +163,7 @@ class PointsTo(Unification):
         made = self.value(node)
         if not isinstance(made, Pointer):
             raise Refused(node.coord, "what is no pointer", "use a pointer")
-        if made.to not in (kinds.VOID, kinds.FUNCTION):
+        if made.to != kinds.VOID and not made.region.is_code:
             made.region.root().pointed = True
         return made.to, made.region.root()
 
@@ -87,7 +172,7 @@ class PointsTo(Unification):
         if isinstance(meaning.binding, Place):
             of, region = meaning.binding.variable.type, self.home(meaning.binding.variable)
             for name in meaning.binding.path:
-                of = dict(of.members or [])[name]  # type: ignore[union-attr]
+                of = of.type_of(name)  # type: ignore[union-attr]
                 region = region.member(name, kinds.element(of))
             return of, region
         return getattr(meaning.type, "to", getattr(meaning.type, "of", meaning.type)), self.home(meaning)
@@ -101,6 +186,8 @@ class PointsTo(Unification):
     def made(self, node: Any) -> Type:
         if isinstance(node, c_ast.Constant) and node.type == "string":
             return self.text(node)
+        if isinstance(self.constants.type_of(node), Signature):
+            return self.code(node)
         if isinstance(node, c_ast.UnaryOp) and node.op == "&":
             return self.address(node)
         if isinstance(node, c_ast.UnaryOp) and node.op in ("++", "--", "p++", "p--"):
@@ -118,6 +205,8 @@ class PointsTo(Unification):
             return self.value(node.exprs[-1])
         if isinstance(node, c_ast.Assignment):
             return self.value(node.lvalue)
+        if isinstance(node, c_ast.FuncCall) and self.of_heap(node) in GIVES:
+            return self.allocated(node)
         model = model_of(self.names.meaning.get(id(node))) if isinstance(node, c_ast.FuncCall) else None
         if model is not None and model.gives_pointer and arguments(node):
             return self.value(arguments(node)[0])
@@ -128,6 +217,16 @@ class PointsTo(Unification):
         if isinstance(node, (c_ast.ID, c_ast.StructRef, c_ast.ArrayRef, c_ast.UnaryOp)):
             return self.decayed(node)
         return self.constants.type_of(node)
+
+    def code(self, node: Any) -> Type:
+        """The pointer that a function's name, or what a pointer to one leads to, is (6.3.2.1p4)."""
+        meaning = self.names.meaning.get(id(node)) if isinstance(node, c_ast.ID) else None
+        if not isinstance(meaning, Function):
+            return self.value(node.expr)
+        if meaning not in self.codes:
+            self.codes[meaning] = Pointer(meaning.type)
+            self.codes[meaning].region.targets.append(meaning)
+        return self.codes[meaning]
 
     def decayed(self, node: Any) -> Type:
         """The type of what names an object; an array is a pointer to its first element."""
@@ -140,6 +239,8 @@ class PointsTo(Unification):
         return of
 
     def address(self, node: Any) -> Type:
+        if isinstance(self.constants.type_of(node.expr), Signature):
+            return self.value(node.expr)
         of, region = self.place(node.expr)
         region.root().pointed = True
         inner = node.expr
@@ -196,7 +297,7 @@ class PointsTo(Unification):
         of = self.value(node)
         if isinstance(to, Pointer) and not self.is_null(node):
             if isinstance(of, Pointer):
-                if (of.to == kinds.FUNCTION) != (to.to == kinds.FUNCTION):
+                if isinstance(of.to, Signature) != isinstance(to.to, Signature):
                     self.fault(to.region, of.to, to.to, node.coord)
                 self.unify(to.region, of.region, node.coord)
             else:
@@ -213,7 +314,7 @@ class PointsTo(Unification):
         for (path, _), node in made.given.items():
             part = kinds.element(of)
             for name in path:
-                part = kinds.element(dict(part.members or [])[name])  # type: ignore[union-attr]
+                part = kinds.element(part.type_of(name))  # type: ignore[union-attr]
             self.tried(node, part)
 
     def tried(self, node: Any, to: Type) -> None:
@@ -267,19 +368,62 @@ class PointsTo(Unification):
         elif node.op in ("+", "-"):
             self.value(node)
 
+    def of_heap(self, node: Any) -> str:
+        """The function of the heap that a call calls, if it does."""
+        return heap_call(self.names.meaning.get(id(node))) or known_call(node, self.learned)
+
+    def allocated(self, node: Any) -> Type:
+        """Memory that a call gives: an object of its own."""
+        name = self.of_heap(node)
+        variable = Variable("heap", kinds.VOID, node.coord, "pool", function=self.function, defined=True)
+        self.pools[id(node)] = Pool(node, name, variable, self.names.pool[0])
+        made = Pointer(kinds.VOID)
+        made.region.objects.append(variable)
+        made.region.pointed = True
+        if name == "realloc":
+            self.flow(arguments(node)[0], made)
+            made.region.root().freed = True
+        return made
+
+    def called_heap(self, node: Any, name: str) -> None:
+        if len(arguments(node)) != TAKES[name]:
+            raise Refused(
+                node.coord, f"{name} is declared otherwise than in the library", "declare it as stdlib.h does"
+            )
+        of = self.value(arguments(node)[0] if name == "free" else node)
+        if isinstance(of, Pointer):
+            of.region.root().freed = of.region.root().freed or name == "free"
+
     def called(self, node: Any) -> None:
         function = self.names.meaning.get(id(node))
+        if is_offset(node):
+            return
+        if self.of_heap(node):
+            self.called_heap(node, self.of_heap(node))
+            return
         if model_of(function):
             self.of_model(node)
+        if not isinstance(function, Function):
+            self.called_by_pointer(node)
         if not isinstance(function, Function) or function.definition is None:
             return
         for argument, parameter in zip(arguments(node), function.parameters):
             if parameter.is_bound and not isinstance(parameter.type, (Int, Struct)):
                 of, region = self.bound(parameter)
                 mine, _ = self.pointee(argument)
+                if self.differ(of, mine):
+                    self.names.refusals.apart.add(key(parameter))
                 self.same_type(of, mine, node.coord, region)
             else:
                 self.tried(argument, parameter.type)
+
+    def called_by_pointer(self, node: Any) -> None:
+        of = self.value(node.name)
+        if not isinstance(of, Pointer) or not isinstance(of.to, Signature):
+            raise Refused(node.coord, "a call of what is no function", "call a function")
+        self.pointer_calls.append((self.function, node))
+        for argument, to in zip(arguments(node), of.to.parameters):
+            self.tried(argument, to)
 
     def of_model(self, node: Any) -> None:
         """A call of a library's function goes through the objects of its pointers, and may copy from one to the other."""
@@ -287,5 +431,21 @@ class PointsTo(Unification):
         regions = [of.region.root() for of in found if isinstance(of, Pointer)]
         for region in regions:
             region.pointed = region.moved = True
+        model = model_of(self.names.meaning.get(id(node)))
+        if model is not None and len(arguments(node)) == len(model.parameters):
+            self.modelled.append((node, model))
         if len(regions) == 2 and all(region.root().elem is not None for region in regions):
-            self.same_type(regions[0].root().elem, regions[1].root().elem, node.coord, regions[0])
+            left, right = [region.root().elem for region in regions]
+            if not self.differ(left, right):
+                self.same_type(left, right, node.coord, regions[0])
+
+    @staticmethod
+    def differ(one: Type, other: Type) -> bool:
+        """Whether objects of two types have one form only as their bytes."""
+        one, other = kinds.element(one), kinds.element(other)
+        if isinstance(one, Int) and isinstance(other, Int):
+            return one.bits != other.bits or one.boolean != other.boolean
+        if isinstance(one, Struct) and isinstance(other, Struct) and one.tag == other.tag:
+            names = [[name for name, _ in of.members or []] for of in (one, other)]
+            return names[0] != names[1]  # (else one struct, of several sources)
+        return one is not other and kinds.has_bytes(one) and kinds.has_bytes(other)

@@ -20,15 +20,62 @@ ERRORS = (
 )
 FOREIGN = {
     "asm": "inline assembly; write what it does in C, or hide it by a macro",
-    "__attribute__": "an attribute; hide it by a macro, with -D '__attribute__(x)='",
     "_Generic": "a generic selection; write the expression that is meant",
     "_Atomic": "an atomic object; use a plain one",
     "_Alignas": "an alignment; leave it out",
     "_Thread_local": "an object of a thread; use a plain one",
     "__int128": "an integer of 128 bits; use two of 64",
     "__typeof__": "typeof; write the type",
-    "__extension__": "an extension of GNU C; write standard C",
 }
+# words of GNU C that say what C's own ones do, or nothing
+PLAIN = {
+    "__extension__": "",
+    "__inline": "inline",
+    "__inline__": "inline",
+    "__const": "const",
+    "__const__": "const",
+    "__volatile": "volatile",
+    "__volatile__": "volatile",
+    "__restrict": "",
+    "__restrict__": "",
+    "__signed": "signed",
+    "__signed__": "signed",
+    "__builtin_offsetof": "offsetof",
+    "_Noreturn": "",
+    "__alignof__": "_Alignof",
+    "__alignof": "_Alignof",
+}
+# attributes that change what a program means, or how its objects are laid out
+TELLING = set(
+    """packed aligned vector_size mode transparent_union alias weakref ifunc constructor destructor cleanup scalar_storage_order
+    ms_struct gcc_struct warn_if_not_aligned copy symver""".split()
+)
+# what to do where a header of the library isn't there
+HEADERS_LEFT_OUT = {
+    "stdarg.h": "give each function a fixed number of parameters",
+    "setjmp.h": "hand back a status in place of a jump",
+    "math.h": "use integers in fixed point",
+    "float.h": "use integers in fixed point",
+    "complex.h": "use integers in fixed point",
+    "time.h": "declare what is used of it; a function without parameters that gives an integer is an input",
+    "unistd.h": "declare what is used of it; a function without parameters that gives an integer is an input",
+}
+ATTRIBUTE = re.compile(r"\b__attribute(?:__)?\b\s*\(((?:[^()]|\((?:[^()]|\((?:[^()]|\([^()]*\))*\))*\))*)\)")
+RANGE = re.compile(r"\bcase\s+(-?\w+|'[^'\\]')\s*\.\.\.\s*(-?\w+|'[^'\\]')\s*:")
+MOST_CASES = 300
+# builtin functions of the compiler, by what they say in C; the others that have a model stand in models/
+BUILTINS = [
+    "__builtin_expect(e, c)=(e)",
+    "__builtin_constant_p(e)=0",
+    "__builtin_unreachable()=abort()",
+    "__builtin_trap()=abort()",
+]
+BUILTINS += ["__builtin_prefetch(...)=((void) 0)", "__builtin_assume_aligned(p, ...)=(p)", "__builtin_LINE()=__LINE__"]
+BUILTINS += [
+    f"__builtin_{name}={name}"
+    for name in "abort abs labs llabs memcpy memmove memset memcmp memchr strlen strcpy strncpy strcat strncat strcmp strncmp strchr "
+    "strrchr strstr strspn strcspn strpbrk malloc calloc realloc free printf puts putchar isdigit isalpha tolower toupper stpcpy".split()
+]
 SAME_WORD = {"__asm__": "asm", "__asm": "asm", "typeof": "__typeof__"}
 WORDS = re.compile(r'"(?:\\.|[^"\\])*"|\'(?:\\.|[^\'\\])*\'|[A-Za-z_]\w*|[{}]|[^\sA-Za-z_"\'{}]+')
 QUOTED = re.compile(r'"(?:\\.|[^"\\])*"|\'(?:\\.|[^\'\\])*\'')
@@ -49,6 +96,9 @@ class Unit:
     files: list[str] = field(default_factory=list)
     closings: dict[tuple[str, int], list[int]] = field(default_factory=dict)
     words: set[str] = field(default_factory=set)
+    # the preprocessed rows that come from each line of a file, and the macros, each with whether it takes arguments
+    rows: dict[tuple[str, int], list[str]] = field(default_factory=dict)
+    macros: dict[str, bool] = field(default_factory=dict)
 
 
 def compiler() -> str:
@@ -73,11 +123,39 @@ def told_errors(path: str, told: str, refusals: Refusals) -> None:
     for line in told.splitlines():
         found = re.match(r"(.*?):(\d+):(?:\d+:)? (?:fatal )?error: (.*)", line)
         if found:
-            header = "leave it out, or name its folder (-I)" if "No such file" in found.group(3) else "correct it"
+            header = "correct it"
+            if "No such file" in found.group(3):
+                header = HEADERS_LEFT_OUT.get(found.group(3).split(":")[0], "leave it out, or name its folder (-I)")
             refusals.add(Coord(found.group(1), int(found.group(2))), f"{JUDGED}: {found.group(3)}", header)
     if not refusals.found:
         first = told.splitlines()[:1]
         raise Stop(f"{path} can't be read: {first[0] if first else 'the compiler failed'}")
+
+
+def decoration(inner: str, refusals: Refusals, at: Any) -> str:
+    """An attribute, which is left out; one that changes what the program means is refused."""
+    told = [
+        word.strip("_") for word in re.findall(r"[A-Za-z_]\w*", QUOTED.sub("", inner)) if word.strip("_") in TELLING
+    ]
+    if told:
+        cause = f"the attribute {told[0]}, which changes a layout or a meaning"
+        refusals.add(at, cause, "hide it by a macro, with -D '__attribute__(x)=', where it doesn't matter")
+    return " "
+
+
+def listed(found: "re.Match[str]") -> str:
+    """The cases of a range of them."""
+    ends = [ord(one[1]) if one[0] == "'" else number_of(one) for one in found.groups()]
+    if ends[0] is None or ends[1] is None or not 0 <= ends[1] - ends[0] < MOST_CASES:
+        return found.group()
+    return " ".join(f"case {one}:" for one in range(ends[0], ends[1] + 1))
+
+
+def number_of(text: str) -> Optional[int]:
+    try:
+        return int(text, 0)
+    except ValueError:
+        return None
 
 
 def without_foreign(text: str, refusals: Refusals, at: Any) -> str:
@@ -87,8 +165,11 @@ def without_foreign(text: str, refusals: Refusals, at: Any) -> str:
         if name in FOREIGN:
             cause, advice = FOREIGN[name].split("; ", 1)
             refusals.add(at, cause, advice)
+    text = re.sub(r"\b(?:__\w+|_Noreturn)\b", lambda found: PLAIN.get(found.group(), found.group()), text)
+    text = ATTRIBUTE.sub(lambda found: decoration(found.group(1), refusals, at), text)
+    text = RANGE.sub(listed, text)
     return re.sub(
-        r"\b(__asm__|__asm|asm|__attribute__)\b\s*(volatile|__volatile__|goto)?\s*\((?:[^()]|\((?:[^()]|\([^()]*\))*\))*\)",
+        r"\b(__asm__|__asm|asm)\b\s*(volatile|__volatile__|goto)?\s*\((?:[^()]|\((?:[^()]|\([^()]*\))*\))*\)",
         " ",
         text,
     )
@@ -165,6 +246,8 @@ def scanned(unit: Unit, text: str, refusals: Refusals) -> str:
         if re.match(r"\s*#\s*pragma\s+pack", row) and not is_system(file):
             refusals.add(Coord(file, line), "structs are packed", "leave the pragma out, and write sizes as numbers")
         made.append("" if row.startswith("#") else row)
+        if made[-1].strip():
+            unit.rows.setdefault((file, line), []).append(made[-1])
         places.line += 1
     unit.files.append(unit.path)
     return "\n".join(made)
@@ -180,11 +263,13 @@ def read(path: str, flags: list[str], refusals: Refusals) -> Unit:
     judged = run_compiler(path, flags, ["-fsyntax-only", *(f"-Werror={name}" for name in ERRORS)])
     if judged.returncode:
         told_errors(path, judged.stderr, refusals)
-    cut = run_compiler(path, flags, ["-E"])
+    cut = run_compiler(path, flags, ["-E", *(f"-D{one}" for one in BUILTINS)])
     if cut.returncode:
         told_errors(path, cut.stderr, refusals)
         return unit
     text = scanned(unit, cut.stdout, refusals)
+    told = run_compiler(path, flags, ["-E", "-dM"]).stdout
+    unit.macros = {name: bool(mark) for name, mark in re.findall(r"^#define (\w+)(\(?)", told, re.MULTILINE)}
     try:
         unit.tree = c_parser.CParser().parse(text, path)
     except c_parser.ParseError as fault:

@@ -23,6 +23,9 @@ class Region:
     down: bool = False
     fault: Optional[tuple[Any, str, str]] = None
     into: Optional["Region"] = None
+    freed: bool = False
+    raw: bool = False  # whether its objects stand as their bytes
+    targets: list[Any] = field(default_factory=list)  # the functions to which a pointer may point
     single: bool = False
     column: Any = None
 
@@ -35,13 +38,20 @@ class Region:
             one = one.into
         return one
 
+    @property
+    def is_code(self) -> bool:
+        """Whether pointers here point to functions."""
+        return bool(hasattr(self.root().elem, "parameters"))
+
     def parts(self) -> list[str]:
         """The integers of a pointer into the region: its index, and the end and the begin of its object where these matter."""
         root = self.root()
-        several = root.pointed and not root.single
+        several = root.pointed and not root.single and not root.is_code
         return [INDEX] + [END] * (several and root.moved) + [BEGIN] * (several and root.down)
 
     def member(self, name: str, elem: Any) -> "Region":
         """The region of a member of the elements."""
+        if self.root().raw:
+            return self.root()
         found = self.root().members.setdefault(name, Region(elem))
         return found.root()

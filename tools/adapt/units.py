@@ -7,14 +7,19 @@ from pycparser import c_ast
 from . import kinds
 from .effects import pointee
 from .initialisers import Part, filled, none_of
+from .heap import heap_call
 from .jumps import walk
 from .kinds import Int, Pointer, Struct
 from .declarators import Function, Variable
+from .library import OUTPUT
+from .models import model_of
 from .output import FELL, File, unmarked
 from .places import Place, arguments
 from .reading import is_system
 from .refusals import Refused
+from .calls import MOST_ELEMENTS
 from .checks import Checks
+from .choosers import written
 
 
 class Units(Checks):
@@ -22,6 +27,7 @@ class Units(Checks):
 
     def write(self) -> dict[str, File]:
         self.files: dict[str, File] = {}
+        self.registers: list[Variable] = []
         self.done: set[Any] = set()
         self.uses = self.first_uses()
         self.write_columns()
@@ -35,11 +41,34 @@ class Units(Checks):
             self.names.refusals.go(item.coord)
             with self.names.refusals.gathered():
                 self.item(item, number)
-        made = [(self.begin[1], text) for _, text in self.written_models.values()]
+        front, end = written(self, self.places.choosers)
+        gives = [f"{text} {name}(void);" for (_, text), name in self.outer_values.items()]
+        outer = [*gives, *(self.heading(one) + ";" for one in self.names.functions if self.is_outer(one))]
+        made = [(self.begin[1], text) for text in [*outer, *self.heap.front(), *self.raw.front(), *front, *(text for _, text in self.written_models.values())]]
+        if end:
+            last = self.files.setdefault(self.names.items[-1][0].path, File(self.names.items[-1][0].path))
+            last.pieces += [(last.pieces[-1][0] if last.pieces else 1, text) for text in end]
         if made:
             file = self.files.setdefault(self.begin[0], File(self.begin[0]))
             file.pieces[self.begin[2] : self.begin[2]] = made
+        for file in self.files.values():
+            file.pieces = [(line, self.large.rewritten(text)) for line, text in file.pieces]
         return self.files
+
+    def is_outer(self, function: Function) -> bool:
+        """Whether a header of the system declares an input function."""
+        if function.definition is not None or not function.calls or not is_system(str(function.coord.file)):
+            return False
+        known = model_of(function) or heap_call(function) or function.name in ("assert", "assume")
+        used = function.name not in OUTPUT or function in self.outer_used
+        return not known and used and isinstance(function.result, Int)
+
+    def finished(self, texts: dict[str, str]) -> dict[str, str]:
+        """The texts as they are put into files."""
+        return texts
+
+    def put_table(self, folder: str) -> None:
+        """Writes what stands beside the files."""
 
     def first_uses(self) -> dict[Variable, int]:
         """For each variable the number of the first function that names it."""
@@ -85,6 +114,10 @@ class Units(Checks):
             early = self.uses.get(meaning, len(self.names.items) + 1) < self.defined_at(meaning)
             if meaning.defined and (early or self.defined_at(meaning) == number) and self.once(meaning):
                 self.variable(meaning, False, self.defined_at(meaning) == number)
+            elif meaning.is_input and not self.places.columns.in_column(meaning):
+                if meaning in self.uses and self.once(meaning):
+                    self.registers.append(meaning)
+                    self.emit(f"{meaning.type.text} {meaning.out}(void);")  # type: ignore[union-attr]
             elif not meaning.defined and meaning in self.uses and self.once(meaning):
                 self.check_type(meaning)
                 raise Refused(item.coord, f"no source defines {meaning.name}", "give the source that defines it")
@@ -122,22 +155,25 @@ class Units(Checks):
 
     def variable(self, variable: Variable, static: bool = False, here: bool = False) -> None:
         """Writes an object of the file with its first values, on their lines where they stand here."""
-        self.check_type(variable)
         if self.places.columns.in_column(variable):
             return
+        self.check_type(variable)
         made = filled(self.constants, variable.type, variable.init)
         for _, _, source in made.wholes:
             raise Refused(source.coord, "a struct as the first value of a part", "give its members one by one")
         words = ("static " if static or variable.name and self.is_static(variable) else "") + (
             "const " if variable.const else ""
         )
-        self.check_lengths(variable)
         leaves = list(kinds.leaves(variable.type))
         for leaf in leaves:
             if self.places.columns.is_apart(self.places.columns.home(variable), leaf.path):
                 continue
-            texts = made.texts(leaf, lambda one: self.first(one, leaf.kind, here and len(leaves) == 1))
             name = self.spelling.leaf(variable, leaf.path)
+            if leaf.count > MOST_ELEMENTS:
+                values = made.texts(leaf, lambda one: self.first_number(one, leaf.kind))
+                self.emit(self.large.declared(name, leaf.kind, leaf.count, values, variable.const, variable.coord))
+                continue
+            texts = made.texts(leaf, lambda one: self.first(one, leaf.kind, here and len(leaves) == 1))
             whole = f"{{{', '.join(texts)}}}" if leaf.dims else texts[0]
             value = "" if variable.init is None and none_of(leaf) == "0" else f" = {whole}"
             self.emit(f"{words}{leaf.kind.text} {name}{f'[{leaf.count}]' if leaf.dims else ''}{value};")
@@ -152,8 +188,8 @@ class Units(Checks):
         known = self.constants.value(node)
         if known is None:
             raise Refused(node.coord, "a first value that is no constant", "give a number")
-        if kind.boolean:
-            return str(int(known != 0))
+        if kind.boolean or kind.width:
+            return str(kinds.fit(known, kind))
         text = self.value(node).text
         return text if marked else unmarked(text)
 
@@ -169,7 +205,7 @@ class Units(Checks):
                 continue
             if isinstance(one.binding, Place):
                 continue
-            fault = kinds.fault_of(pointee(one))
+            fault = kinds.UNION if kinds.is_mixed(pointee(one)) else kinds.fault_of(pointee(one))
             if fault:
                 raise Refused(
                     one.coord,
@@ -191,6 +227,7 @@ class Units(Checks):
                 function.coord, f"{function.name} takes any number of arguments", "give it a fixed number of parameters"
             )
         fault = kinds.fault_of(result) if isinstance(result, Pointer) else None
+        fault = kinds.UNION if kinds.is_mixed(result) else fault
         if not isinstance(result, (Int, Struct, Pointer)) and result != kinds.VOID or fault:
             cause, advice = fault or kinds.fault_of(result) or ("what is no integer", "")
             raise Refused(function.coord, f"{function.name} gives {cause}", advice)
@@ -217,6 +254,7 @@ class Units(Checks):
 
     def prototype(self, function: Function, item: Any) -> None:
         wanted = function.calls and (function.definition is not None or isinstance(function.result, Int))
+        wanted = wanted and not (model_of(function) or heap_call(function))
         if (
             function.name in ("assert", "assume")
             or not wanted

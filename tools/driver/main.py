@@ -12,7 +12,7 @@ import os
 import re
 from typing import Any
 
-from tools import program
+from tools import program, usage
 from tools.driver import reading, stubs
 from tools.driver.reading import Read
 from tools.driver.types import Types, Unfit
@@ -39,12 +39,13 @@ def length(word: str) -> tuple[str, int]:
     return name, number(count)
 
 
-def words() -> argparse.Namespace:
-    parser = argparse.ArgumentParser(prog="driver", description=__doc__, formatter_class=argparse.RawTextHelpFormatter)
+def parser_of_words() -> usage.Parser:
+    """What reads the words."""
+    parser = usage.parser("driver", __doc__, "the driver and the stubs are written")
     parser.add_argument(
         "function", metavar="FUNCTION", help="the function that is called; - where stubs alone are written"
     )
-    parser.add_argument("sources", nargs="+", metavar="SOURCE")
+    parser.add_argument("sources", nargs="+", metavar="SOURCE", help="the sources, in their order")
     parser.add_argument("-o", metavar="FILE", dest="out", help="the file that is written; else standard output")
     parser.add_argument("-I", action="append", default=[], metavar="DIR", dest="folders", help="a folder with headers")
     parser.add_argument("-D", action="append", default=[], metavar="NAME=VALUE", dest="macros", help="a macro")
@@ -62,7 +63,11 @@ def words() -> argparse.Namespace:
         help="the elements of a pointer (4)",
     )
     parser.add_argument("--stubs", metavar="FILE", help="writes stubs to this file")
-    return parser.parse_intermixed_args()
+    return parser
+
+
+def words() -> argparse.Namespace:
+    return parser_of_words().parse_intermixed_args()
 
 
 def includes(read: Read, out: str | None) -> list[str]:

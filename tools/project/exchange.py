@@ -1,19 +1,16 @@
 """The report for other tools: JUnit's XML and SARIF 2.1."""
 
-import json
 import re
-import urllib.parse
 import xml.etree.ElementTree as ET
 from collections.abc import Sequence
-from typing import Any
 
 from tools.project.findings import RULES, Finding
 from tools.project.facts import Test
 from tools.project.results import Results
 from tools.project.since import Difference
+from tools.sarif import text_of as sarif_text
 
 _NO_XML = re.compile(r"[^\t\n\r\x20-\ud7ff\ue000-\ufffd\U00010000-\U0010ffff]")
-SCHEMA = "https://json.schemastore.org/sarif-2.1.0.json"
 
 
 def _plain(text: str) -> str:
@@ -69,31 +66,6 @@ def junit(results: Results, gate: Sequence[str], lost: Difference | None) -> str
     return f'<?xml version="1.0" encoding="UTF-8"?>\n{ET.tostring(top, encoding="unicode")}\n'
 
 
-def _result(one: Finding, rules: list[str]) -> dict[str, Any]:
-    region = {"startLine": one.line, "startColumn": one.column}
-    where = {"artifactLocation": {"uri": urllib.parse.quote(one.file), "uriBaseId": "SRCROOT"}, "region": region}
-    return {
-        "ruleId": one.rule,
-        "ruleIndex": rules.index(one.rule),
-        "level": one.level,
-        "message": {"text": one.text},
-        "locations": [{"physicalLocation": where}],
-    }
-
-
 def sarif(findings: Sequence[Finding], folder: str) -> str:
     """The findings as SARIF 2.1."""
-    rules = list(RULES)
-    told = [
-        {"id": name, "shortDescription": {"text": text}, "defaultConfiguration": {"level": level}}
-        for name, (level, text) in RULES.items()
-    ]
-    driver = {"name": "FShell", "rules": told}
-    base = {"SRCROOT": {"uri": f"file://{urllib.parse.quote(folder)}/"}}
-    run = {
-        "tool": {"driver": driver},
-        "originalUriBaseIds": base,
-        "columnKind": "utf16CodeUnits",
-        "results": [_result(one, rules) for one in findings],
-    }
-    return json.dumps({"$schema": SCHEMA, "version": "2.1.0", "runs": [run]}, indent=1) + "\n"
+    return sarif_text(findings, RULES, folder)

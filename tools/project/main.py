@@ -13,7 +13,7 @@ import argparse
 import os
 import sys
 
-from tools import program
+from tools import program, usage
 from tools.program import Failure
 from tools.project import criteria, gate, runner, settings
 from tools.project import init as initial
@@ -33,8 +33,14 @@ def jobs(word: str) -> int:
     return int(word)
 
 
-def words() -> argparse.Namespace:
-    parser = argparse.ArgumentParser(prog="project", description=__doc__, formatter_class=argparse.RawTextHelpFormatter)
+def parser_of_words() -> usage.Parser:
+    """What reads the words."""
+    parser = usage.parser(
+        "project",
+        __doc__,
+        "the gate passes, or what was asked for is written",
+        "the gate fails, or something isn't done",
+    )
     commands = parser.add_subparsers(dest="command", metavar="COMMAND", required=True)
     _init_words(commands.add_parser("init", help="writes a fshell.toml for sources"))
     for name, told in (
@@ -51,14 +57,18 @@ def words() -> argparse.Namespace:
             one.add_argument("--jobs", type=jobs, default=os.cpu_count() or 1, metavar="N", help="jobs side by side")
             one.add_argument("--entry", metavar="FUNCTION", help="does the tasks of this entry alone, without a report")
             one.add_argument("--sshloginfile", metavar="FILE", help="the machines, as GNU parallel reads them")
-    return parser.parse_args()
+    return parser
+
+
+def words() -> argparse.Namespace:
+    return parser_of_words().parse_args()
 
 
 def _init_words(one: argparse.ArgumentParser) -> None:
     one.description = (
         "Writes a fshell.toml for sources: an entry for each function that can be one, and why others can't."
     )
-    one.add_argument("sources", nargs="+", metavar="SOURCE")
+    one.add_argument("sources", nargs="+", metavar="SOURCE", help="the sources, in their order")
     one.add_argument("-o", default=FILE, metavar="FILE", dest="file", help=f"the file that is written ({FILE})")
     one.add_argument("--driver", action="append", default=[], metavar="SOURCE", help="a source with drivers or stubs")
     one.add_argument("-I", action="append", default=[], metavar="DIR", dest="include", help="a folder with headers")

@@ -18,7 +18,7 @@ use Rattle.reached.specs.declared.bounds.Bounds.{Bounds}
 use Rattle.report.specs.Made.{parameter_kinds}
 use Rattle.unwinder.specs.Unwinding.{IsUnwindFault}
 use Rattle.command.specs.Runs.{no_predicates}
-use Rattle.command.specs.Sufficing.{HasInputFor}
+use Rattle.command.specs.Bounds.{HasInputFor}
 
 pub some_function : (parts : GraphParts) (entry : ℕ) (f : Function) → slice_get parts.functions entry ≡ Some f → f.arrays ≡ []
     → IsSomeAnd (slice_get parts.functions entry) (λ h. h.arrays ≡ [])

@@ -29,14 +29,14 @@ use Rattle.trace_file.specs.Form.{Form, form_of}
 use Rattle.trace_file.specs.Reading.{IsRefusedAs, line_place, most_traces}
 use Rattle.trace_file.specs.Reading as reading
 use Rattle.command_words.specs.Reading.{Text}
-use Rattle.command.specs.Certificates as certificates
+use Rattle.command.specs.CertificateFile as certificates
 use Rattle.command.specs.Codes.{NoneIsUsage, RefusalsHaveTheirCodes, certificate_codes, input_codes, is_usage, query_codes, trace_codes, unread_codes}
 use Rattle.command.specs.Inputs as inputs
 use Rattle.command.specs.Queries as queries
 use Rattle.command.specs.Reads.{Reads}
 use Rattle.command.specs.Refusal.{status_of}
 use Rattle.command.specs.Sources.{IsUnread, fails, is_past, most_source}
-use Rattle.command.specs.Traces as traces
+use Rattle.command.specs.TraceFile as traces
 
 -- ---- files
 

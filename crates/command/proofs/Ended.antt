@@ -17,7 +17,7 @@ use Rattle.command.specs.Said.{Said, refused, status_with}
 use Rattle.command.specs.declared.reply.Reply.{Reply}
 use Rattle.command.specs.declared.reply.Reply.TheVariants.{Answer, OtherFormula}
 use Rattle.command.specs.Stages.{usage}
-use Rattle.command.specs.Run.{Ends, EndsWriting, GainsNone, Refuses, Writes, WritesReply, writes}
+use Rattle.command.specs.Outcome.{Ends, EndsWriting, GainsNone, Refuses, Writes, WritesReply, writes}
 use Rattle.command.specs.Watched.{IsShown, IsShownNone, Watched}
 use Rattle.command.proofs.GivesLaws.{shown_nothing}
 

@@ -6,7 +6,7 @@ use Rattle.std.specs.Option.{option_map_or}
 use Rattle.goals.specs.declared.answer.Answer.TheVariants as answer
 use Rattle.measurer.specs.Firsts.{has_number}
 use Rattle.suite.proofs.Firsts.{found, missing}
-use Rattle.command.specs.Measured.{answer_of}
+use Rattle.command.specs.Measure.{answer_of}
 
 is_some : (o : Option ℕ) (input : ℕ) → option_map_or answer.Covered o answer.Missed ≡ answer.Covered input → o ≡ Some input
 is_some None input is = cc

@@ -1,18 +1,16 @@
 -- What a call answers of what is due.
-use Rattle.std.proofs.Common.{◌≡◌, ℕ, List, [], Some, None, refl, sym, subst, ◌∙◌, append-nil}
-use Rattle.std.specs.Prelude.{false, Option, IfErr, IfOk, Result, Ok, Err, MatchResult}
-use Rattle.std.specs.Global.{Vec}
+use Rattle.std.proofs.Common.{◌≡◌, ℕ, List, [], Some, None, refl, sym, ◌∙◌, append-nil}
+use Rattle.std.specs.Prelude.{Option, IfOk, Result, Ok, Err}
 use Rattle.fq_core.specs.Refusals.{IfRefused}
 use Rattle.fq_core.specs.declared.refusal.Fault.{Fault}
 use Rattle.fq_core.specs.declared.refusal.Fault.TheVariants as fault
 use Rattle.command_words.specs.Reading.{Text}
 use Rattle.suite.specs.Generated.{Shown, seen_also}
 use Rattle.command.specs.declared.reply.Reply.{Reply}
-use Rattle.command.specs.declared.reply.Reply.TheVariants as reply
 use Rattle.command.specs.declared.status.Status.TheVariants as status
 use Rattle.command.specs.Refusal.{said_by}
 use Rattle.command.specs.Replies.{Gives, Tells, said_in}
-use Rattle.command.specs.Said.{Said, answered}
+use Rattle.command.specs.Said.{Said}
 use Rattle.command.specs.Watched.{IsShown, IsShownNone, Watched}
 
 nothing : (seen : Option (List Shown)) → seen_also seen [] ≡ seen
@@ -49,12 +47,6 @@ module _ (due : Said → Type 0) (names : List Text) where
   gives_told w (Ok x) none told = ([], told, shown_nothing w none)
   gives_told w (Err (fault.Refused x)) none told = (told, none)
   gives_told w (Err fault.Memory) none told = tt
-
-  -- a text in which nothing is left open
-  pub gives_plain : (w : Watched) (a : Result (Vec ℕ) Fault) (r : Result Reply Fault) → MatchResult a (λ text. r ≡ Ok (reply.Answer text false)) (λ f. r ≡ Err f)
-      → IfOk a (λ text. due (answered text.items)) → IfErr a (λ f. IfRefused f (λ x. due (said_by names x))) → IsShownNone w → Gives due names w r
-  gives_plain w (Ok text) r is ok err none = subst (Gives due names w) (sym is) ([], ok, shown_nothing w none)
-  gives_plain w (Err f) r is ok err none = subst (Gives due names w) (sym is) (gives_refused w f err none)
 
 -- what holds of what is answered tells another thing of it
 pub ok_tells : {T E : Type 0} (r : Result T E) (P Q : T → Type 0) → IfOk r P → ((x : T) → P x → Q x) → IfOk r Q

@@ -30,13 +30,13 @@ use Rattle.reached.specs.declared.bounds.Bounds.{Bounds}
 use Rattle.report.specs.Generated.{proved_text}
 use Rattle.report.specs.Made.{parameter_kinds}
 use Rattle.suite.proofs.Models.{has_made}
-use Rattle.suite.specs.Made.{HasRunWithin, IsDecided, IsMadeFor, NoneHits}
+use Rattle.suite.specs.Made.{HasRunWithin, IsDecided, IsMadeFor, IsOpenWhereShort as OpenWhereShort, NoneHits}
 use Rattle.suite.specs.declared.decided.Decided.{Decided}
 use Rattle.suite.specs.declared.decided.Decided.TheVariants.{Covered}
 use Rattle.unwinder.specs.Unwinding.{IsUnwindFault, IsUnwound}
 use Rattle.unwinder.specs.declared.unwound.Unwound.{Unwound}
 use Rattle.command.specs.OneGoal.{IsGoalRefused, IsGoalTooLarge, IsGoalWithin}
-use Rattle.command.specs.Proving.{IsSaidOf}
+use Rattle.command.specs.Prove.{IsSaidOf}
 use Rattle.command.specs.Runs.{EntryFunction}
 use Rattle.command.specs.Said.{Said, answered}
 
@@ -106,6 +106,9 @@ module _ (parts : GraphParts) (p : Predicates) (f : Function) (entry : ℕ) (bou
 
     pub short_at : (budget : ℕ) (l : Least) → IsOpenWhereShort parts f p plan u.bounds goal budget l → IsOpenWhereShort parts f p plan bounds goal budget l
     short_at budget l short = subst (λ (b : Bounds). IsOpenWhereShort parts f p plan b goal budget l) is.given_bounds short
+
+    pub open_at : (budget : ℕ) (d : Decided) → OpenWhereShort parts f p plan u.bounds goal budget d → OpenWhereShort parts f p plan bounds goal budget d
+    open_at budget d short = subst (λ (b : Bounds). OpenWhereShort parts f p plan b goal budget d) is.given_bounds short
 
     pub said_at : (e : EntryFunction) (number : ℕ) (d : Decided) (said : Said) → IsSaidOf parts e p plan u.bounds u.ends number goal d said
         → IsSaidOf parts e p plan bounds ends number goal d said

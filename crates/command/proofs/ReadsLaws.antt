@@ -9,7 +9,7 @@ use Rattle.fq_core.specs.declared.refusal.Place.TheVariants as place
 use Rattle.fq_core.specs.declared.refusal.Refusal.{Refusal}
 use Rattle.fq_io.specs.Counts.{Rose, RosePast}
 use Rattle.c_lex.specs.declared.token.SourceText.{SourceText}
-use Rattle.command.proofs.MeasuredLaws.{zip_push}
+use Rattle.command.proofs.MeasureLaws.{zip_push}
 use Rattle.command.specs.Reads.{HasFailedAt, IsPast, Reads}
 use Rattle.fq_core.specs.Refusals.{IfRefused}
 use Rattle.command.specs.Sources.{AreRead, IsRead, IsReadUpTo, IsUnread, fails, is_past, most_source}

@@ -45,35 +45,35 @@ use Rattle.command_words.specs.Reading.{Text}
 use Rattle.command_words.specs.Request as asks
 use Rattle.command_words.specs.Request.{Asked, Checking, CheckingBounds, Generating, Listing, Measuring, Proving, Replaying, Running, Sufficing, Tracing}
 use Rattle.command.specs.Asked.{sample_file}
-use Rattle.command.specs.Certificates as certificates
-use Rattle.command.specs.Checking.{IsChecked, IsDueOfCheck, accepted_text}
-use Rattle.command.specs.CheckingBounds.{IsCheckedBounds, IsDueOfCheckBounds}
+use Rattle.command.specs.CertificateFile as certificates
+use Rattle.command.specs.Check.{IsChecked, IsDueOfCheck, accepted_text}
+use Rattle.command.specs.CheckBounds.{IsCheckedBounds, IsDueOfCheckBounds}
 use Rattle.command.specs.Codes.{RefusalsHaveTheirCodes, certificate_codes, input_codes, query_codes, trace_codes, unread_codes}
-use Rattle.command.specs.Comparing.{IsCompared, said_of_verdict}
+use Rattle.command.specs.Comparison.{IsCompared, said_of_verdict}
 use Rattle.command.specs.Due.{IsDueOf, IsDueOfGoals, IsDueOfGraph, IsDueOfMeasure, IsDueOfReplay, IsDueOfRuns, IsDueOfTraces, IsDueOfTrees}
-use Rattle.command.specs.Generating.{IsDueOfGenerate, IsGeneration, generated_report}
+use Rattle.command.specs.Generate.{IsDueOfGenerate, IsGeneration, generated_report}
 use Rattle.command.specs.Inputs as inputs
-use Rattle.command.specs.Lowering.{IsDueOfLeast, IsLowered, said_of_least}
-use Rattle.command.specs.Measured.{IsMeasured}
-use Rattle.command.specs.OnTrees.{ended}
+use Rattle.command.specs.Least.{IsDueOfLeast, IsLowered, said_of_least}
+use Rattle.command.specs.Measure.{IsMeasured}
+use Rattle.command.specs.Trees.{ended}
 use Rattle.command.specs.OneGoal.{IsGoalRefused}
-use Rattle.command.specs.Proving.{IsDueOfProve, IsProved, IsSaidOf}
+use Rattle.command.specs.Prove.{IsDueOfProve, IsProved, IsSaidOf}
 use Rattle.command.specs.Queries as queries
 use Rattle.command.specs.Ranges.{within}
 use Rattle.command.specs.Reads.{Reads}
-use Rattle.command.specs.Recorded.{edges_in, ending, listed, most_listed, recorded}
+use Rattle.command.specs.RunList.{edges_in, ending, listed, most_listed, recorded}
 use Rattle.command.specs.Refusal.{said_by, status_of}
 use Rattle.command.specs.Runs.{EntryFunction, entry_of, no_predicates, runs_of}
 use Rattle.command.specs.Said.{Said, answered}
-use Rattle.command.specs.Sampling.{IsSampled, default_bounds, default_budget, sample_source}
+use Rattle.command.specs.Sample.{IsSampled, default_bounds, default_budget, sample_source}
 use Rattle.command.specs.Sources.{AreRefused, IsReadUpTo}
 use Rattle.command.specs.Stages.{OfCertificate, OfEntry, OfGoal, OfInputs, OfQuery, OfSources, OfTexts, OfTraces, OfTrees, Says, no_such_entry, no_such_goal}
-use Rattle.command.specs.declared.sufficing.Form.{Form}
-use Rattle.command.specs.declared.sufficing.Form.TheVariants as form
-use Rattle.command.specs.Sufficing.{IsAskedOfBounds, IsDueOfBounds, said_of_bounds}
-use Rattle.command.specs.Traces as traces
-use Rattle.command.specs.Traces.{inputs_in, longest}
-use Rattle.command.specs.Tracing.{traced, traces_of}
+use Rattle.command.specs.declared.bounds.Form.{Form}
+use Rattle.command.specs.declared.bounds.Form.TheVariants as form
+use Rattle.command.specs.Bounds.{IsAskedOfBounds, IsDueOfBounds, said_of_bounds}
+use Rattle.command.specs.TraceFile as traces
+use Rattle.command.specs.TraceFile.{inputs_in, longest}
+use Rattle.command.specs.Traces.{traced, traces_of}
 use Rattle.command.proofs.CodeLaws.{one_of, their_codes}
 
 abbrev HasStatus : Said → Type 0
@@ -244,7 +244,7 @@ generation_told : (names : List Text) (graph : GraphParts) (entry : EntryFunctio
     (said : Said) → IsGeneration names graph entry p plan bounds ends budget text said → HasStatus said
 generation_told names graph entry p plan bounds ends budget text said (inl says) =
     says_coded names (λ (x : Refusal). IsGenerateFault graph entry.function p plan bounds ends (fault.Refused x)) said (generate_coded graph entry.function p plan bounds ends) says
-generation_told names graph entry p plan bounds ends budget text said (inr made) = subst HasStatus (sym made.1.2) refl
+generation_told names graph entry p plan bounds ends budget text said (inr made) = subst HasStatus (sym made.1.3) refl
 
 module _ (graph : GraphParts) (entry : EntryFunction) (p : Predicates) (plan : Plan) (bounds : Bounds) (ends : Ends) (number : ℕ) (goal : GoalForm) where
   decided_told : (d : Decided) (said : Said) → IsSaidOf graph entry p plan bounds ends number goal d said → HasStatus said
@@ -255,7 +255,7 @@ module _ (graph : GraphParts) (entry : EntryFunction) (p : Predicates) (plan : P
   proved_told : (names : List Text) (budget : ℕ) (said : Said) → IsProved graph entry p plan bounds ends number goal names budget said → HasStatus said
   proved_told names budget said (inl says) =
       says_coded names (IsGoalRefused graph entry.function p plan bounds goal) said (goal_coded graph entry.function p plan bounds goal) says
-  proved_told names budget said (inr made) = decided_told made.1.0 said made.1.2
+  proved_told names budget said (inr made) = decided_told made.1.0 said made.1.3
 
   lowered_told : (names : List Text) (budget : ℕ) (said : Said) → IsLowered graph entry p plan bounds ends number goal names budget said → HasStatus said
   lowered_told names budget said (inl says) =

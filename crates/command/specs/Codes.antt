@@ -9,13 +9,13 @@ use Rattle.typing_faults.specs.Laws.{IsOneOf}
 use Rattle.command_words.specs.Reading.{Text}
 use Rattle.command.specs.declared.status.Status.{Status}
 use Rattle.command.specs.declared.status.Status.TheVariants as status
-use Rattle.command.specs.Certificates as certificates
+use Rattle.command.specs.CertificateFile as certificates
 use Rattle.command.specs.Inputs as inputs
 use Rattle.command.specs.Queries as queries
 use Rattle.command.specs.Reads.{Reads}
 use Rattle.command.specs.Refusal.{status_of}
 use Rattle.command.specs.Sources.{AreRefused, IsReadUpTo}
-use Rattle.command.specs.Traces as traces
+use Rattle.command.specs.TraceFile as traces
 
 -- ---- the codes of a stage
 

@@ -7,22 +7,22 @@ use Rattle.typed_trees.specs.declared.unit.Typed.{Typed}
 use Rattle.command_words.specs.Reading.{Text}
 use Rattle.command_words.specs.Request as asks
 use Rattle.command_words.specs.Request.{Asked, measure, generate, goals, runs, prove, check, suffice, sample, Measuring, Listing, Replaying, Running, Tracing, request_of}
-use Rattle.command.specs.Checking.{IsDueOfCheck}
-use Rattle.command.specs.CheckingBounds.{IsDueOfCheckBounds}
-use Rattle.command.specs.Generating.{IsDueOfGenerate}
-use Rattle.command.specs.Lowering.{IsDueOfLeast}
-use Rattle.command.specs.Measured.{IsMeasured}
-use Rattle.command.specs.OnTrees.{ended}
-use Rattle.command.specs.Proving.{IsDueOfProve}
+use Rattle.command.specs.Check.{IsDueOfCheck}
+use Rattle.command.specs.CheckBounds.{IsDueOfCheckBounds}
+use Rattle.command.specs.Generate.{IsDueOfGenerate}
+use Rattle.command.specs.Least.{IsDueOfLeast}
+use Rattle.command.specs.Measure.{IsMeasured}
+use Rattle.command.specs.Trees.{ended}
+use Rattle.command.specs.Prove.{IsDueOfProve}
 use Rattle.command.specs.Reads.{Reads}
-use Rattle.command.specs.Recorded.{recorded}
+use Rattle.command.specs.RunList.{recorded}
 use Rattle.command.specs.Said.{Said, answered}
-use Rattle.command.specs.Sampling.{IsDueOfSample}
+use Rattle.command.specs.Sample.{IsDueOfSample}
 use Rattle.command.specs.Stages.{OfEntry, OfInputs, OfQuery, OfSources, OfTraces, OfTrees, usage}
-use Rattle.command.specs.declared.sufficing.Form.TheVariants as form
-use Rattle.command.specs.Sufficing.{IsDueOfBounds}
-use Rattle.command.specs.Traces.{inputs_in, longest}
-use Rattle.command.specs.Tracing.{traced}
+use Rattle.command.specs.declared.bounds.Form.TheVariants as form
+use Rattle.command.specs.Bounds.{IsDueOfBounds}
+use Rattle.command.specs.TraceFile.{inputs_in, longest}
+use Rattle.command.specs.Traces.{traced}
 
 -- ---- what is due of the commands that measure and list, by the sources' automaton
 

@@ -4,7 +4,7 @@ use Rattle.std.specs.List.{list_any}
 use Rattle.goals.specs.declared.answer.Answer.TheVariants as answer
 use Rattle.measurer.specs.Firsts.{has_number}
 use Rattle.fq_core.specs.Code.{code_table}
-use Rattle.command.specs.Measured.{answer_of}
+use Rattle.command.specs.Measure.{answer_of}
 use Rattle.command.specs.Refusal.{status_rows}
 
 -- an answer names an input that hits the goal, and none with a lower number does

@@ -17,8 +17,8 @@ use Rattle.goals.specs.declared.plan.Plan.{Plan}
 use Rattle.trace_file.specs.declared.trace.Trace.{Trace}
 use Rattle.typed_trees.specs.declared.unit.Typed.{Typed}
 use Rattle.command_words.specs.Reading.{Text}
-use Rattle.command.specs.Certificates.{AreCertificateOf}
-use Rattle.command.specs.Certificates as certificates
+use Rattle.command.specs.CertificateFile.{AreCertificateOf}
+use Rattle.command.specs.CertificateFile as certificates
 use Rattle.command.specs.Inputs.{AreInputsOf}
 use Rattle.command.specs.Inputs as inputs
 use Rattle.command.specs.Queries.{IsPlanned}
@@ -28,8 +28,8 @@ use Rattle.command.specs.Refusal.{said_by}
 use Rattle.command.specs.Runs.{EntryFunction, entry_of}
 use Rattle.command.specs.Said.{Said}
 use Rattle.command.specs.Sources.{AreRefused, HaveAutomaton, HaveTrees, IsReadUpTo}
-use Rattle.command.specs.Traces as traces
-use Rattle.command.specs.Traces.{AreTracesOf}
+use Rattle.command.specs.TraceFile as traces
+use Rattle.command.specs.TraceFile.{AreTracesOf}
 
 -- ---- refusals whose place names no source
 

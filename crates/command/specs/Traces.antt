@@ -1,37 +1,35 @@
--- The trace file that the words name.
-use Rattle.std.specs.Prelude.{◌≤◌, ℕ, max, List, [], ◌∷◌, length, map}
-use Rattle.fq_core.specs.declared.refusal.Refusal.{Refusal}
+-- The traces of inputs.
+use Rattle.std.specs.Prelude.{◌≡◌, ℕ, List, [], filter, map, nat_lt, Bool, if◌then◌else◌}
+use Rattle.fq_core.specs.declared.refusal.Place.TheVariants as place
 use Rattle.cfa.specs.declared.parts.Function.{Function}
 use Rattle.cfa.specs.declared.parts.GraphParts.{GraphParts}
-use Rattle.cfa.specs.declared.state.Predicates.{Predicates}
 use Rattle.c_meaning.specs.declared.ends.Ends.{Ends}
 use Rattle.c_meaning.specs.declared.input.Input.{Input}
+use Rattle.path_runner.specs.Counted.{counts_end}
 use Rattle.trace_file.specs.declared.trace.Trace.{Trace}
-use Rattle.trace_file.specs.Reading.{IsFileOf, IsRefused}
-use Rattle.command.specs.Reads.{Reads, Sees}
-use Rattle.command.specs.Sources.{IsUnread}
+use Rattle.trace_file.specs.Written.{traces_text}
+use Rattle.command.specs.RunList.{edges_in, most_listed}
+use Rattle.command.specs.Refusal.{said_by}
+use Rattle.command.specs.Runs.{EntryFunction, no_predicates, run_of, runs_of}
+use Rattle.command.specs.Said.{Said, answered}
 
--- the bytes of a trace file, at most: 16 MiB
-abbrev pub most_trace_bytes : ℕ
-most_trace_bytes = 16777216
+-- an input with its run, cut after so many edges
+abbrev pub trace_of : GraphParts → Function → ℕ → Input → Trace
+trace_of graph entry steps input = record { input = input; run = run_of graph entry no_predicates steps input }
 
-module _ (r : Reads) (graph : GraphParts) (entry : Function) (ends : Ends) (file : List ℕ) where
-  -- the file holds these traces, which are all right
-  pub record AreTracesOf (p : Predicates) (traces : List Trace) : Type 0 where
-    pub bytes : List ℕ
-    pub seen : Sees r.holds file bytes
-    pub short : length bytes ≤ most_trace_bytes
-    pub is : IsFileOf graph entry ends p bytes traces
+abbrev pub is_counted : Ends → Trace → Bool
+is_counted ends trace = counts_end ends trace.run.end
 
-  -- the file isn't read, or its bytes are refused
-  pub data AreRefused (refusal : Refusal) : Type 0 where
-    at_read : IsUnread r most_trace_bytes file refusal → AreRefused refusal
-    at_form : (bytes : List ℕ) → Sees r.holds file bytes → length bytes ≤ most_trace_bytes → IsRefused graph entry ends bytes refusal → AreRefused refusal
+-- the traces of the inputs whose runs are counted; one that was cut never is
+abbrev pub traces_of : GraphParts → Function → Ends → ℕ → List Input → List Trace
+traces_of graph entry ends steps inputs = filter (is_counted ends) (map (trace_of graph entry steps) inputs)
 
-abbrev pub inputs_in : List Trace → List Input
-inputs_in traces = map (λ (trace : Trace). trace.input) traces
+-- the file of the traces of these inputs, or the refusal of too many edges
+abbrev pub traced : GraphParts → EntryFunction → Ends → ℕ → List Input → Said
+traced graph entry ends steps inputs =
+    if nat_lt most_listed (edges_in (runs_of graph entry.function no_predicates steps inputs)) then said_by [] (record { code = 54; place = place.Limit most_listed })
+    else answered (traces_text entry.function.parameters (traces_of graph entry.function ends steps inputs))
 
--- the most edges of a trace
-abbrev pub longest : List Trace → ℕ
-longest [] = 0
-longest (trace ∷ traces) = max (length trace.run.edges) (longest traces)
+-- that is said
+abbrev pub IsTraced : GraphParts → EntryFunction → Ends → ℕ → List Input → Said → Type 0
+IsTraced graph entry ends steps inputs said = said ≡ traced graph entry ends steps inputs

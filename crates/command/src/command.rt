@@ -3,12 +3,12 @@ ghost use Rattle.std.specs.Prelude.{◌≡◌, IsSome};
 ghost use Rattle.command_words.specs.Reading.{texts};
 ghost use Rattle.command_words.specs.Request.{asked, texts_at};
 ghost use Rattle.command.specs.Asked.{sources_of};
-ghost use Rattle.command.specs.Certified.{Certifies, CertifiesBounds};
+ghost use Rattle.command.specs.Accepted.{Certifies, CertifiesBounds};
 ghost use Rattle.command.specs.Due.{IsDue, IsDueOf};
 ghost use Rattle.command.specs.Ranges.{IsInRange};
 ghost use Rattle.command.specs.Refusal.{status_of};
 ghost use Rattle.command.specs.Reads.{reads};
-ghost use Rattle.command.specs.Run.{Ends, EndsWriting, Refuses, WritesReply, writes};
+ghost use Rattle.command.specs.Outcome.{Ends, EndsWriting, Refuses, WritesReply, writes};
 ghost use Rattle.command.specs.Said.{status_with};
 ghost use Rattle.command.specs.Watched.{watched};
 
@@ -43,7 +43,8 @@ pub fn run<F: Files, O: Sink, E: Sink, W: Watch>(
         result (writes O.Sink out.old out.new) (writes E.Sink err.old err.new)
         (watched W.Watch watch.old watch.new) }
     ensures certificate { Certifies (reads F.Files files.old files.new) (texts words.now) result }
-    ensures bounds_certificate { CertifiesBounds (reads F.Files files.old files.new) (texts words.now) result }
+    ensures bounds_certificate { CertifiesBounds (reads F.Files files.old files.new)
+        (texts words.now) result }
 {
     run_words(alloc, words, files, out, err, watch)
 }
@@ -115,7 +116,8 @@ fn sources_of<'a>(request: &'a Request<'a>) -> &'a [&'a str]
 
 // Writes what there is of an answer.
 fn write_reply<O: Sink, E: Sink>(reply: Reply, out: &mut O, err: &mut E) -> Status
-    ensures { WritesReply reply result (writes O.Sink out.old out.new) (writes E.Sink err.old err.new) }
+    ensures { WritesReply reply result
+        (writes O.Sink out.old out.new) (writes E.Sink err.old err.new) }
 {
     match reply {
         Reply::Answer { text, left_open } => conclude(out, &text, left_open),
@@ -137,7 +139,8 @@ fn conclude<O: Sink>(out: &mut O, text: &[u8], left_open: bool) -> Status
 
 // Writes the line of a certificate whose formula is another one than ours.
 fn reject<E: Sink>(err: &mut E, line: &[u8]) -> Status
-    ensures { EndsWriting Status.CertificateRejected line.now result (writes E.Sink err.old err.new) }
+    ensures { EndsWriting Status.CertificateRejected line.now result
+        (writes E.Sink err.old err.new) }
 {
     match write_all(err, line) {
         Ok(()) => Status::CertificateRejected,
@@ -151,6 +154,7 @@ fn refuse<E: Sink>(alloc: Global, sources: &[&str], refusal: &Refusal, err: &mut
     requires { IsSome (status_of refusal.now.code) }
     ensures { Refuses (texts_at sources.now) refusal.now result (writes E.Sink err.old err.new) }
 {
+    // each refusal's code has a status (`requires`)
     let Some(status) = refused_status(refusal.code) else {
         unreachable!()
     };

@@ -2,7 +2,7 @@
 ghost use Rattle.std.specs.Prelude.{◌≡◌, ◌++◌, IfOk, OnOk, Some};
 ghost use Rattle.std.specs.Option.{option_copied};
 ghost use Rattle.certificate.specs.Differences.{IsFirstDifference};
-ghost use Rattle.command.specs.Comparing.{clause_or_none, difference_line, difference_text};
+ghost use Rattle.command.specs.Comparison.{clause_or_none, difference_line, difference_text};
 
 use certificate::Difference;
 use cnf::{Clause, Formula, push_clause, push_number};
@@ -10,7 +10,8 @@ use fq_core::Memory;
 use std::alloc::Global;
 
 fn push_clause_or_none(line: &mut Vec<u8>, clause: Option<&Clause>) -> Result<(), Memory>
-    ensures { OnOk result (line.new.items ≡ line.old.items ++ clause_or_none (option_copied clause.entry)) }
+    ensures { OnOk result (line.new.items
+        ≡ line.old.items ++ clause_or_none (option_copied clause.entry)) }
 {
     match clause {
         Some(clause) => push_clause(line, clause),
@@ -25,7 +26,8 @@ fn push_difference(
     difference: Difference,
 ) -> Result<(), Memory>
     requires { IsFirstDifference theirs.now ours.now (Some difference) }
-    ensures { OnOk result (line.new.items ≡ line.old.items ++ difference_text theirs.now ours.now difference) }
+    ensures { OnOk result (line.new.items
+        ≡ line.old.items ++ difference_text theirs.now ours.now difference) }
 {
     match difference {
         Difference::Variables { theirs, ours } => {

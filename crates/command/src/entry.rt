@@ -1,27 +1,24 @@
 // The entry.
-ghost use Rattle.std.specs.Prelude.{◌≡◌, [], IfSome, Some, option_map, slice_get};
-ghost use Rattle.command.specs.Entries.{seen};
-ghost use Rattle.command.specs.Runs.{entry_of};
+ghost use Rattle.command.specs.Calls.{IsEntryAs};
 
-use cfa::{Function, Graph};
+use crate::given::{Automaton, Entry};
+use crate::refusal::nowhere;
+use fq_core::Fault;
 
-/// A function at which a run can begin, and its number.
-#[derive(Clone, Copy)]
-pub struct Entry<'a> {
-    pub number: u32,
-    pub function: &'a Function,
-}
-
-/// The function of this name at which a run can begin, where there is one.
-pub fn entry_named<'a>(graph: &'a Graph, name: &[u8]) -> Option<Entry<'a>>
-    ensures entry { option_map seen result ≡ entry_of graph.now name.now }
-    ensures number { IfSome result (λ entry. slice_get graph.now.functions entry.number ≡ Some entry.function.now) }
-    ensures startable { IfSome result (λ entry. entry.function.now.arrays ≡ []) }
+/// The function of this name, where a run can begin at it.
+pub fn entry_named<'a>(automaton: &'a Automaton, name: &str) -> Result<Entry<'a>, Fault>
+    ensures { IsEntryAs automaton.now.graph name.now result }
 {
-    let number = graph.function_named(name)?;
-    let function = &graph.functions()[number as usize];
+    let Some(number) = automaton.graph.function_named(name.as_bytes()) else {
+        return Err(Fault::Refused(nowhere(36)));
+    };
+    let function = &automaton.graph.functions()[number as usize];
     if function.arrays.len() > 0 {
-        return None;
+        return Err(Fault::Refused(nowhere(36)));
     }
-    Some(Entry { number, function })
+    Ok(Entry {
+        graph: &automaton.graph,
+        number,
+        function,
+    })
 }

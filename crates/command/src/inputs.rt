@@ -1,35 +1,43 @@
 // The inputs of the file that the words name.
-ghost use Rattle.std.specs.Prelude.{◌≡◌, ◌≤◌, ◌<◌, ◌^◌, IfOk, IfErr, OnOk, length};
+ghost use Rattle.std.specs.Prelude.{◌≡◌, ◌<◌, ◌^◌, IfOk, length};
 ghost use Rattle.std.specs.List.{All};
-ghost use Rattle.command.specs.Inputs.{AreInputsOf, AreRefused};
+ghost use Rattle.c_meaning.specs.Starts.{CanStart};
+ghost use Rattle.command.specs.Calls.{AreInputsAs};
 ghost use Rattle.command.specs.Reads.{reads};
-ghost use Rattle.fq_core.specs.Refusals.{IfRefused};
 
+use crate::given::Entry;
 use crate::sources::read;
 use c_meaning::Input;
-use fq_core::Fault;
+use fq_core::{Fault, Memory};
 use fq_io::Files;
 use input_text::inputs;
 use std::alloc::Global;
 
 const MOST_INPUT_BYTES: u64 = 16_777_216;
 
-/// Reads the inputs of a file, of so many words each.
+// How many parameters the entry has.
+fn parameters(entry: &Entry) -> Result<u32, Memory>
+    ensures { IfOk result (λ count. count ≡ length entry.now.function.now.parameters) }
+{
+    match u32::try_from(entry.function.parameters.len()) {
+        Ok(count) => Ok(count),
+        Err(_) => Err(Memory),
+    }
+}
+
+/// Reads the inputs of a file to the entry.
 pub fn read_inputs<F: Files>(
     alloc: Global,
     files: &mut F,
     file: &str,
-    parameters: u32,
+    entry: &Entry,
 ) -> Result<Vec<Input>, Fault>
-    ensures given { IfOk result (λ inputs. AreInputsOf (reads F.Files files.old files.new) file.now parameters inputs.items) }
+    ensures answer { AreInputsAs (reads F.Files files.old files.new) file.now
+        (length entry.now.function.now.parameters) result }
     ensures few { IfOk result (λ inputs. length inputs.items < 2 ^ 32) }
-    ensures words { IfOk result (λ inputs. All (λ input. length input.words ≡ parameters) inputs.items) }
-    ensures refused { IfErr result (λ fault. IfRefused fault
-        (AreRefused (reads F.Files files.old files.new) file.now parameters)) }
-    ensures same_files { F.holds files.new ≡ F.holds files.old }
-    ensures no_fault { OnOk result (F.faults files.new ≡ F.faults files.old) }
-    ensures received { F.received files.old ≤ F.received files.new }
+    ensures start { IfOk result (λ inputs.
+        All (λ input. CanStart entry.now.function.now input.words) inputs.items) }
 {
     let bytes = read(alloc, files, file, MOST_INPUT_BYTES)?;
-    inputs(alloc, &bytes, parameters)
+    inputs(alloc, &bytes, parameters(entry)?)
 }

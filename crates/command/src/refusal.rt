@@ -77,7 +77,8 @@ fn push_place(
     sources: &[&str],
     place: &Place,
 ) -> Result<(), AllocError>
-    ensures { OnOk result (line.new.items ≡ line.old.items ++ place_text (texts_at sources.now) place.now) }
+    ensures { OnOk result (line.new.items
+        ≡ line.old.items ++ place_text (texts_at sources.now) place.now) }
 {
     match place {
         Place::Nowhere => Ok(()),

@@ -1,30 +1,28 @@
 // The files that the words name.
-ghost use Rattle.std.specs.Prelude.{◌≡◌, ◌⊎◌, ◌≤◌, ◌<◌, ◌^◌, IfOk, IfErr, OnOk, length, vec_len};
+ghost use Rattle.std.specs.Prelude.{◌≡◌, ◌≤◌, ◌<◌, ◌^◌, IfOk, IfErr, OnOk, length, vec_len};
 ghost use Rattle.fq_core.specs.declared.refusal.Place.TheVariants as place;
-ghost use Rattle.c_front.specs.Automata.{IsAutomatonOf, IsRefused};
 ghost use Rattle.c_lex.specs.Lexed.{AreSmall};
-ghost use Rattle.cfa.specs.Contexts.{IsOnce};
 ghost use Rattle.tree_meaning.specs.Running.{FitUnit};
-ghost use Rattle.typed_sources.specs.Trees.{IsTypedOf};
 ghost use Rattle.command_words.specs.Request.{texts_at};
 ghost use Rattle.command.specs.Reads.{Sees, reads};
 ghost use Rattle.fq_core.specs.Refusals.{IfRefused};
-ghost use Rattle.command.specs.Sources.{AreRead, AreRefused, HaveAutomaton, HaveTrees, IsRead, IsReadUpTo, IsUnread, most_source};
+ghost use Rattle.command.specs.Calls.{AreTreesAs, HaveAutomatonAs, HaveTreesAs};
+ghost use Rattle.command.specs.Sources.{AreRead, IsRead, IsReadUpTo, IsUnread, most_source};
 
+use crate::given::{Automaton, Trees};
 use c_front::automaton_of_texts;
 use c_lex::SourceText;
-use cfa::Graph;
 use containers::Vector;
 use fq_core::{Fault, Name, Place, Refusal};
 use fq_io::{FileFault, Files};
 use std::alloc::Global;
 use typed_sources::typed_of_texts;
-use typed_trees::Typed;
 
 const MOST_SOURCE_BYTES: u64 = 4_194_304;
 
 fn file_refusal(code: u16, name: Name) -> Fault
-    ensures { IfRefused result (λ refusal. refusal ≡ record { code = code; place = place.FileName name }) }
+    ensures { IfRefused result (λ refusal.
+        refusal ≡ record { code = code; place = place.FileName name }) }
 {
     Fault::Refused(Refusal {
         code,
@@ -79,7 +77,8 @@ fn read_sources<F: Files>(
     files: &mut F,
     names: &[&str],
 ) -> Result<Vec<SourceText>, Fault>
-    ensures read { IfOk result (λ texts. AreRead (F.holds files.old) (texts_at names.now) texts.items) }
+    ensures read { IfOk result (λ texts.
+        AreRead (F.holds files.old) (texts_at names.now) texts.items) }
     ensures unread { IfErr result (λ fault. IfRefused fault
         (IsReadUpTo (reads F.Files files.old files.new) (texts_at names.now))) }
     ensures same_files { F.holds files.new ≡ F.holds files.old }
@@ -95,12 +94,9 @@ fn read_sources<F: Files>(
 }
 
 /// The automaton of the sources in these files.
-pub fn automaton<F: Files>(alloc: Global, files: &mut F, names: &[&str]) -> Result<Graph, Fault>
-    ensures accepted { IfOk result (λ graph. HaveAutomaton (F.holds files.old) (texts_at names.now) graph) }
-    ensures once { IfOk result IsOnce }
-    ensures refused { IfErr result (λ fault. IfRefused fault (λ refusal.
-        IsReadUpTo (reads F.Files files.old files.new) (texts_at names.now) refusal
-        ⊎ AreRefused (F.holds files.old) (texts_at names.now) refusal)) }
+pub fn automaton<F: Files>(alloc: Global, files: &mut F, names: &[&str]) -> Result<Automaton, Fault>
+    ensures answer { HaveAutomatonAs (reads F.Files files.old files.new)
+        (texts_at names.now) result }
     ensures same_files { F.holds files.new ≡ F.holds files.old }
     ensures no_fault { OnOk result (F.faults files.new ≡ F.faults files.old) }
     ensures received { F.received files.old ≤ F.received files.new }
@@ -110,37 +106,29 @@ pub fn automaton<F: Files>(alloc: Global, files: &mut F, names: &[&str]) -> Resu
         return Err(Fault::Memory);
     }
     let texts = read_sources(alloc, files, names)?;
-    automaton_of_texts(alloc, &texts)
-}
-
-/// The automaton of sources, and their typed tree.
-#[derive(Drop)]
-pub struct Trees {
-    pub graph: Graph,
-    pub typed: Typed,
+    let graph = automaton_of_texts(alloc, &texts)?;
+    Ok(Automaton { graph })
 }
 
 // The automaton of texts, and their typed tree.
 fn trees_of_texts(alloc: Global, texts: &[SourceText]) -> Result<Trees, Fault>
     requires files { length texts.now < 2 ^ 32 }
     requires sizes { AreSmall texts.now }
-    ensures graph { IfOk result (λ trees. IsAutomatonOf texts.now trees.graph) }
-    ensures tree { IfOk result (λ trees. IsTypedOf texts.now trees.typed) }
+    ensures answer { AreTreesAs texts.now result }
     ensures fits { IfOk result (λ trees. FitUnit trees.typed) }
-    ensures refused { IfErr result (λ fault. IfRefused fault (λ refusal. IsRefused texts.now refusal.code refusal.place)) }
 {
     let graph = automaton_of_texts(alloc, texts)?;
     let typed = typed_of_texts(alloc, texts)?;
-    Ok(Trees { graph, typed })
+    Ok(Trees {
+        automaton: Automaton { graph },
+        typed,
+    })
 }
 
 /// Reads the sources in these files: their automaton, and their typed tree.
 pub fn read_trees<F: Files>(alloc: Global, files: &mut F, names: &[&str]) -> Result<Trees, Fault>
-    ensures accepted { IfOk result (λ trees. HaveTrees (F.holds files.old) (texts_at names.now) trees.graph trees.typed) }
+    ensures answer { HaveTreesAs (reads F.Files files.old files.new) (texts_at names.now) result }
     ensures fits { IfOk result (λ trees. FitUnit trees.typed) }
-    ensures refused { IfErr result (λ fault. IfRefused fault (λ refusal.
-        IsReadUpTo (reads F.Files files.old files.new) (texts_at names.now) refusal
-        ⊎ AreRefused (F.holds files.old) (texts_at names.now) refusal)) }
     ensures same_files { F.holds files.new ≡ F.holds files.old }
     ensures no_fault { OnOk result (F.faults files.new ≡ F.faults files.old) }
     ensures received { F.received files.old ≤ F.received files.new }

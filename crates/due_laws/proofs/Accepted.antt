@@ -24,12 +24,12 @@ use Rattle.suite.specs.declared.decided.Decided.TheVariants.{Covered, Refuted, U
 use Rattle.suite.specs.Made.{IsDecided}
 use Rattle.command_words.specs.Reading.{Text}
 use Rattle.command_words.specs.Request.{prove, check, Checking, Proving}
-use Rattle.command.specs.Certificates.{AreCertificateOf}
-use Rattle.command.specs.Checking.{IsChecked, accepted_text}
-use Rattle.command.specs.Comparing.{IsCompared, said_of_verdict}
+use Rattle.command.specs.CertificateFile.{AreCertificateOf}
+use Rattle.command.specs.Check.{IsChecked, accepted_text}
+use Rattle.command.specs.Comparison.{IsCompared, said_of_verdict}
 use Rattle.command.specs.Due.{IsDueOf}
 use Rattle.command.specs.OneGoal.{IsGoalWithin}
-use Rattle.command.specs.Proving.{IsProved, IsSaidOf}
+use Rattle.command.specs.Prove.{IsProved, IsSaidOf}
 use Rattle.command.specs.Queries.{IsPlanned}
 use Rattle.command.specs.Ranges.{within}
 use Rattle.command.specs.Reads.{Reads, Sees}
@@ -89,7 +89,7 @@ module _ (before : Reads) (m : Proving) (said : Said) (h : SaysCertificate said)
   by_goal : (graph : GraphParts) → HaveAutomaton before.holds m.sources graph → (entry : EntryFunction) → entry_of graph m.entry ≡ Some entry → (p : Predicates) (plan : Plan) → IsPlanned graph m.query p plan
       → (goal : GoalForm) → slice_get plan.goals (m.goal - 1) ≡ Some goal → IsProved graph entry p plan (within m.bounds) m.ends m.goal goal m.sources m.budget said → IsRefuted before m said
   by_goal graph have entry named p plan planned goal there (inl a) = absurd (refusal_said m.sources _ said h a)
-  by_goal graph have entry named p plan planned goal there (inr a) = by a.1.0 a.1.1 a.1.2
+  by_goal graph have entry named p plan planned goal there (inr a) = by a.1.0 a.1.1 a.1.3
     where
       by : (decided : Decided) → IsDecided graph entry.function p plan (within m.bounds) m.ends goal m.budget decided → IsSaidOf graph entry p plan (within m.bounds) m.ends m.goal goal decided said → IsRefuted before m said
       by (Covered input) is s = absurd (line_said said _ 103 refl h (ap (λ (z : Said). z.out) s.3) refl)

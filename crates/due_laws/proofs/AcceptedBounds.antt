@@ -22,9 +22,9 @@ use Rattle.report.specs.Suffice.{suffice_text}
 use Rattle.command_words.specs.Reading.{Text}
 use Rattle.command_words.specs.Request as asks
 use Rattle.command_words.specs.Request.{CheckingBounds, Sufficing}
-use Rattle.command.specs.Certificates.{AreCertificateOf}
-use Rattle.command.specs.CheckingBounds.{IsCheckedBounds}
-use Rattle.command.specs.Comparing.{IsCompared, said_of_verdict}
+use Rattle.command.specs.CertificateFile.{AreCertificateOf}
+use Rattle.command.specs.CheckBounds.{IsCheckedBounds}
+use Rattle.command.specs.Comparison.{IsCompared, said_of_verdict}
 use Rattle.command.specs.Due.{IsDueOf}
 use Rattle.command.specs.Ranges.{within}
 use Rattle.command.specs.Reads.{Reads, Sees}
@@ -32,8 +32,8 @@ use Rattle.command.specs.Runs.{EntryFunction, entry_of, no_predicates}
 use Rattle.command.specs.Said.{Said}
 use Rattle.command.specs.Sources.{HaveAutomaton}
 use Rattle.command.specs.Stages.{OfCertificate, OfEntry, no_such_entry}
-use Rattle.command.specs.declared.sufficing.Form.TheVariants as form
-use Rattle.command.specs.Sufficing.{IsAskedOfBounds, said_of_bounds}
+use Rattle.command.specs.declared.bounds.Form.TheVariants as form
+use Rattle.command.specs.Bounds.{IsAskedOfBounds, said_of_bounds}
 use Rattle.due_laws.specs.Accepted.{BoundsCertificatesAreAccepted, SaysSufficient, checking_bounds_of}
 use Rattle.due_laws.specs.Determined.{SaysCertificate, SaysOtherFormula, are_told}
 use Rattle.due_laws.proofs.Accepted.{line_said, no_text, nothing_said, refusal_said, still_have}

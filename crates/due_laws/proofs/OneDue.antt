@@ -43,20 +43,20 @@ use Rattle.due_laws.specs.Determined.{AtMostOneIsDue, IsTold, are_told, files_of
 use Rattle.command.specs.Due.{IsDueOf}
 use Rattle.command.specs.Inputs.{AreInputsOf}
 use Rattle.command.specs.Inputs as inputs
-use Rattle.command.specs.Measured.{AreAllHits, IsMeasured, report_of}
-use Rattle.command.specs.OnTrees.{ended}
+use Rattle.command.specs.Measure.{AreAllHits, IsMeasured, report_of}
+use Rattle.command.specs.Trees.{ended}
 use Rattle.command.specs.Queries.{IsPlanned}
 use Rattle.command.specs.Queries as queries
 use Rattle.command.specs.Reads.{Reads, Sees}
-use Rattle.command.specs.Recorded.{recorded}
+use Rattle.command.specs.RunList.{recorded}
 use Rattle.command.specs.Refusal.{said_by}
 use Rattle.command.specs.Runs.{EntryFunction, entry_of, runs_of}
 use Rattle.command.specs.Said.{Said, answered}
 use Rattle.command.specs.Sources.{AreRead, AreRefused, HaveAutomaton, HaveTrees, IsRead, IsReadUpTo, IsUnread, fails, is_past, most_source}
 use Rattle.command.specs.Stages.{OfEntry, OfInputs, OfQuery, OfSources, OfTraces, OfTrees, Says, no_such_entry, usage}
-use Rattle.command.specs.Traces as traces
-use Rattle.command.specs.Traces.{AreTracesOf, inputs_in, longest}
-use Rattle.command.specs.Tracing.{traced}
+use Rattle.command.specs.TraceFile as traces
+use Rattle.command.specs.TraceFile.{AreTracesOf, inputs_in, longest}
+use Rattle.command.specs.Traces.{traced}
 use Rattle.due_laws.proofs.OneFile.{read_alike, read_is_kept, refused_once}
 
 -- at most one

@@ -14,7 +14,7 @@ use Rattle.trace_file.specs.declared.line.Line.{Line}
 use Rattle.trace_file.specs.declared.trace.Trace.{Trace}
 use Rattle.trace_file.specs.Form.{Form}
 use Rattle.trace_file.specs.Reading.{IsReadAs, IsRefusedAs, IsRight, IsTraceOf, line_place, refused_at}
-use Rattle.command.specs.Traces.{inputs_in, longest}
+use Rattle.command.specs.TraceFile.{inputs_in, longest}
 
 heads : (a b : Line) (rest more : List Line) → a ∷ rest ≡ b ∷ more → a ≡ b
 heads a b rest more e = cc

@@ -61,27 +61,27 @@ use Rattle.command_words.specs.Reading.{Text}
 use Rattle.command_words.specs.Request as asks
 use Rattle.command_words.specs.Request.{Asked, measure, generate, goals, runs, prove, check, suffice, sample, Checking, CheckingBounds, Generating, Proving, Sufficing, request_of}
 use Rattle.command.specs.Asked.{sample_file}
-use Rattle.command.specs.Certificates.{AreCertificateOf}
-use Rattle.command.specs.Certificates as certificates
-use Rattle.command.specs.Checking.{IsChecked, accepted_text}
-use Rattle.command.specs.CheckingBounds.{IsCheckedBounds}
-use Rattle.command.specs.Comparing.{IsCompared, said_of_verdict}
+use Rattle.command.specs.CertificateFile.{AreCertificateOf}
+use Rattle.command.specs.CertificateFile as certificates
+use Rattle.command.specs.Check.{IsChecked, accepted_text}
+use Rattle.command.specs.CheckBounds.{IsCheckedBounds}
+use Rattle.command.specs.Comparison.{IsCompared, said_of_verdict}
 use Rattle.due_laws.specs.Determined.{AreAlike, AreOfOneCheck, AreOfOneKind, AreOfOneLeast, AreOfOneProof, AreOfOneSuffice, AtMostOneKindIsDue, SaysCertificate, SaysCompared, SaysLeft, SaysOpen, answers, are_told, files_of}
 use Rattle.command.specs.Due.{IsDueOf}
-use Rattle.command.specs.Generating.{IsGeneration, concluded, generated_report, is_open}
-use Rattle.command.specs.Lowering.{IsLowered, said_of_least}
+use Rattle.command.specs.Generate.{IsGeneration, concluded, generated_report, is_open}
+use Rattle.command.specs.Least.{IsLowered, said_of_least}
 use Rattle.command.specs.OneGoal.{IsGoalRefused, IsGoalTooLarge, IsGoalWithin}
-use Rattle.command.specs.Proving.{IsProved, IsSaidOf}
+use Rattle.command.specs.Prove.{IsProved, IsSaidOf}
 use Rattle.command.specs.Ranges.{within}
 use Rattle.command.specs.Reads.{Reads}
 use Rattle.command.specs.Runs.{EntryFunction, entry_of, no_predicates}
 use Rattle.command.specs.Refusal.{said_by}
 use Rattle.command.specs.Said.{Said, answered, status_with}
-use Rattle.command.specs.Sampling.{IsDueOfSample, IsSampled, default_bounds, default_budget, sample_source}
+use Rattle.command.specs.Sample.{IsDueOfSample, IsSampled, default_bounds, default_budget, sample_source}
 use Rattle.command.specs.Stages.{OfCertificate, OfEntry, OfGoal, OfQuery, OfTexts, no_such_entry, no_such_goal, usage}
-use Rattle.command.specs.declared.sufficing.Form.{Form}
-use Rattle.command.specs.declared.sufficing.Form.TheVariants as form
-use Rattle.command.specs.Sufficing.{IsAskedOfBounds, said_of_bounds, sufficient_text}
+use Rattle.command.specs.declared.bounds.Form.{Form}
+use Rattle.command.specs.declared.bounds.Form.TheVariants as form
+use Rattle.command.specs.Bounds.{IsAskedOfBounds, said_of_bounds, sufficient_text}
 use Rattle.due_laws.proofs.Agreement.{no_arrays}
 use Rattle.due_laws.proofs.OneLeast.{one_least_input}
 use Rattle.due_laws.proofs.OneLine.{one_line}
@@ -218,7 +218,7 @@ module _ (count : OneCount) (size : OneSize) (few : NotTooMany) where
   one_generation names graph entry p plan bounds ends budget text x y (inl a) (inr b) = absurd (no_fault count size few graph entry.function p plan bounds ends b.1.1.limits a.0 a.1)
   one_generation names graph entry p plan bounds ends budget text x y (inr a) (inl b) = absurd (no_fault count size few graph entry.function p plan bounds ends a.1.1.limits b.0 b.1)
   one_generation names graph entry p plan bounds ends budget text x y (inr a) (inr b) =
-      inr (is_answered x a.0 a.1.0 a.1.2, is_answered y b.0 b.1.0 b.1.2)
+      inr (is_answered x a.0 a.1.0 a.1.3, is_answered y b.0 b.1.0 b.1.3)
     where
       is_answered : (said : Said) (made : Generated) (shown : List Shown) → said ≡ concluded made (text made) shown → IsTrue (answers said.status)
       is_answered said made shown e = subst (λ (s : Said). IsTrue (answers s.status)) (sym e) (open_or_done (is_open made.answers))
@@ -238,7 +238,7 @@ module _ (count : OneCount) (size : OneSize) (few : NotTooMany) where
   one_proof graph entry p plan bounds ends number goal names budget x y (inl a) (inr b) = absurd (not_goal_refused count size few graph entry.function p plan bounds ends goal b.0 a.0 a.1)
   one_proof graph entry p plan bounds ends number goal names budget x y (inr a) (inl b) = absurd (not_goal_refused count size few graph entry.function p plan bounds ends goal a.0 b.0 b.1)
   one_proof graph entry p plan bounds ends number goal names budget x y (inr a) (inr b) =
-      inr (answer_said graph entry p plan bounds ends number goal a.1.0 x a.1.2, answer_said graph entry p plan bounds ends number goal b.1.0 y b.1.2)
+      inr (answer_said graph entry p plan bounds ends number goal a.1.0 x a.1.3, answer_said graph entry p plan bounds ends number goal b.1.0 y b.1.3)
 
   -- ---- what is said of the least input of a goal
 

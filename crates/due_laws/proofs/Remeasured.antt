@@ -28,7 +28,7 @@ use Rattle.suite.specs.Generated.{IsAnswer, IsGenerated, IsMeasuredInput, Shown}
 use Rattle.suite.specs.Made.{IsMade}
 use Rattle.suite.specs.declared.generated.Generated.{Generated}
 use Rattle.unwinder.specs.Lists.{IsInputFor}
-use Rattle.command.specs.Measured.{AreAllHits, answer_of}
+use Rattle.command.specs.Measure.{AreAllHits, answer_of}
 use Rattle.command.specs.Runs.{run_of, runs_of}
 use Rattle.made_laws.specs.Laws.{MadeRunsAreShort}
 use Rattle.due_laws.proofs.Agreement.{entry_there, given, no_arrays}

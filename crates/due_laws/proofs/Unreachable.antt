@@ -15,7 +15,7 @@ use Rattle.fq_io.specs.Counts.{Rose}
 use Rattle.report.specs.Suffice.{suffice_text}
 use Rattle.command_words.specs.Reading.{Text}
 use Rattle.command_words.specs.Request.{suffice, Checking}
-use Rattle.command.specs.Certified.{IsRefutedGoal}
+use Rattle.command.specs.Accepted.{IsRefutedGoal}
 use Rattle.command.specs.Due.{IsDueOf}
 use Rattle.command.specs.Ranges.{within}
 use Rattle.command.specs.Reads.{Reads}
@@ -23,9 +23,9 @@ use Rattle.command.specs.Runs.{EntryFunction, entry_of}
 use Rattle.command.specs.Said.{Said}
 use Rattle.command.specs.Sources.{HaveAutomaton}
 use Rattle.command.specs.Stages.{OfEntry, Says, no_such_entry}
-use Rattle.command.specs.declared.sufficing.Form.TheVariants as form
-use Rattle.command.specs.Sufficing.{IsAskedOfBounds, said_of_bounds}
-use Rattle.command.proofs.CertifiedLaws.{at_sources, bounds_at_sources}
+use Rattle.command.specs.declared.bounds.Form.TheVariants as form
+use Rattle.command.specs.Bounds.{IsAskedOfBounds, said_of_bounds}
+use Rattle.command.proofs.AcceptedLaws.{at_sources, bounds_at_sources}
 use Rattle.due_laws.specs.Determined.{are_told}
 use Rattle.due_laws.specs.Unreachable.{AcceptedMeansUnreachable, IsUnreachable, bounds_asked_of, bounds_checked_of}
 use Rattle.due_laws.proofs.Accepted.{no_text, still_have}

@@ -5,8 +5,8 @@ use Rattle.report.specs.Suffice.{suffice_text}
 use Rattle.command_words.specs.Reading.{Text}
 use Rattle.command_words.specs.Request as asks
 use Rattle.command_words.specs.Request.{prove, check, Checking, CheckingBounds, Proving, Sufficing}
-use Rattle.command.specs.Certificates.{most_certificate}
-use Rattle.command.specs.Checking.{accepted_text}
+use Rattle.command.specs.CertificateFile.{most_certificate}
+use Rattle.command.specs.Check.{accepted_text}
 use Rattle.command.specs.Due.{IsDueOf}
 use Rattle.command.specs.Ranges.{within}
 use Rattle.command.specs.Reads.{Reads, Sees}

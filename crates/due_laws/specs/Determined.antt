@@ -17,8 +17,8 @@ use Rattle.command_words.specs.Request as asks
 use Rattle.command_words.specs.Request.{Asked, measure, generate, goals, runs, prove, check, suffice, sample, request_of}
 use Rattle.command.specs.declared.status.Status.{Status}
 use Rattle.command.specs.declared.status.Status.TheVariants as status
-use Rattle.command.specs.Checking.{accepted_text}
-use Rattle.command.specs.Comparing.{other_formula, said_of_verdict}
+use Rattle.command.specs.Check.{accepted_text}
+use Rattle.command.specs.Comparison.{other_formula, said_of_verdict}
 use Rattle.command.specs.Due.{IsDue}
 use Rattle.command.specs.Ranges.{within}
 use Rattle.command.specs.Reads.{Reads}

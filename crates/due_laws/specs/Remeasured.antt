@@ -15,7 +15,7 @@ use Rattle.reached.specs.declared.bounds.Bounds.{Bounds}
 use Rattle.suite.specs.Generated.{IsGenerated, Shown}
 use Rattle.suite.specs.declared.generated.Generated.{Generated}
 use Rattle.command_words.specs.Reading.{Text}
-use Rattle.command.specs.Measured.{AreAllHits, answer_of}
+use Rattle.command.specs.Measure.{AreAllHits, answer_of}
 use Rattle.command.specs.Runs.{EntryFunction, entry_of, runs_of}
 
 -- the runs of these inputs, where they are counted, have at most so many edges

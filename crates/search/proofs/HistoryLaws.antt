@@ -1,16 +1,20 @@
 -- Histories end.
-use Rattle.std.proofs.Common.{◌≡◌, ℕ, ◌+◌, ◌<◌, ◌≤◌, true, eqb, List, [], ◌∷◌, ◌++◌, length, take, map, refl, sym, ◌∙◌, arith, rules, Option, None, Some}
+use Rattle.std.proofs.Common.{◌≡◌, ℕ, ◌+◌, ◌<◌, ◌≤◌, ◌^◌, Err, Ok, Result, IfOk, true, eqb, List, [], ◌∷◌, ◌++◌, length, take, map, refl, sym, ◌∙◌, arith, rules, Option, None, Some}
 use Rattle.std.specs.Prelude.{ℤ, slice_get, IsSomeAnd}
 use Rattle.std.specs.List.{IsDistinct, list_all}
 use Rattle.std.proofs.lemmas.List.{length-append, map-append}
 use Rattle.std.proofs.lemmas.List.Folds.{list_all-append}
 use Rattle.cnf.specs.declared.derivation.DerivationLine.{DerivationLine}
 use Rattle.cnf.specs.declared.formula.Formula.{Formula}
+use Rattle.fq_core.specs.declared.memory.Memory.{Memory}
+use Rattle.search.specs.declared.found.Found.{Found}
+use Rattle.search.specs.declared.found.Found.TheVariants as found
 use Rattle.search.specs.declared.moves.Move.{Move}
 use Rattle.search.specs.declared.moves.Move.TheVariants.{Propagate, Decide, Jump}
 use Rattle.search.specs.Laws.{HistoriesEnd, IsFormula, TrailsRise, is_over, number_of}
 use Rattle.search.specs.declared.trail.Entry.{Entry}
 use Rattle.search.specs.Trails.{IsTrail, places}
+use Rattle.search.specs.Nexts.{HasEnded, IsFound}
 use Rattle.search.specs.Machine.{is_true, State, Moves, Runs, Propagates, Jumps, clauses_of, first_state, is_open, with_entry}
 use Rattle.search.proofs.KeptLaws.{and_left, and_right, has_over, is_over-from, is_over-tells, line_over, numbered_over, trail_more, trail_short, trail_taken, unit_is}
 use Rattle.search.proofs.TrailLaws.{below_power, rises_by_cut, rises_by_entry}
@@ -112,3 +116,14 @@ trails_rise_law formula before s move t is run m = (onward formula s t move (beh
 pub histories_end_law : HistoriesEnd
 histories_end_law formula moves s is run =
     omega (arith, (behind formula first_state moves s (kept_first formula is) run).risen, below_power formula.variables s.trail)
+
+-- ---- budgets that are enough
+
+-- a history of so many moves would be too long
+pub spent_never : (formula : Formula) (budget : ℕ) → IsFormula formula → 3 ^ formula.variables ≤ budget → (r : Result Found Memory) → IfOk r (IsFound formula budget) → IfOk r HasEnded
+spent_never formula budget is most (Err e) h = tt
+spent_never formula budget is most (Ok (found.Model model)) h = tt
+spent_never formula budget is most (Ok (found.NoModel derivation)) h = tt
+spent_never formula budget is most (Ok (found.Spent history)) h =
+    let short = histories_end_law formula history.moves h.1.0 is h.1.1 in
+    absurd (omega (arith, h.0, short, most))

@@ -1,7 +1,7 @@
 -- What a round of the search keeps.
 use Rattle.std.proofs.Common.{◌≡◌, ◌⊎◌, ℕ, ◌+◌, ◌<◌, ◌≤◌, Bool, true, false, ◌||◌, List, [], ◌∷◌, ◌++◌, length, take, refl, sym, ◌∙◌, ap, arith, None, Some, length-append}
 use mathlib.Core.Logic.{inl, inr}
-use Rattle.std.specs.Prelude.{ℤ, neg_ℤ, not, slice_get, IfOk, Result, Ok, Err}
+use Rattle.std.specs.Prelude.{ℤ, neg_ℤ, not, slice_get}
 use Rattle.std.specs.Ordering.{int_eq}
 use Rattle.std.proofs.lemmas.List.{length-take-le}
 use Rattle.std.proofs.lemmas.Option.{slice_get_within}
@@ -10,7 +10,6 @@ use Rattle.cnf.specs.declared.formula.Formula.{Formula}
 use Rattle.cnf.specs.Clauses.{has_literal}
 use Rattle.cnf.proofs.ClauseLaws.{equal_literal}
 use Rattle.literal_marks.proofs.MarksLaws.{int_eq-sym}
-use Rattle.fq_core.specs.declared.memory.Memory.{Memory}
 use Rattle.search.specs.declared.found.Found.{Found}
 use Rattle.search.specs.declared.found.Found.TheVariants as found
 use Rattle.search.specs.declared.landing.Landing.{Landing}
@@ -22,7 +21,7 @@ use Rattle.search.specs.At.{IsAt}
 use Rattle.search.specs.Conflicts.{IsConflicting}
 use Rattle.search.specs.Lessons.{IsLesson}
 use Rattle.search.specs.Machine.{IsOver, Moves, is_true, with_entry}
-use Rattle.search.specs.Nexts.{IsEnd, IsFound, jumped, state_of}
+use Rattle.search.specs.Nexts.{IsEnd, jumped, state_of}
 use Rattle.search.specs.Readings.{IsSearching}
 use Rattle.search.specs.Sound.{all_clauses}
 use Rattle.search.specs.Watching.{IsDecidedAt, IsPaired, IsWatching, is_among, is_blocked, is_satisfied, list_of}
@@ -187,8 +186,7 @@ module _ (formula : Formula) (budget : ℕ) (m : Machine) (w : Watching) (line :
 
 -- ---- ends
 
-pub end_found : (formula : Formula) (moves budget : ℕ) → moves ≤ budget → (r : Result Found Memory) → IfOk r (IsEnd formula moves) → IfOk r (IsFound formula budget)
-end_found formula moves budget low (Err e) h = tt
-end_found formula moves budget low (Ok (found.Model model)) h = h
-end_found formula moves budget low (Ok (found.NoModel derivation)) h = let lines = h.1 in (h.0, omega (arith, low, lines))
-end_found formula moves budget low (Ok (found.Spent history)) h = absurd h
+pub end_more : (formula : Formula) (moves budget : ℕ) → moves ≤ budget → (f : Found) → IsEnd formula moves f → IsEnd formula budget f
+end_more formula moves budget low (found.Model model) h = h
+end_more formula moves budget low (found.NoModel derivation) h = let lines = h.1 in (h.0, omega (arith, low, lines))
+end_more formula moves budget low (found.Spent history) h = absurd h

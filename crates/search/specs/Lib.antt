@@ -1,6 +1,7 @@
 pub mod At
 pub mod Chains
 pub mod Conflicts
+pub mod Endings
 pub mod Installs
 pub mod Laws
 pub mod Lessons

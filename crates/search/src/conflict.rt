@@ -32,6 +32,15 @@ pub(crate) struct Lesson {
     pub seen: Vec<i32>,
 }
 
+// The steps of a line, which is kept, without room for more.
+fn fitted(steps: Vec<(u32, i32)>) -> Vector<(u32, i32)>
+    ensures { result ≡ steps.items }
+{
+    let mut steps = steps;
+    steps.shrink_to_fit();
+    Vector::from_vec(steps)
+}
+
 // The length of the shortest beginning of the trail by which these literals are false.
 fn reach_of(places: &[u32], literals: &[i32]) -> usize
     requires over { (x : ℤ) → has_literal literals.now x ≡ true → IsLiteral x × (key_of (neg_ℤ x) < length places.now) }
@@ -161,7 +170,7 @@ fn refuting_lesson(
         line: DerivationLine {
             clause,
             first: conflict,
-            steps: Vector::from_vec(chain.steps),
+            steps: fitted(chain.steps),
         },
         landing: None,
         seen: chain.seen,
@@ -216,7 +225,7 @@ fn asserting_lesson(
         line: DerivationLine {
             clause,
             first: conflict,
-            steps: Vector::from_vec(chain.steps),
+            steps: fitted(chain.steps),
         },
         landing: Some(landing),
         seen: chain.seen,

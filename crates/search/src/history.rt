@@ -43,7 +43,17 @@ fn last_move(
     }
 }
 
-/// The moves of these steps, whose jumps learned these lines in turn.
+// Gives back the room of steps that were taken away, once they are half of those that it was for.
+fn give_back(steps: &mut Vec<Step>)
+    ensures { steps.new.items ≡ steps.old.items }
+{
+    if steps.len() < steps.capacity() / 2 {
+        steps.shrink_to_fit();
+    }
+}
+
+/// The moves of these steps, whose jumps learned these lines in turn. The steps leave as the moves come, so that they don't
+/// stand twice.
 pub(crate) fn history_of(
     alloc: Global,
     steps: Vec<Step>,
@@ -57,6 +67,7 @@ pub(crate) fn history_of(
     let mut moves = Vec::with_capacity(alloc, steps.len())?;
     while let Some(last) = last_move(alloc, &mut steps, &mut lines)? {
         moves.push(last)?;
+        give_back(&mut steps);
     }
     moves.reverse();
     Ok(History {

@@ -8,14 +8,16 @@
 //! move, and once where the budget is spent. A conflict is resolved to the first unique implication point
 //! (specs/Chains.antt), without a pass over the variables. The variable that was most active in conflicts is decided next, to
 //! be as it last was, and of those that never were active the lowest or the highest, as the caller says; that each open one
-//! is listed is kept (specs/Orders.antt), their order is free. A learned line is kept once, and the history is made of it
-//! where the budget is spent (specs/Steps.antt). The layers above use what `search` and `search_in_order` answer
-//! (specs/Nexts.antt), and that `shown` appends what it is given, and after want of memory nothing. Start at searching.rt.
+//! is listed is kept (specs/Orders.antt), their order is free. A learned line is kept once. The history is made of the steps and
+//! the lines where the budget is spent (specs/Steps.antt, specs/Endings.antt), of a search whose history isn't shown never.
+//! The layers above use what `search` and `search_in_order` answer (specs/Nexts.antt), and that `shown` appends what it is
+//! given, and after want of memory nothing. Start at searching.rt.
 #![tactic(auto)]
 
 mod chain;
 mod choice;
 mod conflict;
+mod ending;
 mod first_variables;
 mod found;
 mod history;
@@ -41,6 +43,6 @@ mod watching;
 pub use first_variables::FirstVariables;
 pub use found::Found;
 pub use moves::{History, Move};
-pub use orders::{search_both, search_highest_part, search_lowest_part, search_whole};
+pub use orders::{search_both, search_ends, search_highest_part, search_lowest_part, search_whole};
 pub use searching::{search, search_in_order};
 pub use watch::{KeepWatch, NoWatch, Watch};

@@ -11,8 +11,9 @@ ghost use Rattle.search.specs.At.{IsAt, IsSameBut, IsSameButMarks, IsSameButOrde
 ghost use Rattle.search.specs.Laws.{IsFormula};
 ghost use Rattle.search.specs.Lessons.{IsLesson};
 ghost use Rattle.search.specs.Machine.{EndsAsModel, IsOver, Moves, clauses_of, is_open, is_true, with_entry};
-ghost use Rattle.search.specs.Nexts.{IsEnd, IsFound, jumped, state_of};
+ghost use Rattle.search.specs.Nexts.{IsEnd, jumped, state_of};
 ghost use Rattle.search.specs.Conflicts.{IsConflicting};
+ghost use Rattle.search.specs.Endings.{IsEnding};
 ghost use Rattle.search.specs.Sound.{Implies, all_clauses};
 ghost use Rattle.search.specs.Steps.{move_of};
 ghost use Rattle.search.specs.Trails.{places};
@@ -21,9 +22,9 @@ ghost use Rattle.search.specs.declared.moves.Move.TheVariants as move;
 
 use crate::choice::{candidate, model};
 use crate::conflict::{Lesson, lesson_of};
+use crate::ending::Ending;
 use crate::first_variables::FirstVariables;
 use crate::found::Found;
-use crate::history::history_of;
 use crate::moves::Step;
 use crate::next::{Next, next_of};
 use crate::order::Order;
@@ -264,11 +265,11 @@ impl Machine {
         }
     }
 
-    /// What a search answers when the budget is spent.
-    pub fn end(mut self, alloc: Global, formula: &Formula) -> Result<Found, Memory>
+    /// How a search ends when the budget is spent.
+    pub fn end(mut self, alloc: Global, formula: &Formula) -> Result<Ending, Memory>
         requires at { IsAt formula.now self }
         requires small { formula.now.variables ≤ 2 ^ 30 }
-        ensures { IfOk result (IsFound formula.now (length self.moves.items)) }
+        ensures { IfOk result (IsEnding formula.now (length self.moves.items)) }
     {
         let next = next_of(
             alloc,
@@ -282,13 +283,13 @@ impl Machine {
         match next {
             Next::Model => {
                 let values = model(alloc, &self.values, formula.variables)?;
-                Ok(Found::Model(Vector::from_vec(values)))
+                Ok(Ending::Ended(Found::Model(Vector::from_vec(values))))
             }
-            Next::Refuted(line) => Ok(Found::NoModel(self.refutation(line)?)),
-            _ => {
-                let history = history_of(alloc, self.moves, self.learned.lines)?;
-                Ok(Found::Spent(history))
-            }
+            Next::Refuted(line) => Ok(Ending::Ended(Found::NoModel(self.refutation(line)?))),
+            _ => Ok(Ending::Spent {
+                steps: self.moves,
+                lines: self.learned.lines,
+            }),
         }
     }
 }

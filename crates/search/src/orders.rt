@@ -3,9 +3,10 @@ ghost use Rattle.std.specs.Prelude.{◌≤◌, ◌^◌, IfOk, IfSome};
 ghost use Rattle.search.specs.Laws.{IsFormula};
 ghost use Rattle.search.specs.Nexts.{HasEnded, IsEnd, IsFound};
 
+use crate::ending::Ending;
 use crate::first_variables::FirstVariables;
 use crate::found::Found;
-use crate::searching::{search, search_in_order};
+use crate::searching::{found_of, searched};
 use cnf::Formula;
 use fq_core::Memory;
 use std::alloc::Global;
@@ -26,10 +27,9 @@ fn ended(
     requires within { moves ≤ budget }
     ensures { IfOk result (λ ended. IfSome ended (IsEnd formula.now budget)) }
 {
-    match search_in_order(alloc, formula, moves, first)? {
-        Found::Model(model) => Ok(Some(Found::Model(model))),
-        Found::NoModel(derivation) => Ok(Some(Found::NoModel(derivation))),
-        Found::Spent(_history) => Ok(None),
+    match searched(alloc, formula, moves, first)? {
+        Ending::Ended(found) => Ok(Some(found)),
+        Ending::Spent { .. } => Ok(None),
     }
 }
 
@@ -67,6 +67,37 @@ pub fn search_highest_part(
     ended(alloc, formula, budget, budget / 20, FirstVariables::Highest)
 }
 
+/// What the whole budget finds with the lowest variables first, and where it is spent, with the highest first. Nothing is found
+/// where both are spent. With a budget below 1,000 there is the first search alone. No history is made.
+pub fn search_ends(alloc: Global, formula: &Formula, budget: u64) -> Result<Option<Found>, Memory>
+    requires formula { IsFormula formula.now }
+    requires small { formula.now.variables ≤ 2 ^ 30 }
+    ensures { IfOk result (λ found. IfSome found (IsEnd formula.now budget)) }
+{
+    let lowest = ended(alloc, formula, budget, budget, FirstVariables::Lowest)?;
+    if budget < LEAST || lowest.is_some() {
+        return Ok(lowest);
+    }
+    ended(alloc, formula, budget, budget, FirstVariables::Highest)
+}
+
+// What the whole budget finds with the lowest variables first, and where it is spent, with the highest first. The history of
+// the first search is made when the second is spent as well, that of the second never.
+fn found_whole(alloc: Global, formula: &Formula, budget: u64) -> Result<Found, Memory>
+    requires formula { IsFormula formula.now }
+    requires small { formula.now.variables ≤ 2 ^ 30 }
+    ensures { IfOk result (IsFound formula.now budget) }
+{
+    let lowest = searched(alloc, formula, budget, FirstVariables::Lowest)?;
+    if budget < LEAST || !matches!(&lowest, Ending::Spent { .. }) {
+        return found_of(alloc, lowest);
+    }
+    match ended(alloc, formula, budget, budget, FirstVariables::Highest)? {
+        Some(found) => Ok(found),
+        None => found_of(alloc, lowest),
+    }
+}
+
 /// Searches a model of a formula with the lowest variables first, and where the budget is spent, with the highest first: a
 /// model, a derivation that shows that there is none, or, where both searches are spent, all the moves of the first one. A
 /// budget of 3 to the number of the formula's variables is never spent. With a budget below 1,000 there is the first search
@@ -77,14 +108,7 @@ pub fn search_whole(alloc: Global, formula: &Formula, budget: u64) -> Result<Fou
     ensures found { IfOk result (IsFound formula.now budget) }
     ensures enough { 3 ^ formula.now.variables ≤ budget → IfOk result HasEnded }
 {
-    let lowest = search(alloc, formula, budget)?;
-    if budget < LEAST || !matches!(&lowest, Found::Spent(_)) {
-        return Ok(lowest);
-    }
-    match ended(alloc, formula, budget, budget, FirstVariables::Highest)? {
-        Some(found) => Ok(found),
-        None => Ok(lowest),
-    }
+    found_whole(alloc, formula, budget)
 }
 
 /// What parts of the budget find (`search_lowest_part`, and then `search_highest_part`), and else the whole one

@@ -1,10 +1,14 @@
 // The search.
-ghost use Rattle.std.specs.Prelude.{◌≤◌, ◌^◌, IfOk};
+ghost use Rattle.std.specs.Prelude.{◌≤◌, ◌^◌, ℕ, IfOk};
+ghost use Rattle.cnf.specs.declared.formula.Formula.{Formula as FormulaValue};
+ghost use Rattle.search.specs.Endings.{IsEnding};
 ghost use Rattle.search.specs.Laws.{IsFormula};
 ghost use Rattle.search.specs.Nexts.{HasEnded, IsFound};
 
+use crate::ending::Ending;
 use crate::first_variables::FirstVariables;
 use crate::found::Found;
+use crate::history::history_of;
 use crate::installing::{install_all, nothing_watched};
 use crate::machine::Machine;
 use crate::reading::Queue;
@@ -13,16 +17,16 @@ use cnf::Formula;
 use fq_core::Memory;
 use std::alloc::Global;
 
-/// What a search finds.
-fn searched(
+/// How a search ends. Its history isn't made yet.
+pub(crate) fn searched(
     alloc: Global,
     formula: &Formula,
     budget: u64,
     first: FirstVariables,
-) -> Result<Found, Memory>
+) -> Result<Ending, Memory>
     requires formula { IsFormula formula.now }
     requires small { formula.now.variables ≤ 2 ^ 30 }
-    ensures { IfOk result (IsFound formula.now budget) }
+    ensures { IfOk result (IsEnding formula.now budget) }
 {
     // Clauses are numbered in 32 bits.
     if formula.clauses.len() >= 0x1_0000_0000 {
@@ -32,18 +36,46 @@ fn searched(
     let mut watching = nothing_watched(alloc, formula.variables)?;
     match install_all(&mut machine, &mut watching, formula, budget)? {
         Queue::Read => {}
-        Queue::Conflict(number) => return machine.contradicted(alloc, formula, number),
+        Queue::Conflict(number) => {
+            return Ok(Ending::Ended(machine.contradicted(alloc, formula, number)?));
+        }
         Queue::Spent => return machine.end(alloc, formula),
     }
     for _ in 0..budget {
         match next_round(alloc, &mut machine, &mut watching, formula, budget)? {
             Round::Went => {}
-            Round::Model => return machine.satisfied(alloc, formula),
-            Round::Refuted(line) => return machine.refuted(formula, line),
+            Round::Model => return Ok(Ending::Ended(machine.satisfied(alloc, formula)?)),
+            Round::Refuted(line) => return Ok(Ending::Ended(machine.refuted(formula, line)?)),
             Round::Spent => return machine.end(alloc, formula),
         }
     }
     machine.end(alloc, formula)
+}
+
+/// What a search that ended so finds. Where it is spent, its history is made.
+pub(crate) fn found_of(alloc: Global, ending: Ending) -> Result<Found, Memory>
+    requires is { (formula : FormulaValue) × ((budget : ℕ) × IsEnding formula budget ending) }
+    ensures { (formula : FormulaValue) (budget : ℕ) → IsEnding formula budget ending → IfOk result (IsFound formula budget) }
+{
+    match ending {
+        Ending::Ended(found) => Ok(found),
+        Ending::Spent { steps, lines } => Ok(Found::Spent(history_of(alloc, steps, lines)?)),
+    }
+}
+
+// What a search finds.
+fn found_in_order(
+    alloc: Global,
+    formula: &Formula,
+    budget: u64,
+    first: FirstVariables,
+) -> Result<Found, Memory>
+    requires formula { IsFormula formula.now }
+    requires small { formula.now.variables ≤ 2 ^ 30 }
+    ensures { IfOk result (IsFound formula.now budget) }
+{
+    let ending = searched(alloc, formula, budget, first)?;
+    found_of(alloc, ending)
 }
 
 /// Searches a model of a formula with at most so many moves: a model, a derivation that shows that there is none, or,
@@ -62,7 +94,7 @@ pub fn search_in_order(
     ensures found { IfOk result (IsFound formula.now budget) }
     ensures enough { 3 ^ formula.now.variables ≤ budget → IfOk result HasEnded }
 {
-    searched(alloc, formula, budget, first)
+    found_in_order(alloc, formula, budget, first)
 }
 
 /// Searches a model of a formula with at most so many moves: a model, a derivation that shows that there is none, or,

@@ -6,7 +6,7 @@ use cnf::{Formula, literal_key};
 use derivation_check::{Checker, Verdict};
 use search::{
     FirstVariables, Found, History, KeepWatch, Move, NoWatch, Watch, search, search_both,
-    search_highest_part, search_in_order, search_lowest_part, search_whole,
+    search_ends, search_highest_part, search_in_order, search_lowest_part, search_whole,
 };
 use std::alloc::Global;
 use std::process::Abort;
@@ -144,10 +144,26 @@ fn parts_of_a_budget(rt: HostRuntime) {
     let found = search_highest_part(alloc, &formula, 999).expect(&rt, "no memory");
     assert!(rt; found.is_none());
     for budget in [2, 1000] {
+        let found = search_ends(alloc, &formula, budget).expect(&rt, "no memory");
+        assert!(rt; matches!(&found, Some(Found::Model(_))));
         let found = search_whole(alloc, &formula, budget).expect(&rt, "no memory");
         assert!(rt; matches!(&found, Found::Model(_)));
         let found = search_both(alloc, &formula, budget).expect(&rt, "no memory");
         assert!(rt; matches!(&found, Found::Model(_)));
+    }
+}
+
+// Nine pigeons in eight holes aren't refuted by 1,000 moves in either order.
+#[test]
+fn spent_in_both_orders(rt: HostRuntime) {
+    let alloc = rt.alloc();
+    let formula = pigeons(&rt, alloc, 9, 8);
+    assert!(rt; is_over_variables(&formula) && formula.variables <= 1 << 30);
+    let found = search_ends(alloc, &formula, 1000).expect(&rt, "no memory");
+    assert!(rt; found.is_none());
+    match search_whole(alloc, &formula, 1000).expect(&rt, "no memory") {
+        Found::Spent(history) => assert_eq!(rt; history.moves.len(), 1000),
+        _ => assert!(rt; false),
     }
 }
 

@@ -10,3 +10,4 @@ pub mod Refuted
 pub mod SuiteLaws
 pub mod Trimming
 pub mod PoolLaws
+pub mod Early

@@ -1,23 +1,26 @@
 // A goal decided: its formula is searched.
-ghost use Rattle.std.specs.Prelude.{◌≡◌, ◌-◌, ◌<◌, ◌≤◌, ◌^◌, IfErr, IfOk, IfSome, OnOk, Some, length, slice_get};
+ghost use Rattle.std.specs.Prelude.{◌≡◌, ◌-◌, ◌<◌, ◌≤◌, ◌^◌, ℕ, IfErr, IfOk, IfSome, OnOk, Some, length, slice_get};
 ghost use Rattle.cfa.specs.Predicates.{IsPredicates};
+ghost use Rattle.goal_formula.specs.Exact.{IsExact};
 ghost use Rattle.goal_formula.specs.Sizes.{IsFormulaFault, goal_size};
 ghost use Rattle.goals.specs.GoalForm.{GoalForm};
-ghost use Rattle.search.specs.Nexts.{IsModel};
+ghost use Rattle.search.specs.Laws.{IsFormula};
+ghost use Rattle.search.specs.Nexts.{IsFound, IsModel};
 ghost use Rattle.suite.specs.Made.{IsDecided, IsMadeFor, IsOpenWhereShort};
 ghost use Rattle.suite.specs.Pool.{HasPool};
 ghost use Rattle.suite.specs.Unwindings.{ForFormula, ForGoal, IsFormulaOver, IsUnwindingOf};
 
 use crate::decided::Decided;
-use crate::pool::{LATER, Pool, first_count, first_edges, values_of};
+use crate::pool::{LATER, LEAST, Pool, first_count, first_edges, first_patience, values_of};
 use crate::replaying::replay;
 use c_meaning::Input;
 use cfa::{Graph, Predicates};
+use cnf::Formula;
 use confirmation::confirm;
 use fq_core::{Fault, Memory, Place, Refusal};
 use goal_formula::{GoalFormula, formula, input_of, is_goal_too_large};
 use goals::Plan;
-use search::{Found, search_both};
+use search::{Found, search, search_ends, search_highest_part, search_lowest_part, search_whole};
 use std::alloc::Global;
 use unwinder::Unwound;
 
@@ -48,22 +51,23 @@ fn made_input(
     })
 }
 
-/// What the search of a goal's formula finds.
-fn searched(
+/// What is said of a goal by what the search of its formula found.
+fn answered(
     alloc: Global,
     graph: &Graph,
     predicates: &Predicates,
     unwound: &Unwound,
     formula: GoalFormula,
-    budget: u64,
+    found: Found,
 ) -> Result<Decided, Memory>
     requires predicates { IsPredicates graph.now predicates.now }
     requires unwound { IsUnwindingOf graph.now predicates.now unwound.now }
     requires exact { IsFormulaOver graph.now predicates.now unwound.now formula }
     requires small { formula.formula.variables ≤ 2 ^ 30 }
-    ensures { IfOk result (λ decided. ForFormula graph.now predicates.now unwound.now formula (λ f plan g. IsDecided graph.now f predicates.now plan unwound.now.bounds unwound.now.ends g budget decided)) }
+    requires found { (budget : ℕ) × IsFound formula.formula budget found }
+    ensures { (budget : ℕ) → IsFound formula.formula budget found → IfOk result (λ decided. ForFormula graph.now predicates.now unwound.now formula (λ f plan g. IsDecided graph.now f predicates.now plan unwound.now.bounds unwound.now.ends g budget decided)) }
 {
-    match search_both(alloc, &formula.formula, budget)? {
+    match found {
         Found::Model(model) => {
             let input = made_input(alloc, graph, predicates, unwound, &formula, &model)?;
             Ok(Decided::Covered(input))
@@ -79,34 +83,71 @@ fn searched(
     }
 }
 
-/// What the search of a goal's formula finds, of a goal of any size.
-fn sought(
+/// What the whole search of a formula finds, or the first search alone where the whole one was spent before.
+fn found_whole(
+    alloc: Global,
+    formula: &Formula,
+    budget: u64,
+    is_spent: bool,
+) -> Result<Found, Memory>
+    requires formula { IsFormula formula.now }
+    requires small { formula.now.variables ≤ 2 ^ 30 }
+    ensures { IfOk result (IsFound formula.now budget) }
+{
+    if is_spent {
+        search(alloc, formula, budget)
+    } else {
+        search_whole(alloc, formula, budget)
+    }
+}
+
+/// What the whole search of a goal's formula finds.
+fn searched(
+    alloc: Global,
+    graph: &Graph,
+    predicates: &Predicates,
+    unwound: &Unwound,
+    formula: GoalFormula,
+    budget: u64,
+    is_spent: bool,
+) -> Result<Decided, Memory>
+    requires predicates { IsPredicates graph.now predicates.now }
+    requires unwound { IsUnwindingOf graph.now predicates.now unwound.now }
+    requires exact { IsFormulaOver graph.now predicates.now unwound.now formula }
+    requires small { formula.formula.variables ≤ 2 ^ 30 }
+    ensures { IfOk result (λ decided. ForFormula graph.now predicates.now unwound.now formula (λ f plan g. IsDecided graph.now f predicates.now plan unwound.now.bounds unwound.now.ends g budget decided)) }
+{
+    let found = found_whole(alloc, &formula.formula, budget, is_spent)?;
+    answered(alloc, graph, predicates, unwound, formula, found)
+}
+
+/// The formula of a goal whose size is within its limit.
+fn formula_for(
     alloc: Global,
     graph: &Graph,
     predicates: &Predicates,
     unwound: &mut Unwound,
     plan: &Plan,
     goal: u32,
-    budget: u64,
-) -> Result<Decided, Fault>
+) -> Result<GoalFormula, Memory>
     requires predicates { IsPredicates graph.now predicates.now }
     requires unwound { IsUnwindingOf graph.now predicates.now unwound.old }
     requires some { 0 < goal }
     requires there { goal ≤ length plan.now.goals }
-    ensures decided { IfOk result (λ decided. ForGoal graph.now plan.now unwound.old goal (λ f g. IsDecided graph.now f predicates.now plan.now unwound.old.bounds unwound.old.ends g budget decided)) }
-    ensures enough { IfOk result (λ decided. ForGoal graph.now plan.now unwound.old goal (λ f g. IsOpenWhereShort graph.now f predicates.now plan.now unwound.old.bounds g budget decided)) }
-    ensures size { IfOk result (λ _. (g : GoalForm) → slice_get plan.now.goals (goal - 1) ≡ Some g → goal_size plan.now g unwound.old.pairs ≤ 8388608) }
-    ensures refused { IfErr result (λ fault. (g : GoalForm) → slice_get plan.now.goals (goal - 1) ≡ Some g → IsFormulaFault (goal_size plan.now g unwound.old.pairs) fault) }
+    requires small { (g : GoalForm) → slice_get plan.now.goals (goal - 1) ≡ Some g → goal_size plan.now g unwound.old.pairs ≤ 8388608 }
+    ensures exact { IfOk result (λ formula. ForGoal graph.now plan.now unwound.old goal (λ f g. IsExact graph.now predicates.now f unwound.old.bounds unwound.old.ends plan.now g formula)) }
+    ensures over { IfOk result (IsFormulaOver graph.now predicates.now unwound.old) }
+    ensures variables { IfOk result (λ formula. formula.formula.variables < 2 ^ 30) }
     ensures unwound { unwound.new ≡ unwound.old }
 {
-    let formula = formula(alloc, graph, predicates, unwound, plan, goal)?;
-    match searched(alloc, graph, predicates, unwound, formula, budget) {
-        Ok(decided) => Ok(decided),
-        Err(Memory) => Err(Fault::Memory),
+    match formula(alloc, graph, predicates, unwound, plan, goal) {
+        Ok(formula) => Ok(formula),
+        Err(Fault::Memory) => Err(Memory),
+        Err(Fault::Refused(_)) => unreachable!(),
     }
 }
 
-/// What the search of a goal's formula finds, of a goal whose size is within its limit.
+/// What the whole search of a goal's formula finds, of a goal whose size is within its limit.
 fn searched_goal(
     alloc: Global,
     graph: &Graph,
@@ -115,6 +156,7 @@ fn searched_goal(
     plan: &Plan,
     goal: u32,
     budget: u64,
+    is_spent: bool,
 ) -> Result<Decided, Memory>
     requires predicates { IsPredicates graph.now predicates.now }
     requires unwound { IsUnwindingOf graph.now predicates.now unwound.old }
@@ -125,14 +167,13 @@ fn searched_goal(
     ensures enough { IfOk result (λ decided. ForGoal graph.now plan.now unwound.old goal (λ f g. IsOpenWhereShort graph.now f predicates.now plan.now unwound.old.bounds g budget decided)) }
     ensures unwound { unwound.new ≡ unwound.old }
 {
-    match sought(alloc, graph, predicates, unwound, plan, goal, budget) {
-        Ok(decided) => Ok(decided),
-        Err(Fault::Memory) => Err(Memory),
-        Err(Fault::Refused(_)) => unreachable!(),
-    }
+    let formula = formula_for(alloc, graph, predicates, unwound, plan, goal)?;
+    let decided = searched(alloc, graph, predicates, unwound, formula, budget, is_spent)?;
+    Ok(decided)
 }
 
-/// What the later candidates of a pool find of a goal that the search leaves open: an input, or nothing more.
+/// What the candidates of a pool find that weren't tried so far, so many times as many as there are at first: an input, or
+/// nothing more.
 fn later_found(
     alloc: Global,
     graph: &Graph,
@@ -141,6 +182,7 @@ fn later_found(
     plan: &Plan,
     goal: u32,
     budget: u64,
+    times: u64,
     pool: &mut Pool,
 ) -> Result<Option<Input>, Memory>
     requires predicates { IsPredicates graph.now predicates.now }
@@ -150,14 +192,107 @@ fn later_found(
     ensures found { IfOk result (λ found. IfSome found (λ input. ForGoal graph.now plan.now unwound.now goal (λ f g. IsMadeFor graph.now f predicates.now plan.now unwound.now.bounds unwound.now.ends g input))) }
     ensures pool { OnOk result (HasPool graph.now predicates.now plan.now unwound.now pool.new) }
 {
-    let count = first_count(budget).saturating_mul(LATER);
-    let edges = first_edges(budget).saturating_mul(LATER);
-    pool.fill(alloc, graph, plan, predicates, unwound, count, edges)?;
+    let count = first_count(budget).saturating_mul(times);
+    let edges = first_edges(budget).saturating_mul(times);
+    pool.fill(
+        alloc,
+        graph,
+        plan,
+        predicates,
+        unwound,
+        count,
+        edges,
+        u64::MAX,
+    )?;
     pool.first(alloc, goal)
 }
 
-/// Decides a goal whose size is within its limit, beside a pool: the first input of the pool that hits the goal covers it,
-/// else it is searched, and where that leaves it open the later candidates are tried.
+/// What is found of a goal before its whole search, beside a pool: by a short search, by the candidates that weren't tried so
+/// far, and by a short search from the highest variables back, in this order. With a budget below 1,000 nothing is.
+pub(crate) fn found_early(
+    alloc: Global,
+    graph: &Graph,
+    predicates: &Predicates,
+    unwound: &mut Unwound,
+    plan: &Plan,
+    goal: u32,
+    budget: u64,
+    pool: &mut Pool,
+) -> Result<Option<Decided>, Memory>
+    requires predicates { IsPredicates graph.now predicates.now }
+    requires unwound { IsUnwindingOf graph.now predicates.now unwound.old }
+    requires some { 0 < goal }
+    requires there { goal ≤ length plan.now.goals }
+    requires small { (g : GoalForm) → slice_get plan.now.goals (goal - 1) ≡ Some g → goal_size plan.now g unwound.old.pairs ≤ 8388608 }
+    requires pool { HasPool graph.now predicates.now plan.now unwound.old pool.old }
+    ensures decided { IfOk result (λ found. IfSome found (λ decided. ForGoal graph.now plan.now unwound.old goal (λ f g. IsDecided graph.now f predicates.now plan.now unwound.old.bounds unwound.old.ends g budget decided))) }
+    ensures pool { OnOk result (HasPool graph.now predicates.now plan.now unwound.old pool.new) }
+    ensures unwound { unwound.new ≡ unwound.old }
+{
+    if budget < LEAST {
+        return Ok(None);
+    }
+    let formula = formula_for(alloc, graph, predicates, unwound, plan, goal)?;
+    if let Some(found) = search_lowest_part(alloc, &formula.formula, budget)? {
+        let decided = answered(alloc, graph, predicates, unwound, formula, found)?;
+        return Ok(Some(decided));
+    }
+    let beside = later_found(
+        alloc, graph, predicates, unwound, plan, goal, budget, 1, pool,
+    )?;
+    if let Some(input) = beside {
+        return Ok(Some(Decided::Covered(input)));
+    }
+    if let Some(found) = search_highest_part(alloc, &formula.formula, budget)? {
+        let decided = answered(alloc, graph, predicates, unwound, formula, found)?;
+        return Ok(Some(decided));
+    }
+    Ok(None)
+}
+
+/// What is found of a goal of which nothing was found early, beside a pool: by the whole search, whose history isn't made, and
+/// then by the later candidates. With a budget below 1,000 nothing is.
+pub(crate) fn found_late(
+    alloc: Global,
+    graph: &Graph,
+    predicates: &Predicates,
+    unwound: &mut Unwound,
+    plan: &Plan,
+    goal: u32,
+    budget: u64,
+    pool: &mut Pool,
+) -> Result<Option<Decided>, Memory>
+    requires predicates { IsPredicates graph.now predicates.now }
+    requires unwound { IsUnwindingOf graph.now predicates.now unwound.old }
+    requires some { 0 < goal }
+    requires there { goal ≤ length plan.now.goals }
+    requires small { (g : GoalForm) → slice_get plan.now.goals (goal - 1) ≡ Some g → goal_size plan.now g unwound.old.pairs ≤ 8388608 }
+    requires pool { HasPool graph.now predicates.now plan.now unwound.old pool.old }
+    ensures decided { IfOk result (λ found. IfSome found (λ decided. ForGoal graph.now plan.now unwound.old goal (λ f g. IsDecided graph.now f predicates.now plan.now unwound.old.bounds unwound.old.ends g budget decided))) }
+    ensures pool { OnOk result (HasPool graph.now predicates.now plan.now unwound.old pool.new) }
+    ensures unwound { unwound.new ≡ unwound.old }
+{
+    if budget < LEAST {
+        return Ok(None);
+    }
+    let formula = formula_for(alloc, graph, predicates, unwound, plan, goal)?;
+    if let Some(found) = search_ends(alloc, &formula.formula, budget)? {
+        let decided = answered(alloc, graph, predicates, unwound, formula, found)?;
+        return Ok(Some(decided));
+    }
+    let later = later_found(
+        alloc, graph, predicates, unwound, plan, goal, budget, LATER, pool,
+    )?;
+    match later {
+        Some(input) => Ok(Some(Decided::Covered(input))),
+        None => Ok(None),
+    }
+}
+
+/// Decides a goal whose size is within its limit and of which nothing was found before, beside a pool: the first input of the
+/// pool that hits the goal covers it, else it is searched with the whole budget, and where that leaves it open the later
+/// candidates are tried. Where the whole search of each open goal was spent before, the first of the two searches is made
+/// again, for its history.
 pub(crate) fn decide_beside(
     alloc: Global,
     graph: &Graph,
@@ -182,11 +317,17 @@ pub(crate) fn decide_beside(
     if let Some(input) = pool.first(alloc, goal)? {
         return Ok(Decided::Covered(input));
     }
-    let decided = searched_goal(alloc, graph, predicates, unwound, plan, goal, budget)?;
+    let is_spent = pool.are_spent;
+    let decided = searched_goal(
+        alloc, graph, predicates, unwound, plan, goal, budget, is_spent,
+    )?;
     if !matches!(&decided, Decided::Undecided { .. }) {
         return Ok(decided);
     }
-    match later_found(alloc, graph, predicates, unwound, plan, goal, budget, pool)? {
+    let later = later_found(
+        alloc, graph, predicates, unwound, plan, goal, budget, LATER, pool,
+    )?;
+    match later {
         Some(input) => Ok(Decided::Covered(input)),
         None => Ok(decided),
     }
@@ -208,7 +349,10 @@ pub(crate) fn first_pool(
     let mut pool = Pool::new(alloc, graph, plan, unwound.entry)?;
     let count = first_count(budget);
     let edges = first_edges(budget);
-    pool.fill(alloc, graph, plan, predicates, unwound, count, edges)?;
+    let patience = first_patience(budget);
+    pool.fill(
+        alloc, graph, plan, predicates, unwound, count, edges, patience,
+    )?;
     Ok(pool)
 }
 
@@ -220,8 +364,11 @@ pub(crate) fn first_pool(
 /// made as many moves as the budget allows and isn't finished, and only with a budget below 3 to the most variables of its
 /// formula. The unwinding stays as it was.
 ///
-/// Beside the search some candidates are run, one for a thousand moves of the budget, and ten times as many where the search
-/// leaves the goal open: an input may come from there.
+/// A budget of 1,000 or more is spent in steps, the first of which that finds something ends it: candidates are run, one for
+/// ten thousand moves of the budget and more while they hit goals that none before them did; a fiftieth of the budget is
+/// searched; candidates are run up to one for a thousand moves; a twentieth is searched with the highest variables decided
+/// first; the whole is searched, with the lowest variables first and then with the highest; and ten times as many candidates
+/// are run. An input may come from there.
 ///
 /// # Errors
 ///
@@ -253,6 +400,15 @@ pub fn decide(
         }));
     }
     let mut pool = first_pool(alloc, graph, predicates, unwound, plan, budget)?;
+    if let Some(input) = pool.first(alloc, goal)? {
+        return Ok(Decided::Covered(input));
+    }
+    let early = found_early(
+        alloc, graph, predicates, unwound, plan, goal, budget, &mut pool,
+    )?;
+    if let Some(decided) = early {
+        return Ok(decided);
+    }
     let decided = decide_beside(
         alloc, graph, predicates, unwound, plan, goal, budget, &mut pool,
     )?;

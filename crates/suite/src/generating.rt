@@ -16,6 +16,7 @@ ghost use Rattle.suite.specs.Unwindings.{ForGoal, IsUnwindingOf};
 
 use crate::decided::Decided;
 use crate::deciding::{decide_beside, first_pool};
+use crate::first_round::{try_all_early, try_all_late};
 use crate::generated::Generated;
 use crate::making::{Making, nothing_made};
 use crate::replaying::replay;
@@ -96,6 +97,9 @@ fn tried<W: Watch>(
     ensures pool { OnOk result (HasPool graph.now predicates.now plan.now unwound.old making.new.pool) }
     ensures tried { IfOk result (λ answer. ForGoal graph.now plan.now unwound.old goal (λ f g. Tried graph.now f predicates.now plan.now unwound.old.bounds unwound.old.ends budget goal g (so_far making.old) (so_far making.new) (W.seen watch.old) (W.seen watch.new) answer)) }
 {
+    if making.pool.is_refuted(goal) {
+        return Ok(Answer::Refuted);
+    }
     let pool = &mut making.pool;
     match decide_beside(alloc, graph, predicates, unwound, plan, goal, budget, pool)? {
         Decided::Covered(input) => {
@@ -219,7 +223,9 @@ fn all_answered<W: Watch>(
     ensures count { IfOk result (λ made. length made.answers ≡ length plan.now.goals) }
     ensures answered { (f : OneFunction) → slice_get graph.now.functions unwound.old.entry ≡ Some f → IfOk result (λ made. AllAnswered graph.now f predicates.now plan.now unwound.old.bounds unwound.old.ends budget made (W.seen watch.old) (W.seen watch.new)) }
 {
-    let pool = first_pool(alloc, graph, predicates, unwound, plan, budget)?;
+    let mut pool = first_pool(alloc, graph, predicates, unwound, plan, budget)?;
+    try_all_early(alloc, graph, plan, predicates, unwound, budget, &mut pool)?;
+    try_all_late(alloc, graph, plan, predicates, unwound, budget, &mut pool)?;
     let mut making = nothing_made(alloc, plan, pool)?;
     'goals: for _place in 0..plan.goals.len() {
         answer_next(

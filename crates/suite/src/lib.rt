@@ -15,6 +15,7 @@
 mod decided;
 mod deciding;
 mod first_hit;
+mod first_round;
 mod generated;
 mod generating;
 mod laws;

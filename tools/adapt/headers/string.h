@@ -14,4 +14,15 @@ int strcmp(const char *, const char *);
 int strncmp(const char *, const char *, size_t);
 char *strchr(const char *, int);
 char *strrchr(const char *, int);
+char *strncat(char *, const char *, size_t);
+size_t strnlen(const char *, size_t);
+size_t strspn(const char *, const char *);
+size_t strcspn(const char *, const char *);
+char *strpbrk(const char *, const char *);
+char *strstr(const char *, const char *);
+int strcasecmp(const char *, const char *);
+int strncasecmp(const char *, const char *, size_t);
+char *stpcpy(char *, const char *);
+char *strdup(const char *);
+char *strerror(int);
 #endif

@@ -1,5 +1,5 @@
 use Rattle.command_words.specs.Reading.{texts}
-use Rattle.command.proofs.CertifiedLaws.{certifies, certifies_bounds}
+use Rattle.command.proofs.AcceptedLaws.{certifies, certifies_bounds}
 use Rattle.command.proofs.command.run.Goals as goal
 
 pub returns-clause-certificate : goal.returns-clause-certificate

@@ -189,7 +189,7 @@ returns-clause-lesson c =
     let pushed = rw (neg_fits, value) at c.in_ok-push.ensures.items in
     let has = rw (c.deref.ensures.value, pushed) at c.in_ok-clause.ensures.literals in
     let lands = rw (neg_fits, value) at c.landing_of-landing.ensures in
-    rw c.from_vec.ensures (lesson_asserts n trail kept set chain left clauses first chain.steps.items back e at c.args.start from c.args.conflict c.in_ok-clause.clause c.landing_of-landing.result c.requires.named c.in_ok-clause.ensures.clause has lands)
+    rw c.fitted.ensures (lesson_asserts n trail kept set chain left clauses first chain.steps.items back e at c.args.start from c.args.conflict c.in_ok-clause.clause c.landing_of-landing.result c.requires.named c.in_ok-clause.ensures.clause has lands)
 
 pub returns-clause-clear : goal.returns-clause-clear
 returns-clause-clear c =

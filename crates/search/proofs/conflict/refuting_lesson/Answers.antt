@@ -25,7 +25,7 @@ returns-clause-lesson c =
     let marks = rw c.literals.ensures.value at c.in_ok-add_others.ensures.marks in
     let is : (x : ℤ) → marked ByKey c.add_others.new.marks x ≡ has_literal first x = λ x. first_marks _ _ _ (c.requires.clear x) (marks x) in
     let begun = back_begins clauses trail first c.args.reach (marked ByKey c.add_others.new.marks) c.add_others.new.chain.steps.items c.requires.reach.falses is (ap (λ (v : Vec (ℕ × ℤ)). v.items) added.steps ∙ c.new-2.ensures.items) in
-    rw c.from_vec.ensures (lesson_refutes clauses trail c.args.conflict first c.in_ok-clause.clause _ _ c.requires.named (c.in_ok-go_back_whole.ensures.back first begun) c.in_ok-clause.ensures.clause c.in_ok-clause.ensures.literals)
+    rw c.fitted.ensures (lesson_refutes clauses trail c.args.conflict first c.in_ok-clause.clause _ _ c.requires.named (c.in_ok-go_back_whole.ensures.back first begun) c.in_ok-clause.ensures.clause c.in_ok-clause.ensures.literals)
 
 pub returns-clause-clear : goal.returns-clause-clear
 returns-clause-clear c =

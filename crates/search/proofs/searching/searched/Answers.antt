@@ -1,14 +1,14 @@
 use Rattle.std.proofs.Common.{length, arith, ◌≡◌}
-use Rattle.search.proofs.RoundLaws.{end_found}
+use Rattle.search.proofs.RoundLaws.{end_more}
 use Rattle.search.proofs.searching.searched.Goals as goal
 
 pub returns-in-Model : goal.returns-in-Model
-returns-in-Model c = end_found c.args.formula.now 0 c.args.budget (omega arith) c.satisfied.result c.satisfied.ensures
+returns-in-Model c = end_more c.args.formula.now 0 c.args.budget (omega arith) c.in_ok-satisfied-in-Model.field-0 c.in_ok-satisfied-in-Model.ensures
 
 pub returns-in-Refuted : goal.returns-in-Refuted
 returns-in-Refuted c =
     let round = rw c.in-Refuted.is at c.in_ok-next_round.ensures in
-    end_found c.args.formula.now (length c.next_round.new.machine.moves.items) c.args.budget round.3 c.refuted.result c.refuted.ensures
+    end_more c.args.formula.now (length c.next_round.new.machine.moves.items) c.args.budget round.3 c.in_ok-refuted-in-Refuted.field-0 c.in_ok-refuted-in-Refuted.ensures
 
 pub returns : goal.returns
 returns c =

@@ -1,4 +1,4 @@
-use Rattle.std.proofs.Common.{◌≡◌, ℕ, ◌+◌, List, length, Some, refl, sym, ap, subst, ◌∙◌}
+use Rattle.std.proofs.Common.{◌≡◌, ℕ, ◌+◌, List, length, Some, sym, ap, subst, ◌∙◌}
 use Rattle.std.specs.Prelude.{slice_get}
 use Rattle.suite.specs.Generated.{AreAnswered, Shown}
 use Rattle.suite.specs.Pool.{HasPool}
@@ -6,14 +6,28 @@ use Rattle.suite.specs.Progress.{AnswersMore, AreSmall, so_far}
 use Rattle.suite.specs.declared.pool.Pool.{Pool}
 use Rattle.suite.specs.declared.generated.Generated.{Generated}
 use Rattle.unwinder.specs.declared.unwound.Unwound.{Unwound}
+use Rattle.suite.specs.Unwindings.{IsUnwindingOf}
 use Rattle.suite.proofs.Answering.{all_begin, all_more}
 use Rattle.suite.proofs.generating.all_answered.Goals as goal
 
+pub try_all_late-requires-clause-unwound : goal.try_all_late-requires-clause-unwound
+try_all_late-requires-clause-unwound g c = subst (λ (v : Unwound). IsUnwindingOf c.args.graph.now c.args.predicates.now v) (sym c.in_ok-try_all_early.ensures.unwound) c.requires.unwound
+
+pub try_all_late-requires-clause-small : goal.try_all_late-requires-clause-small
+try_all_late-requires-clause-small g c = subst (λ (v : Unwound). AreSmall c.args.plan.now v.pairs) (sym c.in_ok-try_all_early.ensures.unwound) c.requires.small
+
+pub try_all_late-requires-clause-pool : goal.try_all_late-requires-clause-pool
+try_all_late-requires-clause-pool g c =
+    subst (λ (v : Unwound). HasPool c.args.graph.now c.args.predicates.now c.args.plan.now v c.try_all_early.new.pool) (sym c.in_ok-try_all_early.ensures.unwound) c.in_ok-try_all_early.ensures.pool
+
 pub goals-init : goal.goals-init
 goals-init g c = record {
-  same = refl;
+  same = c.in_ok-try_all_late.ensures.unwound ∙ c.in_ok-try_all_early.ensures.unwound;
   plan = c.in_ok-making.ensures.plan;
-  pool = subst (λ (q : Pool). HasPool c.args.graph.now c.args.predicates.now c.args.plan.now c.args.unwound.now q) (sym c.in_ok-making.ensures.pool) c.in_ok-pool.ensures;
+  pool =
+      let v = c.try_all_late.new.unwound in
+      let late = subst (λ (w : Unwound). HasPool c.args.graph.now c.args.predicates.now c.args.plan.now w c.try_all_late.new.pool) (sym c.in_ok-try_all_late.ensures.unwound) c.in_ok-try_all_late.ensures.pool in
+      subst (λ (q : Pool). HasPool c.args.graph.now c.args.predicates.now c.args.plan.now v q) (sym c.in_ok-making.ensures.pool) late;
   count = ap (λ (made : Generated). length made.answers) c.in_ok-making.ensures.nothing;
   answered = λ f own.
       let u = c.args.unwound.now in

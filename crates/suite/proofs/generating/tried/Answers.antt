@@ -7,9 +7,11 @@ use Rattle.goals.specs.GoalForm.{GoalForm}
 use Rattle.unwinder.specs.Unwinding.{IsUnwound}
 use Rattle.unwinder.specs.declared.unwound.Unwound.{Unwound}
 use Rattle.suite.specs.Made.{IsDecided, IsMadeFor}
+use Rattle.suite.specs.Pool.{IsPool}
 use Rattle.suite.specs.Progress.{AddsInput, so_far}
 use Rattle.suite.specs.declared.generated.Generated.{Generated}
 use Rattle.suite.proofs.Firsts.{there_at}
+use Rattle.suite.proofs.Models.{at_function}
 use Rattle.suite.proofs.generating.tried.Goals as goal
 
 pub add_input-requires-clause-input : goal.add_input-requires-clause-input
@@ -74,3 +76,12 @@ returns-in_ok-shown-in-Undecided-clause-tried g c = λ f own_goal own at.
       refl,
       c.in_ok-shown-in-Undecided.ensures.ok,
     )
+
+pub returns-then-is_refuted-clause-tried : goal.returns-then-is_refuted-clause-tried
+returns-then-is_refuted-clause-tried g c = λ f own_goal own at.
+    let parts = c.args.graph.now in
+    let p = c.args.predicates.now in
+    let plan = c.args.plan.now in
+    let u = c.args.unwound.now in
+    let pool = at_function (λ h. IsPool parts h p plan u.bounds u.ends c.args.making.now.pool) (slice_get parts.functions u.entry) f own c.requires.pool in
+    (c.is_refuted.ensures c.if-is_refuted.true parts f p plan u.bounds u.ends own_goal pool at, refl, refl)

@@ -1,4 +1,4 @@
-use Rattle.std.proofs.Common.{◌≡◌, ◌+◌, ◌%◌, ◌++◌, List, [], ◌∷◌, ℕ, All, Some, length, sym, ap, subst, ◌∙◌}
+use Rattle.std.proofs.Common.{◌≡◌, ◌+◌, ◌%◌, ◌++◌, List, [], ◌∷◌, ℕ, All, length, sym, ap, subst, ◌∙◌}
 use Rattle.std.specs.Prelude.{slice_get}
 use Rattle.std.specs.List.{AllZip}
 use Rattle.std.proofs.lemmas.Option.{slice_get_within}
@@ -83,6 +83,6 @@ returns c =
     let before : IsPool parts f p plan u.bounds u.ends old = at_function (λ g. IsPool parts g p plan u.bounds u.ends old) o f it.1 c.requires.pool in
     let more = all_zipped_more Pooled old.inputs (hits_of old.measurer) item last.0 before.inputs own in
     let hit : AllZip Pooled (old.inputs ++ item ∷ []) (hits_of c.add.new.self) = subst (AllZip Pooled (old.inputs ++ item ∷ [])) (sym last.1.0) more in
-    let new : Pool = record { candidates = old.candidates; tried = (old.tried + 1) % 18446744073709551616; edges = c.saturating_add-self.result; measurer = c.add.new.self; inputs = c.push.new.self } in
+    let new : Pool = record { candidates = old.candidates; tried = (old.tried + 1) % 18446744073709551616; edges = c.saturating_add-self.result; measurer = c.add.new.self; inputs = c.push.new.self; fruitless = c.fruitless_after-self.result; refuted = old.refuted; are_spent = old.are_spent } in
     let Now : Function → Type 0 = λ g. IsPool parts g p plan u.bounds u.ends new in
-    given Now o f it.1 (record { measures = c.add.ensures.plan; inputs = subst (λ (xs : List Input). AllZip Pooled xs (hits_of c.add.new.self)) (sym c.in_ok-push.ensures.ok) hit })
+    given Now o f it.1 (record { measures = c.add.ensures.plan; inputs = subst (λ (xs : List Input). AllZip Pooled xs (hits_of c.add.new.self)) (sym c.in_ok-push.ensures.ok) hit; refuted = before.refuted })

@@ -1,0 +1,125 @@
+"""What bin/test compares of the pages: each check finds the fault that a page is given here, and none in the page as it is."""
+
+import crates
+import decisions
+import documents
+import figures
+import proved
+import releases
+from pages import text_of
+
+DECISIONS = """# Decisions
+
+## The parts
+
+- [Names](#names)
+  - [Newer](#newer)
+  - [Older](#older)
+
+## Names
+
+### Newer
+
+- Context (2026-11-28): one.
+- Choice: two.
+- Reason: three.
+- Would change it: four.
+
+### Older
+
+- Context (2026-11-27): one.
+- Choice: two.
+- Reason: three.
+- Would change it: four.
+"""
+GATE = """## The gate
+
+Minutes.
+
+| Day | How | Crates | Edits | Libraries and programs | Tests | Both | Of edits | In all |
+|---|---|---|---|---|---|---|---|---|
+| 2026-11-29 | so | 115 | 113 | 195 | 120 | | 125 | 440 |
+| 2026-11-27 | so | 11 | | | | | | 149 |
+
+| Another | table |
+|---|---|
+| a | b |
+"""
+CHANGES = """# Changelog
+
+## 2026-11-30: second
+
+### For users
+
+- two
+
+### For those who prove
+
+- three
+
+## 2026-11-29: first
+
+### For users
+
+- one
+
+### For those who prove
+
+- none
+"""
+
+
+def of_decisions(folder):
+    yield decisions.faults(DECISIONS) == []
+    yield decisions.index(DECISIONS) == "- [Names](#names)\n  - [Newer](#newer)\n  - [Older](#older)\n"
+    for before, after in (
+        ("- Reason: three.\n", ""),
+        ("- Choice: two.", "- Choice:"),
+        ("2026-11-27", "2026-11-29"),
+        ("### Older", "### Newer"),
+        ("- Reason: three.", "- Reason: " + "long words " * 90),
+        ("four.\n", "four.\nAnd more.\n"),
+    ):
+        yield len(decisions.faults(DECISIONS.replace(before, after))) >= 1
+
+
+def of_the_gate(folder):
+    yield figures.faults(GATE) == []
+    yield len(figures.faults(GATE.replace("| 120 |", "| 121 |"))) == 1
+    yield len(figures.faults(GATE.replace("| 149 |", "| |"))) == 1
+    yield len(figures.faults("## The gate\n\nNo table.\n")) == 1
+
+
+def of_releases(folder):
+    yield releases.faults(CHANGES) == []
+    for before, after in (
+        ("2026-11-29", "2026-11-30"),
+        ("## 2026-11-29: first", "## first"),
+        ("### For users", "### For all"),
+        ("- one\n", "- one\nand more\n"),
+    ):
+        yield len(releases.faults(CHANGES.replace(before, after))) >= 1
+
+
+def of_headings(folder):
+    """A heading of another page by its name, one of the page's own, and a link."""
+    text = '# A\n\n## Own part\n\nSee `CI.md`, "Jenkins", and the part ("Own part"), [here](#own-part).\n'
+    yield documents.wrong_headings("docs/A.md", text) == []
+    for before, after in (("Jenkins", "Nobody"), ('("Own part")', '("Other part")'), ("#own-part", "#other"), ("`CI.md`", "`NONE.md`")):
+        yield len(documents.wrong_headings("docs/A.md", text.replace(before, after))) == 1
+
+
+def of_what_is_proved(folder):
+    """A section of the page, which loses a call, a definition or a part."""
+    text = text_of(crates.PROVED)
+    section = dict(crates.sections(text))["sample"]
+    yield proved.faults_of("sample", section) == []
+    yield "sample_query" in proved.handed_on("sample")
+    yield len(proved.faults_of("sample", section.replace("`sample_query`", "it"))) == 1
+    yield len(proved.faults_of("sample", section.replace("*Refuses*", "*Denies*"))) == 1
+    yield len(proved.faults_of("sample", section + "\n| `NoSuchThing` | nothing | `specs/Sample.antt` |\n")) == 1
+    yield proved.unknown("`sample_query` and `no_name_of_a_crate`") == ["no crate has no_name_of_a_crate"]
+    yield [fault for fault in proved.faults("# Page\n\n" + "x" * 301 + "\n\n## Ground\n") if fault.startswith("line 3 has 301")] != []
+
+
+TRIED = [((), case) for case in (of_decisions, of_the_gate, of_releases, of_headings, of_what_is_proved)]

@@ -1,7 +1,0 @@
-use Rattle.std.proofs.Common.{◌≡◌}
-use Rattle.measurer.specs.Measurers.{hits_of}
-use Rattle.command.specs.Measured.{answers_of}
-use Rattle.command.proofs.measurement.answers.Given as goal
-
-abbrev pub invariant-loop-place : goal.invariant-loop-place
-invariant-loop-place l = l.answers.items ≡ answers_of (hits_of l.measurer) l.place

@@ -1,6 +1,0 @@
-use Rattle.command.specs.Runs.{run_of}
-use Rattle.command.proofs.measurement.run_of.Goals as goal
-
-pub returns : goal.returns
-unfolding run_of
-returns c = let path = rw c.requires.number at c.trace_run.ensures.path in path

@@ -1,6 +1,0 @@
-use Rattle.std.proofs.Common.{◌≡◌, take}
-use Rattle.command.specs.OnTrees.{ends_on_trees}
-use Rattle.command.proofs.on_trees.end_inputs.Given as goal
-
-abbrev pub invariant-loop-input : goal.invariant-loop-input
-invariant-loop-input l = l.ends.items ≡ ends_on_trees l.trees.typed l.entry l.turns (take l.input-index l.inputs)

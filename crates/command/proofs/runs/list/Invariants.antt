@@ -1,0 +1,11 @@
+use Rattle.std.proofs.Common.{◌≡◌, ◌≤◌, map, take}
+use Rattle.command.specs.RunList.{edges_in, ending, most_listed}
+use Rattle.command.specs.Runs.{no_predicates, runs_of}
+use Rattle.command.proofs.runs.list.Given as goal
+
+abbrev pub invariant-loop-input : goal.invariant-loop-input
+invariant-loop-input l = record {
+  few : l.listed ≤ most_listed;
+  listed : l.listed ≡ edges_in (runs_of l.entry.graph.now l.entry.function.now no_predicates l.steps (take l.input-index l.inputs));
+  runs : l.runs.items ≡ map ending (runs_of l.entry.graph.now l.entry.function.now no_predicates l.steps (take l.input-index l.inputs));
+}

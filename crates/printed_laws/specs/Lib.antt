@@ -1,0 +1,4 @@
+pub mod Named
+pub mod Bounds
+pub mod Goals
+pub mod Written

@@ -1,0 +1,92 @@
+"""A `switch` whose cases stand within its statements, or which has statements before its first case: its cases become labels, and
+what chooses among them jumps there (6.8.4.2)."""
+
+from typing import Any, Iterator
+
+from pycparser import c_ast
+
+from .jumps import LOOPS, walk
+
+LABELS = (c_ast.Case, c_ast.Default)
+
+
+def cases_of(node: Any) -> Iterator[tuple[Any, str, Any]]:
+    """The cases of a switch, each with the node and the slot in which it stands."""
+    for slot, child in node.children():
+        if isinstance(child, LABELS):
+            yield node, slot, child
+        if not isinstance(child, c_ast.Switch):
+            yield from cases_of(child)
+
+
+def is_plain(switch: Any) -> bool:
+    """Whether all cases stand directly in the switch, and nothing before them."""
+    items = switch.stmt.block_items or [] if isinstance(switch.stmt, c_ast.Compound) else [switch.stmt]
+    direct = all(isinstance(one, LABELS) for one in items)
+    return direct and all(any(child is one for one in items) for _, _, child in cases_of(switch))
+
+
+def leaves(node: Any, end: str) -> None:
+    """Turns the breaks of a switch into jumps."""
+    for slot, child in node.children():
+        if isinstance(child, c_ast.Break):
+            put(node, slot, [c_ast.Goto(end, child.coord)])
+        elif not isinstance(child, LOOPS) and not isinstance(child, c_ast.Switch):
+            leaves(child, end)
+
+
+def put(node: Any, slot: str, made: list[Any]) -> None:
+    name, _, rest = slot.partition("[")
+    if rest:
+        getattr(node, name)[int(rest[:-1])] = made[0] if len(made) == 1 else c_ast.Compound(made)
+    else:
+        setattr(node, name, made[0] if len(made) == 1 else c_ast.Compound(made))
+
+
+class Cases:
+    """Rewrites the switches of one function."""
+
+    def __init__(self, fresh: Any) -> None:
+        self.fresh = fresh
+
+    def function(self, body: Any) -> None:
+        switches = [one for one in walk(body) if isinstance(one, c_ast.Switch) and not is_plain(one)]
+        for switch in reversed(switches):
+            self.replaced(body, switch)
+
+    def replaced(self, body: Any, switch: Any) -> None:
+        end, heads, rest = self.fresh("end"), [], [None]
+        leaves(switch.stmt, end)
+        default = end
+        holder = c_ast.Compound([switch.stmt])
+        while rest:
+            rest = list(cases_of(holder))
+            for node, slot, child in rest[:1]:
+                name = self.fresh("case")
+                if isinstance(child, c_ast.Default):
+                    default = name
+                else:
+                    heads.append(c_ast.Case(child.expr, [c_ast.Goto(name, child.coord)], child.coord))
+                stmts = list(child.stmts or []) or [c_ast.EmptyStatement(child.coord)]
+                label = c_ast.Label(name, stmts[0], child.coord)
+                self.spread(node, slot, child, [label, *stmts[1:]])
+        heads.append(c_ast.Default([c_ast.Goto(default, switch.coord)], switch.coord))
+        chosen = c_ast.Switch(switch.cond, c_ast.Compound(heads), switch.coord)
+        made = c_ast.Compound(
+            [chosen, holder.block_items[0], c_ast.Label(end, c_ast.EmptyStatement(switch.coord), switch.coord)]
+        )
+        for node in walk(body):
+            for slot, child in node.children():
+                if child is switch:
+                    put(node, slot, [made])
+                    return
+
+    @staticmethod
+    def spread(node: Any, slot: str, child: Any, made: list[Any]) -> None:
+        """Puts statements where a case stood."""
+        items = getattr(node, slot.partition("[")[0])
+        if isinstance(items, list):
+            at = next(number for number, one in enumerate(items) if one is child)
+            items[at : at + 1] = made
+        else:
+            put(node, slot, made)

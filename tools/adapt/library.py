@@ -1,0 +1,150 @@
+"""The library's functions that have a model in C (models/): a model is put in front of the sources that call it, and is adapted as
+they are. One with pointers is put there anew for each call."""
+
+import copy
+import os
+from functools import cache
+from typing import Any, NamedTuple
+
+from pycparser import c_ast, c_parser
+
+from .jumps import walk
+from .reading import Unit
+
+FOLDER = os.path.join(os.path.dirname(os.path.abspath(__file__)), "models")
+FILES = ("ctype.c", "stdlib.c", "builtin.c")
+OUTPUT = set(
+    "printf fprintf vprintf vfprintf puts fputs putchar putc fputc fflush perror setbuf setvbuf syslog".split()
+)
+# what models use, and what the compiler's builtin functions are written as
+KNOWN = """void *malloc(unsigned long); void *calloc(unsigned long, unsigned long); void *realloc(void *, unsigned long); void free(void *);
+void assert(int); int errno; int printf(const char *, ...); int puts(const char *); int putchar(int);
+void *memcpy(void *, const void *, unsigned long); void *memmove(void *, const void *, unsigned long);
+void *memset(void *, int, unsigned long); int memcmp(const void *, const void *, unsigned long);
+void *memchr(const void *, int, unsigned long); unsigned long strlen(const char *); char *strcpy(char *, const char *);
+char *strncpy(char *, const char *, unsigned long); char *strcat(char *, const char *); int strcmp(const char *, const char *);
+int strncmp(const char *, const char *, unsigned long); char *strchr(const char *, int); char *strrchr(const char *, int);"""
+
+
+class Spot(NamedTuple):
+    """The place of what stands in a model."""
+
+    file: str
+    line: int
+    column: int
+
+
+def without_comments(text: str) -> str:
+    while "/*" in text:
+        begin, _, rest = text.partition("/*")
+        text = begin + rest.partition("*/")[2]
+    return text
+
+
+@cache
+def models() -> dict[str, Any]:
+    """The trees of the models by their names."""
+    found = {}
+    for name in FILES:
+        with open(os.path.join(FOLDER, name), encoding="utf-8") as file:
+            tree = c_parser.CParser().parse(without_comments(file.read()), name)
+        found.update({item.decl.name: item for item in tree.ext if isinstance(item, c_ast.FuncDef)})
+    return found
+
+
+@cache
+def known() -> dict[str, Any]:
+    return {item.name: item for item in c_parser.CParser().parse(KNOWN).ext}
+
+
+def has_pointers(model: Any) -> bool:
+    return any(isinstance(one, c_ast.PtrDecl) for one in walk(model.decl.type))
+
+
+class Library:
+    """Puts models in front of the first source. `taken` has the words that are names there."""
+
+    def __init__(self, units: list[Unit], taken: set[str]) -> None:
+        self.units, self.taken, self.count = units, taken, 0
+        trees = [unit.tree for unit in units]
+        self.declared = {item.name for tree in trees for item in tree.ext if isinstance(item, c_ast.Decl) and item.name}
+        nodes = [node for tree in trees for node in walk(tree)]
+        own = {node.decl.name for node in nodes if isinstance(node, c_ast.FuncDef)}
+        own |= {node.name for node in nodes if isinstance(node, c_ast.Decl) and not self.is_function(node)}
+        self.missing, self.names = set(models()) - own, own | self.declared
+        self.added: list[Any] = []
+        self.wanted: dict[str, Any] = {}
+        self.expand(nodes)
+        if "errno" in self.declared and not self.is_defined("errno"):
+            self.add("errno", known()["errno"])
+        front = units[0].files[0] if units else ""
+        self.line = min(
+            (one.coord.line for one in trees[0].ext if one.coord and str(one.coord.file) == front), default=1
+        )
+        for item in self.added:
+            for node in walk(item):
+                self.count += 1
+                node.coord = Spot(front, self.line, self.count)
+        if self.added:
+            trees[0].ext[0:0] = self.added
+
+    @staticmethod
+    def is_function(node: Any) -> bool:
+        return isinstance(node.type, c_ast.FuncDecl)
+
+    def is_defined(self, name: str) -> bool:
+        items = [
+            item for unit in self.units for item in unit.tree.ext if isinstance(item, c_ast.Decl) and item.name == name
+        ]
+        return any("extern" not in item.storage for item in items)
+
+    def expand(self, nodes: list[Any]) -> None:
+        """Finds the uses of models in a tree's nodes, and adds these."""
+        called = {id(node.name) for node in nodes if isinstance(node, c_ast.FuncCall)}
+        for node in nodes:
+            if (
+                isinstance(node, c_ast.ID)
+                and node.name in self.missing
+                and (node.name in self.declared or id(node) in called)
+            ):
+                model = models()[node.name]
+                if id(node) in called and has_pointers(model):
+                    self.anew(node, model)
+                elif node.name not in self.wanted:
+                    self.wanted[node.name] = model
+                    self.add(node.name, model)
+            elif (
+                id(node) in called
+                and isinstance(node, c_ast.ID)
+                and node.name in known()
+                and node.name not in self.names
+            ):
+                self.names.add(node.name)
+                self.added.insert(0, copy.deepcopy(known()[node.name]))
+
+    def anew(self, node: Any, model: Any) -> None:
+        """Adds a model for one call."""
+        name, number = node.name, 1
+        while name in self.taken and (name in self.wanted or name not in self.declared or number > 1):
+            number += 1
+            name = f"{node.name}_{number}"
+        self.taken.add(name)
+        self.wanted[name] = model
+        node.name = name
+        self.add(name, model)
+
+    def add(self, name: str, model: Any) -> None:
+        made = copy.deepcopy(model)
+        if isinstance(made, c_ast.FuncDef):
+            made.decl.name = name
+            of = made.decl.type
+            while not isinstance(of, c_ast.TypeDecl):
+                of = of.type
+            of.declname = name
+            inner = walk(made)
+            for one in inner:
+                if isinstance(one, c_ast.ID) and one.name in known() and one.name not in self.wanted:
+                    self.wanted[one.name] = None
+                    self.added.insert(0, copy.deepcopy(known()[one.name]))
+            self.expand(inner)
+        self.added.append(made)

@@ -1,0 +1,292 @@
+"""Writes each signed operation that can overflow as a call of a small function with an assert (--check-overflow), and each
+implicit conversion that may lose a value (--check-conversions).
+
+It stands before the rest of the writer: what it doesn't check, that writes. An operation whose operands leave no room for an
+overflow, by their kinds or as constants, stays as it is. Divisions and remainders trap in the profile itself. Each call carries a mark in its text
+until the files are laid out; then the table of overflow.json tells of each call which operation of the original it is.
+"""
+
+import json
+import os
+import re
+from dataclasses import dataclass
+from typing import Any, Optional
+
+from pycparser import c_ast, c_generator
+
+from tools import program
+
+from . import kinds, overflow_texts
+from .kinds import Int
+from .operators import Original, spot
+from .output import FELL, unmarked
+from .units import Units
+from .values import LEVELS, PRIMARY, UNARY, Value, number
+
+HEADER, TABLE = "overflow.h", "overflow.json"
+MARK = re.compile("\x04(\\d+)\x05")
+CHECKED, KNOWN = ("+", "-", "*", "<<"), ("/", "%", "&", ">>")
+Span = tuple[int, int]
+
+
+def span_of(kind: Int) -> Span:
+    """The least and the greatest number of a kind."""
+    if kind.boolean:
+        return 0, 1
+    return (-(1 << (kind.bits - 1)), (1 << (kind.bits - 1)) - 1) if kind.signed else (0, (1 << kind.bits) - 1)
+
+
+def within(span: Span, kind: Int) -> bool:
+    low, high = span_of(kind)
+    return low <= span[0] and span[1] <= high
+
+
+@dataclass(frozen=True)
+class Ranged(Value):
+    """A value of which more is known than its kind says."""
+
+    low: int = 0
+    high: int = 0
+
+
+def span(value: Value) -> Span:
+    """Between which numbers a value lies."""
+    known = number(value)
+    if known is not None:
+        return known, known
+    if isinstance(value, Ranged):
+        return value.low, value.high
+    return (0, 1) if value.truth else span_of(value.kind)
+
+
+def result(op: str, left: Span, right: Span) -> Span:
+    """Between which numbers the result of an operation lies, if it doesn't overflow."""
+    if op == "<<":
+        if left[0] < 0 or not 0 <= right[0] <= right[1] < 64:
+            return -(1 << 200), 1 << 200  # (it may have no value)
+        return left[0] << right[0], left[1] << right[1]
+    if op == "+":
+        return left[0] + right[0], left[1] + right[1]
+    if op == "-":
+        return left[0] - right[1], left[1] - right[0]
+    if op == "*":
+        products = [one * other for one in left for other in right]
+        return min(products), max(products)
+    return part(op, left, right)
+
+
+def part(op: str, left: Span, right: Span) -> Span:
+    """Between which numbers the result lies of an operation that doesn't grow, where the right operand is known and positive."""
+    number_of = right[1] if right[0] == right[1] > 0 else 0
+    if op == "&" and right[0] >= 0:
+        return 0, right[1]
+    if op == "/" and number_of:
+        return -(-left[0] // number_of) if left[0] < 0 else left[0] // number_of, left[1] // number_of
+    if op == "%" and number_of:
+        return (0 if left[0] >= 0 else 1 - number_of), number_of - 1
+    if op == ">>" and left[0] >= 0:
+        return 0, left[1]
+    return -(1 << 200), 1 << 200
+
+
+def marked(line: str, column: int) -> int:
+    """How many characters of marks stand in a line before a column."""
+    return sum(len(found[0]) for found in MARK.finditer(line) if found.start() < column - 1)
+
+
+@dataclass(frozen=True)
+class Site:
+    """What a call stands for: its function, and the operation of the original with its place and text."""
+
+    function: str
+    what: str
+    file: str
+    line: int
+    column: int
+    text: str
+
+
+class Checked(Units):
+    """Writes with checks. `overflows` and `conversions` say of what."""
+
+    overflows, conversions = True, False
+
+    def write(self) -> Any:
+        self.helpers: dict[tuple[Any, ...], tuple[str, str]] = {}
+        self.sites: list[Site] = []
+        self.originals: dict[str, Original] = {}
+        self.last: tuple[Any, Optional[Value]] = None, None
+        return super().write()
+
+    # ---- calls
+
+    def helper(self, key: tuple[Any, ...], stem: str, text: Any) -> str:
+        """The name of a function of the header, which is written where it is used."""
+        if key not in self.helpers:
+            name = self.spelling.fresh(stem, True)
+            self.helpers[key] = name, text(name)
+        return self.helpers[key][0]
+
+    def original_of(self, file: str) -> Original:
+        if file not in self.originals:
+            with open(file, encoding="utf-8", errors="surrogateescape") as opened:
+                self.originals[file] = Original(opened.read())
+        return self.originals[file]
+
+    def site_text(self, name: str, what: str, node: Any, words: list[str]) -> str:
+        """The text of a call, with the mark of its site."""
+        file = str(node.coord.file)
+        line, column = spot(self.original_of(file), node)
+        text = " ".join(c_generator.CGenerator(reduce_parentheses=True).visit(node).split())
+        self.sites.append(Site(name, what, file, line, column, text))
+        return f"{name}\x04{len(self.sites) - 1}\x05({', '.join(words)})"
+
+    def checked(self, node: Any, op: str, left: Value, right: Optional[Value]) -> Optional[Value]:
+        """The operation as a call, or nothing where it can't overflow."""
+        kind = kinds.promoted(left.kind) if op == "<<" or right is None else kinds.common(left.kind, right.kind)
+        found = result("-", (0, 0), span(left)) if right is None else result(op, span(left), span(right))
+        if not (self.overflows and kind.signed) or within(found, kind):
+            return None
+        name = "neg" if right is None else op
+        function = self.helper(
+            (name, kind.bits),
+            overflow_texts.stem(name, kind.bits),
+            lambda called: overflow_texts.operation(called, name, kind.bits),
+        )
+        words = [one.text for one in (left, right) if one is not None]
+        text = self.site_text(function, "shift" if op == "<<" else "overflow", node, words)
+        return Value(self.at(node) + text, kind, PRIMARY, calls=True)
+
+    # ---- what is written otherwise
+
+    def inner_value(self, node: Any) -> Value:
+        made = super().inner_value(node)
+        known = None if isinstance(made, Ranged) or made.kind.boolean else self.constants.value(node)
+        if known is not None:
+            made = Ranged(**vars(made), low=known, high=known)
+        self.last = node, made
+        return made
+
+    def binary(self, node: Any) -> Value:
+        is_size = self.is_size(node.left) and self.is_size(node.right)
+        both = (node.left, node.right) if node.op in CHECKED + KNOWN and not is_size else ()
+        if not both or self.function is None or any(self.is_pointer(one) for one in both):
+            return super().binary(node)
+        self.unsequenced(node, list(both))
+        left, right = self.value(node.left), self.value(node.right)
+        made = self.checked(node, node.op, left, right) if node.op in CHECKED else None
+        return made or self.unchecked(node.op, left, right)
+
+    def unchecked(self, op: str, left: Value, right: Value) -> Value:
+        """The operation as it is."""
+        level = LEVELS[op]
+        kind = kinds.promoted(left.kind) if op in ("<<", ">>") else kinds.common(left.kind, right.kind)
+        text, calls = f"{left.within(level)} {op} {right.within(level + 1)}", left.calls or right.calls
+        found = result(op, span(left), span(right)) if op in CHECKED + KNOWN else span_of(kind)
+        if not within(found, kind):
+            return Value(text, kind, level, calls=calls)
+        return Ranged(text, kind, level, calls=calls, low=found[0], high=found[1])
+
+    def unary(self, node: Any) -> Value:
+        if node.op != "-" or self.function is None:
+            return super().unary(node)
+        one = self.value(node.expr)
+        made = self.checked(node, "-", one, None)
+        if made is not None:
+            return made
+        inner, kind = one.within(UNARY), kinds.promoted(one.kind)
+        text = f"{self.at(node)}-{' ' if unmarked(inner).startswith('-') else ''}{inner}"
+        return Value(text, kind, UNARY, calls=one.calls)
+
+    def assign(self, node: Any, stable: bool = False) -> tuple[str, Int]:
+        return super().assign(node, stable or node.op != "=")
+
+    def assignment(self, node: Any, target: str, kind: Int, given: Value, other: bool) -> str:
+        op = node.op[:-1]
+        if not op or kind.boolean and not self.overflows:
+            return super().assignment(node, target, kind, given, other)
+        own = Value(f"({kind.text}) {target}" if other else target, kind, UNARY if other else PRIMARY)
+        whole = self.checked(node, op, own, given) if op in CHECKED else None
+        if whole is None and not self.narrows(self.unchecked(op, own, given), kind):
+            return super().assignment(node, target, kind, given, other)
+        whole = whole or self.unchecked(op, own, given)
+        self.last = node, whole
+        return f"{target} = {self.converted(whole, kind).text};"
+
+    def operated(self, node: Any, op: str, own: Value, given: Value) -> Value:
+        made = self.checked(node, op, own, given) if op in CHECKED else None
+        return super().operated(node, op, own, given) if made is None else made
+
+    def step(self, node: Any, stable: bool = False) -> tuple[str, Int]:
+        return super().step(node, True)
+
+    def stepping(self, node: Any, target: str, kind: Int) -> str:
+        one = Value("1", kinds.INT, PRIMARY)
+        own, op = Value(target, kind, PRIMARY), node.op[-1]
+        whole = self.checked(node, op, own, one)
+        if whole is None and not self.narrows(self.unchecked(op, own, one), kind):
+            return super().stepping(node, target, kind)
+        whole = whole or self.unchecked(op, own, one)
+        self.last = node, whole
+        return f"{target} = {self.converted(whole, kind).text};"
+
+    def narrows(self, value: Value, kind: Int) -> bool:
+        """Whether a conversion that is asked about may lose the value."""
+        return self.conversions and not kind.boolean and not within(span(value), kind)
+
+    def converted(self, value: Value, kind: Int) -> Value:
+        node = self.last[0] if self.last[1] is value else None
+        if node is None or node.coord is None or self.function is None or not self.narrows(value, kind):
+            return super().converted(value, kind)
+        function = self.helper(
+            ("to", value.kind.bits == 64 and not value.kind.signed, kind.bits, kind.signed),
+            overflow_texts.conversion_stem(value.kind, kind),
+            lambda called: overflow_texts.conversion(called, value.kind, kind),
+        )
+        return Value(self.site_text(function, "conversion", node, [value.text]), kind, PRIMARY, calls=True)
+
+    # ---- what is written at last
+
+    def finished(self, texts: dict[str, str]) -> dict[str, str]:
+        """The files without marks, and the header before them; their sites are kept for the table."""
+        self.rows: list[dict[str, Any]] = []
+        made = {path: self.unmarked_file(path, text) for path, text in texts.items()}
+        if not self.helpers:
+            return made
+        header = overflow_texts.HEAD + "".join("\n" + text for _, text in self.helpers.values())
+        return {os.path.join("checked operations", HEADER): header} | made
+
+    def unmarked_file(self, path: str, text: str) -> str:
+        """A file's text without marks. The places that the file notes for the map are those without them too."""
+        lines, file = [], self.files[path]
+        kept = text.replace(FELL, "").split("\n")
+        file.marks = [(at, column - marked(kept[at - 1], column), line, of) for at, column, line, of in file.marks]
+        for number_of, line in enumerate(text.split("\n"), 1):
+            parts, clean = MARK.split(line), ""
+            for part, site in zip(parts[0::2], [*parts[1::2], None]):
+                clean += part
+                if site is not None:
+                    one = self.sites[int(site)]
+                    column = len(clean) - len(one.function) + 1
+                    row = {"file": os.path.basename(path), "line": number_of, "column": column}
+                    place = f"{one.file}:{one.line}:{one.column}"
+                    self.rows.append(
+                        row | {"function": one.function, "what": one.what, "place": place, "text": one.text}
+                    )
+            lines.append(clean)
+        return "\n".join(lines)
+
+    def put_table(self, folder: str) -> None:
+        """Writes which call is which operation of the original."""
+        if self.helpers:
+            names = [name for name, _ in self.helpers.values()]
+            value = json.dumps({"functions": names, "calls": self.rows}, indent=1)
+            program.write_whole(os.path.join(folder, TABLE), value + "\n")
+
+
+def writer_of(given: Any) -> type[Units]:
+    """The writer that the words ask for."""
+    if not (given.check_overflow or given.check_conversions):
+        return Units
+    asked = {"overflows": given.check_overflow, "conversions": given.check_conversions}
+    return type("Asked", (Checked,), asked)

@@ -1,0 +1,177 @@
+"""The page of a folder of bin/rte: each operation with its verdict, and the sources with a mark at each."""
+
+import json
+import os
+import shlex
+from dataclasses import dataclass, field
+from typing import Any
+
+from tools import leaving, program, rte_search, rte_sites
+from tools.program import Failure
+from tools.reports import BOUNDS
+from tools.rte_rows import Verdict
+
+MARKS = {
+    Verdict.FAILS: "fails",
+    Verdict.OPEN: "open",
+    Verdict.WITHIN: "within",
+    Verdict.NOT_REACHED: "unreached",
+    Verdict.NEVER: "never",
+}
+SIGNS = {"fails": "✗", "open": "?", "within": "⊘", "unreached": "∅", "never": "✓"}
+
+
+@dataclass(frozen=True)
+class Shown:
+    """A row of the page; `at` is the line of the sources that it leads to."""
+
+    number: int
+    place: str
+    what: str
+    verdict: str
+    mark: str
+    why: str
+    gcc: str
+    at: str
+    commands: tuple[str, ...]
+
+
+@dataclass
+class Line:
+    """A line of a source, with the rows that stand there and the first of their marks that is to be looked at."""
+
+    id: str
+    text: str
+    rows: list[Shown] = field(default_factory=list)
+
+    @property
+    def mark(self) -> str:
+        found = {row.mark for row in self.rows}
+        return next((mark for mark in SIGNS if mark in found), "")
+
+
+@dataclass
+class File:
+    name: str
+    lines: list[Line]
+
+
+class Page:
+    """What the page shows of a folder."""
+
+    def __init__(self, folder: str) -> None:
+        self.folder = folder
+        try:
+            self.value = json.loads(program.read(os.path.join(folder, "rte.json")))
+            self.asked = json.loads(program.read(os.path.join(folder, "campaign.json")))
+            self.entry, self.bounds, self.ends = (self.value[name] for name in ("entry", "bounds", "ends"))
+            self.said = list(leaving.of_value(self.value["limits"]).lines())
+            self.files = self.files_of([*self.value["sources"], *self.originals()])
+            self.rows = [self.row(number, row) for number, row in enumerate(self.value["rows"], 1)]
+        except (ValueError, KeyError, TypeError):
+            raise Failure(f"{folder} has no whole rte.json") from None
+
+    def originals(self) -> list[str]:
+        """The files of operations that stand in no source, where they are there: those that bin/adapt read."""
+        files = [row["place"].split(":")[0] for row in self.value["rows"]]
+        here = [name for name in dict.fromkeys(files) if name not in self.value["sources"]]
+        return [name for name in here if os.path.exists(os.path.join(self.asked["place"], name))]
+
+    def files_of(self, names: list[str]) -> list[File]:
+        """The sources; of those that bin/adapt wrote the header of checked operations is left out."""
+        header = rte_sites.header_of(self.value["sources"])
+        made = []
+        for at, name in enumerate(names):
+            text = program.read(os.path.join(self.asked["place"], name)).decode(errors="replace")
+            lines = [Line(f"f{at}-{number}", line) for number, line in enumerate(text.split("\n")[:-1], 1)]
+            made.append(File(name, lines))
+        return [one for one in made if one.name != header]
+
+    def line_of(self, place: str) -> Line | None:
+        """The line of a place, if its file is shown."""
+        name, _, rest = place.partition(":")
+        number = int(rest.split(":")[0])
+        file = next((one for one in self.files if one.name == name), None)
+        return file.lines[number - 1] if file and number <= len(file.lines) else None
+
+    def row(self, number: int, value: dict[str, Any]) -> Shown:
+        """A row, which is put to its line too."""
+        verdict = Verdict(value["verdict"])
+        line = self.line_of(value["place"])
+        texts = (
+            value["place"],
+            value["what"],
+            str(verdict),
+            MARKS[verdict],
+            value.get("why", ""),
+            value.get("gcc", ""),
+        )
+        made = Shown(number, *texts, line.id if line else "", tuple(self.commands(verdict, value)))
+        if line:
+            line.rows.append(made)
+        return made
+
+    def commands(self, verdict: Verdict, value: dict[str, Any]) -> list[str]:
+        """How a failure is repeated, and how the certificates of what never fails are checked."""
+        folder = os.path.relpath(self.folder, self.asked["place"])
+        if verdict is Verdict.FAILS:
+            return (
+                [shlex.join([os.path.join(folder, "failures"), str(value["failure"])])] if value.get("failure") else []
+            )
+        if verdict is Verdict.OPEN:
+            return []
+        bounds = [word for name in BOUNDS for word in (f"--{name}", str(self.bounds[name]))]
+        inner = os.path.join(folder, value.get("folder", ""))
+        query = self.query_of(value.get("folder", ""))
+        told = [
+            [
+                self.entry,
+                query,
+                str(goal),
+                os.path.join(inner, "certificates", f"{goal}.cert"),
+                *self.value["sources"],
+                *bounds,
+            ]
+            for goal in value["goals"]
+        ]
+        made = [shlex.join(["fshell", "check", *words, "--ends", self.ends]) for words in told]
+        if verdict is not Verdict.WITHIN:
+            words = [self.entry, os.path.join(folder, "bounds.cert"), *self.value["sources"], *bounds]
+            made.append(shlex.join(["fshell", "check-bounds", *words]))
+        return made
+
+    def query_of(self, inner: str) -> str:
+        """The query of the goals of a row."""
+        if not inner:
+            return rte_search.ENDINGS
+        query: str = json.loads(program.read(os.path.join(self.folder, inner, "campaign.json")))["query"]
+        return query
+
+    def count(self, mark: str) -> int:
+        return sum(row.mark == mark for row in self.rows)
+
+
+def is_folder(name: str) -> bool:
+    """Whether a folder is one of bin/rte."""
+    return os.path.exists(os.path.join(name, "rte.json"))
+
+
+def text_of(page: Page) -> str:
+    """The page."""
+    try:
+        import jinja2
+    except ImportError:
+        raise Failure("jinja2 isn't there (Debian: apt-get install python3-jinja2)") from None
+    loader = jinja2.FileSystemLoader(os.path.dirname(os.path.realpath(__file__)))
+    made = jinja2.Environment(loader=loader, autoescape=True, trim_blocks=True, lstrip_blocks=True)
+    names = {mark: str(verdict) for verdict, mark in MARKS.items()}
+    return made.get_template("page_rte.html").render(page=page, signs=SIGNS, names=names)
+
+
+def write(folder: str, out: str) -> int:
+    """Writes the page, and says what is on it."""
+    page = Page(folder)
+    program.write_whole(out, text_of(page))
+    counts = ", ".join(f"{page.count(mark)} {verdict}" for verdict, mark in MARKS.items())
+    print(f"{out}: {len(page.rows)} operations, {counts}")
+    return program.DONE

@@ -1,0 +1,72 @@
+"""Which verdicts of bin/rte hang on the order of evaluation that C leaves open (docs/ORDER.md).
+
+Most classes restrict all that is said. One doesn't: where a part of an expression may end the run by a trap and another part does
+something, and neither may end it otherwise. If no operation of the statement, and of what it calls, ever fails, then all
+parts come to their ends in FShell's order, and so in each other one. And else a run that is trapped in the statement is trapped there in each
+order, if by another operation; so only what is said of the operations of that statement, and of what it calls, is restricted.
+"""
+
+import dataclasses
+from collections.abc import Iterable, Iterator
+
+from tools import order
+from tools.asked import Asked
+from tools.graph import Graph
+from tools.order import Warned
+from tools.program import Failure
+from tools.rte_items import Finder, reached_from
+from tools.rte_rows import Row, Verdict
+from tools.verdicts import Limits
+
+BY_A_TRAP = "one part may end the run (trap), and another does something"
+
+
+def is_local(one: Warned) -> bool:
+    return one.kind == "strict" and one.why == BY_A_TRAP
+
+
+def limits_of(limits: Limits, asked: Asked) -> tuple[Limits, list[Warned]]:
+    """What restricts all rows, and what restricts those of a statement."""
+    if not limits.restriction:
+        return limits, []
+    try:
+        found = order.warnings(asked.entry, asked.sources, asked.query, asked.ends, folder=asked.place)
+    except Failure:
+        return limits, []
+    told = [one for one in found if one.kind in order.needed(asked.query, asked.ends)]
+    if any(not is_local(one) for one in told):
+        return limits, []
+    return dataclasses.replace(limits, restriction=""), told
+
+
+class Regions:
+    """The tokens of statements in which an order is open, and of all functions that they call."""
+
+    def __init__(self, graph: Graph, finder: Finder, warned: Iterable[Warned]) -> None:
+        self.graph, self.finder = graph, finder
+        self.found = [(one, self.region(one)) for one in warned]
+
+    def region(self, one: Warned) -> set[int]:
+        tokens: set[int] = set()
+        for token in self.finder.at.get((one.file, one.line, one.column), []):
+            form = self.finder.statements.at(token) or self.finder.bodies.get(one.function)
+            tokens |= set(range(form.first, form.last + 1)) if form else {token}
+        names = {self.finder.words[token].text for token in tokens}
+        called = [name for name in self.finder.bodies if name in names]
+        for name in {inner for one in called for inner in reached_from(self.graph, one)}:
+            body = self.finder.bodies.get(name)
+            tokens |= set(range(body.first, body.last + 1)) if body else set()
+        return tokens
+
+    def restricted(self, rows: list[tuple[set[int], Row]]) -> Iterator[tuple[set[int], Row]]:
+        """The rows, each with its tokens; what is said of operations whose order matters holds within the bounds alone."""
+        wrong = [tokens for tokens, row in rows if row.verdict in (Verdict.FAILS, Verdict.OPEN)]
+        open_ones = [
+            (one, region) for one, region in self.found if any(not tokens or tokens & region for tokens in wrong)
+        ]
+        for tokens, row in rows:
+            place = next((one.place for one, region in open_ones if tokens & region), "")
+            if place and row.verdict in (Verdict.NEVER, Verdict.NOT_REACHED):
+                why = f"C leaves the order of evaluation open at {place} (strict)"
+                row = dataclasses.replace(row, verdict=Verdict.WITHIN, why=why)
+            yield tokens, row

@@ -1,0 +1,57 @@
+"""The rows of bin/rte for other programs: findings at places, and a C file that repeats the failures under gcc's sanitizers."""
+
+import os
+from collections.abc import Sequence
+from dataclasses import dataclass
+
+from tools import sarif
+from tools.asked import Asked
+from tools.rte_rows import Row, Verdict
+
+RULES = {
+    "run-time-error": ("error", "A run is ended by an operation: the input is told."),
+    "possible-error": ("warning", "It isn't shown that no run is ended by an operation."),
+    "dead-operation": ("note", "No run comes to an operation."),
+}
+OF_VERDICT = {
+    Verdict.FAILS: "run-time-error",
+    Verdict.OPEN: "possible-error",
+    Verdict.WITHIN: "possible-error",
+    Verdict.NOT_REACHED: "dead-operation",
+}
+
+
+@dataclass(frozen=True)
+class Finding:
+    """A row at its place."""
+
+    rule: str
+    file: str
+    line: int
+    column: int
+    text: str
+
+    @property
+    def level(self) -> str:
+        return RULES[self.rule][0]
+
+
+def place_of(row: Row) -> tuple[str, int, int]:
+    """The file, the line and the column of a row; a node has no column."""
+    file, line, column = row.place.rsplit(":", 2) if row.operations else (*row.place.rsplit(":", 1), "1")
+    return os.path.relpath(file) if os.path.isabs(file) else file, int(line), int(column)
+
+
+def findings(rows: Sequence[Row]) -> list[Finding]:
+    """What is to be looked at; a row that is never wrong is nothing."""
+    return [
+        Finding(
+            OF_VERDICT[row.verdict], *place_of(row), f"{row.verdict}: {row.what}" + (f": {row.why}" if row.why else "")
+        )
+        for row in rows
+        if row.verdict in OF_VERDICT
+    ]
+
+
+def sarif_of(rows: Sequence[Row], asked: Asked) -> str:
+    return sarif.text_of(findings(rows), RULES, os.path.realpath(asked.place))

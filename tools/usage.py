@@ -1,0 +1,80 @@
+"""How tools are called, and how they end: each says by argparse which words it takes, and beside that what its statuses mean.
+
+Help, manual pages and completion are all made of this.
+"""
+
+import argparse
+import importlib
+
+# the tools that are installed, and where the words of each are read
+TOOLS = {
+    "inputs": "tools.inputs",
+    "explain": "tools.explain",
+    "lcov": "tools.lcov",
+    "harness": "tools.harness",
+    "campaign": "tools.campaign",
+    "page": "tools.page",
+    "mcdc": "tools.mcdc",
+    "order": "tools.order",
+    "rte": "tools.rte",
+    "adapt": "tools.adapt.main",
+    "driver": "tools.driver.main",
+    "project": "tools.project.main",
+    "drat": "tools.drat",
+}
+FAILED = "it can't go on; standard error says why"
+
+
+class Parser(argparse.ArgumentParser):
+    """What reads the words of a tool, and says how the tool ends."""
+
+    statuses: dict[int, str] = {}
+
+
+def parser(name: str, about: str | None, done: str, is_open: str = "", **more: str) -> Parser:
+    """What reads the words of a tool that ends with 0 (`done`), perhaps with 1 (`is_open`), and with 2 where it can't go on.
+    `more` has statuses of its own: `status_3`."""
+    statuses = {0: done} | ({1: is_open} if is_open else {}) | {2: FAILED}
+    statuses |= {int(name.removeprefix("status_")): text for name, text in more.items()}
+    epilog = "exit status:\n" + "".join(f"  {number}  {text}\n" for number, text in sorted(statuses.items()))
+    made = Parser(prog=name, description=about, epilog=epilog, formatter_class=argparse.RawTextHelpFormatter)
+    made.statuses = dict(sorted(statuses.items()))
+    return made
+
+
+def of_tool(name: str) -> Parser:
+    """What reads the words of an installed tool."""
+    found: Parser = importlib.import_module(TOOLS[name]).parser_of_words()
+    return found
+
+
+def commands_of(tool: argparse.ArgumentParser) -> dict[str, argparse.ArgumentParser]:
+    """The commands that a tool has as its first word, if it has any."""
+    for action in tool._actions:
+        if isinstance(action, argparse._SubParsersAction):
+            return dict(action.choices)
+    return {}
+
+
+def helps_of(tool: argparse.ArgumentParser) -> dict[str, str]:
+    """What is said in a line of each command that a tool has as its first word."""
+    for action in tool._actions:
+        if isinstance(action, argparse._SubParsersAction):
+            return {one.dest: one.help or "" for one in action._choices_actions}
+    return {}
+
+
+def options_of(tool: argparse.ArgumentParser) -> list[argparse.Action]:
+    """The options of a tool or of a command of it, in the order in which its help has them."""
+    return [action for action in tool._actions if action.option_strings]
+
+
+def value_of(option: argparse.Action) -> str:
+    """The word that stands behind an option in its help, or nothing where none does."""
+    if option.nargs == 0:
+        return ""
+    if isinstance(option.metavar, tuple):
+        return " ".join(option.metavar)
+    if option.metavar is None and option.choices is not None:
+        return "{" + ",".join(map(str, option.choices)) + "}"
+    return str(option.metavar or option.dest.upper())
