@@ -31,6 +31,7 @@ from collections.abc import Callable, Iterator
 
 import crates
 import programs
+import tool_tests
 from pages import anchor, text_of
 from side_by_side import Outcome
 
@@ -109,9 +110,15 @@ def matches(due: list[str], got: str) -> bool:
     return not due or re.fullmatch(pattern, got) is not None
 
 
+def can_run(line: str) -> bool:
+    """Whether what an example's line needs is there."""
+    adapts = "/adapt " in line or "adapted/" in line
+    return ("/campaign " not in line or shutil.which("parallel") is not None) and (not adapts or all(map(tool_tests.is_there, ("pycparser", "gcc"))))
+
+
 def wrong_tool_examples(text: str) -> Outcome:
     """How many examples of tools a document has, and a line for each that isn't as it says."""
-    runs = [run for run in tool_examples(text) if "/campaign " not in run[1] or shutil.which("parallel")]
+    runs = [run for run in tool_examples(text) if can_run(run[1])]
     wrong = []
     with tempfile.TemporaryDirectory() as kept:
         if runs:

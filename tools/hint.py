@@ -7,6 +7,7 @@ isn't one, names that are near, the signature of the entry, the text at the plac
 """
 
 import difflib
+import json
 import os
 import re
 import subprocess
@@ -165,6 +166,49 @@ def at_column(found: Words, place: str) -> Iterator[str]:
         yield f"`{name[1]}` isn't defined{near(name[1], known)}"
 
 
+def brackets(found: Words) -> Iterator[str]:
+    """What of a query's brackets and quotation marks isn't closed."""
+    query = re.sub(r"\{[^{}]*\}", "", (found.named("QUERY") or [""])[0])
+    opened = query.count("(") - query.count(")")
+    if opened:
+        yield f"`{'(' if opened > 0 else ')'}` stands {abs(opened)} {'times' if abs(opened) > 1 else 'time'} too often"
+    if query.count('"') % 2:
+        yield "a quotation mark isn't closed"
+    if not re.match(r"\s*(in|cover)\b", query, re.IGNORECASE):
+        yield "a query begins with `cover`, or with `in FILTER cover`"
+
+
+def predicates(found: Words) -> Iterator[str]:
+    """The texts of a query's predicates."""
+    texts = re.findall(r"\{[^{}]*\}", (found.named("QUERY") or [""])[0])
+    if texts:
+        yield f"the query has {', '.join(f'`{one}`' for one in dict.fromkeys(texts))}"
+
+
+def input_at(found: Words, place: str) -> Iterator[str]:
+    """How many numbers an input has that isn't as its entry wants it."""
+    number = re.fullmatch(r"input (\d+)", place)
+    if not number:
+        return
+    text = program.read((found.named("INPUTS") or [""])[0]).decode(errors="replace")
+    try:
+        values = json.loads(text) if text.lstrip().startswith("[") else [line.split() for line in text.splitlines()]
+        one = values[int(number[1]) - 1]
+        count = len(one.get("args", []) if isinstance(one, dict) else one)
+    except (ValueError, TypeError, IndexError, RecursionError):
+        return
+    yield f"input {number[1]} has {count} argument{'' if count == 1 else 's'}"
+
+
+def unread(place: str) -> Iterator[str]:
+    """Why a file isn't read, and which are near."""
+    try:
+        program.read(place)
+    except program.Failure as failure:
+        folder, name = os.path.split(place)
+        yield f"{failure}{near(name, os.listdir(folder or '.') if os.path.isdir(folder or '.') else [])}"
+
+
 def at_line(found: Words, place: str) -> Iterator[str]:
     """The text of a source at a place."""
     for name in found.named("SOURCE..."):
@@ -188,8 +232,15 @@ def hints(line: str, words: Sequence[str]) -> Iterator[str]:
     try:
         if code == 2:
             yield from usage(found)
+        elif code == 7:
+            yield from unread(place)
         elif code in (36, 50, 51, 52):
+            yield from input_at(found, place)
             yield from entry(found)
+        elif code == 61:
+            yield from brackets(found)
+        elif code == 65:
+            yield from predicates(found)
         elif 60 <= code <= 79:
             yield from at_column(found, place)
         else:

@@ -21,7 +21,7 @@ import json
 import os
 
 from tools import graph as graphs
-from tools import inputs, leaving, program, rte_items, rte_order, rte_repeat, rte_sites, rte_told, usage
+from tools import inputs, leaving, program, rte_apart, rte_items, rte_order, rte_repeat, rte_sites, rte_told, usage
 from tools.asked import Asked, read_sums
 from tools.campaign import DEFAULTS, jobs, locked, measured
 from tools.folder import Folder
@@ -85,6 +85,8 @@ def rows_of(graph: Graph, folder: Folder, asked: Asked, limits: Limits, warned: 
     all_of = rte_items.of_finder(graph, finder, asked.entry, asked.ends)
     operations = [one for one in all_of if one.file != table.header]
     made = Rows(graph, operations, found, limits)
+    steps = rte_apart.Steps(graph, folder.path, asked, operations, jobs)
+    made.apart = {node: steps.of_node(node) for node in found.failed}
     written = rte_sites.of_finder(graph, finder, table, asked.entry)
     sites = rte_sites.Sites(graph, folder.path, asked, written, jobs) if written else None
     if limits.make_unreachable and (operations or sites):
@@ -113,7 +115,7 @@ def repeated(folder: Folder, asked: Asked, rows: list[Row], is_confirmed: bool) 
     header = rte_sites.header_of(asked.sources)
     text = rte_repeat.text_of(asked.entry, found, asked.sources, header, folder.path)
     program.write_whole(folder.at(rte_repeat.NAME + ".c"), text)
-    said = list(rte_repeat.confirmed(folder.path, len(found))) if is_confirmed else [""] * len(found)
+    said = list(rte_repeat.confirmed(folder.path, header, len(found))) if is_confirmed else [""] * len(found)
     return [
         dataclasses.replace(row, number=found.index(row.input) + 1, gcc=said[found.index(row.input)])
         if row.input
@@ -158,7 +160,11 @@ def main() -> int:
         program.write_whole(folder.at("rte.json"), json_of(asked, left, rows))
         program.write_whole(folder.at("rte.sarif"), rte_told.sarif_of(rows, asked))
     lines = [line for row in rows for line in row.lines(given.folder)]
-    how = [f"failures are repeated by {rte_repeat.command(given.folder)}"] if any(row.input for row in rows) else []
+    how = (
+        [f"failures are repeated by {' '.join(rte_repeat.command(given.folder, rte_sites.header_of(asked.sources)))}"]
+        if any(row.input for row in rows)
+        else []
+    )
     said = [*lines, *left.lines(), *how, tally(rows)]
     program.give("".join(line + "\n" for line in said), None)
     return program.DONE if is_clean(rows, left.limits) else program.OPEN

@@ -54,6 +54,11 @@ class Operation:
     column: int
     text: str
     nodes: frozenset[int]
+    span: tuple[int, int] = (0, 0)  # its first and its last token
+
+    def has(self, other: "Operation") -> bool:
+        """Whether another operation stands within it."""
+        return self != other and self.span[0] <= other.span[0] and other.span[1] <= self.span[1]
 
     @property
     def place(self) -> str:
@@ -214,8 +219,8 @@ class Finder:
             if not kind or not any(one.has(form.mark) for one in bodies) or (owner and owner.name == "constant"):
                 continue
             word, nodes = self.words[form.mark], self.nodes(kind, form)
-            made = Operation(kind, word.file, word.line, word.column, self.text(form), frozenset(nodes))
-            yield made
+            span = (form.first, form.last)
+            yield Operation(kind, word.file, word.line, word.column, self.text(form), frozenset(nodes), span)
 
 
 def reached_from(graph: Graph, entry: str) -> set[str]:

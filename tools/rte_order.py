@@ -49,7 +49,7 @@ class Regions:
     def region(self, one: Warned) -> set[int]:
         tokens: set[int] = set()
         for token in self.finder.at.get((one.file, one.line, one.column), []):
-            form = self.finder.statements.at(token)
+            form = self.finder.statements.at(token) or self.finder.bodies.get(one.function)
             tokens |= set(range(form.first, form.last + 1)) if form else {token}
         names = {self.finder.words[token].text for token in tokens}
         called = [name for name in self.finder.bodies if name in names]

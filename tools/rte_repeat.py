@@ -18,6 +18,7 @@ from tools.sources import Source
 
 NAME = "failures"
 FLAGS = ("-w", "-fsanitize=undefined", "-fno-sanitize-recover=all")
+WRAPS = "-fwrapv"  # where overflows aren't asked about: then gcc reports none
 SECONDS = 10
 HEAD = """/* Written by FShell's bin/rte: runs of {entry} that end wrongly. Compile it with
    {command}
@@ -77,17 +78,18 @@ int main(int count, char **words) {{
 """
 
 
-def command(folder: str) -> str:
-    """The command that compiles the file."""
+def command(folder: str, header: str) -> list[str]:
+    """The command that compiles the file; `header` is the source of checked operations, if there is one."""
     path = os.path.join(folder, NAME)
-    return " ".join(["gcc", *FLAGS, "-o", path, path + ".c"])
+    return ["gcc", *FLAGS, *([] if header else [WRAPS]), "-o", path, path + ".c"]
 
 
 def text_of(entry: str, given: Sequence[Input], names: Sequence[str], header: str, folder: str) -> str:
     """The whole file; `header` is the source of checked operations, if there is one."""
     sources = [Source(name, program.read(name)) for name in names]
     heads = items.input_heads(sources)
-    parts, out = [HEAD.format(entry=entry, command=command(folder))], os.path.join(folder, NAME) + ".c"
+    parts = [HEAD.format(entry=entry, command=" ".join(command(folder, header)))]
+    out = os.path.join(folder, NAME) + ".c"
     for number, source in enumerate(sources):
         parts.append(NO_ASSERTS if source.name == header else ASSERTS)
         parts.append(
@@ -102,21 +104,21 @@ def text_of(entry: str, given: Sequence[Input], names: Sequence[str], header: st
     return "".join(parts) + MAIN.format(count=len(given), arity=arity, call=call, **told)
 
 
-def compiled(folder: str) -> str:
+def compiled(folder: str, header: str) -> str:
     """Has gcc compile the file; the program's path."""
     if not shutil.which("gcc"):
         raise Failure("gcc isn't there (Debian: apt-get install gcc)")
     path = os.path.join(folder, NAME)
-    ended = subprocess.run(["gcc", *FLAGS, "-o", path, path + ".c"], capture_output=True, text=True, check=False)
+    ended = subprocess.run(command(folder, header), capture_output=True, text=True, check=False)
     if ended.returncode:
         wrong = [line for line in ended.stderr.splitlines() if "error" in line] or ended.stderr.splitlines() or ["?"]
         raise Failure(f"gcc doesn't compile {path}.c: {wrong[0][:200]}")
     return os.path.abspath(path)
 
 
-def confirmed(folder: str, count: int) -> Iterator[str]:
+def confirmed(folder: str, header: str, count: int) -> Iterator[str]:
     """What gcc's sanitizers, or an assert, say of each input."""
-    path = compiled(folder)
+    path = compiled(folder, header)
     for number in range(1, count + 1):
         try:
             ended = subprocess.run(

@@ -8,6 +8,7 @@ from dataclasses import dataclass, field
 
 from tools.graph import Graph
 from tools.reports import Input
+from tools.rte_apart import Apart
 from tools.rte_items import CAUSES, Operation
 from tools.rte_search import Failed, Known
 from tools.verdicts import Limits
@@ -81,6 +82,7 @@ class Rows:
     def __init__(self, graph: Graph, operations: list[Operation], known: Known, limits: Limits) -> None:
         self.graph, self.operations, self.known, self.limits = graph, operations, known, limits
         self.unreached: set[int] = set()
+        self.apart: dict[int, dict[Operation, Apart]] = {}
 
     def goals(self, nodes: frozenset[int]) -> tuple[int, ...]:
         return tuple(sorted(self.known.goals[node] for node in nodes if node in self.known.goals))
@@ -89,18 +91,38 @@ class Rows:
         """The nodes of operations all of whose nodes are refuted."""
         return {node for one in self.operations if one.nodes <= self.known.refuted for node in one.nodes}
 
-    def failing(self, node: int, failed: Failed) -> Row:
-        """The row of a node where a run ends: the operations there that can end it so."""
+    def failing(self, node: int, failed: Failed) -> Iterator[Row]:
+        """The rows of a node where a run ends: the operations there that are known to fail by themselves, or those that can have
+        ended that run."""
         there = [one for one in self.operations if node in one.nodes]
-        those = tuple(one for one in there if one.kind in CAUSES.get(failed.end, ())) or tuple(there)
+        apart = self.apart.get(node, {})
+        alone = [one for one in there if one in apart and apart[one].failed]
+        for one in alone:
+            yield self.failed(node, (one,), apart[one].failed or failed)
+        left = [one for one in there if one not in apart or not apart[one].is_never]
+        those = tuple(one for one in left if one.kind in CAUSES.get(failed.end, ())) or tuple(left or there)
+        if not alone:
+            yield self.failed(node, those, failed)
+
+    def failed(self, node: int, those: tuple[Operation, ...], failed: Failed) -> Row:
+        """The row of the operations of which one ended a run."""
         told = ", ".join(one.told if number == 0 else f"{one.told} ({one.place})" for number, one in enumerate(those))
         what = f"one of {told}" if len(those) > 1 else told or "a step without an operation that is known"
         why = f"{failed.end} by the input {failed.input.line()}"
         place = those[0].place if those else self.graph.nodes[node].place
         return Row(place, what, Verdict.FAILS, why, failed.input, failed.end, those, (self.known.goals[node],))
 
+    def never_apart(self, one: Operation) -> Apart | None:
+        """What shows that an operation never fails though another one of its step does."""
+        known = [self.apart[node][one] for node in one.nodes if one in self.apart.get(node, {})]
+        return known[0] if known and known[0].is_never else None
+
     def single(self, one: Operation) -> Row:
         """The row of an operation that stands in none of those that fail."""
+        apart = self.never_apart(one)
+        if apart:
+            verdict, why = refuted(self.limits, one.nodes <= self.unreached)
+            return Row(one.place, one.told, verdict, why, operations=(one,), goals=apart.goals, folder=apart.folder)
         verdict, why = self.said(one)
         return Row(one.place, one.told, verdict, why, operations=(one,), goals=self.goals(one.nodes))
 
@@ -108,6 +130,9 @@ class Rows:
         """The verdict of an operation of which no failure is known, and why."""
         failing = sorted(one.nodes & set(self.known.failed))
         if failing:
+            known = [self.apart[node][one] for node in failing if one in self.apart.get(node, {})]
+            if known and known[0].is_together:
+                return Verdict.OPEN, "it fails only where another operation of the same step does"
             return Verdict.OPEN, "another operation of the same step fails"
         left = sorted(one.nodes - self.known.refuted)
         if left or not one.nodes:
@@ -128,7 +153,7 @@ class Rows:
 
     def rows(self) -> list[Row]:
         """All rows, in the order of the sources."""
-        failing = [self.failing(node, failed) for node, failed in self.known.failed.items()]
+        failing = [row for node, failed in self.known.failed.items() for row in self.failing(node, failed)]
         told = {one for row in failing for one in row.operations}
         made = failing + [self.single(one) for one in self.operations if one not in told] + self.nameless()
         order = {one.place: number for number, one in enumerate(self.operations)}

@@ -22,9 +22,15 @@ ROWS = [
     (["prove", "fee", "cover ID", "first", "fee.c"], "error 2 Usage", "2 Usage: ", ["`first` is no number that prove takes"]),
     (["goals", "cover @CONDITIONEGDE", "fee.c"], "error 60 Lexical query:7", "60 Lexical: ", ["near: @CONDITIONEDGE", "there stands"]),
     (["goals", "cover @FUNC(fe)", "fee.c"], "error 70 NoSuchName query:7", "70 NoSuchName: ", ["`fe` isn't defined; near: fee"]),
-    (["measure", "fee", "cover ID", "in", "fee.c"], "error 51 Shape input 1", "51 Shape: ", [f"it is {SIGNATURE}"]),
+    (["measure", "fee", "cover ID", "in", "fee.c"], "error 51 Shape input 1", "51 Shape: ", ["input 1 has 1 argument;", f"it is {SIGNATURE}"]),
+    (["measure", "fee", "cover ID", "in.json", "fee.c"], "error 51 Shape input 2", "51 Shape: ", ["input 2 has 4 arguments", SIGNATURE]),
     (["goals", "cover ID", "float.c"], "error 21 OutOfProfile float.c:2", "21 OutOfProfile: ", ["there stands `float y;`"]),
-    (["goals", "cover ID", "no.c"], "error 7 ReadFault no.c", "7 ReadFault: ", []),
+    (["goals", "cover ID", "no.c"], "error 7 ReadFault no.c", "7 ReadFault: ", ["no.c: No such file or directory"]),
+    (["goals", "cover ID", "flaot.c"], "error 7 ReadFault flaot.c", "7 ReadFault: ", ["near: float.c"]),
+    (["goals", "cover (@LINE(3)", "fee.c"], "error 61 QuerySyntax query", "61 QuerySyntax: ", ["`(` stands 1 time too often"]),
+    (["goals", 'cover "ID*', "fee.c"], "error 61 QuerySyntax query", "61 QuerySyntax: ", ["a quotation mark isn't closed"]),
+    (["goals", "@LINE(3)", "fee.c"], "error 61 QuerySyntax query", "61 QuerySyntax: ", ["begins with `cover`"]),
+    (["measure", "fee", "cover {days ==}", "in", "fee.c"], "error 65 PredicateSyntax query", "65 PredicateSyntax: ", ["the query has `{days ==}`"]),
 ]
 
 
@@ -44,7 +50,7 @@ def on_a_terminal(folder, words):
 
 
 def a_terminal_has_a_line_more(folder):
-    put(folder, {"fee.c": FEE, "sum.c": SUM, "in": "1\n", "float.c": "int x;\nfloat y;\n"})
+    put(folder, {"fee.c": FEE, "sum.c": SUM, "in": "1\n", "in.json": '[{"args": [1, 2, 3]}, {"args": [1, 2, 3, 4]}]\n', "float.c": "int x;\nfloat y;\n"})
     for words, line, begin, parts in ROWS:
         ended = run(folder, ["fshell", *words])
         yield (ended.stdout, ended.stderr) == ("", line + "\n")

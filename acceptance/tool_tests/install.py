@@ -42,6 +42,18 @@ def installed_tools_work(folder):
     yield run(folder, ["install", "to"]).returncode == 0 and installed("fshell-inputs", "made").returncode == 0
 
 
+def installed_adapt_has_its_models(folder):
+    """What adapt writes by the models of string.h, and what it writes of checked operations, which bin/rte reads."""
+    prefix = os.path.join(folder, "usr")
+    yield run(folder, ["install", prefix]).returncode == 0
+    put(folder, {"a.c": "#include <string.h>\nstatic char a[4], b[4];\nint f(int x) {\n  memcpy(a, b, 4);\n  return a[x & 3] - x;\n}\n"})
+    made = subprocess.run([f"{prefix}/bin/fshell-adapt", "a.c", "-o", "ad", "--check-overflow"], cwd=folder, capture_output=True, text=True)
+    yield (made.returncode, made.stderr) == (0, "") and made.stdout.endswith("wrote ad/overflow.h ad/a.c\n")
+    words = ["f", "ad/overflow.h", "ad/a.c", "-o", "d"]
+    ended = subprocess.run([f"{prefix}/bin/fshell-rte", *words], cwd=folder, capture_output=True, text=True)
+    yield ended.returncode == 1 and "\na.c:5:19: fails: overflow a[x & 3] - x: " in "\n" + ended.stdout
+
+
 def nothing_is_left_half_copied(folder):
     """Where a file may have 1,000 bytes at most, as on a full disk."""
     ended = run(folder, ["install", "to"], preexec_fn=lambda: resource.setrlimit(resource.RLIMIT_FSIZE, (1000, 1000)))
@@ -193,6 +205,7 @@ def manual_pages_are_shown(folder):
 
 
 MODULE = ("dpkg-deb", "gcc", "pycparser", "jinja2")
-TRIED = [((), installed_tools_work), ((), nothing_is_left_half_copied), (("bash",), completion_knows_words), (("bash",), completion_knows_each_option),
-         ((), documents_and_pages_name_each_option), ((), needs_are_told), (("man",), manual_pages_are_shown), (MODULE, a_package_is_one_file_that_works),
+TRIED = [((), installed_tools_work), (("pycparser", "gcc", "graph"), installed_adapt_has_its_models), ((), nothing_is_left_half_copied),
+         (("bash",), completion_knows_words), (("bash",), completion_knows_each_option), ((), documents_and_pages_name_each_option),
+         ((), needs_are_told), (("man",), manual_pages_are_shown), (MODULE, a_package_is_one_file_that_works),
          (("dpkg-deb", "lintian"), a_package_has_no_errors), (("dpkg-deb",), a_package_is_refused)]

@@ -55,9 +55,27 @@ int f(int x, unsigned char y) {
   return s + a[y & 3];
 }
 """
+# the same in a declaration, in the head of a loop, and in a condition
+IN_OTHER_FORMS = """int a[4] = {2, 3, 4, 5};
+int h(int y) {
+  return a[y & 3];
+}
+int f(int x, unsigned char y) {
+  int s = 8 / x + h(y);
+  if (a[y & 3] > 1) {
+    for (int i = 8 % y + h(y); i < 3; i++) {
+      s += a[i & 3];
+    }
+    s += a[y & 1];
+  }
+  if (7 / (y - 3) > h(y)) {
+    s += a[y & 2];
+  }
+  return s + a[y & 3];
+}
+"""
 VALUE = "int g = 1;\nint h(void) {\n  g = 5;\n  return 1;\n}\nint f(unsigned char y) {\n  int k = g + h();\n  return 8 / (y + 1) + k;\n}\n"
 ENDS = "int deep(int n) {\n  return deep(n);\n}\nint f(int x) {\n  assume(x != 3);\n  return x == 5 ? deep(x) : 0;\n}\n"
-SHARED = "int f(int x, int y) {\n  return 4 / x + 6 % y;\n}\n"
 
 
 def told(*lines):
@@ -82,7 +100,7 @@ CASES = [
         "a.c:3:11: never within the bounds: index a[y & 3]: C leaves the order of evaluation open at a.c:7:8 (strict)",
         "a.c:6:13: never: division 9 / (y + 1)", "a.c:7:10: fails: division 8 / x: trapped zero-divisor by the input args 0 0",
         "  to repeat it: d/failures 1", "a.c:8:15: never: index a[y & 3]", SUFFICE[:-1],
-        "failures are repeated by gcc -w -fsanitize=undefined -fno-sanitize-recover=all -o d/failures d/failures.c", "rows 4: 2 never, 1 never within the bounds, 1 fails")),
+        "failures are repeated by gcc -w -fsanitize=undefined -fno-sanitize-recover=all -fwrapv -o d/failures d/failures.c", "rows 4: 2 never, 1 never within the bounds, 1 fails")),
     one("the order of evaluation on which a value hangs", VALUE, [], 1, told(
         "a.c:8:12: never within the bounds: division 8 / (y + 1): C leaves the order of evaluation open at a.c:7:11 (value)",
         SUFFICE[:-1], "no refuted goal is called unreachable: C leaves the order of evaluation open at a.c:7:11 (value)",
@@ -212,6 +230,18 @@ def bounds_that_are_left(folder):
     yield lines[-1] == "rows 1: 1 never within the bounds" and not os.path.exists(os.path.join(folder, "d", "bounds.cert"))
 
 
+def an_order_restricts_its_statement(folder):
+    """Also where it is a declaration, the begin of a loop or a condition; of an `if` the whole is the statement."""
+    put(folder, {"a.c": IN_OTHER_FORMS})
+    run(folder, ["rte", "f", "a.c", "-o", "d"])
+    rows = {row["place"].removeprefix("a.c:"): row for row in report(folder)["rows"]}
+    fails, within = {"6:13", "8:20", "13:9"}, {"3:11", "14:11"}
+    yield {place for place, row in rows.items() if row["verdict"] == "fails"} == fails
+    yield {place for place, row in rows.items() if row["verdict"] == "never within the bounds"} == within
+    yield {place for place, row in rows.items() if row["verdict"] == "never"} == {"7:8", "9:13", "11:11", "16:15"}
+    yield rows["14:11"]["why"] == "C leaves the order of evaluation open at a.c:13:7 (strict)"
+
+
 def any_ends(folder):
     """With any ends an assume that fails and a call that is too deep are told too."""
     put(folder, {"a.c": ENDS})
@@ -235,14 +265,64 @@ def a_budget_that_is_spent(folder):
     )
 
 
+# operations of one step, with their verdicts by hand: x is 0; y & 7 is above 3; y is -1, where y & 7 is 7; the rest never
+APART = """int t[4] = {1, 2, 3, 4};
+int id(int x) { return x; }
+int f(int x, int y) {
+  return 4 / x + t[y & 7] + t[4 / (y + 1) & 3] + (y >> (x & 31)) + 9 % 4;
+}
+int g(int x, int y) {
+  x %= y + 3 << (y & 1);
+  return 4 / id(x) + t[id(y) & 3] + x % 7;
+}
+int h(int x, int y) {
+  assert(8 / x != y % 5);
+  t[x & 3] = 1 << y;
+  return 0;
+}
+int twice(int y) {
+  return t[y] + t[y] + t[y & 3];
+}
+"""
+OF_APART = {
+    "twice": [("16:11", "fails"), ("16:25", "never")],
+    "f": [("4:12", "fails"), ("4:19", "fails"), ("4:30", "never"), ("4:33", "open"), ("4:53", "never"), ("4:70", "never")],
+    "g": [("7:5", "fails"), ("7:14", "never"), ("8:12", "fails"), ("8:23", "open"), ("8:39", "never within the bounds")],
+    "h": [("11:3", "fails"), ("11:12", "fails"), ("11:21", "never"), ("12:4", "never"), ("12:16", "fails")],
+}
+
+
 def operations_of_one_step(folder):
-    """Two divisions of one step are one row; where the end says which it was, it is told, and the other stays open."""
-    put(folder, {"a.c": SHARED, "b.c": "int t[4];\nint f(int x, int y) {\n  return 4 / x + t[y & 3];\n}\n"})
-    first = run(folder, ["rte", "f", "a.c", "-o", "d"]).stdout.splitlines()
-    yield first[0].startswith("a.c:2:12: fails: one of division 4 / x, remainder 6 % y (a.c:2:20): trapped zero-divisor by ")
-    second = run(folder, ["rte", "f", "b.c", "-o", "e"]).stdout.splitlines()
-    yield second[0].startswith("b.c:3:12: fails: division 4 / x: trapped zero-divisor by the input args 0")
-    yield second[1] == "b.c:3:19: open: index t[y & 3]: another operation of the same step fails"
+    """They are told apart where their operands are plain: one that fails has an input of its own, at which no other one fails."""
+    put(folder, {"a.c": APART})
+    for entry, due in OF_APART.items():
+        ended = run(folder, ["rte", entry, "a.c", "-o", entry, "--confirm"] if entry != "g" else ["rte", entry, "a.c", "-o", entry])
+        rows = report(folder, entry)["rows"]
+        yield [(row["place"].removeprefix("a.c:"), row["verdict"]) for row in rows] == due
+        yield (ended.returncode, ended.stderr) == (1, "")
+        yield run(folder, ["rte", entry, "a.c", "-o", entry]).stdout.count(": ") > 5
+    yield report(folder, "twice")["rows"][0]["what"] == "one of index t[y], index t[y] (a.c:16:18)"
+    whys = [row["why"] for entry in "fg" for row in report(folder, entry)["rows"] if row["verdict"] == "open"]
+    yield whys == ["it fails only where another operation of the same step does", "another operation of the same step fails"]
+
+
+def what_is_told_apart_is_right(folder):
+    """By all inputs of a small range, each evaluated by hand in C's way: whose operations fail alone, and which never do."""
+    put(folder, {"a.c": APART})
+    run(folder, ["rte", "f", "a.c", "-o", "f"])
+    rows = {row["place"].removeprefix("a.c:"): row for row in report(folder, "f")["rows"]}
+    fails = {"4:12": lambda x, y: x == 0, "4:19": lambda x, y: y & 7 > 3, "4:33": lambda x, y: y == -1}
+    for place in ("4:12", "4:19"):
+        args = rows[place]["input"]["args"]
+        yield [one for one, of in fails.items() if of(*args)] == [place]
+    # its certificates stand in a folder of its own, and are accepted by a process of its own
+    one = rows["4:30"]
+    with open(os.path.join(folder, "f", one["folder"], "campaign.json"), encoding="utf-8") as file:
+        query = json.load(file)["query"]
+    yield one["folder"].startswith("apart/") and len(one["goals"]) == 2
+    for goal in one["goals"]:
+        path = os.path.join("f", one["folder"], "certificates", f"{goal}.cert")
+        yield program(folder, "check", "f", query, str(goal), path, "a.c", "--ends", "trapped").returncode == 0
 
 
 # ---- which operation is done at which node: each line has an input, by hand, that ends at the operation whose mark is told
@@ -327,6 +407,6 @@ def each_trap_has_its_operation(folder):
 
 TRIED = [(GRAPH, wrong_words), (GRAPH, planted_faults_are_red), (("graph", "gcc"), gcc_says_the_same),
          (GRAPH, certificates_stand_alone), (GRAPH, a_folder_goes_on), (GRAPH, an_input_that_is_wrong_isnt_told),
-         (GRAPH, bounds_that_are_left), (GRAPH, any_ends), (GRAPH, a_budget_that_is_spent),
-         (GRAPH, operations_of_one_step), (GRAPH, operations_have_their_nodes),
+         (GRAPH, bounds_that_are_left), (GRAPH, an_order_restricts_its_statement), (GRAPH, any_ends), (GRAPH, a_budget_that_is_spent),
+         (("graph", "gcc"), operations_of_one_step), (GRAPH, what_is_told_apart_is_right), (GRAPH, operations_have_their_nodes),
          (GRAPH, each_trap_has_its_operation)]  # fmt: skip

@@ -74,6 +74,10 @@ int dead(unsigned char raw, unsigned char gain) {
   return sum;
 }
 
+static int low(unsigned char bits) {
+  return bits & 3;
+}
+
 int gauge(unsigned char raw, unsigned char gain) {
   int sum = sure(raw, gain);
   sum += careless(raw, gain);
@@ -83,10 +87,11 @@ int gauge(unsigned char raw, unsigned char gain) {
     sum += 64 / (gain - 9) + smoothed(raw); /* fails */
   }
   if (raw == 100) {
-    /* one step with nine operations, of which the remainder fails */
+    /* one step with nine operations, of which the remainder fails; what calls give has no name by which the others could
+       be told apart from it */
     sum += 1000 % (gain - 20) /* fails */
-           + curve[gain & 3] + curve[sum & 3] + log_of[gain & 7] + log_of[sum & 7] /* open */
-           + (sum >> (gain & 7)) + (sum << (gain & 3)) + (gain >> (sum & 7)) + (gain << (sum & 3)); /* open */
+           + curve[low(gain)] + curve[low(raw)] + log_of[low(gain)] + log_of[low(raw)] /* open */
+           + (sum >> low(gain)) + (sum << low(raw)) + (raw >> low(raw)) + (gain << low(gain)); /* open */
   }
   return sum;
 }

@@ -44,6 +44,8 @@ class Assignments(Calls):
         self.unsequenced(node, [index, node.rvalue])
         self.not_twice(node, place, node.rvalue)
         kind = place.type
+        if place.variable.is_input:
+            return self.assign_register(node, place, kind)
         if place.view is not None:
             return self.assign_part(place, lambda own: self.combined(own, node), kind)
         other = self.kind_at(place) != kind and node.op in ("/=", "%=", ">>=")
@@ -67,6 +69,11 @@ class Assignments(Calls):
         if not kind.width:
             return f"{target}{node.op[-2:]};"
         return f"{target} = {self.converted(Value(f'{target} {node.op[-1]} 1', kinds.INT, 9), kind).text};"
+
+    def assign_register(self, node: Any, place: Place, kind: Int) -> tuple[str, Int]:
+        """Writes an assignment to a register, which keeps nothing; the value that it was given."""
+        value = self.combined(Value(f"{place.variable.out}()", kind, PRIMARY, calls=True), node)
+        return self.temporary(kind, value.text), kind
 
     # ---- parts of an integer
 
@@ -171,6 +178,8 @@ class Assignments(Calls):
             if place.view is not None:
                 self.step_part(node, place)
                 return
+            if place.variable.is_input:
+                raise Refused(node.coord, f"a step of the register {place.variable.name}", "assign its value")
             self.emit(self.stepping(node, *self.step(node, self.kind_has_width(node.expr))))
         elif isinstance(node, c_ast.FuncCall):
             self.call_effect(node)

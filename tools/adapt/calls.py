@@ -48,7 +48,7 @@ class Calls(ModelCalls, OutsideCalls):
         if heap_call(function):
             return self.heap.freed(node) if function.name == "free" else self.pointer(node)[INDEX].text, []
         if function.definition is None:
-            return self.outer_call(node, function), []
+            return self.outer_call(node, function)
         given = arguments(node)
         if len(given) != len(function.parameters) and not function.variadic:
             raise Refused(
@@ -198,7 +198,8 @@ class Calls(ModelCalls, OutsideCalls):
             self.emit(f"{self.at(node)}{function.name}({self.value(arguments(node)[0]).text});")
             return
         if function.definition is None and function.name in OUTPUT:
-            self.outer_call(node, function)
+            for one in self.outer_call(node, function)[1]:
+                self.emit(one)
             return
         text, after = self.call(node)
         if (
@@ -218,6 +219,11 @@ class Calls(ModelCalls, OutsideCalls):
         if isinstance(source, c_ast.TernaryOp):
             self.either(source, lambda one: self.assign_whole(target, one, node))
             return
+        if isinstance(source, c_ast.ExprList):
+            for one in source.exprs[:-1]:
+                self.effect(one)
+            self.assign_whole(target, source.exprs[-1], node)
+            return
         if sum(leaf.count for leaf in kinds.leaves(target.type)) > MOST_COPIED:
             raise Refused(node.coord, f"a struct of more than {MOST_COPIED} integers is copied", "copy what is needed")
         self.unsequenced(node, [c_ast.ExprList([one for one, _ in target.indexes]), source])
@@ -229,6 +235,22 @@ class Calls(ModelCalls, OutsideCalls):
         for (_, to), (_, of) in zip(self.integers(target, index), values):
             for one, value in zip(to, of):
                 self.emit(f"{one} = {value};")
+
+    def kept_whole(self, node: Any) -> Any:
+        """A member of a struct that is no object (6.5.2.3p3), as one of an object that is written before and has it."""
+        if isinstance(node, (c_ast.StructRef, c_ast.ArrayRef)):
+            base = self.kept_whole(node.name)
+            if isinstance(node, c_ast.ArrayRef):
+                return c_ast.ArrayRef(base, node.subscript, node.coord)
+            return c_ast.StructRef(base, ".", node.field, node.coord)
+        of = self.constants.type_of(node)
+        local = Variable("whole", of, node.coord, "local", out=self.spelling.fresh("whole"))
+        self.declared(local)
+        self.assign_whole(Place(local, (), (), of), node, node)
+        made = c_ast.ID(local.out, node.coord)
+        self.names.meaning[id(made)] = local
+        self.kept_nodes.append(made)
+        return made
 
     def whole(self, source: Any, target: Place) -> tuple[Place, Optional[Value]]:
         """The object in which a struct's value stands."""

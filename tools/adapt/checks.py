@@ -1,5 +1,6 @@
 """Refuses functions in which two names would be those of one object, or one name of two."""
 
+from .bindings import key
 from .column_items import ColumnItems
 from .declarators import Function
 from .effects import pointee
@@ -49,6 +50,7 @@ class Checks(ColumnItems):
                 if found[0] is not None and found[0].shared
             ]
             if any((written or too) and within(found[0].type, pointee(one)) for found, too in shared if found[0]):
+                self.names.refusals.apart.add(key(one))  # (a pointer as any other, which has objects of its own)
                 raise Refused(
                     one.coord,
                     f"nothing calls {function.name}, and {one.name} may point to an object that it uses",
@@ -57,6 +59,7 @@ class Checks(ColumnItems):
             for two in copies[at + 1 :]:
                 too = any(found[0] is two for found in summary.writes)
                 if (written or too) and (within(pointee(one), pointee(two)) or within(pointee(two), pointee(one))):
+                    self.names.refusals.apart.add(key(two))
                     raise Refused(
                         two.coord,
                         f"nothing calls {function.name}, and {one.name} and {two.name} may point to one object",

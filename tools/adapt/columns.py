@@ -3,6 +3,7 @@
 from typing import Any, Optional, Union
 
 from . import kinds
+from .clones import learn
 from .declarators import Variable
 from .heap import bytes_asked, call_key, heap_call
 from .kinds import Array, Path, Pointer, Type
@@ -26,6 +27,7 @@ class Columns:
                 names.refusals.apart.add(call_key(node, heap.pop()))
             for target in targets:
                 target.calls.append((caller, node))
+        learn(names, self.points, names.refusals.apart)
         self.begins: dict[tuple[Region, Owner], int] = {}
         self.counts: dict[Region, Optional[int]] = {}
         self.inner: dict[Region, list[tuple[Region, str]]] = {}
@@ -72,6 +74,7 @@ class Columns:
         owners: list[Owner] = [*region.objects, *self.inner.get(region, [])]
         for owner in owners:
             count, each = self.pool(owner, region) if owner in self.pools else self.extent(owner)
+            end = -(-end // 8) * 8 if region.raw else end  # (as aligned as their objects are, so that a test of it tells the same)
             self.begins[(region, owner)] = end
             end += count + 1
             objects += each
@@ -100,7 +103,8 @@ class Columns:
             return self.points.count(of, self.points.home(owner)), 1
         outer, name = owner
         of = outer.elem.type_of(name)
-        count = self.lay_out(outer) if outer.pointed else sum(self.extent(one)[0] for one in outer.objects)
+        owners: list[Owner] = [*outer.objects, *self.inner.get(outer, [])]
+        count = self.lay_out(outer) if outer.pointed else sum(self.extent(one)[0] for one in owners)
         return count * self.points.count(of, outer.member(name, kinds.element(of))), count
 
     def column(self, region: Region, count: int, alone: Optional[Variable]) -> None:
@@ -143,6 +147,10 @@ class Columns:
         if not isinstance(of, Pointer):
             raise Refused(node.coord, "what is no pointer", "use a pointer")
         return of
+
+    def number(self, region: Region) -> int:
+        """The number of a region among all."""
+        return self.regions.index(region) if region in self.regions else len(self.regions)
 
     def in_column(self, variable: Variable) -> bool:
         """Whether the whole of a variable lies in a column."""

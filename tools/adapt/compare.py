@@ -113,6 +113,11 @@ class Comparison:
         functions = [one for one in functions if not isinstance(one.coord, Spot)]
         # (main is the comparison's own)
         self.entries = [one for one in functions if plain(one) and one.name != "main"]
+        if writer.registers:
+            raise Stop(f"{writer.registers[0].name} is an input of what was written, and an object of the original, so nothing can be compared")
+        if writer.outer_values:
+            name = next(iter(writer.outer_values))[0].name
+            raise Stop(f"what {name} writes is an input of what was written, so nothing can be compared")
         if not self.entries:
             raise Stop(
                 "there is no function that isn't static, takes integers alone and gives one or nothing, so nothing can be compared"

@@ -35,13 +35,21 @@ SHIFTS = ("<<", ">>")
 LOGICAL = ("&&", "||")
 
 
+WIDE = {"L": kinds.INT, "u": kinds.FIXED["uint16_t"], "U": kinds.UINT}
+
+
+def character(text: str) -> Int:
+    """The type of a string's elements (6.4.5p6)."""
+    return WIDE.get(text[: text.index('"')], kinds.Int(8, True, "char"))
+
+
 def codes(text: str) -> list[int]:
-    """The values of the characters between the quotes of a constant or a string, each as a `char`."""
-    found = []
+    """The values of the characters between the quotes of a constant or a string, each as one of its elements."""
+    found, kind = [], character(text) if text.endswith('"') else kinds.Int(8, True, "char")
     for hexadecimal, octal, simple, plain in ESCAPE.findall(text[text.index(text[-1]) + 1 : -1]):
         code = ESCAPES[simple] if simple else ord(plain or "0")
         code = int(hexadecimal, 16) if hexadecimal else int(octal, 8) if octal else code
-        found.append(fit(code, kinds.Int(8, True, "char")))
+        found.append(fit(code, kind))
     return found
 
 
@@ -55,6 +63,8 @@ def number(node: Any) -> tuple[int, Int]:
         return found[0], kinds.INT
     if "int" not in node.type:
         raise Refused(node.coord, f"the constant {text}", "use integers in fixed point")
+    if text.startswith("-"):
+        return int(text), kinds.INT  # (a character of a string)
     whole = re.fullmatch(r"(0[xX][0-9a-fA-F]+|0[bB][01]+|\d+)([uUlL]*)", text)
     if not whole:
         raise Refused(node.coord, f"the constant {text}", "write its number")
@@ -102,7 +112,7 @@ class Constants:
         """The type of an expression before any conversion of arrays."""
         if isinstance(node, c_ast.Constant):
             return (
-                Array(kinds.Int(8, True, "char"), len(codes(node.value)) + 1)
+                Array(character(node.value), len(codes(node.value)) + 1)
                 if node.type == "string"
                 else number(node)[1]
             )

@@ -31,6 +31,12 @@ class Variable:
     out: str = ""
     unit: Any = None
     number: int = 0  # of the item in which it is first declared
+    volatile: bool = False
+
+    @property
+    def is_input(self) -> bool:
+        """Whether it is a register: a volatile integer that no source defines, so that each read of it is an input."""
+        return self.volatile and self.home == "file" and not self.defined and isinstance(self.type, Int)
 
     @property
     def shared(self) -> bool:
@@ -90,6 +96,7 @@ class Declarators:
         self.function: Optional[Function] = None
         self.structs: list[Struct] = []
         self.named_members: set[str] = set()
+        self.initialised: list[Type] = []  # types of objects that have lists of first values
         self.pool = (4, 16)  # the slots of a call of malloc, and the elements of one whose number isn't constant
         self.scope: ChainMap[str, Any] = ChainMap()
         self.tags: ChainMap[str, Any] = ChainMap()

@@ -5,6 +5,7 @@ from typing import Any, Optional
 
 from pycparser import c_ast
 
+from .changed import changed
 from .constants import is_offset
 from .kinds import Array, Int, Pointer, Struct, leaves
 from .declarators import Function, Variable
@@ -150,9 +151,17 @@ class Effected:
         try:
             place = self.places.place(node)
         except Refused:
+            for _, child in node.children():
+                found.add(self.of(child))
             return
         for index, _ in place.indexes:
             found.add(self.of(index))
+        for index, _ in place.inside:
+            found.add(self.of(index))
+        if place.view is not None and place.view.index is not None:
+            found.add(self.of(place.view.index))
+        if place.variable.is_input:
+            found.writes[OUTSIDE] = True
         if read:
             found.add(Effects({one: False for one in objects(place)}))
         if written:
@@ -169,6 +178,8 @@ class Effected:
                 return
             if not isinstance(function, Function) or function.name not in ("assert", "assume"):
                 found.writes[OUTSIDE] = True
+            for place in changed(self.places, node, function, self.inputs):
+                found.add(Effects({}, {one: True for one in objects(place)}))
             return
         if self.places.choosers.targets(function) is not None:
             found.add(self.of(node.name))

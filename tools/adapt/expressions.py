@@ -15,6 +15,7 @@ from .refusals import Refused
 from .initialisers import Part
 from .places import At
 from .regions import INDEX, NIL
+from .writer import is_no_object
 from .values import LEVELS, PRIMARY, UNARY, Known, Value
 
 
@@ -95,10 +96,14 @@ class Expressions(Assignments):
         return self.read(node)
 
     def read(self, node: Any) -> Value:
+        if is_no_object(node):
+            node = self.kept_whole(node)
         place = self.places.place(node)
         if not isinstance(place.type, Int):
             what = {Array: "an array", Pointer: "a pointer"}.get(type(place.type), "a struct")
             raise Refused(node.coord, f"{what} stands where an integer is needed", "name an element or a member")
+        if place.variable.is_input:
+            return Value(f"{self.at(node)}{place.variable.out}()", place.type, PRIMARY, calls=True)
         if place.view is not None:
             return self.part(place, self.leaf(place)[0])
         text, calls = self.leaf(place)
@@ -234,10 +239,22 @@ class Expressions(Assignments):
         do(node.iffalse)
         self.emit("}")
 
+    def as_number(self, node: Any, to: Int) -> Value:
+        """A pointer as an integer: 0 of null, else a number for its column, 2^20 apart, and in it that of the first byte (6.3.2.3p6)."""
+        of = self.places.columns.pointer(node)
+        region = of.region.root()
+        index = self.steady_value(self.pointer(node)[INDEX])
+        size = 1 if region.raw or region.is_code else kinds.size(region.elem) or 1
+        base = (self.places.columns.number(region) + 1) << 20
+        at = index.within(10) if size == 1 else f"{index.within(10)} * {size}"
+        return Value(f"({to.text}) ({index.within(7)} == {NIL} ? 0 : {base} + {at})", to, UNARY)
+
     def cast(self, node: Any) -> Value:
         to = self.names.types.get(id(node.to_type))
         if not isinstance(to, Int):
             raise Refused(node.coord, "a conversion to what is no integer", "convert to an integer type")
+        if self.is_pointer(node.expr) and not to.boolean:
+            return self.as_number(node.expr, to)
         one = self.value(node.expr)
         if to.boolean:
             return self.truth(one)

@@ -60,6 +60,10 @@ def text_of(writer: Units, made: list[str], entry: str, given: str, folder: str)
     function = next((one for one in writer.names.functions if one.name == entry and one.definition is not None), None)
     if function is None or not plain(function):
         raise Stop(f"{entry} is no function of the sources that takes integers alone and gives one or nothing")
+    if writer.registers or writer.heap.asked or writer.outer_values:
+        what = f"{writer.registers[0].name} is" if writer.registers else "whether malloc fails is"
+        what = f"what {next(iter(writer.outer_values))[0].name} writes is" if writer.outer_values else what
+        raise Stop(f"{what} an input of what was written alone, so the original can't be tested by its inputs")
     home = writer.names.items[function.number][0].path
     read, runs = inputs.runs_of(entry, given, made)
     kinds = [one.type.text for one in function.parameters if isinstance(one.type, Int)]

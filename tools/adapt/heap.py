@@ -116,12 +116,9 @@ class Heap:
         old = [writer.pointer(given[0])[INDEX].text] if called == "realloc" else []
         values = []
         for one in given[len(old) :]:
-            value = writer.value(one)
-            values.append(
-                value
-                if number(value) is not None
-                else Value(writer.temporary(kinds.SIZE, value.text), kinds.SIZE, PRIMARY)
-            )
+            known = writer.constants.value(one)
+            value = writer.value(one) if known is None else Value(str(known), kinds.SIZE, PRIMARY)
+            values.append(value if number(value) is not None else Value(writer.temporary(kinds.SIZE, value.text), kinds.SIZE, PRIMARY))
         name = self.function(called, pool, region)
         text = f"{name}({', '.join([*old, *(one.text for one in values)])})"
         index = Value(writer.temporary(kinds.INT, text, "pointer"), kinds.INT, PRIMARY)
@@ -154,7 +151,8 @@ class Heap:
         body = f"int failed = {fails}(); "
         body += f"if ({wide}{whole} > {pool.count} | {used} >= {pool.slots}) {{ {FELL} return {NIL}; }} "
         body += f"if (failed) {{ return {NIL}; }} "
-        body += f"int q = {begin} + {used} * {pool.count}; {used}++; "
+        slot = f"{used} * {pool.count}" if pool.count > 1 else used
+        body += f"int q = {f'{begin} + ' if begin else ''}{slot}; {used}++; "
         body += f"{sizes}[q] = {whole} + 1; " if sizes else ""
         body += self.copied(region, sizes, whole) if called == "realloc" else ""
         self.texts[key] = f"static int {used}; static int {name}({heads}) {{ {body}return q; }}"
@@ -167,7 +165,8 @@ class Heap:
             variable, inside, factor, add = self.columns.leaf_at(region, leaf.path)
             name = self.writer.spelling.leaf(variable, inside)
             for at in range(leaf.count):
-                to, of = [f"{name}[({one} + i) * {factor} + {add + at}]" for one in "qp"]
+                plain = factor == 1 and add + at == 0
+                to, of = [f"{name}[{one} + i]" if plain else f"{name}[({one} + i) * {factor} + {add + at}]" for one in "qp"]
                 moves.append(f"{to} = {of};")
         loop = f"for (int i = 0; i + 1 < {sizes}[p] & i < {whole}; i++) {{ {' '.join(moves)} }}"
         return f"if (p != {NIL}) {{ assert({sizes}[p] > 0); {loop} {sizes}[p] = 0; }} "

@@ -66,6 +66,9 @@ class Filled:
     def fill(self, of: Type, spot: Spot, init: Any) -> None:
         if isinstance(of, Other):
             return  # (what has no integers gets no value)
+        if isinstance(of, Struct) and of.union and of.is_parts() and isinstance(init, c_ast.InitList):
+            self.fill_parts(of, spot, init)
+            return
         if isinstance(init, c_ast.InitList) and isinstance(of, (Int, Pointer)):
             if len(init.exprs or []) != 1:
                 raise Refused(init.coord, "a list of values for an integer or a pointer", "give one value")
@@ -81,14 +84,35 @@ class Filled:
         else:
             self.wholes.append((spot, of, init))
 
+    def fill_parts(self, of: Struct, spot: Spot, init: Any) -> None:
+        """The first value of a union that is one integer: that of its first or of a named member."""
+        items, member, carrier = init.exprs or [], (of.members or [])[0][1], of.type_of(of.path_of(""))
+        if items and isinstance(items[0], c_ast.NamedInitializer):
+            member, items = of.type_of(items[0].name[0].name), [items[0].expr]
+        own = Filled(self.constants)
+        if isinstance(member, Array):
+            own.fill(member, ((), ()), items[0] if len(items) == 1 and isinstance(items[0], c_ast.InitList) else init)
+        elif items:
+            own.fill(member, ((), ()), items[0])
+        place = (spot[0] + (of.path_of(""),), spot[1])
+        if isinstance(member, Int) and isinstance(carrier, Int) and member.bits == carrier.bits:
+            self.given.update({place: one for one in own.given.values()})
+            return
+        inner, word = member.of if isinstance(member, Array) else member, 0
+        assert isinstance(inner, Int)
+        for (_, at), one in own.given.items():
+            known = self.constants.value(one)
+            if known is None:
+                raise Refused(init.coord, "a first value of a part of a union that is no constant", "assign it")
+            word |= known % (1 << inner.bits) << (inner.bits * (at[0] if at else 0))
+        self.given[place] = c_ast.Constant("int", f"{word}u" if word < 1 << 32 else f"{word}ul", init.coord)
+
     def part(self, of: Type, spot: Spot, at: int, init: Any) -> tuple[Type, Spot]:
         """The element or member of a number."""
         if isinstance(of, Array) and at < (of.length or 0):
             return of.of, (spot[0], spot[1] + (at,))
         if isinstance(of, Struct) and at < len(of.members or []):
             name, member = (of.members or [])[at]
-            if of.union and of.is_parts():
-                raise Refused(init.coord, "a first value of a part of an integer", "assign it")
             return member, (spot[0] + (of.path_of(name),), spot[1])
         raise Refused(init.coord, "more values than there are members or elements", "leave them out")
 

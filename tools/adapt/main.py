@@ -90,6 +90,10 @@ def adapt(given: argparse.Namespace, refusals: Refusals) -> tuple[dict[str, str]
         tried = Refusals()
         texts, writer = written(given, tried, apart)
         if not tried.apart - apart:
+            copies = {one for one in apart if one[0] in ("copied", "direct")}
+            if tried.found and copies:  # (told in the words of the sources)
+                tried = Refusals()
+                written(given, tried, apart - copies)
             refusals.found |= tried.found
             return texts, writer
         apart |= tried.apart
@@ -99,6 +103,7 @@ def written(given: argparse.Namespace, refusals: Refusals, apart: set[Any]) -> t
     from .bindings import Bindings
     from .cases import Cases
     from .choosers import Choosers
+    from .clones import Clones
     from .columns import Columns
     from .effects import Effected
     from .gate import check
@@ -122,6 +127,7 @@ def written(given: argparse.Namespace, refusals: Refusals, apart: set[Any]) -> t
     def flag(stem: str) -> str:
         return next(name for name in (f"{stem}_{n}" for n in numbers) if name not in taken)
 
+    Clones(units, apart, flag)
     Library(units, taken)
     names = Names(refusals)
     names.pool = given.pool
@@ -133,7 +139,7 @@ def written(given: argparse.Namespace, refusals: Refusals, apart: set[Any]) -> t
                 Jumps(flag, refusals).function(item.body, {getattr(one, "name", "") or "" for one in listed})
         taken.update(node.name for node in walk(unit.tree) if isinstance(node, c_ast.ID))
         names.unit(unit)
-    settle(names.structs, names.named_members)
+    settle(names.structs, names.named_members, names.initialised)
     places = Places(names)
     Bindings(places, apart).bind()
     places.columns = Columns(names, apart)

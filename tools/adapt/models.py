@@ -15,7 +15,7 @@ from .kinds import Int, Pointer, Struct
 from .places import arguments
 from .refusals import Refused
 from .regions import BEGIN, END, INDEX, NIL, Region
-from .values import PRIMARY, Value
+from .values import PRIMARY, UNARY, Value
 
 FOLDER = os.path.join(os.path.dirname(os.path.abspath(__file__)), "models")
 HEAD = re.compile(r"^(\w+ \*?)(\w+)\(([^()]*)\) \{(.*)\}$")
@@ -164,7 +164,12 @@ class ModelCalls:
         size = kinds.size(region.elem)
         if size is None or (not isinstance(region.elem, Int) or region.elem.bits != 8) and model.name not in WHOLE:
             raise Refused(node.coord, f"{model.name} of what are no bytes", "use the elements")
-        whole = element_count(self.constants, node, size)
+        try:
+            whole = element_count(self.constants, node, size)
+        except Refused:  # (a part of an element, which is no whole number of them, ends the run)
+            given = own.steady_value(own.value(node))
+            text = given.within(UNARY)
+            return f"{text} / {size} | -({text} % {size} != 0)", "size_t"
         if isinstance(whole, int):
             return str(whole), count
         value = own.value(whole)

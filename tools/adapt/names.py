@@ -85,8 +85,11 @@ class Names(Declarators):
             self.variables.append(made)
             if home == "file":
                 self.linked[key] = made
+        made.volatile = made.volatile or "volatile" in (node.quals or []) or "volatile" in self.quals(node.type)
         made.defined = made.defined or "extern" not in node.storage or node.init is not None
         self.scope[node.name] = made
+        if isinstance(node.init, c_ast.InitList):
+            self.initialised.append(of)
         if node.init is not None:
             made.init = node.init
             self.initialiser(node.init)
@@ -234,6 +237,9 @@ class Names(Declarators):
             self.types[id(node)] = self.type_of(node.type)
         elif isinstance(node, c_ast.InitList):
             self.initialiser(node)
+        elif isinstance(node, c_ast.CompoundLiteral):
+            self.children(node)
+            self.initialised.append(self.types[id(node.type)])
         else:
             self.children(node)
 

@@ -4,38 +4,25 @@ from typing import Any
 
 from pycparser import c_ast
 
+from .changed import CHANGING, handed, takes_const
 from .declarators import Function
 from .kinds import Array, Int, Pointer
-from .places import arguments
+from .places import Place, arguments
 from .pointer_effects import PointerEffects
 from .refusals import Refused
-
-# the library's functions that change objects, whatever --input says
-CHANGING = set(
-    """memcpy memmove memset strcpy strncpy strcat strncat strtok strtok_r sprintf snprintf vsprintf vsnprintf scanf sscanf
-    fscanf fread fgets gets read recv getline qsort realloc strtol strtoul strtoll strtoull strtod stat fstat lstat time
-    localtime_r gmtime_r mktime strftime memccpy stpcpy stpncpy bcopy bzero swab getcwd readlink pipe mbstowcs wcstombs
-    mbtowc getopt getopt_long select poll ioctl utime utimes frexp modf free""".split()
-)
-
-
-def takes_const(function: Function, number: int) -> bool:
-    """Whether a parameter is a pointer to what is const, or one of those that are any number."""
-    written = function.declaration.type.args.params if function.declaration.type.args else []
-    if number >= len(written) or isinstance(written[number], c_ast.EllipsisParam):
-        return function.variadic
-    of = written[number].type
-    return isinstance(of, c_ast.PtrDecl) and "const" in (getattr(of.type, "quals", None) or [])
-
+from .values import PRIMARY, Value
 
 class OutsideCalls(PointerEffects):
-    inputs: set[str] = set()
-
-    def outer_call(self, node: Any, function: Function) -> str:
-        """A call of a function that no source defines: an input function, or one that was named as such."""
+    def outer_call(self, node: Any, function: Function) -> tuple[str, list[str]]:
+        """A call of a function that no source defines: an input function, or one that was named as such. Behind it stand the
+        values that objects get by it."""
+        after: list[str] = []
         if function.name in self.inputs:
             for number, argument in enumerate(arguments(node)):
-                if self.may_change(function, number, argument):
+                place = handed(self.places, function, number, argument)
+                if place is not None:
+                    after += self.given_values(function, place)
+                elif self.may_change(function, number, argument):
                     raise Refused(
                         argument.coord or node.coord,
                         f"an object is handed to {function.name}, which no source defines",
@@ -45,7 +32,18 @@ class OutsideCalls(PointerEffects):
                     self.effect(argument)
         else:
             self.check_outer(function, node.coord)
-        return f"{self.at(node)}{function.out}()"
+        return f"{self.at(node)}{function.out}()", after
+
+    def given_values(self, function: Function, place: Place) -> list[str]:
+        """Gives each integer of an object a value that is an input."""
+        index, found = self.index(place, True), []
+        for leaf, texts in self.integers(place, index):
+            key = (function, leaf.kind.text)
+            if key not in self.outer_values:
+                self.outer_values[key] = self.spelling.fresh(f"{function.name}_gives", True)
+            value = self.converted(Value(f"{self.outer_values[key]}()", leaf.kind, PRIMARY, calls=True), leaf.kind)
+            found += [f"{text} = {value.text};" for text in texts]
+        return found
 
     def check_outer(self, function: Function, coord: Any) -> None:
         """Refuses a function that no source defines and that is no input function."""

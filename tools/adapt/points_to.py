@@ -83,7 +83,8 @@ class PointsTo(Unification):
             return
         known = all(one is not None and kinds.has_bytes(one) for one in elems)
         sizes = {kinds.size(one) for one in elems if one is not None}
-        whole = known and len(sizes) == 1 and model.name in WHOLE and self.is_whole(node, model, sizes.pop() or 1)
+        alike = not any(one.raw for one in regions) and not any(self.differ(elems[0], one) for one in elems[1:])
+        whole = known and alike and len(sizes) == 1 and model.name in WHOLE and self.is_whole(node, model, sizes.pop() or 1)
         if model.name == "memset" and self.constants.value(arguments(node)[1]) != 0:
             whole = False
         if known and not whole:
@@ -125,6 +126,9 @@ class PointsTo(Unification):
         if isinstance(node, c_ast.FuncCall):
             of = self.constants.type_of(node)
             return of, Region(of)
+        if isinstance(node, (c_ast.ExprList, c_ast.Assignment, c_ast.TernaryOp)):
+            parts = [node.iftrue] if isinstance(node, c_ast.TernaryOp) else [node.exprs[-1] if isinstance(node, c_ast.ExprList) else node.lvalue]
+            return self.place(parts[0])
         raise Refused(node.coord, "what is no named object", "use a variable")
 
     def member(self, of: Any, region: Region, name: str, node: Any) -> tuple[Type, Region]:

@@ -50,6 +50,16 @@ TELLING = set(
     """packed aligned vector_size mode transparent_union alias weakref ifunc constructor destructor cleanup scalar_storage_order
     ms_struct gcc_struct warn_if_not_aligned copy symver""".split()
 )
+# what to do where a header of the library isn't there
+HEADERS_LEFT_OUT = {
+    "stdarg.h": "give each function a fixed number of parameters",
+    "setjmp.h": "hand back a status in place of a jump",
+    "math.h": "use integers in fixed point",
+    "float.h": "use integers in fixed point",
+    "complex.h": "use integers in fixed point",
+    "time.h": "declare what is used of it; a function without parameters that gives an integer is an input",
+    "unistd.h": "declare what is used of it; a function without parameters that gives an integer is an input",
+}
 ATTRIBUTE = re.compile(r"\b__attribute(?:__)?\b\s*\(((?:[^()]|\((?:[^()]|\((?:[^()]|\([^()]*\))*\))*\))*)\)")
 RANGE = re.compile(r"\bcase\s+(-?\w+|'[^'\\]')\s*\.\.\.\s*(-?\w+|'[^'\\]')\s*:")
 MOST_CASES = 300
@@ -110,7 +120,9 @@ def told_errors(path: str, told: str, refusals: Refusals) -> None:
     for line in told.splitlines():
         found = re.match(r"(.*?):(\d+):(?:\d+:)? (?:fatal )?error: (.*)", line)
         if found:
-            header = "leave it out, or name its folder (-I)" if "No such file" in found.group(3) else "correct it"
+            header = "correct it"
+            if "No such file" in found.group(3):
+                header = HEADERS_LEFT_OUT.get(found.group(3).split(":")[0], "leave it out, or name its folder (-I)")
             refusals.add(Coord(found.group(1), int(found.group(2))), f"{JUDGED}: {found.group(3)}", header)
     if not refusals.found:
         first = told.splitlines()[:1]

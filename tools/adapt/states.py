@@ -1,6 +1,7 @@
 """`goto` back, or into a block: what has labels is taken apart (a loop becomes tests and jumps, 6.8.5), and its parts are the cases of
 one loop over a state, in which a jump sets the state and goes on (6.8.6.1)."""
 
+import copy
 from typing import Any, Callable
 
 from pycparser import c_ast
@@ -9,9 +10,18 @@ from .jumps import LEFT_BY_BREAK, LOOPS, snippet, walk
 from .refusals import Refused
 
 
+MOST_LISTED = 64
+
+
 def holds(node: Any, names: set[str]) -> bool:
     """Whether a label of these stands in a statement."""
     return any(isinstance(one, c_ast.Label) and one.name in names for one in walk(node))
+
+
+def target_name(node: Any) -> str:
+    while isinstance(node, c_ast.ArrayRef):
+        node = node.name
+    return str(node.name)
 
 
 def jump(name: str, coord: Any) -> Any:
@@ -102,14 +112,43 @@ class States:
             node.coord = self.coord  # (so that it moves no line)
         if init is None or {"static", "extern"} & set(node.storage):
             return []
-        if isinstance(init, c_ast.InitList) or isinstance(node.type, c_ast.ArrayDecl):
-            raise Refused(at, f"the list of first values of {node.name}, in a function with goto back", "assign them")
         node.init, node.quals = None, []
+        if isinstance(init, c_ast.InitList) or isinstance(node.type, c_ast.ArrayDecl):
+            return self.listed(node.type, c_ast.ID(node.name, at), init, at)
         of = node.type
         while isinstance(of, c_ast.PtrDecl):
             of.quals = []
             of = of.type
         return [c_ast.Assignment("=", c_ast.ID(node.name, at), init, at)]
+
+    def listed(self, of: Any, target: Any, init: Any, at: Any) -> list[Any]:
+        """The assignments that a list of first values is."""
+        if isinstance(of, c_ast.TypeDecl):
+            if isinstance(init, c_ast.InitList):
+                whole = c_ast.TypeDecl(None, [], None, of.type, at)
+                init = c_ast.CompoundLiteral(c_ast.Typename(None, [], None, whole, at), init, at)
+            return [c_ast.Assignment("=", target, init, at)]
+        if isinstance(of, c_ast.PtrDecl) and not isinstance(init, c_ast.InitList):
+            return [c_ast.Assignment("=", target, init, at)]
+        values = init.exprs or [] if isinstance(init, c_ast.InitList) else []
+        known = isinstance(of, c_ast.ArrayDecl) and isinstance(of.dim, c_ast.Constant) and of.dim.value.isdecimal()
+        plain = known and values and not any(isinstance(one, c_ast.NamedInitializer) for one in values)
+        count = int(of.dim.value) if known else 0
+        inner = of.type if known else None
+        words = isinstance(inner, (c_ast.ArrayDecl, c_ast.PtrDecl)) or isinstance(getattr(inner, "type", None), c_ast.IdentifierType)
+        if not plain or count > MOST_LISTED or (len(values) < count and not words):
+            raise Refused(at, f"the list of first values of {target_name(target)}, in a function with goto back", "assign them")
+        made = []
+        for number in range(count):
+            element = c_ast.ArrayRef(copy.deepcopy(target), c_ast.Constant("int", str(number), at), at)
+            value = values[number] if number < len(values) else c_ast.Constant("int", "0", at)
+            if number >= len(values) and isinstance(inner, c_ast.ArrayDecl):
+                value = c_ast.InitList([c_ast.Constant("int", "0", at)], at)
+            made += self.listed(inner, element, value, at)
+        return made
+
+    def flat_Label(self, node: Any) -> list[Any]:
+        return self.flat(node.stmt)  # (nothing goes to it)
 
     def flat_Compound(self, node: Any) -> list[Any]:
         for at, one in enumerate(node.block_items or []):
@@ -128,22 +167,33 @@ class States:
             return
         if isinstance(declared.type, c_ast.FuncDecl) or "extern" in declared.storage:
             return
-        again = [one for one in nodes if isinstance(one, c_ast.Decl) and one.name == name and one is not declared]
-        if again:
-            raise Refused(
-                again[0].coord, f"{name} is declared again, in a function with goto back", "give it another name"
-            )
         other = self.fresh(name)
         self.own.add(other)
-        fields = {id(one.field) for one in nodes if isinstance(one, c_ast.StructRef)}
-        for one in nodes:
-            if isinstance(one, c_ast.ID) and one.name == name and id(one) not in fields:
-                one.name = other
         declared.name = other
+        self.rename(scope, name, other)
         of = declared.type
         while not isinstance(of, c_ast.TypeDecl):
             of = of.type
         of.declname = other
+
+    def rename(self, nodes: list[Any], name: str, other: str) -> None:
+        """Renames what a name stands for in some statements of one block, up to where the block declares it anew."""
+        for node in nodes:
+            listed = node.decls if isinstance(node, c_ast.DeclList) else [node]
+            if any(isinstance(one, c_ast.Decl) and one.name == name for one in listed):
+                return
+            if isinstance(node, c_ast.For) and isinstance(node.init, c_ast.DeclList):
+                if any(one.name == name for one in node.init.decls):
+                    continue
+            if isinstance(node, c_ast.ID):
+                node.name = other if node.name == name else node.name
+            elif isinstance(node, c_ast.StructRef):
+                self.rename([node.name], name, other)
+            elif isinstance(node, c_ast.Compound):
+                self.rename(list(node.block_items or []), name, other)
+            else:
+                for _, child in node.children():
+                    self.rename([child], name, other)
 
     def flat_If(self, node: Any) -> list[Any]:
         behind, end = self.label(), self.label()

@@ -52,11 +52,21 @@ def carried(of: Struct, named: set[str]) -> None:
         of.carrier = members[0]
 
 
-def settle(structs: list[Struct], named: set[str]) -> None:
-    """Settles unions, and which members are left out."""
+def unions_in(of: Type) -> list[Struct]:
+    """The unions within a type."""
+    if isinstance(of, Array):
+        return unions_in(of.of)
+    if not isinstance(of, Struct):
+        return []
+    return [of] * of.union + [one for _, member in of.members or [] for one in unions_in(member)]
+
+
+def settle(structs: list[Struct], named: set[str], initialised: list[Type]) -> None:
+    """Settles unions, and which members are left out. Those with first values have them for their first member (6.7.9p17)."""
+    first = {id(one) for of in initialised for one in unions_in(of)}
     for one in structs:
-        if one.union and one.members is not None and not one.fault:
-            carried(one, named)
+        if one.union and one.members and not one.fault:
+            carried(one, named | ({one.members[0][0]} if id(one) in first else set()))
     for one in structs:
         if not one.union:
             for name, member in one.members or []:

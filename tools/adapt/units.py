@@ -27,6 +27,7 @@ class Units(Checks):
 
     def write(self) -> dict[str, File]:
         self.files: dict[str, File] = {}
+        self.registers: list[Variable] = []
         self.done: set[Any] = set()
         self.uses = self.first_uses()
         self.write_columns()
@@ -41,17 +42,9 @@ class Units(Checks):
             with self.names.refusals.gathered():
                 self.item(item, number)
         front, end = written(self, self.places.choosers)
-        outer = [self.heading(one) + ";" for one in self.names.functions if self.is_outer(one)]
-        made = [
-            (self.begin[1], text)
-            for text in [
-                *outer,
-                *self.heap.front(),
-                *self.raw.front(),
-                *front,
-                *(text for _, text in self.written_models.values()),
-            ]
-        ]
+        gives = [f"{text} {name}(void);" for (_, text), name in self.outer_values.items()]
+        outer = [*gives, *(self.heading(one) + ";" for one in self.names.functions if self.is_outer(one))]
+        made = [(self.begin[1], text) for text in [*outer, *self.heap.front(), *self.raw.front(), *front, *(text for _, text in self.written_models.values())]]
         if end:
             last = self.files.setdefault(self.names.items[-1][0].path, File(self.names.items[-1][0].path))
             last.pieces += [(last.pieces[-1][0] if last.pieces else 1, text) for text in end]
@@ -121,6 +114,10 @@ class Units(Checks):
             early = self.uses.get(meaning, len(self.names.items) + 1) < self.defined_at(meaning)
             if meaning.defined and (early or self.defined_at(meaning) == number) and self.once(meaning):
                 self.variable(meaning, False, self.defined_at(meaning) == number)
+            elif meaning.is_input and not self.places.columns.in_column(meaning):
+                if meaning in self.uses and self.once(meaning):
+                    self.registers.append(meaning)
+                    self.emit(f"{meaning.type.text} {meaning.out}(void);")  # type: ignore[union-attr]
             elif not meaning.defined and meaning in self.uses and self.once(meaning):
                 self.check_type(meaning)
                 raise Refused(item.coord, f"no source defines {meaning.name}", "give the source that defines it")
@@ -257,6 +254,7 @@ class Units(Checks):
 
     def prototype(self, function: Function, item: Any) -> None:
         wanted = function.calls and (function.definition is not None or isinstance(function.result, Int))
+        wanted = wanted and not (model_of(function) or heap_call(function))
         if (
             function.name in ("assert", "assume")
             or not wanted

@@ -11,6 +11,7 @@ from .jumps import walk
 from .heap import Heap, heap_call
 from .kinds import Int, Leaf, Struct
 from .large import LargeArrays
+from .changed import changed
 from .declarators import Function, Variable
 from .names import Names
 from .output import File, mark, unmarked
@@ -21,6 +22,16 @@ from .spelling import Spelling
 from .values import PRIMARY, UNARY, Value, number, plus, times
 
 ORDER = "C leaves open whether {} is read or written first; use two statements"
+
+
+def is_no_object(node: Any) -> bool:
+    """Whether an expression is a member of a struct that a call, a comma, a choice or an assignment gives."""
+    if not isinstance(node, (c_ast.ArrayRef, c_ast.StructRef)):
+        return False
+    member = False
+    while (isinstance(node, c_ast.StructRef) and node.type == ".") or isinstance(node, c_ast.ArrayRef):
+        member, node = member or isinstance(node, c_ast.StructRef), node.name
+    return member and isinstance(node, (c_ast.FuncCall, c_ast.ExprList, c_ast.TernaryOp, c_ast.Assignment))
 
 
 class Writer:
@@ -38,8 +49,11 @@ class Writer:
         self.model_words: dict[str, str] = {}
         self.needing: dict[int, tuple[Any, bool]] = {}
         self.heap = Heap(self)
+        self.kept_nodes: list[Any] = []  # (so that no other node gets their ids)
         self.large = LargeArrays(spelling.fresh)
         self.raw = Raw(self)
+        self.inputs: set[str] = set()
+        self.outer_values: dict[tuple[Function, str], str] = {}  # the inputs that objects get by functions that no source defines
         self.outer_used: set[Function] = set()  # whose values are used
 
     def value(self, node: Any) -> Value:
@@ -100,10 +114,12 @@ class Writer:
             called = self.places.choosers.called(node)
             if not isinstance(called, Function):
                 return False
-            if heap_call(called):
+            if heap_call(called) or changed(self.places, node, called, self.inputs):
                 return True
             several = isinstance(called.result, kinds.Pointer) and len(called.result.region.parts()) > 1
             return several or bool(self.outs(called)) or isinstance(called.result, Struct)
+        if is_no_object(node):
+            return True
         stepped = isinstance(node, c_ast.UnaryOp) and node.op in STEPS
         return stepped or isinstance(node, (c_ast.Assignment, c_ast.ExprList, c_ast.CompoundLiteral))
 
@@ -175,13 +191,19 @@ class Writer:
         constant or a variable of its own."""
         if self.places.is_raw(place):
             return self.raw.index(place, stable or kept)
-        whole: Optional[Value] = Value("0", kinds.INT, PRIMARY) if place.variable.home == "column" else None
+        column, tests = place.variable.home == "column", []
+        whole: Optional[Value] = Value("0", kinds.INT, PRIMARY) if column else None
         self.unsequenced(place.indexes[0][0] if place.indexes else None, [node for node, _ in place.indexes])
         for node, length in place.shifted():
             one = self.value(node)
             if stable or (self.check and len(place.indexes) > 1):
                 one = self.steady(node, one)
             known = self.constants.value(node)
+            inner = length > 1 and (whole is not None and (number(whole) != 0 or not self.alone(place, length)))
+            if inner and not self.check and not self.below(node, one, length):
+                wide = "unsigned long" if one.kind.bits == 64 else "unsigned int"
+                text = one.within(UNARY) if not one.kind.signed else f"({wide}) {one.within(UNARY)}"
+                tests.append(unmarked(f"{text} >= {length}"))
             if length == 1 or (whole is not None and whole.text.isdecimal()):
                 whole = plus(times(whole, length), one) if whole is not None else one
                 continue
@@ -193,9 +215,33 @@ class Writer:
             else:
                 text = f"{whole.within(10)} * {length} + {one.within(10)}"
                 whole = Value(text, kinds.common(whole.kind, one.kind), 9, calls=whole.calls or one.calls)
+        if tests and whole is not None:
+            text = " | ".join([whole.within(4), *(f"-({one})" for one in tests)])
+            whole = Value(text, kinds.INT if whole.kind.bits < 64 else whole.kind, 3, calls=whole.calls)
         if kept and whole is not None and any(self.constants.value(node) is None for node, _ in place.indexes):
             whole = Value(self.temporary(kinds.promoted(whole.kind), whole.text, "index"), whole.kind, PRIMARY)
         return whole
+
+    @staticmethod
+    def alone(place: Place, length: int) -> bool:
+        """Whether an array is all that its column has."""
+        of = place.variable.type
+        return isinstance(of, kinds.Array) and of.length == length and not place.path and len(place.indexes) == 1
+
+    def below(self, node: Any, value: Value, length: int) -> bool:
+        """Whether an index is one of the array's at all events."""
+        known = self.constants.value(node)
+        if known is not None:
+            return 0 <= known < length
+        if not value.kind.signed and not value.kind.boolean and 1 << value.kind.bits <= length:
+            return True
+        if isinstance(node, c_ast.BinaryOp) and node.op in "&%":
+            ends = [self.constants.value(one) for one in (node.left, node.right)]
+            if node.op == "&":
+                return any(one is not None and 0 <= one < length for one in ends)
+            of = self.constants.type_of(node)
+            return isinstance(of, Int) and not of.signed and ends[1] is not None and 0 < ends[1] <= length
+        return False
 
     @staticmethod
     def kind_at(place: Place) -> kinds.Type:

@@ -12,6 +12,7 @@ mod constants;
 mod counters;
 mod mixing;
 mod progressions;
+mod reads;
 mod row;
 mod standing;
 mod values;

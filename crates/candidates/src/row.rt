@@ -7,10 +7,11 @@ ghost use Rattle.candidates.specs.Row.{IsCandidate};
 use crate::constants::constants_of;
 use crate::mixing::drawn;
 use crate::progressions::{Progression, progressions_of};
+use crate::reads::{most_answers, parameters_read};
 use crate::values::values_of;
 use c_meaning::Input;
 use c_values::{Kind, convert};
-use cfa::{Graph, Operation};
+use cfa::Graph;
 use containers::Vector;
 use fq_core::Memory;
 use std::alloc::Global;
@@ -26,8 +27,10 @@ use std::alloc::Global;
 pub struct Candidates {
     values: Vec<u64>,
     progressions: Vec<Progression>,
-    /// Whether an edge of the graph reads an answer.
-    reads_answers: bool,
+    /// By parameter, whether an edge of the function reads it. Those that none reads are 0 in each input.
+    read: Vec<bool>,
+    /// The most answers that a run reads.
+    most_answers: u32,
 }
 
 /// Of how many constants sums, products and progressions are made, two by two.
@@ -101,14 +104,6 @@ fn digit(index: u64, slot: u64, side: u64) -> u64
     }
 }
 
-/// Whether an edge of a graph reads an answer.
-fn reads_answers(graph: &Graph) -> bool {
-    graph
-        .edges()
-        .iter()
-        .any(|edge| matches!(&edge.operation, Operation::Answer { .. }))
-}
-
 impl Candidates {
     /// The row for a function of a graph, by its number.
     ///
@@ -121,7 +116,8 @@ impl Candidates {
         Ok(Candidates {
             values: values_of(alloc, &constants, first)?,
             progressions: progressions_of(alloc, first)?,
-            reads_answers: reads_answers(graph),
+            read: parameters_read(alloc, graph, function)?,
+            most_answers: most_answers(graph),
         })
     }
 
@@ -202,7 +198,36 @@ impl Candidates {
         }
     }
 
-    /// The input of a number, for parameters of these kinds and with so many answers, or with none where no edge of the graph reads one.
+    /// Whether a parameter is read.
+    fn is_read(&self, slot: usize) -> bool {
+        match self.read.get(slot) {
+            Some(is_read) => *is_read,
+            None => true,
+        }
+    }
+
+    /// How many of the first parameters are read.
+    fn read_count(&self, parameters: usize) -> u64 {
+        let mut count: u64 = 0;
+        for slot in 0..parameters {
+            if self.is_read(slot) {
+                count = count.wrapping_add(1);
+            }
+        }
+        count
+    }
+
+    /// The word of a parameter, whose place among those that are read is given: 0 where it isn't read.
+    fn word_read(&self, number: u64, slot: usize, place: u64, slots: u64) -> u64 {
+        if self.is_read(slot) {
+            self.word(number, place, slots)
+        } else {
+            0
+        }
+    }
+
+    /// The input of a number, for parameters of these kinds and with so many answers, or with as many as a run reads at most. The
+    /// places of its words and answers are those that are read.
     ///
     /// # Errors
     ///
@@ -217,10 +242,11 @@ impl Candidates {
         requires { All IsKind kinds.now }
         ensures { IfOk result (λ input. IsCandidate kinds.now answers input) }
     {
-        let answers = if self.reads_answers { answers } else { 0 };
-        let slots = kinds.len() as u64 + answers as u64;
+        let answers = answers.min(self.most_answers);
+        let read = self.read_count(kinds.len());
+        let slots = read.wrapping_add(answers as u64);
         let words = self.words(alloc, kinds, number, slots)?;
-        let answers = self.answers(alloc, kinds.len() as u64, answers, number, slots)?;
+        let answers = self.answers(alloc, read, answers, number, slots)?;
         Ok(Input { words, answers })
     }
 
@@ -236,8 +262,10 @@ impl Candidates {
         ensures { IfOk result (λ words. AllZip IsValue kinds.now words) }
     {
         let mut words = Vector::new(alloc);
+        let mut place: u64 = 0;
         for (slot, kind) in kinds.iter().enumerate() {
-            let word = self.word(number, slot as u64, slots);
+            let word = self.word_read(number, slot, place, slots);
+            place = place.wrapping_add(self.is_read(slot) as u64);
             words.push(convert(word, Kind::UNSIGNED_LONG, *kind))?;
         }
         Ok(words)

@@ -17,6 +17,12 @@ const RECURSION: &str = "int f(int n) { if (n) { return f(n - 1); } return 0; }"
 // e0: an answer is read; e1: s is set; e2: an answer is read; e3: return.
 const ANSWERS: &str = "int next(void); int f(int n) { int s = next(); return s + next(); }";
 
+const ANSWERS_IN_LOOP: &str =
+    "int next(void); int f(int n) { int s = 0; while (s < n) { s = s + next(); } return s; }";
+
+// Neither a nor c is read.
+const SPARE: &str = "int f(int a, int b, int c) { return b > 1800 && b % 37 == 11; }";
+
 const TRIANGLE: &str = "int f(int a, int b, int c) {
   return a > 100 && a < b && b < c && c < 30000 && a * a + b * b == c * c;
 }";
@@ -49,10 +55,11 @@ fn input(
     Ok(row.input(alloc, &kinds[..parameters.min(3)], answers, number)?)
 }
 
-// An input has a word for each parameter, and all answers that it may have, or none where no answer is read.
+// An input has a word for each parameter, and all answers that it may have, as many as are read where there is no loop and no
+// call, and none where no answer is read.
 #[test]
 fn each_number_has_an_input(rt: HostRuntime) -> Result<(), Fail> {
-    for (source, answers) in [(ANSWERS, 256), (LOOP, 0)] {
+    for (source, answers) in [(ANSWERS, 2), (ANSWERS_IN_LOOP, 256), (LOOP, 0)] {
         let graph = automaton_of(rt.alloc(), source)?;
         let row = Candidates::new(rt.alloc(), &graph, 0)?;
         for number in [0, 1, 2, 7, 4_999, 50_000, u64::MAX] {
@@ -87,6 +94,14 @@ fn what_a_person_sees(rt: HostRuntime) -> Result<(), Fail> {
     assert!(rt; is_there(rt.alloc(), TRIANGLE, &[300, 400, 500], 5_000)?);
     assert!(rt; is_there(rt.alloc(), EACH_OTHER, &[17, 22], 5_000)?);
     assert!(rt; is_there(rt.alloc(), REMAINDERS, &[949_546], 50_000)?);
+    Ok(())
+}
+
+// Parameters that no run reads are 0, and the one that is read goes through the grid of one place: 1,898 is 51 * 37 + 11.
+#[test]
+fn spare_parameters(rt: HostRuntime) -> Result<(), Fail> {
+    assert!(rt; is_there(rt.alloc(), SPARE, &[0, 1_898, 0], 8_000)?);
+    assert!(rt; !is_there(rt.alloc(), SPARE, &[1, 1, 1], 1_000)?);
     Ok(())
 }
 

@@ -1,7 +1,6 @@
 -- Where the call of a stage ends a command, what is due; and where it leads on, to what.
-use Rattle.std.proofs.Common.{◌≡◌, ℕ, List, Some, refl, subst, inl, inr}
-use Rattle.std.specs.Prelude.{Result, Ok, Err}
-use Rattle.std.specs.Global.{Vec}
+use Rattle.std.proofs.Common.{List, refl, subst, inl, inr}
+use Rattle.std.specs.Prelude.{Ok}
 use Rattle.fq_core.specs.Refusals.{IfRefused}
 use Rattle.fq_core.specs.declared.refusal.Fault.{Fault}
 use Rattle.fq_core.specs.declared.refusal.Refusal.{Refusal}
@@ -16,7 +15,7 @@ use Rattle.command.specs.Calls.{AreNotGiven, IsEntryAs, IsNoEntry, IsNotPlanned,
 use Rattle.command.specs.Entries.{seen}
 use Rattle.command.specs.Reads.{Reads}
 use Rattle.command.specs.Refusal.{said_by}
-use Rattle.command.specs.Runs.{EntryFunction, entry_of}
+use Rattle.command.specs.Runs.{EntryFunction}
 use Rattle.command.specs.Said.{Said}
 use Rattle.command.specs.Sources.{HaveAutomaton, HaveTrees}
 use Rattle.command.specs.Stages.{OfEntry, OfQuery, OfSources, OfTrees}

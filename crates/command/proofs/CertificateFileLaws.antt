@@ -1,14 +1,10 @@
 -- What is read of a certificate's file.
 use Rattle.std.proofs.Common.{◌≤◌, ℕ, List, length}
-use Rattle.std.specs.Prelude.{IfErr, IfOk, Result, Ok, Err, MatchResult}
-use Rattle.certificate.specs.Certificates.{IsCertificate}
 use Rattle.certificate.specs.Refusals.{IsRefusal}
-use Rattle.cnf.specs.declared.derivation.Derivation.{Derivation}
-use Rattle.cnf.specs.declared.formula.Formula.{Formula}
 use Rattle.fq_core.specs.Refusals.{IfRefused}
 use Rattle.fq_core.specs.declared.refusal.Fault.{Fault}
 use Rattle.fq_core.specs.declared.refusal.Fault.TheVariants as fault
-use Rattle.command.specs.CertificateFile.{AreCertificateOf, IsRefused, at_form, most_certificate}
+use Rattle.command.specs.CertificateFile.{IsRefused, at_form, most_certificate}
 use Rattle.command.specs.Reads.{Reads, Sees}
 
 module _ (r : Reads) (file bytes : List ℕ) (seen : Sees r.holds file bytes) (short : length bytes ≤ most_certificate) where

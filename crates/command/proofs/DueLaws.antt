@@ -1,6 +1,6 @@
 -- What is due at each end of the way from the words to the text.
 use Rattle.std.proofs.Common.{◌≡◌, ℕ, ◌≤◌, ◌⊎◌, List, [], length, refl, sym, subst, ◌∙◌, inl, inr}
-use Rattle.std.specs.Prelude.{Option, IfErr, IfOk, Result, Ok, Err}
+use Rattle.std.specs.Prelude.{Option, IfOk, Result, Ok, Err}
 use Rattle.std.specs.List.{All}
 use Rattle.fq_core.specs.declared.refusal.Fault.{Fault}
 use Rattle.fq_core.specs.declared.refusal.Place.TheVariants as place
@@ -21,7 +21,6 @@ use Rattle.command.specs.CertificateFile.{AreCertificateOf}
 use Rattle.command.specs.Inputs.{AreInputsOf, AreRefused, at_read, at_form}
 use Rattle.command.specs.Inputs as inputs
 use Rattle.command.specs.Reads.{Reads, Sees}
-use Rattle.fq_core.specs.Refusals.{IfRefused}
 use Rattle.command.specs.Refusal.{said_by}
 use Rattle.command.specs.Said.{Said}
 use Rattle.command.specs.Sources.{HaveAutomaton, HaveTrees, IsReadUpTo}
@@ -29,7 +28,7 @@ use Rattle.command.specs.Sources as sources
 use Rattle.command.specs.Stages.{OfSources, OfTrees, nowhere}
 use Rattle.command.specs.TraceFile as traces
 use Rattle.command.specs.TraceFile.{AreTracesOf}
-use Rattle.command.proofs.ReadsLaws.{late, refused_map, unread_since, whole}
+use Rattle.command.proofs.ReadsLaws.{late, unread_since, whole}
 
 -- ---- refusals without a place
 

@@ -1,18 +1,16 @@
 -- What a call answers of what is due.
-use Rattle.std.proofs.Common.{◌≡◌, ℕ, List, [], Some, None, refl, sym, subst, ◌∙◌, append-nil}
-use Rattle.std.specs.Prelude.{false, Option, IfErr, IfOk, Result, Ok, Err, MatchResult}
-use Rattle.std.specs.Global.{Vec}
+use Rattle.std.proofs.Common.{◌≡◌, ℕ, List, [], Some, None, refl, sym, ◌∙◌, append-nil}
+use Rattle.std.specs.Prelude.{Option, IfOk, Result, Ok, Err}
 use Rattle.fq_core.specs.Refusals.{IfRefused}
 use Rattle.fq_core.specs.declared.refusal.Fault.{Fault}
 use Rattle.fq_core.specs.declared.refusal.Fault.TheVariants as fault
 use Rattle.command_words.specs.Reading.{Text}
 use Rattle.suite.specs.Generated.{Shown, seen_also}
 use Rattle.command.specs.declared.reply.Reply.{Reply}
-use Rattle.command.specs.declared.reply.Reply.TheVariants as reply
 use Rattle.command.specs.declared.status.Status.TheVariants as status
 use Rattle.command.specs.Refusal.{said_by}
 use Rattle.command.specs.Replies.{Gives, Tells, said_in}
-use Rattle.command.specs.Said.{Said, answered}
+use Rattle.command.specs.Said.{Said}
 use Rattle.command.specs.Watched.{IsShown, IsShownNone, Watched}
 
 nothing : (seen : Option (List Shown)) → seen_also seen [] ≡ seen

@@ -1,4 +1,5 @@
 //! Laws of the definitions in specs/. Each function does nothing: its contract is the law.
+ghost use Rattle.event_laws.specs.Happens.{HappensWhereTaken};
 ghost use Rattle.event_laws.specs.Laws.{EdgesTell, EndedEdgesTell, TreesAreTold, UnitEdgesTell, UnitEndedEdgesTell};
 
 /// With each number of turns, what happens by the trees is what the edges of some beginning of the run tell.
@@ -24,4 +25,9 @@ pub fn unit_edges_tell()
 /// Where the run ends, what its edges tell is all that happens by the trees of a unit of texts.
 pub fn unit_ended_edges_tell()
     ensures { UnitEndedEdgesTell }
+{}
+
+/// An event happens by the trees, in a run that ends, exactly where the run takes an edge that tells it.
+pub fn happens_where_taken()
+    ensures { HappensWhereTaken }
 {}

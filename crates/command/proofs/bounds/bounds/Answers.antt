@@ -2,7 +2,6 @@ use Rattle.std.proofs.Common.{inl, inr, refl}
 use Rattle.std.proofs.lemmas.Result.{err_from_is_err_and}
 use Rattle.command_words.specs.Request.{sufficing}
 use Rattle.command.specs.Bounds.{IsDueOfBounds}
-use Rattle.command.specs.Entries.{seen}
 use Rattle.command.specs.Ranges.{within}
 use Rattle.command.specs.Stages.{OfSources}
 use Rattle.command.proofs.AtEntry.{BoundsThen}

@@ -4,9 +4,8 @@ use Rattle.command.proofs.DueLaws.{at_graph, certificate_refused_since, certific
 use Rattle.command.proofs.GivesLaws.{tells_map, tells_refused}
 use Rattle.command.proofs.ReadsLaws.{refused_map}
 use Rattle.command.proofs.StageLaws.{due_no_goal, goal_found, goal_none, goal_some}
-use Rattle.command.specs.Check.{IsChecked, IsDueOfCheck}
+use Rattle.command.specs.Check.{IsDueOfCheck}
 use Rattle.command.specs.Entries.{seen}
-use Rattle.command.specs.Ranges.{within}
 use Rattle.command.specs.Stages.{OfGoal, OfSources}
 use Rattle.reached.specs.declared.bounds.Bounds.{Bounds}
 use Rattle.command.specs.Reads.{reads}

@@ -1,8 +1,5 @@
-use Rattle.std.proofs.Common.{◌≡◌, inr}
-use Rattle.derivation_check.specs.Verdicts.{IsVerdict}
-use Rattle.derivation_check.specs.declared.verdict.Verdict.{Verdict}
+use Rattle.std.proofs.Common.{inr}
 use Rattle.command.specs.Comparison.{IsCompared, IsJudged}
-use Rattle.command.specs.Said.{Said}
 use Rattle.command.proofs.GivesLaws.{tells_map}
 use Rattle.command.proofs.comparison.compared.Goals as goal
 

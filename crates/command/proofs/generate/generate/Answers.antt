@@ -1,14 +1,13 @@
 use Rattle.command.proofs.AtEntry.{GenerateAt, GenerateThen}
-use Rattle.command.proofs.CallLaws.{at_plan, not_given, not_planned, refused_at, refused_at_plan}
+use Rattle.command.proofs.CallLaws.{at_plan, not_given, not_planned, refused_at}
 use Rattle.command.proofs.DueLaws.{at_graph}
 use Rattle.command.proofs.GivesLaws.{gives_map, gives_refused}
-use Rattle.command.proofs.ReadsLaws.{refused_map}
 use Rattle.command.specs.Entries.{seen}
 use Rattle.command.specs.Generate.{IsDueOfGenerate}
 use Rattle.command.specs.Stages.{OfSources}
 use Rattle.reached.specs.declared.bounds.Bounds.{Bounds}
 use Rattle.command_words.specs.Request.{generating}
-use Rattle.std.proofs.Common.{subst, inl, inr, refl, arith}
+use Rattle.std.proofs.Common.{subst, refl}
 use Rattle.std.proofs.lemmas.Result.{err_from_is_err_and}
 use Rattle.command.proofs.generate.generate.Goals as goal
 

@@ -1,6 +1,6 @@
 use Rattle.std.proofs.Common.{◌≤◌, length, ap, arith}
 use Rattle.std.proofs.lemmas.Result.{err_from_is_err_and}
-use Rattle.command.specs.Inputs.{at_form, at_read, most_inputs}
+use Rattle.command.specs.Inputs.{at_read, most_inputs}
 use Rattle.command.proofs.DueLaws.{ok_map}
 use Rattle.command.proofs.InputsLaws.{inputs_as}
 use Rattle.command.proofs.DueLaws.{can_start}

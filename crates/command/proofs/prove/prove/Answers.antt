@@ -1,16 +1,15 @@
 use Rattle.command.proofs.AtEntry.{ProveAt, ProveThen}
-use Rattle.command.proofs.CallLaws.{at_plan, not_given, not_planned, refused_at, refused_at_plan}
+use Rattle.command.proofs.CallLaws.{at_plan, not_given, not_planned, refused_at}
 use Rattle.command.proofs.DueLaws.{at_graph}
 use Rattle.command.proofs.GivesLaws.{gives_map, gives_refused}
-use Rattle.command.proofs.ReadsLaws.{refused_map}
 use Rattle.command.proofs.StageLaws.{due_no_goal, goal_found, goal_none, goal_some}
 use Rattle.command.specs.Entries.{seen}
-use Rattle.command.specs.Prove.{IsDueOfProve, IsProved}
+use Rattle.command.specs.Prove.{IsDueOfProve}
 use Rattle.command.specs.Ranges.{within}
 use Rattle.command.specs.Stages.{OfGoal, OfSources}
 use Rattle.reached.specs.declared.bounds.Bounds.{Bounds}
 use Rattle.command_words.specs.Request.{proving}
-use Rattle.std.proofs.Common.{subst, inl, inr, refl, arith}
+use Rattle.std.proofs.Common.{subst, refl, arith}
 use Rattle.std.proofs.lemmas.Result.{err_from_is_err_and}
 use Rattle.command.proofs.prove.prove.Goals as goal
 

@@ -8,7 +8,7 @@ use Rattle.command.specs.Stages.{OfTrees}
 use Rattle.command.proofs.AtEntry.{TreesThen}
 use Rattle.command.proofs.CallLaws.{no_entry, trees_not_given, refused_at_trees, refused_at_entry}
 use Rattle.command.proofs.DueLaws.{at_trees, inputs_since, refused_since}
-use Rattle.command.proofs.GivesLaws.{tells_map, tells_refused}
+use Rattle.command.proofs.GivesLaws.{tells_refused}
 use Rattle.command.proofs.ReadsLaws.{refused_map}
 use Rattle.command.proofs.StageLaws.{entry_some}
 use Rattle.command.proofs.trees.trees.Goals as goal

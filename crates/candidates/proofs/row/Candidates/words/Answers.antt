@@ -8,7 +8,7 @@ use Rattle.c_values.specs.declared.kinds.Kind.{Kind}
 use Rattle.candidates.proofs.row.Candidates.words.Goals as goal
 
 pub convert-requires-clause-operand : goal.convert-requires-clause-operand
-convert-requires-clause-operand c = word_value c.word-word.result c.word-word.type_inv
+convert-requires-clause-operand c = word_value c.word_read-word.result c.word_read-word.type_inv
 
 pub loop-slot-preserved : goal.loop-slot-preserved
 loop-slot-preserved c =

@@ -1,0 +1,102 @@
+"""Functions with `void *` that calls use for objects of different types: each such call gets a copy of its own (6.3.2.3p1), and so does a
+call by a pointer that meets one of them alone. What is copied is learned by a first reading, in which the types meet."""
+
+import copy
+from typing import Any, Callable
+
+from pycparser import c_ast
+
+from . import kinds
+from .declarators import Function
+from .jumps import walk
+from .kinds import Pointer
+from .names import Names
+from .reading import Unit
+
+MOST_COPIES, MOST_NODES = 8, 400
+
+
+def copied_key(function: Function) -> tuple[str, str, str]:
+    return ("copied", str(function.coord.file), function.name)
+
+
+def direct_key(node: Any, name: str) -> tuple[str, ...]:
+    return ("direct", str(node.coord.file), str(node.coord.line), str(node.coord.column), name)
+
+
+def learn(names: Names, points: Any, learned: set[Any]) -> None:
+    """Learns which functions are copied, where pointers to different types meet in them."""
+
+    def meets(function: Function) -> bool:
+        types = [function.result, *(one.type for one in function.parameters)]
+        return any(isinstance(of, Pointer) and of.to == kinds.VOID and of.region.root().fault for of in types)
+
+    for function in names.functions:
+        if function.definition is not None and function.calls and meets(function):
+            learned.add(copied_key(function))
+    for _, node in points.pointer_calls:
+        targets = points.value(node.name).region.root().targets
+        if len(targets) == 1 and targets[0].definition is not None and meets(targets[0]) and node.coord:
+            learned.add(direct_key(node, targets[0].name))
+            learned.add(copied_key(targets[0]))
+
+
+class Clones:
+    """Copies functions in the trees of the units. `fresh` gives a name that nothing else has."""
+
+    def __init__(self, units: list[Unit], learned: set[Any], fresh: Callable[[str], str]) -> None:
+        self.fresh = fresh
+        direct = {one[:4]: one[4] for one in learned if one[0] == "direct"}
+        names = {one[2] for one in learned if one[0] == "copied"}
+        for unit in units if names else []:
+            for node in walk(unit.tree) if direct else []:
+                spot = node.coord and ("direct", str(node.coord.file), str(node.coord.line), str(node.coord.column))
+                if isinstance(node, c_ast.FuncCall) and not isinstance(node.name, c_ast.ID) and spot in direct:
+                    node.name = c_ast.ID(direct[spot], node.coord)
+            items = [one for one in unit.tree.ext if isinstance(one, c_ast.FuncDef) and one.decl.name in names]
+            for item in reversed(items):
+                if len(walk(item)) <= MOST_NODES and not self.keeps(item):
+                    self.copied(unit, item)
+
+    @staticmethod
+    def keeps(item: Any) -> bool:
+        """Whether a function has static objects, or calls itself."""
+        name = item.decl.name
+        return any(
+            (isinstance(one, c_ast.Decl) and "static" in one.storage and one is not item.decl)
+            or (isinstance(one, c_ast.ID) and one.name == name)
+            for one in walk(item)
+        )
+
+    def copied(self, unit: Unit, item: Any) -> None:
+        name = item.decl.name
+        calls = [
+            node
+            for node in walk(unit.tree)
+            if isinstance(node, c_ast.FuncCall) and isinstance(node.name, c_ast.ID) and node.name.name == name
+        ]
+        made, heads, other = [], [], ""
+        first = next((one for one in unit.tree.ext if isinstance(one, c_ast.Decl) and one.name == name), None)
+        for number, call in enumerate(calls):
+            if number < MOST_COPIES:
+                other = self.fresh(name)
+                made.append(self.renamed(item, other))
+                if first is not None:
+                    heads.append(self.renamed(first, other))
+            call.name.name = other
+        at = next(number for number, one in enumerate(unit.tree.ext) if one is item)
+        unit.tree.ext[at + 1 : at + 1] = made
+        if first is not None:
+            at = next(number for number, one in enumerate(unit.tree.ext) if one is first)
+            unit.tree.ext[at + 1 : at + 1] = heads
+
+    @staticmethod
+    def renamed(item: Any, name: str) -> Any:
+        made = copy.deepcopy(item)
+        decl = made.decl if isinstance(made, c_ast.FuncDef) else made
+        decl.name, decl.storage = name, ["static"]
+        of = decl.type
+        while not isinstance(of, c_ast.TypeDecl):
+            of = of.type
+        of.declname = name
+        return made
