@@ -103,6 +103,7 @@ def parser_of_words() -> usage.Parser:
 
 
 def words() -> argparse.Namespace:
+    """What the words of bin/mcdc say."""
     return parser_of_words().parse_intermixed_args()
 
 

@@ -11,7 +11,7 @@ import subprocess
 from collections.abc import Iterator, Sequence
 
 from tools import items, program
-from tools.harness import literal, source_text, word
+from tools.harness import source_text, word
 from tools.program import Failure
 from tools.reports import Input
 from tools.sources import Source

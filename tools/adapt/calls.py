@@ -11,7 +11,7 @@ from .constants import is_offset
 from .effects import Effects, Object, may_be, objects, pointee
 from .initialisers import filled, none_of
 from .heap import heap_call
-from .kinds import Array, Int, Leaf, Pointer, Struct
+from .kinds import Int, Leaf, Pointer, Struct
 from .library import OUTPUT
 from .declarators import Function, Variable
 from .output import unmarked

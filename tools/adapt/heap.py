@@ -5,8 +5,6 @@ first call of all reads one number, whose bit k lets call k fail."""
 from dataclasses import dataclass
 from typing import Any, Optional
 
-from pycparser import c_ast
-
 from . import kinds
 from .declarators import Function, Variable
 from .output import FELL

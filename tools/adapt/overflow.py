@@ -12,7 +12,7 @@ import re
 from dataclasses import dataclass
 from typing import Any, Optional
 
-from pycparser import c_ast, c_generator
+from pycparser import c_generator
 
 from tools import program
 

@@ -7,7 +7,7 @@ from pycparser import c_ast
 
 from . import kinds
 from .declarators import Function, Variable
-from .effects import STEPS, objects
+from .effects import STEPS
 from .heap import heap_call
 from .kinds import Array, Pointer, Signature
 from .models import Model, model_of
