@@ -58,6 +58,7 @@ class Clause:
 
     @property
     def condition(self) -> str:
+        """Its text, in which every run of blanks is one."""
         return " ".join(self.text.split())
 
 
@@ -80,6 +81,7 @@ class Crate:
     functions: tuple[Function, ...]
 
     def of(self, kind: str) -> list[Clause]:
+        """Its clauses of a kind."""
         return [clause for clause in self.clauses if clause.kind == kind]
 
     def wide(self, limit: int) -> list[tuple[Clause, int, int]]:
@@ -92,6 +94,7 @@ class Crate:
         ]
 
     def crowded(self) -> list[Function]:
+        """Its functions with more arguments than there should be."""
         return [function for function in self.functions if function.arguments > MOST_ARGUMENTS]
 
     def repeated(self) -> dict[str, int]:
@@ -106,7 +109,7 @@ def without_comments(text: str) -> str:
 
 
 def closed(text: str, start: int) -> int:
-    """The place of the brace that closes the one that stands at a place."""
+    """The place of the brace that closes the one that stands at a place. Raises Wrong where it is never closed."""
     depth = 0
     for at in range(start, len(text)):
         depth += (text[at] == "{") - (text[at] == "}")
@@ -116,7 +119,7 @@ def closed(text: str, start: int) -> int:
 
 
 def arguments(text: str, start: int) -> int:
-    """How many arguments the function has whose name ends at a place."""
+    """How many arguments the function has whose name ends at a place. Raises Wrong where a bracket is never closed."""
     at, depth = start, 0
     if text[at] == "<":
         while True:
@@ -159,7 +162,7 @@ def functions(text: str, path: str) -> Iterator[Function]:
 
 
 def read(root: str, name: str) -> Crate:
-    """What stands in the src/ of a crate of this name."""
+    """What stands in the src/ of a crate of this name. Raises Wrong where there is no such crate."""
     folder = os.path.join(root, "crates", name, "src")
     if not os.path.isdir(folder):
         raise Wrong(f"there is no crate {name}")
@@ -178,7 +181,7 @@ def read(root: str, name: str) -> Crate:
 
 
 def names_in(root: str) -> list[str]:
-    """The crates of crates.txt, but for those of tests."""
+    """The crates of crates.txt, but for those of tests. Raises Wrong where there is no such file."""
     try:
         with open(os.path.join(root, "crates.txt"), encoding="utf-8") as file:
             found = [re.match(r"(\w+)[\w= +]*:", line) for line in file]
@@ -219,6 +222,7 @@ def places(crates: list[Crate]) -> Iterator[str]:
 
 
 def main() -> int:
+    """Prints the table, or the places; the status is 2 where something can't be read, with a line."""
     parser = argparse.ArgumentParser(description="Counts the clauses of crates.")
     parser.add_argument("--list", action="store_true", help="list the places behind the counts of limits")
     parser.add_argument("--root", default=ROOT, metavar="FOLDER", help="the repository (this one, where not given)")

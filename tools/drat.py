@@ -29,7 +29,7 @@ def parser_of_words() -> usage.Parser:
 
 
 def main() -> int:
-    """Writes both files; a failure where the certificate is none."""
+    """Writes both files, as the module says; the status is 0. Raises Failure where it is no certificate."""
     given = parser_of_words().parse_args()
     try:
         dimacs, drat = forms(program.read(given.certificate).decode("ascii"))

@@ -172,7 +172,7 @@ def parser_of_words() -> usage.Parser:
 
 
 def words() -> argparse.Namespace:
-    """The words that are given."""
+    """What the words of bin/explain say; words that can't go together end it with status 2 and a line."""
     parser = parser_of_words()
     given = parser.parse_intermixed_args()
     if given.inputs and not given.entry:

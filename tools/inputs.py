@@ -187,7 +187,7 @@ def parser_of_words() -> usage.Parser:
 
 
 def words() -> argparse.Namespace:
-    """The words that are given."""
+    """What the words of bin/inputs say; a form that needs an entry and hasn't one ends it with status 2 and a line."""
     parser = parser_of_words()
     given = parser.parse_intermixed_args()
     if given.to in ("traces", "named") and not (given.entry and given.source):

@@ -103,7 +103,7 @@ def built() -> str:
 
 
 def folders(prefix: str) -> dict[str, str]:
-    """The folders that are made; a failure where one can't be."""
+    """The folders that are made. Raises Failure where one can't be made."""
     names = {"bin": "bin", "lib": "lib/fshell", "scripts": "lib/fshell/bin", "tools": "lib/fshell/tools", "docs": "lib/fshell/docs", "man": "share/man/man1",
              "completion": "share/bash-completion/completions", "doc": "share/doc/fshell"}  # fmt: skip
     found = {name: os.path.join(prefix, path) for name, path in names.items()}
@@ -146,7 +146,7 @@ def install(prefix: str) -> int:
 
 
 def main() -> int:
-    """Installs, or says what is there; the status."""
+    """Installs into a prefix, or says what is there, and answers the exit status, as the module says."""
     done, missing = "all is put there, or is there", "something is missing that tools need (--check)"
     parser = usage.parser("install", __doc__, done, missing)
     parser.add_argument("prefix", nargs="?", metavar="PREFIX", help="such as /usr/local or ~/.local")

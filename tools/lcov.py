@@ -191,7 +191,7 @@ def parser_of_words() -> usage.Parser:
 
 
 def words() -> argparse.Namespace:
-    """The words that are given."""
+    """What the words of bin/lcov say."""
     return parser_of_words().parse_intermixed_args()
 
 

@@ -152,7 +152,7 @@ def parser_of_words() -> usage.Parser:
 
 
 def parsed() -> argparse.Namespace:
-    """The words that are given."""
+    """What the words of bin/order say."""
     return parser_of_words().parse_intermixed_args()
 
 

@@ -62,8 +62,8 @@ find "${DPKG_ROOT:-}/usr/lib/fshell" -depth -type d -name __pycache__ -exec rm -
 
 
 def machine_of(path: str) -> tuple[str, str]:
-    """The architecture of a program, as Debian names it, and the version of the C library that it asks for; a failure where it is
-    no program."""
+    """The architecture of a program, as Debian names it, and the version of the C library that it asks for. Raises
+    Failure where it is none that Debian has."""
     data = program.read(path)
     arch = MACHINES.get(int.from_bytes(data[18:20], "little")) if data[:4] == b"\x7fELF" else None
     if arch is None:
@@ -151,7 +151,7 @@ def dated(top: str, seconds: int) -> None:
 
 
 def package(folder: str, version: str, maintainer: str) -> str:
-    """Makes the package; its path, or a failure where dpkg-deb doesn't."""
+    """Makes the package; its path. Raises Failure where it can't be built."""
     if not shutil.which("dpkg-deb"):
         raise Failure("dpkg-deb isn't there (Debian: apt-get install dpkg)")
     seconds = begun_at()
@@ -187,7 +187,7 @@ def parser_of_words() -> usage.Parser:
 
 
 def main() -> int:
-    """Writes the package; a failure where its folder isn't there."""
+    """Writes a package, as the module says; the status is 0. Raises Failure where its folder isn't there."""
     parser = parser_of_words()
     given = parser.parse_args()
     if given.version and not re.fullmatch(r"[0-9][A-Za-z0-9.+~]*", given.version):

@@ -13,26 +13,32 @@ class Found(Protocol):
 
     @property
     def rule(self) -> str:
+        """The name of its rule."""
         ...
 
     @property
     def file(self) -> str:
+        """The file, from the folder."""
         ...
 
     @property
     def line(self) -> int:
+        """The line, from 1."""
         ...
 
     @property
     def column(self) -> int:
+        """The column, from 1."""
         ...
 
     @property
     def level(self) -> str:
+        """How grave it is: error, warning or note."""
         ...
 
     @property
     def text(self) -> str:
+        """What is told."""
         ...
 
 

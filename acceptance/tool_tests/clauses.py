@@ -59,6 +59,7 @@ pair: 3 times: a < 1
 
 
 def counted(folder, *words):
+    """How tools/clauses.py ends over a small repository."""
     return subprocess.run([sys.executable, TOOL, "--root", folder, *words], capture_output=True, text=True)
 
 

@@ -88,6 +88,7 @@ def lines_of_the_boiler(folder):
 
 
 def of_module(given):
+    """The case of a module: whether its lines are counted as gcov counts them."""
     made = functools.partial(module_lines, module=given[0], words=given[1], entry=given[2], bounds=given[3])
     made.__name__ = f"the lines of {given[0]}"
     return made

@@ -108,6 +108,7 @@ def adapted(folder, text, *words):
 
 
 def without_blanks(text):
+    """A text without its blanks."""
     return [" ".join(line.split()) for line in text.splitlines()]
 
 
