@@ -9,16 +9,18 @@ that aren't unreachable are covered, where no such goal is left, and where there
 """
 
 import argparse
+import contextlib
 import dataclasses
 import fcntl
 import os
 import shutil
 import subprocess
 import sys
+import tempfile
 from collections.abc import Iterator
 from typing import IO
 
-from tools import changes, inputs, program, usage, verdicts
+from tools import changes, inputs, program, progress, usage, verdicts
 from tools.asked import Asked, read_sums
 from tools.folder import STEPS, Folder
 from tools.program import Failure
@@ -28,6 +30,7 @@ from tools.told import Told
 DEFAULTS = {"turns": 4, "frames": 8, "answers": 16}
 # the goals of a round, which don't hang on the number of jobs, so that each finds the same inputs
 FIRST_ROUND, LARGEST_ROUND, MOST_IN_A_JOB = 32, 1024, 256
+POLLED = 0.5  # seconds
 
 
 def batches(easy: list[int], hard: list[int], jobs: int) -> list[list[int]]:
@@ -53,6 +56,7 @@ class Campaign:
         self.tried: set[int] = set()
         self.inputs: list[Input] = []
         self.made: list[Input] = []
+        self.progress = progress.Progress("campaign: goals", 0)
 
     def measured(self) -> Report:
         """The report of all inputs over all goals."""
@@ -62,7 +66,7 @@ class Campaign:
     def generate(self) -> None:
         """Has one `generate` make inputs, and takes those of goals that the given inputs miss."""
         missed = [goal.number for goal in measured(self.asked, self.folder.given()).goals if goal.verdict == "missed"]
-        made = self.folder.generated(self.asked) if missed else None
+        made = self.folder.generated(self.asked, self.jobs, self.progress.of_total) if missed else None
         if made:
             used = {made.goals[number - 1].input for number in missed}
             self.made = [one for number, one in enumerate(made.inputs, 1) if number in used]
@@ -91,27 +95,54 @@ class Campaign:
             "+" + self.folder.at("machine", "joblog"),
         ]
         words += ["--sshloginfile", self.logins] if self.logins else []
-        words += ["--bar"] if sys.stderr.isatty() else []
         words += ["-q", "env", f"FSHELL={program.program()}", *me]
         text = "".join(",".join(map(str, batch)) + "\n" for batch in batches(easy, hard[:size], self.jobs))
-        caught = None if sys.stderr.isatty() else subprocess.PIPE
-        ended = subprocess.run(words, input=text, text=True, stdout=subprocess.DEVNULL, stderr=caught, check=False)
+        before = self.folder.known()
+        begun = self.progress.done
+        with tempfile.TemporaryFile("w+") as given, tempfile.TemporaryFile("w+") as said:
+            given.write(text)
+            given.seek(0)
+            ended = subprocess.Popen(words, stdin=given, stdout=subprocess.DEVNULL, stderr=said)
+            with ending(ended):
+                while waited(ended) is None:
+                    self.progress.at(begun + self.folder.known() - before)
+            said.seek(0)
+            lines = said.read().strip().splitlines()
         self.tried.update(easy + hard[:size])
         if ended.returncode:
-            lines = (ended.stderr or "").strip().splitlines()
             print(lines[-1] if lines else "some goals weren't decided", file=sys.stderr)
 
     def run(self) -> Report:
         """Goes on until something is known of each goal."""
-        self.generate()
-        for size in sizes():
-            report = self.measured()
-            left = self.left(report)
-            print(f"{report.count('covered')} of {len(report.goals)} goals covered, {len(left)} left", file=sys.stderr)
-            if not left:
-                break
-            self.search(left, size)
+        with progress.shown(self.progress):
+            self.generate()
+            for size in sizes():
+                report = self.measured()
+                left = self.left(report)
+                self.progress.at(len(report.goals) - len(left), f"{report.count('covered')} covered", len(report.goals))
+                if not left:
+                    break
+                self.search(left, size)
         return report
+
+
+@contextlib.contextmanager
+def ending(process: "subprocess.Popen[bytes]") -> Iterator[None]:
+    """Ends a process where this one is stopped."""
+    try:
+        yield
+    except BaseException:
+        process.terminate()
+        process.wait()
+        raise
+
+
+def waited(process: "subprocess.Popen[bytes]") -> int | None:
+    """The status of a process, once it has ended; a moment is waited for that."""
+    try:
+        return process.wait(timeout=POLLED)
+    except subprocess.TimeoutExpired:
+        return None
 
 
 def sizes() -> Iterator[int]:

@@ -79,7 +79,7 @@ class Text:
     def decision(self, asked: Asked) -> Iterator[str]:
         """The lines of a decision."""
         one = asked.decision
-        yield f"decision {one.number}: {one.first.place} {one.function}: {one.statement}"
+        yield f"decision {one.number}: {self.faces.place(one.first)} {self.faces.name(one.function)}: {one.statement}"
         if asked.why:
             yield f"  {asked.why}"
         yield from (self.path(asked, number, path) for number, path in enumerate(one.paths))
@@ -134,7 +134,7 @@ def condition_value(found: Found, asked: Asked, test: Test) -> dict[str, object]
 def decision_value(found: Found, asked: Asked) -> dict[str, object]:
     """A decision as JSON."""
     one: Decision = asked.decision
-    value: dict[str, object] = {"place": one.first.place, "function": one.function, "query": asked.query}
+    value: dict[str, object] = {"place": found.faces.place(one.first), "function": one.function, "query": asked.query}
     value |= {"why": asked.why} if asked.why else {}
     value["conditions"] = [condition_value(found, asked, test) for test in one.tests]
     value["paths"] = [path_value(asked, number, path) for number, path in enumerate(one.paths)]

@@ -66,8 +66,8 @@ def node_line(faces: Faces, node: Node) -> str:
     if node.number in (function.entry, function.exit):
         what = "the entry" if node.number == function.entry else "the exit"
     else:
-        what = f"control before {faces.sources[node.file].line_text(node.line)}"
-    return f"{node.place} {node.function}: {what}"
+        what = f"control before {faces.node_text(node)}"
+    return f"{faces.node_place(node)} {faces.name(node.function)}: {what}"
 
 
 def end_line(faces: Faces, run: Run, entry: str) -> str:
@@ -78,7 +78,7 @@ def end_line(faces: Faces, run: Run, entry: str) -> str:
         return node_line(faces, faces.graph.nodes[last])
     edge = leaving[0]
     test = f"{faces.condition(edge)}, in " if edge.is_guard else ""
-    return f"{faces.place(edge)} {faces.graph.owner(edge)}: {test}{faces.statement(edge)}"
+    return f"{faces.place(edge)} {faces.name(faces.graph.owner(edge))}: {test}{faces.statement(edge)}"
 
 
 class Explained:

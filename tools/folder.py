@@ -18,7 +18,7 @@ import json
 import os
 import sys
 
-from tools import conditions_read, inputs, program
+from tools import conditions_read, inputs, program, split
 from tools.asked import Asked, sum_of
 from tools.conditions_read import Conditions
 from tools.program import Failure
@@ -118,16 +118,15 @@ class Folder:
         names = [name.removesuffix(ending) for name in os.listdir(self.at(kind)) if name.endswith(ending)]
         return sorted(int(name) for name in names if name.isdigit())
 
-    def generated(self, asked: Asked) -> Report | None:
+    def generated(self, asked: Asked, jobs: int = 1, tell: split.Tell = lambda done, total: None) -> Report | None:
         """What one `generate` over all goals answers, once it is asked; None where it is refused. Where its formulas are
-        too large, `prove` says of each goal whether that one is."""
+        too large, `prove` says of each goal whether that one is. `tell` hears how many goals are done, where there are many.
+        """
         known, path = self.known_generated(), self.at("generated.json")
         if not os.path.exists(path):
-            budget = str(min(asked.budget, FIRST_BUDGET))
-            words = ["generate", asked.entry, asked.query, *asked.sources, *asked.words(), "--budget", budget]
-            ended = program.run(program.with_json(words), asked.place)
+            ended = split.generate(asked, min(asked.budget, FIRST_BUDGET), jobs, tell)
             is_refused = ended.stderr.startswith(TOO_LARGE)
-            program.write_whole(path, ended.stderr if is_refused else program.text_of(words, ended))
+            program.write_whole(path, ended.stderr if is_refused else program.text_of(["generate"], ended))
             known = self.known_generated()
         return known
 
@@ -170,6 +169,11 @@ class Folder:
             if tried.isdigit() and int(tried) >= budget:
                 known[goal] = said
         return known
+
+    def known(self) -> int:
+        """How many files there are that each say of a goal what is known of it."""
+        certificates = [name for name in os.listdir(self.at("certificates")) if name.endswith(".cert")]
+        return len(certificates) + len(self.numbers("found")) + len(self.numbers("open"))
 
     def certificate(self, goal: int) -> str:
         """The path of a goal's certificate, by its number from 1."""

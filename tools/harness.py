@@ -10,7 +10,7 @@ import argparse
 import os
 from collections.abc import Iterator
 
-from tools import inputs, items, program, usage
+from tools import inputs, items, program, source_map, usage
 from tools.harness_text import HEAD, TESTS
 from tools.reports import Input, Run
 from tools.sources import Source
@@ -28,14 +28,15 @@ def word(number: int) -> str:
 
 def source_text(source: Source, heads: list[tuple[str, str]], out: str | None) -> str:
     """A source with the input functions that it declares, between lines that keep its places and end its macros. Its name is as
-    it was given, but for the whole path of one, in place of which that from the file's folder stands."""
+    it was given, or that of the original of which it was written; in place of a whole path that from the file's folder stands.
+    """
     text = items.without_includes(source).encode("latin-1").decode(errors="surrogateescape")
     macros = list(items.replacements(source))
     undefined = "".join(f"#undef {name}\n" for name in macros)
     given = "".join(f"{kind} {name}(void) {{ return fshell_answer(); }}\n" for name, kind in heads)
-    name = (
-        os.path.relpath(source.name, os.path.dirname(out or "") or ".") if os.path.isabs(source.name) else source.name
-    )
+    mapped = source_map.of_source(source.name)
+    name = mapped.original if mapped else source.name
+    name = os.path.relpath(name, os.path.dirname(out or "") or ".") if os.path.isabs(name) else name
     return f"{undefined}#line 1 {literal(name)}\n{text}{undefined}{given}"
 
 

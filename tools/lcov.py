@@ -53,11 +53,11 @@ class Coverage:
         passed: dict[int, Counter[int]] = {}
         reached = set()
         for edge in self.steps(file):
-            line = self.faces.shown(edge).line
+            line = self.faces.line(edge)
             passed.setdefault(line, Counter())[edge.source] += self.taken[edge.number]
             if edge.number not in self.refuted:
                 reached.add(line)
-        self.excluded += [f"{file}:{line}" for line in sorted(passed) if line not in reached]
+        self.excluded += [f"{self.faces.own(file).name}:{line}" for line in sorted(passed) if line not in reached]
         return {line: max(passed[line].values()) for line in sorted(passed) if line in reached}
 
     def branches(self, file: str) -> list[tuple[int, int, int, int | None]]:
@@ -71,15 +71,16 @@ class Coverage:
             is_made = any(self.taken[edge.number] for edge in pair)
             for branch, edge in enumerate(pair):
                 if edge.number in self.refuted:
-                    self.excluded.append(f"{edge.place} {'true' if edge.truth else 'false'}")
+                    self.excluded.append(f"{self.faces.place(edge)} {'true' if edge.truth else 'false'}")
                 else:
-                    found.append((edge.line, number, branch, self.taken[edge.number] if is_made else None))
+                    found.append((self.faces.line(edge), number, branch, self.taken[edge.number] if is_made else None))
         return found
 
     def functions(self, file: str) -> list[tuple[int, str, int]]:
         """The line, the name and the number of entries of each function of a file."""
         places = [(self.graph.nodes[one.entry], one.name) for one in self.graph.functions]
-        return [(node.line, name, self.entered[name]) for node, name in places if node.file == file]
+        at = [(self.faces.node_line(node), name) for node, name in places if node.file == file]
+        return [(line, self.faces.name(name), self.entered[name]) for line, name in at]
 
 
 class Totals:
@@ -107,7 +108,7 @@ def record(coverage: Coverage, file: str, totals: Totals) -> Iterator[str]:
     """The lines of a source's record."""
     functions, branches, lines = coverage.functions(file), coverage.branches(file), coverage.lines(file)
     yield "TN:"
-    yield f"SF:{os.path.abspath(file)}"
+    yield f"SF:{os.path.abspath(coverage.faces.own(file).name)}"
     yield from (f"FN:{line},{name}" for line, name, _ in functions)
     yield from (f"FNDA:{count},{name}" for _, name, count in functions)
     found, hit = totals.add("functions", [count for _, _, count in functions])

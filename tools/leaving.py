@@ -4,11 +4,11 @@ A run is counted here as docs/STEPS.md says: a loop's counter is opened by the e
 its head, a frame stands from a call to its return, and each answer counts.
 """
 
-from collections.abc import Iterator, Sequence
+from collections.abc import Iterator, Mapping, Sequence
 from dataclasses import dataclass, field
 from typing import Any
 
-from tools import inputs, order, program
+from tools import inputs, order, originals, program
 from tools.graph import Edge, Graph
 from tools.program import RANGES
 from tools.reports import BOUNDS, Input, Run, input_of
@@ -52,15 +52,22 @@ def counted(graph: Graph, run: Run) -> Iterator[tuple[Edge, Counts]]:
         yield graph.edges[number], counts
 
 
-def where(graph: Graph, run: Run, bounds: dict[str, int]) -> str:
-    """Which bound a run leaves first and where, in a few words; nothing where it stays within them."""
+def where(
+    graph: Graph, run: Run, bounds: dict[str, int], place: str | None, own: Mapping[str, str] | None = None
+) -> str:
+    """Which bound a run leaves first and where, in a few words; nothing where it stays within them. The sources stand in `place`;
+    `own` has the names of files as they are shown, where these are others than their paths from there."""
     for edge, counts in counted(graph, run):
+        if not any(counts.greatest[name] > bounds[name] for name in BOUNDS):
+            continue
+        at = originals.place_of(edge.file, edge.line, edge.column, place, own)
         if counts.greatest["turns"] > bounds["turns"]:
-            return f"turn {counts.greatest['turns']} of the loop at {graph.nodes[edge.target].place}"
+            node = graph.nodes[edge.target]
+            return f"turn {counts.greatest['turns']} of the loop at {originals.place_of(node.file, node.line, 0, place, own)}"
         if counts.greatest["frames"] > bounds["frames"]:
-            return f"frame {counts.greatest['frames']}: a call of {edge.name} at {edge.place}"
+            return f"frame {counts.greatest['frames']}: a call of {edge.name} at {at}"
         if counts.greatest["answers"] > bounds["answers"]:
-            return f"answer {counts.answers} of {edge.name} at {edge.place}"
+            return f"answer {counts.answers} of {edge.name} at {at}"
     return ""
 
 
@@ -147,7 +154,7 @@ def of_answer(
     run = run_of(entry, sources, one, place)
     tried = next_bounds(graph, run, bounds)
     options = " ".join(f"--{name} {tried[name]}" for name in BOUNDS if tried[name] != bounds[name])
-    return Left(Limits(False, one, where(graph, run, bounds)), options)
+    return Left(Limits(False, one, where(graph, run, bounds, place)), options)
 
 
 def run_of(entry: str, sources: Sequence[str], one: Input, place: str | None) -> Run:

@@ -14,7 +14,7 @@ import os
 import sys
 
 from tools import graph as graphs
-from tools import inputs, leaving, program, usage, verdicts
+from tools import inputs, leaving, program, progress, usage, verdicts
 from tools.conditions import Found, Text, json_text
 from tools.decisions import Decision, Decisions
 from tools.folder import STEPS
@@ -22,6 +22,7 @@ from tools.graph import Graph
 from tools.leaving import Left
 from tools.masking import MOST_ARROWS, NONE, Asked, goals_of, query_of, shown, take
 from tools.program import Failure
+from tools.progress import Progress
 from tools.reports import Report
 from tools.sources import Faces
 from tools.verdicts import Limits
@@ -39,10 +40,8 @@ def options(given: argparse.Namespace) -> list[str]:
     return [word for name in BOUNDS for word in (f"--{name}", str(getattr(given, name)))]
 
 
-def ask(given: argparse.Namespace, graph: Graph, decision: Decision, count: int) -> Asked:
-    """Has inputs made for the paths of a decision; on a terminal it says which."""
-    if sys.stderr.isatty():
-        print(f"decision {decision.number} of {count}", file=sys.stderr)
+def ask(given: argparse.Namespace, graph: Graph, decision: Decision) -> Asked:
+    """Has inputs made for the paths of a decision."""
     for arrows in range(MOST_ARROWS, -1, -1):
         query = query_of(graph, decision, arrows)
         words = ["generate", given.entry, query, *given.sources, *options(given), "--budget", str(given.budget)]
@@ -55,6 +54,16 @@ def ask(given: argparse.Namespace, graph: Graph, decision: Decision, count: int)
     asked = Asked(decision, query, program.report_of(words, ended))
     asked.goals = goals_of(graph, asked)
     return asked
+
+
+def ask_all(given: argparse.Namespace, graph: Graph, decisions: list[Decision]) -> list[Asked]:
+    """Has inputs made for the paths of all decisions."""
+    found: list[Asked] = []
+    with progress.shown(Progress("mcdc: decisions", len(decisions))) as tell:
+        for decision in decisions:
+            tell.at(len(found), f"{decision.function}, line {decision.first.line}")
+            found.append(ask(given, graph, decision))
+    return found
 
 
 def certify(given: argparse.Namespace, all_asked: list[Asked]) -> int:
@@ -124,9 +133,9 @@ def main() -> int:
     graph = graphs.of_sources(given.sources)
     faces = Faces(graph, given.sources)
     decisions = [one for one in Decisions(graph, faces).found if not given.function or one.function in given.function]
-    all_asked = [ask(given, graph, decision, len(decisions)) for decision in decisions]
-    if not all_asked:
+    if not decisions:
         raise Failure("there is no decision")
+    all_asked = ask_all(given, graph, decisions)
     made = inputs.of_entry(given.inputs, given.entry, given.sources) if given.inputs else []
     made = inputs.once(made + [one for asked in all_asked for one in asked.report.inputs])
     with program.as_file(inputs.json_text(made)) as path:

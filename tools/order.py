@@ -20,7 +20,7 @@ import sys
 from collections.abc import Iterable, Sequence
 from dataclasses import dataclass
 
-from tools import order_items, order_tokens, program, usage
+from tools import order_items, order_tokens, originals, program, usage
 from tools.order_rule import told
 from tools.order_tree import Unit
 from tools.program import Failure
@@ -48,6 +48,12 @@ class Warned:
     def place(self) -> str:
         """`FILE:LINE:COLUMN`, the column in bytes from 1, of the token as it stands, also within a macro's line."""
         return f"{self.file}:{self.line}:{self.column}"
+
+    def shown(self, sources: Sequence[str]) -> "Warned":
+        """The same as the user wrote it, where the source was written of another one."""
+        file, line, column = originals.place_of(self.file, self.line, self.column, None).rsplit(":", 2)
+        why = originals.words_of(self.why, sources, None)
+        return Warned(self.kind, file, int(line), int(column), self.function, why)
 
     @property
     def text(self) -> str:
@@ -124,7 +130,7 @@ def restriction(entry: str, sources: Sequence[str], query: str | None, ends: str
     except Failure as failure:
         return f"whether its order of evaluation matters isn't known: {failure}"
     told_of = [one for one in found if one.kind in needed(query, ends)]
-    places = list(dict.fromkeys(one.place for one in told_of))
+    places = list(dict.fromkeys(originals.place_of(one.file, one.line, one.column, folder) for one in told_of))
     if not places:
         return ""
     more = f" and at {len(places) - 1} more places, which bin/order tells" if len(places) > 1 else ""
@@ -153,7 +159,8 @@ def parsed() -> argparse.Namespace:
 def main() -> int:
     """Prints the warnings; the status is 1 where there are some."""
     given = parsed()
-    found = warnings(given.entry, given.sources, given.query, given.ends, given.watch)
+    told_of = warnings(given.entry, given.sources, given.query, given.ends, given.watch)
+    found = [one.shown(given.sources) for one in told_of]
     if given.json:
         rows = [{**vars(one)} for one in found]
         text = json.dumps({"classes": classes(given.query, given.ends, given.watch), "warnings": rows}) + "\n"

@@ -7,30 +7,18 @@ certificate of a refuted goal.
 """
 
 import argparse
-import html
 import os
-import re
-import shutil
-import subprocess
 from collections import Counter
 
 from tools import graph as graphs
-from tools import page_rte, page_tabs, program, usage, verdicts
-from tools.graph import Edge
+from tools import page_picture, page_rte, page_tabs, program, progress, syntax, usage, verdicts
 from tools.page_data import Page, folded, worst
 from tools.program import Failure
+from tools.progress import Progress
 from tools.shown import shown
 from tools.sources import Faces
 from tools.verdicts import Verdict
 
-LARGEST_PICTURE = 400
-COLOURS = {
-    Verdict.COVERED: "#1a7f37",
-    Verdict.MISSED: "#cf222e",
-    Verdict.UNDECIDED: "#8a5a00",
-    Verdict.REFUTED: "#57606a",
-    Verdict.UNREACHABLE: "#24292f",
-}
 SIGNS = {
     Verdict.COVERED: "✓",
     Verdict.MISSED: "✗",
@@ -41,36 +29,6 @@ SIGNS = {
 TABS = {"mcdc": "MC/DC", "requirements": "Requirements"}
 # the order of a bar's parts
 BARS = (Verdict.COVERED, Verdict.UNREACHABLE, Verdict.REFUTED, Verdict.UNDECIDED, Verdict.MISSED)
-
-
-def picture(page: Page, function: str) -> str:
-    """The automaton of a function as SVG, or why there is none."""
-    edges = [edge for edge in page.graph.edges if page.graph.owner(edge) == function]
-    if len(edges) > LARGEST_PICTURE:
-        return f"<p>{len(edges)} edges are too many for a picture.</p>"
-    if not shutil.which("dot"):
-        return "<p>There is no picture, since graphviz isn't there (Debian: graphviz).</p>"
-    drawn = subprocess.run(["dot", "-Tsvg"], input=dot(page, edges), capture_output=True, text=True, check=False)
-    found = re.search(r"<svg.*</svg>", drawn.stdout, re.DOTALL)
-    return found[0] if found else f"<p>{html.escape(drawn.stderr[:200])}</p>"
-
-
-def dot(page: Page, edges: list[Edge]) -> str:
-    """The text of graphviz for edges; those that are goals have their verdict's colour."""
-    verdict = {goal["l"][0]: goal["t"] for goal in page.goals if len(goal["l"]) == 1}
-    rows = [
-        'digraph { node [shape=circle fontsize=10 width=0.3 fixedsize=true]; edge [fontsize=9 fontname="monospace"];'
-    ]
-    for edge in edges:
-        text = (
-            f"e{edge.number} {page.faces.deed(edge) or page.faces.statement(edge)}"[:60]
-            .replace("\\", "\\\\")
-            .replace('"', '\\"')
-        )
-        known = verdict.get(f"e{edge.number}")
-        colour = COLOURS[known] if known else "#000000"
-        rows.append(f'{edge.source} -> {edge.target} [label="{text}" color="{colour}" fontcolor="{colour}"];')
-    return "\n".join(rows + ["}"])
 
 
 def page_text(page: Page) -> str:
@@ -84,14 +42,19 @@ def page_text(page: Page) -> str:
         "page.html"
     )
     tally = verdicts.tally(goal["t"] for goal in page.goals)
-    used = [function for function in page.functions if function != "(no place)"]
     tables = {"mcdc": page_tabs.decisions(page), "requirements": page_tabs.requirements(page)}
     errors = page_tabs.errors(page)
     shown_tabs = {"sources": "Sources"} | {name: TABS[name] for name, rows in tables.items() if rows}
     shown_tabs |= {"errors": f"Run-time errors ({len(errors)})"} if errors is not None else {}
+    graphs_of = page_picture.graphs_of(page)
+    pictures = {}
+    with progress.shown(Progress("page: pictures", len(graphs_of))) as tell:
+        for title, text in graphs_of.items():
+            pictures[title] = page_picture.svg(text)
+            tell.step(title)
     return template.render(
         page=page, verdicts=BARS, signs=SIGNS, tally=tally, kinds=sorted({goal["k"] for goal in page.goals}), folded=folded,
-        worst=worst, pictures={function: picture(page, function) for function in used}, data=page.data(),
+        worst=worst, pictures=pictures, colours=syntax.KINDS, data=page.data(),
         tabs=shown_tabs, decisions=tables["mcdc"], requirements=tables["requirements"], errors=errors,
     )  # fmt: skip
 

@@ -13,6 +13,7 @@ from tools.program import Failure
 from tools.reports import Goal, Input
 from tools.shown import Shown, commands, paths
 from tools.sources import Faces
+from tools.syntax import Coloured
 from tools.verdicts import Tally, Verdict
 
 LONGEST_NAME = 40
@@ -25,9 +26,9 @@ def first_place(faces: Faces, letters: list[Letter]) -> tuple[str, int, int] | N
     for letter in letters:
         if letter.edge:
             edge = faces.shown(letter.edge)
-            return edge.file, edge.line, edge.column
+            return edge.file, *faces.spot(edge)[1:]
         if letter.node:
-            return letter.node.file, letter.node.line, 0
+            return letter.node.file, faces.node_line(letter.node), 0
     return None
 
 
@@ -44,19 +45,19 @@ def node_label(faces: Faces, node: Node) -> str:
     function = faces.graph.function(node.function)
     if node.number in (function.entry, function.exit):
         return f"{'entry' if node.number == function.entry else 'exit'} of {node.function}"
-    return f"before {faces.sources[node.file].line_text(node.line)}"
+    return f"before {faces.node_text(node)}"
 
 
 def letter_label(faces: Faces, letter: Letter) -> str:
     """What a letter asks for, in a few words behind its line: `198 x > 2: true`."""
     if letter.edge:
-        edge = faces.shown(letter.edge)
+        line = faces.line(letter.edge)
         if letter.edge.is_guard:
-            return f"{edge.line} {faces.condition(letter.edge)}: {'true' if letter.edge.truth else 'false'}"
+            return f"{line} {faces.condition(letter.edge)}: {'true' if letter.edge.truth else 'false'}"
         deed = faces.deed(letter.edge)
-        return f"{edge.line} {faces.statement(letter.edge)}" + (f": {deed}" if deed else "")
+        return f"{line} {faces.statement(letter.edge)}" + (f": {deed}" if deed else "")
     if letter.node:
-        return f"{letter.node.line} {node_label(faces, letter.node)}"
+        return f"{faces.node_line(letter.node)} {node_label(faces, letter.node)}"
     return f"not {letter.text[1:]}" if letter.text.startswith("!") else letter.text
 
 
@@ -143,7 +144,7 @@ class Page:
         """The name of a function's first line in the page, or nothing where it has none."""
         found = [one for one in self.graph.functions if one.name == function]
         node = self.graph.nodes[found[0].entry] if found else None
-        return f"l{list(self.faces.sources).index(node.file)}:{node.line}" if node else ""
+        return f"l{list(self.faces.sources).index(node.file)}:{self.faces.node_line(node)}" if node else ""
 
     # ---- the data
 
@@ -152,13 +153,17 @@ class Page:
         if not one.entry:
             return []
         try:
-            parameters = named.signature(self.faces.sources.values(), one.entry).names
+            parameters = [
+                self.faces.name(name) for name in named.signature(self.faces.sources.values(), one.entry).names
+            ]
         except Failure:
             parameters = []  # (a macro makes the entry's head)
         edges = self.graph.edges
         found = []
         for number, given in enumerate(one.given, 1):
-            asked = [edges[edge].name for edge in taken.get(number, []) if edges[edge].operation == "answer"]
+            asked = [
+                self.faces.name(edges[edge].name) for edge in taken.get(number, []) if edges[edge].operation == "answer"
+            ]
             found.append(pairs(given, parameters, asked))
         return found
 
@@ -172,8 +177,8 @@ class Page:
             "goals": self.goals,
             "letters": self.letters,
             "labels": self.labels,
-            "lines": [f"{names[edge.file]}:{self.faces.shown(edge).line}" for edge in self.graph.edges],
-            "nodes": [f"{names[node.file]}:{node.line}" for node in self.graph.nodes],
+            "lines": [f"{names[edge.file]}:{self.faces.line(edge)}" for edge in self.graph.edges],
+            "nodes": [f"{names[node.file]}:{self.faces.node_line(node)}" for node in self.graph.nodes],
             "reports": [one.name for one in self.reports],
             "inputs": [[given.told() for given in one.given] for one in self.reports],
             "named": [self.named(one, path) for one, path in zip(self.reports, taken)],
@@ -183,10 +188,11 @@ class Page:
 
     # ---- the sources
 
-    def lines(self, name: str) -> Iterator[tuple[int, str, list[tuple[str, list[dict[str, Any]]]]]]:
-        """Each line of a source: its number, the verdict that it shows if any, and its parts, each with the goals that are
-        marked before it."""
-        source = self.faces.sources[name]
+    def lines(self, name: str) -> Iterator[tuple[int, str, list[tuple[list[tuple[str, str]], list[dict[str, Any]]]]]]:
+        """Each line of a source: its number, the verdict that it shows if any, and its parts, each as pieces with their colours,
+        and with the goals that are marked before it."""
+        source = self.faces.own(name)
+        coloured = Coloured(source.text)
         columns: dict[int, dict[int, list[int]]] = {}
         for (file, line, column), goals in self.places.items():
             if file == name:
@@ -197,8 +203,8 @@ class Page:
             parts = []
             for at, end in zip(starts, starts[1:] + [len(text)]):
                 goals = marks.get(at + 1, []) + (marks.get(0, []) if at == 0 else [])
-                words = text[at:end].encode("latin-1").decode("utf-8", "replace")
-                parts.append((words, [{**self.goals[goal], "at": goal} for goal in goals]))
+                pieces = [(decoded(words), kind) for words, kind in coloured.cut(number, text, at, end)]
+                parts.append((pieces, [{**self.goals[goal], "at": goal} for goal in goals]))
             states: set[Verdict] = {self.goals[goal]["t"] for of_column in marks.values() for goal in of_column}
             yield number, worst(states).mark if states else "", parts
 
@@ -206,6 +212,11 @@ class Page:
         """How many goals of a file have which verdict."""
         numbers = [goal for place, goals in self.places.items() if place[0] == name for goal in goals]
         return verdicts.tally(self.goals[number]["t"] for number in numbers)
+
+
+def decoded(text: str) -> str:
+    """A text of bytes as UTF-8 has it."""
+    return text.encode("latin-1").decode("utf-8", "replace")
 
 
 def pairs(given: Input, parameters: list[str], asked: list[str]) -> list[list[Any]]:

@@ -7,11 +7,11 @@ macro, the text is that word's.
 import bisect
 import os
 import re
-from collections.abc import Sequence
+from collections.abc import Mapping, Sequence
 from dataclasses import dataclass
 
 from tools import program
-from tools.graph import Edge, Graph
+from tools.graph import Edge, Graph, Node
 
 _TOKEN = re.compile(
     r"(?P<blank>[ \t\v\f\r\n]+|//[^\n]*|/\*.*?\*/)|(?P<word>[A-Za-z_]\w*)|(?P<number>[0-9][\w.]*)"
@@ -19,7 +19,7 @@ _TOKEN = re.compile(
     r"|(?P<mark>\.\.\.|<<=|>>=|\+\+|--|<<|>>|<=|>=|==|!=|&&|\|\||[*/%+\-&^|]=|->|.)",
     re.DOTALL | re.ASCII,
 )
-_DIRECTIVE = re.compile(r"#(?:/\*.*?\*/|//[^\n]*|[^\n])*", re.DOTALL)
+_DIRECTIVE = re.compile(r"#(?:/\*.*?\*/|//[^\n]*|\\\r?\n|[^\n])*", re.DOTALL)
 _COMMENT = re.compile(r"/\*.*?\*/|//[^\n]*", re.DOTALL)
 _KEYWORDS = {"IF": "if", "WHILE": "while", "DO": "while", "FOR": "for", "SWITCH": "switch"}
 OPENING, CLOSING = "([{", ")]}"
@@ -70,6 +70,12 @@ class Source:
         """The number of the token at a place, or of the first behind it."""
         return min(bisect.bisect_left(self.starts, self.offset(line, column)), len(self.tokens) - 1)
 
+    def where(self, token: int) -> tuple[int, int]:
+        """The line and the column of a token."""
+        start = self.tokens[token].start
+        line = bisect.bisect_right(self.lines, start)
+        return line, start - self.lines[line - 1] + 1
+
     def line_text(self, line: int) -> str:
         """The text of a line, without blanks at its ends."""
         end = self.lines[line] if line < len(self.lines) else len(self.text)
@@ -98,9 +104,18 @@ def plain(text: str) -> str:
 class Faces:
     """What the edges of an automaton are in its sources."""
 
-    def __init__(self, graph: Graph, sources: Sequence[str], place: str = ".") -> None:
+    def __init__(
+        self, graph: Graph, sources: Sequence[str], place: str = ".", own: Mapping[str, str] | None = None
+    ) -> None:
+        """The sources stand in `place`; `own` has the name of each original as it is shown, where that is no path from there."""
         self.graph = graph
         self.sources = {name: Source(name, program.read(os.path.join(place, name))) for name in sources}
+        from tools import originals  # (which needs the Source of this module)
+
+        found = {name: originals.of_source(source, name, place) for name, source in self.sources.items()}
+        self.originals = {name: one for name, one in found.items() if one}
+        for name, one in self.originals.items():
+            one.name = (own or {}).get(name, one.name)
         self.guards: dict[str, list[int]] = {}
         self.starts: dict[tuple[str, str], list[tuple[int, int]]] = {}
         for edge in graph.edges:
@@ -121,10 +136,12 @@ class Faces:
 
     def condition(self, guard: Edge) -> str:
         """The text of a guard's part of a condition, or the label of a `switch`."""
-        source = self.sources[guard.file]
-        first = source.index(guard.line, guard.column)
+        source = self.own(guard.file)
+        first = source.index(*self.spot(guard)[1:])
         if self.is_label(guard):
             return source.between(first, source.end_of(first, [":"]) - 1)
+        if guard.file in self.originals:
+            return self.originals[guard.file].condition(guard.line, guard.column)
         # where two tests begin at a place, the first is of the condition of a ?:, and the other of the whole
         is_first = guard.source == self.guards[guard.place][0]
         last = source.end_of(first, [",", ";", "&&", "||", "?", ":"]) if is_first else self._choice_end(source, first)
@@ -163,17 +180,52 @@ class Faces:
         leaving = self.graph.leaving[edge.target]
         return leaving[0] if leaving else None
 
+    # ---- as the user wrote them
+
+    def own(self, file: str) -> Source:
+        """The user's own source: the original of one that was written of it, or else itself."""
+        return self.originals.get(file) or self.sources[file]
+
+    def at(self, file: str, line: int, column: int) -> tuple[str, int, int]:
+        """The file, the line and the column of a place in the user's own source; a column that isn't known is 0."""
+        original = self.originals.get(file)
+        return (original.name, *original.spot(line, column)) if original else (file, line, column)
+
+    def spot(self, edge: Edge) -> tuple[str, int, int]:
+        """The place of an edge in the user's own source."""
+        return self.at(edge.file, edge.line, edge.column)
+
+    def line(self, edge: Edge) -> int:
+        """The line of an edge in the user's own source."""
+        return self.spot(self.shown(edge))[1]
+
+    def name(self, text: str) -> str:
+        """What a name stands for in the user's own sources."""
+        return next((found for one in self.originals.values() if (found := one.stands_for(text)) != text), text)
+
     def place(self, edge: Edge) -> str:
         """Where an edge stands, as FILE:LINE:COLUMN."""
-        return self.shown(edge).place
+        return "{}:{}:{}".format(*self.spot(self.shown(edge)))
+
+    def node_line(self, node: Node) -> int:
+        """The line of a node in the user's own source."""
+        return self.at(node.file, node.line, 0)[1]
+
+    def node_place(self, node: Node) -> str:
+        """Where a node stands, as FILE:LINE."""
+        return "{}:{}".format(*self.at(node.file, node.line, 0))
+
+    def node_text(self, node: Node) -> str:
+        """The text of a node's line."""
+        return self.own(node.file).line_text(self.node_line(node))
 
     def statement(self, edge: Edge) -> str:
         """The text of the innermost statement of an edge: of `if`, loops and `switch` the head alone."""
         edge = self.shown(edge)
-        source = self.sources[edge.file]
-        first = self.statement_start(edge)
+        source = self.own(edge.file)
+        first = self._own_start(edge)
         if first is None:
-            return source.line_text(edge.line)
+            return source.line_text(self.spot(edge)[1])
         text = source.tokens[first].text
         if text in _KEYWORDS.values():
             return source.between(first, min(source.end_of(first + 2, []), len(source.tokens) - 1))
@@ -181,6 +233,13 @@ class Faces:
             return source.between(first, min(first + (edge.kind == "LABEL"), len(source.tokens) - 1))
         end = source.end_of(first, [";", "{"])
         return source.between(first, max(first, end - 1))
+
+    def _own_start(self, edge: Edge) -> int | None:
+        """The number of the first token of an edge's innermost statement in the user's own source, where it is found."""
+        first, original = self.statement_start(edge), self.originals.get(edge.file)
+        if first is None or original is None:
+            return first
+        return original.statement_start(*self.sources[edge.file].where(first))
 
     def statement_start(self, edge: Edge) -> int | None:
         """The number of the first token of an edge's innermost statement, where it is found."""
@@ -203,7 +262,8 @@ class Faces:
             return "enters the loop"
         if edge.back:
             return "goes back to the loop's head"
-        return {"call": f"calls {edge.name}", "return": f"{edge.name} returns", "answer": f"{edge.name} answers"}.get(
+        name = self.name(edge.name)
+        return {"call": f"calls {name}", "return": f"{name} returns", "answer": f"{name} answers"}.get(
             edge.operation, ""
         )
 
@@ -212,4 +272,4 @@ class Faces:
         deed, statement = self.deed(edge), self.statement(edge)
         label = f", label {edge.label}" if edge.label else ""
         what = f"{deed}, in {statement}" if deed else statement
-        return f"{self.place(edge)} {self.graph.owner(edge)}: {what}{label}"
+        return f"{self.place(edge)} {self.name(self.graph.owner(edge))}: {what}{label}"

@@ -19,6 +19,7 @@ import programs
 import side_by_side
 
 SECONDS = programs.SECONDS
+PACKAGES = ("jinja2", "pycparser", "yaml", "jsonschema")  # of Python
 EXAMPLES = os.path.join(programs.ROOT, "examples")
 Wrong = Callable[[], list[str]]  # a line for each thing that is wrong
 
@@ -93,11 +94,7 @@ def is_there(need: str) -> bool:
     """Whether something is there that cases need: the program's command graph, a Python package, or a command."""
     if need == "graph":
         return "Usage" not in subprocess.run([programs.LAUNCHER, "graph", "/no"], capture_output=True, text=True).stderr
-    return (
-        importlib.util.find_spec(need) is not None
-        if need in ("jinja2", "pycparser")
-        else shutil.which(need) is not None
-    )
+    return importlib.util.find_spec(need) is not None if need in PACKAGES else shutil.which(need) is not None
 
 
 def tried(function: Callable[[str], Iterable[bool]]) -> list[str]:

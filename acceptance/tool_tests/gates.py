@@ -123,7 +123,7 @@ def comments_may_change(folder):
             ended = campaign(folder, name=name)
             yield ended.returncode == 0 and ended.stderr.startswith(said)
         yield held(folder, "new")["report.txt"] == before
-        yield campaign(folder).stderr == "10 of 10 goals covered, 0 left\n"
+        yield campaign(folder).stderr == ""
     # lines move: the goals are the same, but not those of a query that names a line
     put(folder, {"fee.c": "// a word\n" + FEE})
     ended = campaign(folder, "fee", "cover @CONDITIONEDGE", "fee.c")

@@ -2,6 +2,7 @@
 
 import json
 import os
+import re
 import resource
 import shutil
 import signal
@@ -236,6 +237,41 @@ def only_what_is_touched_is_done_again(folder):
     yield "burner_level" not in of_entries.get("prove", []) and of_entries["generate"].count("burner_level") == 4
 
 
+def entries_are_done_apart(folder):
+    """--entry does the tasks of one entry, without a report; two such processes work in one folder, and what is left is little."""
+    put(folder, {**LAMP, "fshell.toml": TOML, "tests.json": TESTS})
+    env = counted(folder)
+    ended = project(folder, "run", "--entry", "lamp", env=env)
+    yield (ended.returncode, ended.stderr) == (2, "project: fshell.toml has no entry lamp; it has level, press\n")
+    path = os.path.join(programs.ROOT, "bin", "project")
+    side = [subprocess.Popen([path, "run", "--entry", name], cwd=folder, env=env, stdout=subprocess.PIPE, text=True) for name in ("level", "press")]
+    told = [one.communicate()[0] for one in side]
+    yield [one.returncode for one in side] == [0, 0] and re.fullmatch(r"\d tasks of level were done\n", told[0]) is not None
+    yield not os.path.exists(os.path.join(folder, DIRECTORY, "report"))
+    yield {line.split()[1] for line in starts(folder) if line.split()[0] in ("generate", "prove")} == {"level", "press"}
+    again = project(folder, "run", "--entry", "press", env=env)
+    yield again.stdout == "0 tasks of press were done\n" and starts(folder) == []
+    ended = project(folder, "run", env=env)
+    yield (ended.returncode, ended.stdout) == (0, RUN) and ended.stderr.startswith("nothing was left to be done\n")
+    yield not [line for line in starts(folder) if line.split()[0] in ("generate", "prove", "bounds", "least")]
+
+
+def other_machines_find_the_same(folder):
+    """With --sshloginfile GNU parallel hands the goals out; `:` is this machine. The verdicts are those of a run without it."""
+    hard = "int hard(int x) {\n  if (x * x * x - 3 * x == 5012368 && x > 0) {\n    return 1;\n  }\n  if (x > 5 && x < 4) {\n    return 2;\n  }\n  return 0;\n}\n"
+    toml = '[module]\nsources = ["hard.c"]\n[[entry]]\nfunction = "hard"\nqueries = ["conditions"]\n[gate]\nat-least = 1\n'
+    put(folder, {"one/hard.c": hard, "one/fshell.toml": toml, "two/hard.c": hard, "two/fshell.toml": toml, "two/machines": "2/:\n"})
+    one, two = os.path.join(folder, "one"), os.path.join(folder, "two")
+    ended = project(two, "run", "--sshloginfile", "nowhere")
+    yield (ended.returncode, ended.stderr) == (2, "project: nowhere: No such file or directory\n")
+    yield project(one, "run").returncode == project(two, "run", "--sshloginfile", "machines").returncode == 0
+    found = [[(goal["text"], goal["verdict"]) for goal in report(at)["goals"]] for at in (one, two)]
+    yield found[0] == found[1] and len(found[0]) == 8
+    # (what other machines did stands in GNU parallel's log: the goals that want their certificates at least)
+    logs = [os.path.join(at, DIRECTORY, "tasks", "hard", "conditions", "machine", "joblog") for at in (one, two)]
+    yield not os.path.exists(logs[0]) and os.path.getsize(logs[1]) > 100
+
+
 def the_example_goes_to_its_gate(folder):
     """From one command to a gate, a page, an lcov file, JUnit, and a matrix."""
     shutil.copytree(os.path.join(programs.ROOT, "examples", "module"), os.path.join(folder, "module"), ignore=shutil.ignore_patterns(DIRECTORY))
@@ -251,6 +287,11 @@ def the_example_goes_to_its_gate(folder):
     yield cobertura.get("lines-valid") == str(found) == str(len(list(cobertura.iter("line"))))
     page = report(module, "index.html")
     yield page.count("<h2 id=") == 8 and "http" not in page and "TC-1" in page
+    # a second run with nothing changed takes less than two seconds of a processor
+    used = resource.getrusage(resource.RUSAGE_CHILDREN)
+    yield project(module, "run").returncode == 0
+    now = resource.getrusage(resource.RUSAGE_CHILDREN)
+    yield now.ru_utime + now.ru_stime - used.ru_utime - used.ru_stime < 2
     made = project(module, "init", "sensors.c", "control.c", "alarm.c", "--driver", "drivers/stubs.c", "-o", "made.toml")
     yield (made.returncode, made.stdout) == (0, "made.toml: 7 entries for 8 functions\n")
     with open(os.path.join(module, "made.toml"), encoding="utf-8") as file:
@@ -284,4 +325,4 @@ def reports_for_other_tools_have_their_forms(folder):
 TRIED = [
     ((), a_module_is_judged), ((), keys_go_to_every_report), ((), the_gate_fails), ((), names_that_are_wrong_are_told),
     ((), what_changed_since), (("xmllint",), reports_for_other_tools_have_their_forms), (ADAPTED, the_example_goes_to_its_gate),
-    (ADAPTED, only_what_is_touched_is_done_again), (ADAPTED, stopped_at_twenty_moments)]
+    (ADAPTED, only_what_is_touched_is_done_again), (ADAPTED, stopped_at_twenty_moments), ((), entries_are_done_apart), (("parallel",), other_machines_find_the_same)]

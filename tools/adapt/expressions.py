@@ -28,10 +28,12 @@ class Expressions(Assignments):
         """The value of an expression; its effects are written before. What it reads stays as it is until it is used,
         unless C leaves open whether it does, which is refused."""
         self.within += 1
+        self.asked.append(node)
         try:
             return self.inner_value(node)
         finally:
             self.within -= 1
+            self.asked.pop()
 
     def inner_value(self, node: Any) -> Value:
         if isinstance(node, Known):

@@ -5,7 +5,7 @@ import os
 import sys
 from typing import Any, Optional
 
-from tools import program, usage
+from tools import program, source_map, usage
 
 from .output import FELL
 from .refusals import Refusals, Stop
@@ -182,6 +182,18 @@ def put(folder: str, texts: dict[str, str]) -> list[str]:
     return paths
 
 
+def put_map(folder: str, texts: dict[str, str], writer: Any) -> None:
+    """Writes the map beside the files, by which tools show what the user wrote."""
+    from .mapping import text_of
+
+    units = list({unit.path: unit for unit, _ in writer.names.items}.values())
+    mapped = {path: text for path, text in texts.items() if path in writer.files}
+    try:
+        program.write_whole(os.path.join(folder, source_map.NAME), text_of(writer, units, mapped, folder))
+    except program.Failure as failure:
+        raise Stop(str(failure)) from None
+
+
 def write_harness(asked: argparse.Namespace, writer: Any, paths: list[str]) -> None:
     """Writes the tests of the original beside what was written."""
     from .harness import how_to_compile, text_of
@@ -222,6 +234,7 @@ def main(given: Optional[list[str]] = None) -> int:
             return 3
         paths = put(asked.out, texts)
         writer.put_table(asked.out)
+        put_map(asked.out, texts, writer)
         print("wrote " + " ".join(paths))
         if asked.harness:
             write_harness(asked, writer, paths)

@@ -3,13 +3,13 @@
 import re
 from dataclasses import dataclass, field
 
-LINE = re.compile("\x01(\\d+)\x02")
+LINE = re.compile("\x01(\\d+),(\\d+)\x02")
 FELL = "\x03"  # where a function that gives something ends without a return
 
 
-def mark(line: int) -> str:
-    """A mark within a text: what follows belongs on this line, or behind it."""
-    return f"\x01{line}\x02"
+def mark(line: int, column: int = 0) -> str:
+    """A mark within a text: what follows belongs on this line, or behind it, and comes from this column there, where one is known."""
+    return f"\x01{line},{column}\x02"
 
 
 def unmarked(text: str) -> str:
@@ -22,6 +22,8 @@ class File:
 
     path: str
     pieces: list[tuple[int, str]] = field(default_factory=list)
+    # once the text is made: a line and a column there, and those that they come from
+    marks: list[tuple[int, int, int, int]] = field(default_factory=list)
 
     def emit(self, line: int, text: str) -> None:
         self.pieces.append((line, text))
@@ -32,19 +34,37 @@ class File:
         lines: list[list[str]] = []
         for line, piece in self.pieces:
             parts, begun = LINE.split(piece), False
-            for number, part in zip([line] + [int(one) for one in parts[1::2]], parts[0::2]):
+            places = [(line, 0), *((int(one), int(two)) for one, two in zip(parts[1::3], parts[2::3]))]
+            for (number, column), part in zip(places, parts[0::3]):
                 while len(lines) < max(number, 1):
                     lines.append([])
                 if part.strip():
+                    part = marked(part, number, column)
                     lines[-1].append(part if begun or not lines[-1] else " " + part)
                     begun = True
         made = [joined(parts, original[at] if at < len(original) else "") for at, parts in enumerate(lines)]
+        made = [self.noted(at, text) for at, text in enumerate(made, 1)]
         for at, shown in enumerate(original):
             while len(made) <= at:
                 made.append("")
             if not made[at] and copied(shown):
                 made[at] = shown
         return "\n".join(made).rstrip("\n") + "\n"
+
+    def noted(self, line: int, text: str) -> str:
+        """A line without its marks, which are noted."""
+        plain, end = "", 0
+        for found in LINE.finditer(text):
+            plain += text[end : found.start()]
+            end = found.end()
+            self.marks.append((line, len(plain.replace(FELL, "")) + 1, int(found[1]), int(found[2])))
+        return plain + text[end:]
+
+
+def marked(part: str, line: int, column: int) -> str:
+    """A text with its mark before the first letter, where it has one."""
+    blanks = len(part) - len(part.lstrip())
+    return part[:blanks] + mark(line, column) + part[blanks:] if column else part
 
 
 def joined(parts: list[str], original: str) -> str:

@@ -19,7 +19,7 @@ from tools import program
 from . import kinds, overflow_texts
 from .kinds import Int
 from .operators import Original, spot
-from .output import unmarked
+from .output import FELL, unmarked
 from .units import Units
 from .values import LEVELS, PRIMARY, UNARY, Value, number
 
@@ -87,6 +87,11 @@ def part(op: str, left: Span, right: Span) -> Span:
     if op == ">>" and left[0] >= 0:
         return 0, left[1]
     return -(1 << 200), 1 << 200
+
+
+def marked(line: str, column: int) -> int:
+    """How many characters of marks stand in a line before a column."""
+    return sum(len(found[0]) for found in MARK.finditer(line) if found.start() < column - 1)
 
 
 @dataclass(frozen=True)
@@ -252,7 +257,10 @@ class Checked(Units):
         return {os.path.join("checked operations", HEADER): header} | made
 
     def unmarked_file(self, path: str, text: str) -> str:
-        lines = []
+        """A file's text without marks. The places that the file notes for the map are those without them too."""
+        lines, file = [], self.files[path]
+        kept = text.replace(FELL, "").split("\n")
+        file.marks = [(at, column - marked(kept[at - 1], column), line, of) for at, column, line, of in file.marks]
         for number_of, line in enumerate(text.split("\n"), 1):
             parts, clean = MARK.split(line), ""
             for part, site in zip(parts[0::2], [*parts[1::2], None]):

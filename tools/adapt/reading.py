@@ -96,6 +96,9 @@ class Unit:
     files: list[str] = field(default_factory=list)
     closings: dict[tuple[str, int], list[int]] = field(default_factory=dict)
     words: set[str] = field(default_factory=set)
+    # the preprocessed rows that come from each line of a file, and the macros, each with whether it takes arguments
+    rows: dict[tuple[str, int], list[str]] = field(default_factory=dict)
+    macros: dict[str, bool] = field(default_factory=dict)
 
 
 def compiler() -> str:
@@ -243,6 +246,8 @@ def scanned(unit: Unit, text: str, refusals: Refusals) -> str:
         if re.match(r"\s*#\s*pragma\s+pack", row) and not is_system(file):
             refusals.add(Coord(file, line), "structs are packed", "leave the pragma out, and write sizes as numbers")
         made.append("" if row.startswith("#") else row)
+        if made[-1].strip():
+            unit.rows.setdefault((file, line), []).append(made[-1])
         places.line += 1
     unit.files.append(unit.path)
     return "\n".join(made)
@@ -263,6 +268,8 @@ def read(path: str, flags: list[str], refusals: Refusals) -> Unit:
         told_errors(path, cut.stderr, refusals)
         return unit
     text = scanned(unit, cut.stdout, refusals)
+    told = run_compiler(path, flags, ["-E", "-dM"]).stdout
+    unit.macros = {name: bool(mark) for name, mark in re.findall(r"^#define (\w+)(\(?)", told, re.MULTILINE)}
     try:
         unit.tree = c_parser.CParser().parse(text, path)
     except c_parser.ParseError as fault:

@@ -15,6 +15,7 @@ class Spelling:
     def __init__(self, names: Names, words: set[str]) -> None:
         self.taken = set(words) | KEPT
         self.leaves: dict[tuple[str, Path], str] = {}
+        self.owners: dict[tuple[str, Path], Variable] = {}
         owners: dict[str, Any] = {}
         files: list[Any] = [*names.functions, *(variable for variable in names.variables if variable.home == "file")]
         for one in files:
@@ -44,6 +45,7 @@ class Spelling:
         if path in ((), (INDEX,)):
             return base
         key = (base, path)
+        self.owners.setdefault(key, variable)
         if key not in self.leaves:
             words = [one.lstrip("@?") for one in path if one != INDEX]
             self.leaves[key] = self.fresh("_".join(words if not base else (base, *words)), True)

@@ -40,7 +40,9 @@ class Writer:
     def __init__(self, names: Names, places: Places, effected: Effected, spelling: Spelling, check: bool) -> None:
         self.names, self.places, self.effected, self.spelling, self.check = names, places, effected, spelling, check
         self.constants = names.constants
-        self.file, self.original, self.line = File(""), "", 1
+        self.file, self.original, self.line, self.column = File(""), "", 1, 0
+        self.asked: list[Any] = []  # the expressions that are written now, the innermost last
+        self.stands_for: dict[str, Any] = {}  # the expression for which each temporary stands
         self.function: Optional[Function] = None
         self.behind: set[int] = set()
         self.after: list[str] = []
@@ -66,19 +68,20 @@ class Writer:
 
     def emit(self, text: str) -> None:
         """Writes a piece. What a value needs before stands on the statement's own line."""
-        self.file.emit(self.line, unmarked(text) if self.within else text)
+        self.file.emit(self.line, mark(self.line, self.column) + (unmarked(text) if self.within else text))
 
     def go(self, node: Any) -> None:
         """What is written next stands on the line of this statement."""
         if node.coord is not None and str(node.coord.file) == self.original:
-            self.line = node.coord.line
+            self.line, self.column = node.coord.line, node.coord.column or 0
 
     def at(self, node: Any) -> str:
         here = node.coord is not None and str(node.coord.file) == self.original
-        return mark(node.coord.line) if here else ""
+        return mark(node.coord.line, node.coord.column or 0) if here else ""
 
     def temporary(self, kind: Int, text: str, stem: str = "value") -> str:
         name = self.spelling.fresh(stem)
+        self.stands_for |= {name: self.asked[-1]} if self.asked else {}
         self.emit(f"{kind.text} {name} = {unmarked(text)};")
         return name
 

@@ -47,7 +47,9 @@ def read(results: Results) -> dict[str, File]:
     """The counts of the module's own files over all tests of all entries."""
     found: dict[str, File] = {}
     unit = results.context.unit
+    # (the tracefile names the original of a source that bin/adapt wrote)
     own = {os.path.realpath(unit.at(name)): file for name, file in results.own_files.items()}
+    own |= {os.path.realpath(results.context.settings.at(file)): file for file in results.own_files.values()}
     for entry in results.entries:
         tests = [one.numbers for one in results.tests(entry.function)]
         text = program_inputs(tests)

@@ -3,7 +3,7 @@
 from collections.abc import Iterator
 from dataclasses import dataclass
 
-from tools import order
+from tools import order, originals
 from tools.program import Failure
 from tools.project.facts import NONE_WITHIN, OPEN
 from tools.project.results import GOOD, Results, state_of
@@ -101,7 +101,9 @@ class Finder:
     def functions(self) -> Iterator[Finding]:
         for name in self.results.unreached:
             node = self.results.graph.nodes[self.results.graph.function(name).entry]
-            yield self.at("unreached-function", node.file, node.line, 1, f"no entry reaches {name}")
+            yield self.at(
+                "unreached-function", node.file, self.results.faces.node_line(node), 1, f"no entry reaches {name}"
+            )
 
     def requirements(self) -> Iterator[Finding]:
         settings = self.results.context.settings
@@ -120,4 +122,6 @@ class Finder:
             except Failure:
                 continue
             for one in found:
-                yield self.at("order-of-evaluation", one.file, one.line, one.column, f"{one.kind}: {one.why}")
+                _, line, column = self.results.faces.at(one.file, one.line, one.column)
+                why = originals.words_of(one.why, unit.sources, unit.place)
+                yield self.at("order-of-evaluation", one.file, line, column, f"{one.kind}: {why}")

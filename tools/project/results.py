@@ -8,6 +8,7 @@ from typing import Any
 from tools import graph as graphs
 from tools import named
 from tools.decisions import Decisions
+from tools.graph import Edge
 from tools.explain import letter_line
 from tools.naming import Reader
 from tools.project import criteria
@@ -26,7 +27,7 @@ class Results:
     def __init__(self, context: Context, requirements: tuple[Requirement, ...]) -> None:
         self.context, self.requirements = context, requirements
         self.graph, self.entries = context.graph, context.settings.entries
-        self.faces = Faces(self.graph, context.unit.sources, context.unit.place)
+        self.faces = Faces(self.graph, context.unit.sources, context.unit.place, context.unit.own)
         self._tests: dict[str, dict[tuple[tuple[int, ...], tuple[int, ...]], Test]] = {}
         for entry in self.entries:
             own = self._tests.setdefault(entry.function, {})
@@ -99,11 +100,16 @@ class Results:
         """The function and the place of a goal: those of its first letter that has some."""
         for letter in graphs.letters(self.graph, text):
             if letter.edge:
-                return self.graph.owner(letter.edge), (letter.edge.file, letter.edge.line, letter.edge.column)
+                edge = self.faces.shown(letter.edge)
+                return self.graph.owner(edge), (edge.file, *self.faces.spot(edge)[1:])
             if letter.node:
-                return letter.node.function, (letter.node.file, letter.node.line, 1)
+                return letter.node.function, (letter.node.file, self.faces.node_line(letter.node), 1)
         node = self.graph.nodes[self.graph.function(entry).entry]
-        return entry, (node.file, node.line, 1)
+        return entry, (node.file, self.faces.node_line(node), 1)
+
+    def spot(self, edge: Edge) -> str:
+        """The file of the unit in which an edge stands, with the line and the column in the user's own source."""
+        return "{}:{}:{}".format(edge.file, *self.faces.spot(self.faces.shown(edge))[1:])
 
     def told(self, text: str) -> str:
         """What a goal asks for, in one line."""
@@ -180,7 +186,7 @@ class Results:
             one = Verdict(verdict) if verdict != "refuted" else Verdict.REFUTED
             one = Verdict.UNREACHABLE if one is Verdict.REFUTED and is_never else one
             edges = self.graph.leaving[node.number]
-            place = edges[0].place if edges else f"{node.place}:1"
+            place = self.spot(edges[0]) if edges else f"{node.file}:{self.faces.node_line(node)}:1"
             found.append((place, one, line))
         return found
 
@@ -202,7 +208,7 @@ class Results:
         for number in sorted(found):
             state, text, pair = min(found[number], key=lambda one: order.index(one[0]))
             edge = self.graph.edges[number]
-            yield Condition(self.graph.owner(edge), edge.place, self.statements.get(number, ""), text, state, pair)
+            yield Condition(self.graph.owner(edge), self.spot(edge), self.statements.get(number, ""), text, state, pair)
 
     def mcdc(self, function: str | None = None) -> tuple[int, int]:
         """How many conditions are shown, and of how many: all but those without a pair at all."""

@@ -3,14 +3,14 @@
 import concurrent.futures
 import os
 import shutil
-import sys
-from collections.abc import Callable, Iterable
+from collections.abc import Iterable
 
-from tools import inputs, program
+from tools import inputs, program, progress
 from tools.graph import Graph
 from tools.named import Named, Signature
 from tools.naming import Reader
 from tools.program import Failure
+from tools.progress import Progress
 from tools.project import requirements
 from tools.project import unit as units
 from tools.project.settings import Entry, Settings
@@ -95,17 +95,17 @@ def _done(task: Task, context: Context) -> str:
     return ""
 
 
-def side_by_side(tasks: list[Task], context: Context, tell: Callable[[str], None]) -> list[str]:
+def side_by_side(tasks: list[Task], context: Context, tell: Progress) -> list[str]:
     """Does tasks side by side; what went wrong, a line each."""
     workers = max(1, min(context.jobs, len(tasks)))
     wrong = []
     with concurrent.futures.ThreadPoolExecutor(workers) as pool:
         waiting = {pool.submit(_done, task, context): task for task in tasks}
         try:
-            for count, one in enumerate(concurrent.futures.as_completed(waiting), 1):
+            for one in concurrent.futures.as_completed(waiting):
                 task, failure = waiting[one], one.result()
                 wrong += [failure] if failure else []
-                tell(f"{count} of {len(tasks)}: {task.entry.function}, {task.name}")
+                tell.step(f"{task.entry.function}, {task.name}")
         except BaseException:
             pool.shutdown(wait=False, cancel_futures=True)
             raise
@@ -117,10 +117,6 @@ def left(context: Context) -> list[Task]:
     return [task for task in tasks_of(context.settings, context.requirements) if not task.is_done(context)]
 
 
-def tell(text: str) -> None:
-    print(text, file=sys.stderr, flush=True)
-
-
 def run(context: Context, entry: str | None = None) -> int:
     """Does what isn't done, of all entries or of one; gives the number of tasks that were."""
     if entry is None:
@@ -129,10 +125,11 @@ def run(context: Context, entry: str | None = None) -> int:
     os.environ["FSHELL"] = program.program()
     first: list[Task] = [task for task in tasks if isinstance(task, Bounds)]
     parts = [first, [task for task in tasks if task not in first]]
-    for part in parts:
-        wrong = side_by_side(part, context, tell)
-        if wrong:
-            raise Faults(wrong)
+    with progress.shown(Progress("project: tasks", len(tasks))) as tell:
+        for part in parts:
+            wrong = side_by_side(part, context, tell)
+            if wrong:
+                raise Faults(wrong)
     return len(tasks)
 
 

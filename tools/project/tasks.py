@@ -118,7 +118,7 @@ class Bounds(Task):
             tried = leaving.next_bounds(context.graph, run, entry.bounds)
             found |= {
                 "left": one.line(),
-                "where": leaving.where(context.graph, run, entry.bounds),
+                "where": leaving.where(context.graph, run, entry.bounds, unit.place, unit.own),
                 "next": {name: value for name, value in tried.items() if value != entry.bounds[name]},
             }
         place.keep("bounds.json", found)
