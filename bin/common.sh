@@ -35,9 +35,9 @@ newer_source() {
 }
 
 # The note for bin/fshell: the names of what the program is made of (the files and folders of its src and specs, the folders of its
-# crates and of their proofs, crates.txt, HANDLES and the program), each ended by a zero byte. Its time is a second before the look, so that no
-# change at that time is lost. A change within a file of proofs is seen at the next look: it makes no other program, and the one
-# that stands was proved.
+# crates and of their proofs, crates.txt, HANDLES and the program), each ended by a zero byte. Its time is a second before the
+# look, so that no change at that time is lost. A change within a folder of proofs is seen at the next look: it makes no other
+# program, and the one that stands was proved.
 begin_note() {
   noted=$out/looked-at.$$
   touch -d '1 second ago' -- "$noted.time" 2>/dev/null
@@ -47,7 +47,7 @@ put_note() {
   if [ -f "$noted.time" ] && [ -x "$program" ]; then
     (cd -- "$root" && {
       in_order folders | grep -v '/proofs$' | tr '\n' '\0' | xargs -0 sh -c 'find "$@" -print0 2>/dev/null' find
-      in_order folders | grep '/proofs$' | tr '\n' '\0' | xargs -0 sh -c 'find "$@" -type d -print0 2>/dev/null' find
+      in_order folders | grep '/proofs$' | while IFS= read -r name; do [ ! -d "$name" ] || printf '%s\0' "$name"; done
       in_order names | sed 's|.*|crates/&|' | tr '\n' '\0'
       printf '%s\0' crates.txt HANDLES crates/fshell/out/fshell
     } >"$noted") 2>/dev/null && touch -r "$noted.time" -- "$noted" && mv -f -- "$noted" "$out/looked-at"

@@ -6,7 +6,7 @@ import shlex
 from dataclasses import dataclass, field
 from typing import Any
 
-from tools import leaving, program, rte_search, rte_sites
+from tools import leaving, program, rte_search, rte_sites, source_map
 from tools.program import Failure
 from tools.reports import BOUNDS
 from tools.rte_rows import Verdict
@@ -68,6 +68,7 @@ class Page:
             self.said = list(leaving.of_value(self.value["limits"]).lines())
             self.files = self.files_of([*self.value["sources"], *self.originals()])
             self.rows = [self.row(number, row) for number, row in enumerate(self.value["rows"], 1)]
+            self.files = [one for one in self.files if not self.is_written(one)]
         except (ValueError, KeyError, TypeError):
             raise Failure(f"{folder} has no whole rte.json") from None
 
@@ -86,6 +87,11 @@ class Page:
             lines = [Line(f"f{at}-{number}", line) for number, line in enumerate(text.split("\n")[:-1], 1)]
             made.append(File(name, lines))
         return [one for one in made if one.name != header]
+
+    def is_written(self, file: File) -> bool:
+        """Whether bin/adapt wrote a file, and nothing stands there, since the originals are shown."""
+        beside = os.path.join(self.asked["place"], os.path.dirname(file.name), source_map.NAME)
+        return os.path.exists(beside) and not any(line.rows for line in file.lines)
 
     def line_of(self, place: str) -> Line | None:
         """The line of a place, if its file is shown."""

@@ -87,7 +87,7 @@ def rows_of(graph: Graph, folder: Folder, asked: Asked, limits: Limits, warned: 
     made = Rows(graph, operations, found, limits)
     steps = rte_apart.Steps(graph, folder.path, asked, operations, jobs)
     made.apart = {node: steps.of_node(node) for node in found.failed}
-    written = rte_sites.of_finder(graph, finder, table, asked.entry)
+    written = rte_sites.of_finder(graph, finder, table, asked.entry, asked.place)
     sites = rte_sites.Sites(graph, folder.path, asked, written, jobs) if written else None
     if limits.make_unreachable and (operations or sites):
         nodes = made.all_never() | {node for site in written for node in site.operation.nodes}
@@ -97,7 +97,8 @@ def rows_of(graph: Graph, folder: Folder, asked: Asked, limits: Limits, warned: 
         for site in written:
             rows.append((set(finder.at.get((site.file, *site.spot), [])), sites.row(site, limits, made.unreached)))
         rows.sort(key=lambda one: min(one[0], default=len(finder.words)))
-    return [row for _, row in rte_order.Regions(graph, finder, warned).restricted(rows)]
+    restricted = rte_order.Regions(graph, finder, warned, asked.place).restricted(rows)
+    return [rte_told.of_the_user(row, asked) for _, row in restricted]
 
 
 def tokens_of(finder: Finder, row: Row) -> set[int]:

@@ -9,7 +9,7 @@ order, if by another operation; so only what is said of the operations of that s
 import dataclasses
 from collections.abc import Iterable, Iterator
 
-from tools import order
+from tools import order, originals
 from tools.asked import Asked
 from tools.graph import Graph
 from tools.order import Warned
@@ -42,8 +42,8 @@ def limits_of(limits: Limits, asked: Asked) -> tuple[Limits, list[Warned]]:
 class Regions:
     """The tokens of statements in which an order is open, and of all functions that they call."""
 
-    def __init__(self, graph: Graph, finder: Finder, warned: Iterable[Warned]) -> None:
-        self.graph, self.finder = graph, finder
+    def __init__(self, graph: Graph, finder: Finder, warned: Iterable[Warned], place: str) -> None:
+        self.graph, self.finder, self.place = graph, finder, place
         self.found = [(one, self.region(one)) for one in warned]
 
     def region(self, one: Warned) -> set[int]:
@@ -65,8 +65,9 @@ class Regions:
             (one, region) for one, region in self.found if any(not tokens or tokens & region for tokens in wrong)
         ]
         for tokens, row in rows:
-            place = next((one.place for one, region in open_ones if tokens & region), "")
-            if place and row.verdict in (Verdict.NEVER, Verdict.NOT_REACHED):
+            found = next((one for one, region in open_ones if tokens & region), None)
+            if found and row.verdict in (Verdict.NEVER, Verdict.NOT_REACHED):
+                place = originals.place_of(found.file, found.line, found.column, self.place)
                 why = f"C leaves the order of evaluation open at {place} (strict)"
                 row = dataclasses.replace(row, verdict=Verdict.WITHIN, why=why)
             yield tokens, row

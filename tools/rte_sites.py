@@ -11,7 +11,7 @@ from collections.abc import Sequence
 from dataclasses import dataclass, replace
 
 from tools import graph as graphs
-from tools import program
+from tools import originals, program
 from tools.asked import Asked
 from tools.campaign import measured
 from tools.folder import Folder
@@ -83,13 +83,15 @@ def table_of(sources: Sequence[str], graph: Graph) -> Table:
         raise Failure(f"{path} isn't what bin/adapt wrote") from None
 
 
-def of_call(finder: Finder, table: Table, edges: tuple[Edge, ...], token: int, text: str) -> Site:
-    """The site of a call whose function's name is a token."""
+def of_call(finder: Finder, table: Table, edges: tuple[Edge, ...], token: int, text: str, at: str) -> Site:
+    """The site of a call whose function's name is a token; `at` is the folder in which the sources' names stand."""
     word = finder.words[token]
     kind, place, told = table.operation(word.file, word.line, word.column)
     file, line, column = word.file, word.line, word.column
     if place:
         file, *spot = place.rsplit(":", 2)
+        named = originals.place_of(word.file, word.line, 0, at).rsplit(":", 1)[0]
+        file = file if named == word.file else named  # (as the other rows of that file have it)
         line, column = map(int, spot)
     nodes = frozenset(edge.source for edge in edges)
     return Site(
@@ -101,7 +103,7 @@ def of_call(finder: Finder, table: Table, edges: tuple[Edge, ...], token: int, t
     )
 
 
-def of_finder(graph: Graph, finder: Finder, table: Table, entry: str) -> list[Site]:
+def of_finder(graph: Graph, finder: Finder, table: Table, entry: str, at: str) -> list[Site]:
     """The sites that an entry may come to, in the order of the sources; a call that isn't found there is one by its edge alone."""
     reached = reached_from(graph, entry)
     calls = [edge for edge in graph.edges if edge.operation == "call" and edge.name in table.functions]
@@ -112,7 +114,7 @@ def of_finder(graph: Graph, finder: Finder, table: Table, entry: str) -> list[Si
             continue
         edges = tuple(edge for edge in finder.edges_of_call(form) if edge.number in left)
         if edges:
-            found.append(of_call(finder, table, edges, form.mark, finder.text(form)))
+            found.append(of_call(finder, table, edges, form.mark, finder.text(form), at))
     known = {edge.number for site in found for edge in site.edges}
     for number, edge in left.items():
         if number not in known:

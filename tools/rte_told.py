@@ -1,12 +1,15 @@
 """The rows of bin/rte for other programs: findings at places, and a C file that repeats the failures under gcc's sanitizers."""
 
+import dataclasses
 import os
+import re
 from collections.abc import Sequence
 from dataclasses import dataclass
 
-from tools import sarif
+from tools import originals, sarif
 from tools.asked import Asked
 from tools.rte_rows import Row, Verdict
+from tools.rte_sites import FOLDER
 
 RULES = {
     "run-time-error": ("error", "A run is ended by an operation: the input is told."),
@@ -38,8 +41,20 @@ class Finding:
 
 def place_of(row: Row) -> tuple[str, int, int]:
     """The file, the line and the column of a row; a node has no column."""
-    file, line, column = row.place.rsplit(":", 2) if row.operations else (*row.place.rsplit(":", 1), "1")
+    found = re.fullmatch(r"(.*?):(\d+)(?::(\d+))?", row.place)
+    file, line, column = (found[1], found[2], found[3] or "1") if found else (row.place, "1", "1")
     return os.path.relpath(file) if os.path.isabs(file) else file, int(line), int(column)
+
+
+def of_the_user(row: Row, asked: Asked) -> Row:
+    """A row as the user knows it: of a source that bin/adapt wrote the place in the original, and its names. An operation that was
+    written as a call has these already."""
+    if row.folder == FOLDER:
+        return row
+    file, *spot = row.place.rsplit(":", 2) if row.operations else row.place.rsplit(":", 1)
+    place = originals.place_of(file, int(spot[0]), int(spot[1]) if len(spot) > 1 else 0, asked.place)
+    what = originals.words_of(row.what, asked.sources, asked.place)
+    return dataclasses.replace(row, place=place, what=what)
 
 
 def findings(rows: Sequence[Row]) -> list[Finding]:

@@ -34,7 +34,7 @@ class Mapped:
 
 
 def sum_of(data: bytes) -> str:
-    """The sum by which a map knows a file."""
+    """The SHA-256 sum of bytes."""
     return hashlib.sha256(data).hexdigest()
 
 

@@ -96,7 +96,7 @@ def many(count):
 
 
 def generated(folder, name):
-    """The first report of a campaign."""
+    """What the first generate of a campaign answered."""
     with open(os.path.join(folder, name, "generated.json"), encoding="utf-8") as file:
         return json.load(file)
 

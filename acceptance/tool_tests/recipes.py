@@ -52,7 +52,7 @@ def machine(folder):
 
 
 def ended(command, env, module):
-    """How a recipe's command ends in a module."""
+    """How a command of a recipe ends in the module's folder."""
     return subprocess.run(["sh", "-e", "-c", command], cwd=module, env=env, stdin=subprocess.DEVNULL, capture_output=True, text=True)
 
 

@@ -147,7 +147,7 @@ def words_that_go_together(folder):
     yield not os.path.exists(os.path.join(folder, "ad"))
     put(folder, {"b.c": "int f(unsigned x) { return x / 2; }\n"})
     yield run(folder, ["adapt", "b.c", "-o", "new", "--check-overflow"]).returncode == 0
-    yield os.listdir(os.path.join(folder, "new")) == ["b.c"]  # (nothing can overflow)
+    yield not {"overflow.h", "overflow.json"} & set(os.listdir(os.path.join(folder, "new")))  # (nothing can overflow)
 
 
 def a_broken_table_is_told(folder):
@@ -217,6 +217,11 @@ def planted_faults_are_red(folder):
         yield row["gcc"] in word.replace("runtime error: ", "") or row["gcc"].startswith(word.replace("runtime error: ", ""))
         yield f"  to repeat it: d/failures {row['failure']}\n  gcc: {row['gcc']}\n" in stdout
     yield len(rows) == 12 and all(row["verdict"] == "never" for row in rows if row not in fails.values())
+    # all rows are told as the original has them, by the map beside what was written
+    yield all(row["place"].startswith("scale.c:") for row in rows) and fails[18]["what"] == "index channels.gain[channel]"
+    run(folder, ["page", "d", "-o", "p.html"])
+    with open(os.path.join(folder, "p.html"), encoding="utf-8") as file:
+        yield re.findall("<h2>(.*?)</h2>", file.read()) == ["scale.c"]
 
 
 def green_rows_are_certified(folder):
@@ -334,6 +339,6 @@ def a_stopped_run_goes_on(folder):
 
 GRAPH = ("graph",)
 TRIED = [(ADAPT, each_form_is_a_call), (ADAPT, conversions_are_calls), (ADAPT, words_that_go_together), (ADAPT, a_broken_table_is_told),
-         (GRAPH, eight_of_each_verdict), (ADAPT, planted_faults_are_red), (ADAPT, green_rows_are_certified),
+         (GRAPH, eight_of_each_verdict), ((*ADAPT, "jinja2"), planted_faults_are_red), (ADAPT, green_rows_are_certified),
          (("graph", "gcc"), failures_are_repeated), (GRAPH, other_programs_read_it), (("graph", "jinja2"), a_page_has_each_row),
          ((), colours_have_contrast), (GRAPH, a_stopped_run_goes_on)]  # fmt: skip

@@ -28,7 +28,7 @@ def a_module(folder):
 
 
 def at(folder, name):
-    """The path of a report of a project."""
+    """The path of a file of the report."""
     return os.path.join(folder, DIRECTORY, "report", name)
 
 

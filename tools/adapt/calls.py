@@ -1,4 +1,4 @@
-"""Writes calls: what they hand over, what they hand back, and that no two names of one object meet; and whole structs."""
+"""Writes calls: what they hand over, what they hand back, and that no two names of one object meet."""
 
 from contextlib import contextmanager
 from typing import Any, Iterator, Optional
@@ -8,30 +8,23 @@ from pycparser import c_ast
 from . import kinds
 from .bindings import key
 from .constants import is_offset
-from .effects import Effects, Object, may_be, objects, pointee
-from .initialisers import filled, none_of
+from .effects import Object, may_be, objects, pointee
+from .initialisers import none_of
 from .heap import heap_call
-from .kinds import Int, Leaf, Pointer, Struct
+from .kinds import Int, Pointer, Struct
 from .library import OUTPUT
 from .declarators import Function, Variable
-from .output import unmarked
 from .places import Place, arguments
 from .refusals import Refused
 from .regions import INDEX
+from .wholes import Wholes
 from .values import PRIMARY, Value
-from .models import Model, ModelCalls, model_of
-from .outside import OutsideCalls
+from .models import Model, model_of
 
-MOST_COPIED, MOST_ELEMENTS = 256, 1024
+MOST_ELEMENTS = 1024
 
 
-class Calls(ModelCalls, OutsideCalls):
-    def effect(self, node: Any) -> None:
-        raise NotImplementedError
-
-    def either(self, node: Any, do: Any) -> None:
-        raise NotImplementedError
-
+class Calls(Wholes):
     def called(self, node: Any) -> Function:
         function = self.places.choosers.called(node)
         if not isinstance(function, Function):
@@ -211,85 +204,6 @@ class Calls(ModelCalls, OutsideCalls):
             self.emit(text + ";")
         for one in after:
             self.emit(one)
-
-    # ---- structs
-
-    def assign_whole(self, target: Place, source: Any, node: Any) -> None:
-        """Writes the assignment of a struct, member by member."""
-        if isinstance(source, c_ast.TernaryOp):
-            self.either(source, lambda one: self.assign_whole(target, one, node))
-            return
-        if isinstance(source, c_ast.ExprList):
-            for one in source.exprs[:-1]:
-                self.effect(one)
-            self.assign_whole(target, source.exprs[-1], node)
-            return
-        if sum(leaf.count for leaf in kinds.leaves(target.type)) > MOST_COPIED:
-            raise Refused(node.coord, f"a struct of more than {MOST_COPIED} integers is copied", "copy what is needed")
-        self.unsequenced(node, [c_ast.ExprList([one for one, _ in target.indexes]), source])
-        index = self.index(target, True)
-        if isinstance(source, c_ast.CompoundLiteral):
-            values = self.literal(target, source)
-        else:
-            values = self.integers(*self.whole(source, target))
-        for (_, to), (_, of) in zip(self.integers(target, index), values):
-            for one, value in zip(to, of):
-                self.emit(f"{one} = {value};")
-
-    def kept_whole(self, node: Any) -> Any:
-        """A member of a struct that is no object (6.5.2.3p3), as one of an object that is written before and has it."""
-        if isinstance(node, (c_ast.StructRef, c_ast.ArrayRef)):
-            base = self.kept_whole(node.name)
-            if isinstance(node, c_ast.ArrayRef):
-                return c_ast.ArrayRef(base, node.subscript, node.coord)
-            return c_ast.StructRef(base, ".", node.field, node.coord)
-        of = self.constants.type_of(node)
-        local = Variable("whole", of, node.coord, "local", out=self.spelling.fresh("whole"))
-        self.declared(local)
-        self.assign_whole(Place(local, (), (), of), node, node)
-        made = c_ast.ID(local.out, node.coord)
-        self.names.meaning[id(made)] = local
-        self.kept_nodes.append(made)
-        return made
-
-    def whole(self, source: Any, target: Place) -> tuple[Place, Optional[Value]]:
-        """The object in which a struct's value stands."""
-        if isinstance(source, c_ast.FuncCall):
-            function = self.called(source)
-            text, after = self.call(source)
-            if function.definition is None:
-                raise Refused(
-                    source.coord,
-                    f"no source defines {function.name}, which gives a struct",
-                    "give the source that defines it",
-                )
-            for one in [text + ";", *after]:
-                self.emit(one)
-            own = self.spelling.special(function, "result", function.result, self.special)
-            return Place(own, (), (), function.result), None
-        if isinstance(source, c_ast.Assignment) and source.op == "=":
-            self.assign_whole(self.places.place(source.lvalue), source.rvalue, source)
-            source = source.lvalue
-        place = self.places.place(source)
-        reads = self.effected.of(c_ast.ExprList([one for one, _ in place.indexes])).reads
-        return place, self.index(place, True, any(one in reads for one in objects(target)))
-
-    def literal(self, target: Place, source: Any) -> list[tuple[Leaf, list[str]]]:
-        """The values of a compound literal, kept where the target itself may be among what they read."""
-        made = filled(self.constants, target.type, source.init)
-        if made.wholes:
-            raise Refused(source.coord, "a struct within a compound literal", "give its members one by one")
-        self.unsequenced(source, list(made.given.values()))
-        reads: Effects = self.effected.of(source)
-        apart = not any(one in reads.reads for one in objects(target)) and not any(reads.reads.values())
-        found = []
-        for leaf in kinds.leaves(target.type):
-            inits, texts = made.of(leaf), []
-            for at in range(leaf.count):
-                value = unmarked(self.converted(self.value(inits[at]), leaf.kind).text) if at in inits else "0"
-                texts.append(value if apart or at not in inits else self.temporary(leaf.kind, value))
-            found.append((leaf, texts))
-        return found
 
     @staticmethod
     def check_lengths(variable: Variable) -> None:

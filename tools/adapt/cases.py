@@ -55,21 +55,20 @@ class Cases:
             self.replaced(body, switch)
 
     def replaced(self, body: Any, switch: Any) -> None:
-        end, heads, rest = self.fresh("end"), [], [None]
+        end, heads = self.fresh("end"), []
         leaves(switch.stmt, end)
         default = end
         holder = c_ast.Compound([switch.stmt])
-        while rest:
-            rest = list(cases_of(holder))
-            for node, slot, child in rest[:1]:
-                name = self.fresh("case")
-                if isinstance(child, c_ast.Default):
-                    default = name
-                else:
-                    heads.append(c_ast.Case(child.expr, [c_ast.Goto(name, child.coord)], child.coord))
-                stmts = list(child.stmts or []) or [c_ast.EmptyStatement(child.coord)]
-                label = c_ast.Label(name, stmts[0], child.coord)
-                self.spread(node, slot, child, [label, *stmts[1:]])
+        while (found := next(cases_of(holder), None)) is not None:
+            node, slot, child = found
+            name = self.fresh("case")
+            if isinstance(child, c_ast.Default):
+                default = name
+            else:
+                heads.append(c_ast.Case(child.expr, [c_ast.Goto(name, child.coord)], child.coord))
+            stmts = list(child.stmts or []) or [c_ast.EmptyStatement(child.coord)]
+            label = c_ast.Label(name, stmts[0], child.coord)
+            self.spread(node, slot, child, [label, *stmts[1:]])
         heads.append(c_ast.Default([c_ast.Goto(default, switch.coord)], switch.coord))
         chosen = c_ast.Switch(switch.cond, c_ast.Compound(heads), switch.coord)
         made = c_ast.Compound(

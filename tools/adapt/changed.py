@@ -22,24 +22,32 @@ CHANGING = set(
 
 
 def takes_const(function: Function, number: int) -> bool:
-    """Whether a parameter is a pointer to what is const, or one of those that are any number."""
+    """Whether a parameter is a pointer to what is const, or one of those that are any number of a function that only reads."""
     written = function.declaration.type.args.params if function.declaration.type.args else []
     if number >= len(written) or isinstance(written[number], c_ast.EllipsisParam):
-        return function.variadic
+        return function.variadic and function.name not in CHANGING
     of = written[number].type
     return isinstance(of, c_ast.PtrDecl) and "const" in (getattr(of.type, "quals", None) or [])
 
 
 def handed(places: Any, function: Function, number: int, argument: Any) -> Optional[Place]:
     """The object that a call may change by an argument, where its integers are known and few."""
-    if takes_const(function, number) and function.name not in CHANGING:
+    if takes_const(function, number):
         return None
     of = places.names.constants.type_of(argument)
     whole = isinstance(argument, c_ast.UnaryOp) and argument.op == "&"
-    if not isinstance(of, (Pointer, Array)) or not (whole or isinstance(of, Array) or isinstance(kinds.element(of.to), Struct)):
+    if not isinstance(of, (Pointer, Array)) or not (
+        whole or isinstance(of, Array) or isinstance(kinds.element(of.to), Struct)
+    ):
         return None
     try:
-        place = places.place(argument.expr) if whole else places.place(argument) if isinstance(of, Array) else places.pointed(argument)
+        place = (
+            places.place(argument.expr)
+            if whole
+            else places.place(argument)
+            if isinstance(of, Array)
+            else places.pointed(argument)
+        )
     except Refused:
         return None
     leaves = list(kinds.leaves(place.type))

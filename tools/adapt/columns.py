@@ -74,7 +74,9 @@ class Columns:
         owners: list[Owner] = [*region.objects, *self.inner.get(region, [])]
         for owner in owners:
             count, each = self.pool(owner, region) if owner in self.pools else self.extent(owner)
-            end = -(-end // 8) * 8 if region.raw else end  # (as aligned as their objects are, so that a test of it tells the same)
+            end = (
+                -(-end // 8) * 8 if region.raw else end
+            )  # (as aligned as their objects are, so that a test of it tells the same)
             self.begins[(region, owner)] = end
             end += count + 1
             objects += each

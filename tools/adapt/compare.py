@@ -114,7 +114,9 @@ class Comparison:
         # (main is the comparison's own)
         self.entries = [one for one in functions if plain(one) and one.name != "main"]
         if writer.registers:
-            raise Stop(f"{writer.registers[0].name} is an input of what was written, and an object of the original, so nothing can be compared")
+            raise Stop(
+                f"{writer.registers[0].name} is an input of what was written, and an object of the original, so nothing can be compared"
+            )
         if writer.outer_values:
             name = next(iter(writer.outer_values))[0].name
             raise Stop(f"what {name} writes is an input of what was written, so nothing can be compared")

@@ -112,9 +112,7 @@ class Constants:
         """The type of an expression before any conversion of arrays."""
         if isinstance(node, c_ast.Constant):
             return (
-                Array(character(node.value), len(codes(node.value)) + 1)
-                if node.type == "string"
-                else number(node)[1]
+                Array(character(node.value), len(codes(node.value)) + 1) if node.type == "string" else number(node)[1]
             )
         if isinstance(node, c_ast.ID) and hasattr(self.names.meaning.get(id(node)), "value"):
             return kinds.INT

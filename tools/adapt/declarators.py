@@ -81,6 +81,15 @@ class Enumerator:
     out: str
 
 
+def bit_field(declared: Int, width: int) -> Int:
+    """The type of a bit-field."""
+    if declared.boolean:
+        return declared
+    bits = 8 if width <= 8 else 16 if width <= 16 else 32
+    signed = declared.signed or 16 < width < 32
+    return Int(bits, signed, f"{'' if signed else 'u'}int{bits}_t", False, width, declared.signed)
+
+
 class Declarators:
     """The names that are known so far. `meaning` is by the id of an ID or Decl node, `types` by that of a Typename."""
 
@@ -195,7 +204,7 @@ class Declarators:
         made.declared.append((node.name or "", of, width))
         if node.name is None:
             return []
-        return [(node.name, of if width == of.bits else kinds.bit_field(of, width))]
+        return [(node.name, of if width == of.bits else bit_field(of, width))]
 
     def enum(self, node: Any) -> Type:
         if node.values is None:

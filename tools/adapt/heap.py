@@ -116,7 +116,11 @@ class Heap:
         for one in given[len(old) :]:
             known = writer.constants.value(one)
             value = writer.value(one) if known is None else Value(str(known), kinds.SIZE, PRIMARY)
-            values.append(value if number(value) is not None else Value(writer.temporary(kinds.SIZE, value.text), kinds.SIZE, PRIMARY))
+            values.append(
+                value
+                if number(value) is not None
+                else Value(writer.temporary(kinds.SIZE, value.text), kinds.SIZE, PRIMARY)
+            )
         name = self.function(called, pool, region)
         text = f"{name}({', '.join([*old, *(one.text for one in values)])})"
         index = Value(writer.temporary(kinds.INT, text, "pointer"), kinds.INT, PRIMARY)
@@ -164,7 +168,9 @@ class Heap:
             name = self.writer.spelling.leaf(variable, inside)
             for at in range(leaf.count):
                 plain = factor == 1 and add + at == 0
-                to, of = [f"{name}[{one} + i]" if plain else f"{name}[({one} + i) * {factor} + {add + at}]" for one in "qp"]
+                to, of = [
+                    f"{name}[{one} + i]" if plain else f"{name}[({one} + i) * {factor} + {add + at}]" for one in "qp"
+                ]
                 moves.append(f"{to} = {of};")
         loop = f"for (int i = 0; i + 1 < {sizes}[p] & i < {whole}; i++) {{ {' '.join(moves)} }}"
         return f"if (p != {NIL}) {{ assert({sizes}[p] > 0); {loop} {sizes}[p] = 0; }} "

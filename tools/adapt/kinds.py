@@ -172,15 +172,6 @@ def fit(value: int, kind: Int) -> int:
     return value - (1 << kind.bits) if kind.signed and value >> (kind.bits - 1) else value
 
 
-def bit_field(declared: Int, width: int) -> Int:
-    """The type of a bit-field."""
-    if declared.boolean:
-        return declared
-    bits = 8 if width <= 8 else 16 if width <= 16 else 32
-    signed = declared.signed or 16 < width < 32
-    return Int(bits, signed, f"{'' if signed else 'u'}int{bits}_t", False, width, declared.signed)
-
-
 def has_bytes(of: Type) -> bool:
     """Whether an object of the type may stand as its bytes: it has a known size, and no pointers or bit-fields."""
     if isinstance(of, Array):

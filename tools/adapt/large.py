@@ -52,12 +52,12 @@ class LargeArrays:
                 listed.pop()
             first = "" if listed == [0] else f" = {{{', '.join(f'{word}ul' if word else '0' for word in listed)}}}"
             texts.append(f"static {'const ' if const else ''}unsigned long {own}[{len(chunk)}]{first};")
-            at = f"{own}[(i >> {shift}) - {begin}]" if begin else f"{own}[i >> {shift}]" if shift else f"{own}[i]"
+            word_at = f"{own}[(i >> {shift}) - {begin}]" if begin else f"{own}[i >> {shift}]" if shift else f"{own}[i]"
             up = f"((i & {each - 1}) << {step})" if shift else "0"
             mask = hex((1 << kind.bits) - 1) + "ul"
-            reads.append(f"return ({kind.text}) ({at} >> {up});")
+            reads.append(f"return ({kind.text}) ({word_at} >> {up});")
             word = f"unsigned {'char' if kind.bits == 8 else 'short' if kind.bits == 16 else 'int' if kind.bits == 32 else 'long'}"
-            sets.append(f"{at} = {at} & ~({mask} << {up}) | (unsigned long) ({word}) v << {up};")
+            sets.append(f"{word_at} = {word_at} & ~({mask} << {up}) | (unsigned long) ({word}) v << {up};")
         chunk_shift = shift + MOST_ELEMENTS.bit_length() - 1
         outside = f"assert((i >= 0) & (i < {count})); "
         texts.append(f"static {kind.text} {one.reads}(long i) {{ {outside}{self.switched(reads, chunk_shift, True)} }}")
@@ -81,7 +81,8 @@ class LargeArrays:
         if not self.known:
             return text
         words = re.compile(r"\b(" + "|".join(map(re.escape, self.known)) + r")\[")
-        made, at = [], 0
+        made: list[str] = []
+        at = 0
         while True:
             found = words.search(text, at)
             if not found:

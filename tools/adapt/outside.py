@@ -4,13 +4,14 @@ from typing import Any
 
 from pycparser import c_ast
 
-from .changed import CHANGING, handed, takes_const
+from .changed import handed, takes_const
 from .declarators import Function
 from .kinds import Array, Int, Pointer
 from .places import Place, arguments
 from .pointer_effects import PointerEffects
 from .refusals import Refused
 from .values import PRIMARY, Value
+
 
 class OutsideCalls(PointerEffects):
     def outer_call(self, node: Any, function: Function) -> tuple[str, list[str]]:
@@ -60,4 +61,4 @@ class OutsideCalls(PointerEffects):
             return not isinstance(argument, c_ast.Constant)
         region = self.places.columns.pointer(argument).region.root()
         ours = bool(region.objects) or region in self.places.columns.inner
-        return ours and (function.name in CHANGING or not takes_const(function, number))
+        return ours and not takes_const(function, number)

@@ -141,7 +141,7 @@ class Places:
         """The kind of the integer of which a place is a part."""
         of: Any = place.variable.type
         for name in place.path:
-            of = kinds.element(of).type_of(name)
+            of = getattr(kinds.element(of), "type_of")(name)
         found = kinds.element(of)
         assert isinstance(found, Int)
         return found

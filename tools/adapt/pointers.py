@@ -15,7 +15,7 @@ from .places import At, Place
 from .output import unmarked
 from .refusals import Refused
 from .regions import BEGIN, END, INDEX, NIL
-from .values import PRIMARY, UNARY, Value, number, plus, times
+from .values import PRIMARY, UNARY, Value, minus, number, plus, times
 from .writer import Writer
 
 MOST = 16383  # no index of a column is greater
@@ -299,7 +299,3 @@ class Pointers(Writer):
             return index
         text = " | ".join([index.within(4), *(f"-({unmarked(one)})" for one in tests)])
         return Value(text, index.kind if index.kind.bits == 32 else kinds.INT, 3)
-
-
-def minus(known: int) -> Value:
-    return Value(str(-known), kinds.INT, UNARY)

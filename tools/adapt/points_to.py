@@ -5,17 +5,18 @@ from typing import Any, Optional
 from pycparser import c_ast
 
 from . import kinds, unions
-from .bindings import key, with_parents
+from .bindings import with_parents
 from .declarators import Function, Variable
-from .constants import is_offset
-from .heap import GIVES, TAKES, Pool, heap_call, known_call
+from .heap import GIVES, Pool, heap_call, known_call
 from .initialisers import filled
 from .kinds import Array, Int, Pointer, Signature, Struct, Type
-from .models import WHOLE, Model, element_count, model_of
+from .meetings import visit
+from .models import Model, model_of
 from .names import Names
 from .places import Place, arguments
 from .refusals import Refused
 from .regions import Region
+from .settling import settle
 from .unification import Unification
 
 
@@ -40,63 +41,8 @@ class PointsTo(Unification):
             if function.definition is not None:
                 self.function = function
                 for node, _ in with_parents(function.definition.body):
-                    self.visit(node)
-        self.settle()
-
-    def settle(self) -> None:
-        """Lets objects stand as their bytes where something needs them: parts of a union that are pointed to, unions whose members
-        have no common form, and memory that is copied, set or compared by bytes."""
-        for variable in self.names.variables:
-            if kinds.is_mixed(variable.type):
-                self.home(variable)
-        before = -1
-        while before != self.raws():
-            before = self.raws()
-            for made, region, at in self.parts:
-                if made.root().pointed and made.root() is not region.root():
-                    made.root().fault = None
-                    self.as_bytes(region, [region.root().elem], at)
-                    self.as_bytes(made, [made.root().elem], at)
-                    self.unify(region, made, at)
-            for variable, region in list(self.homes.items()):
-                if kinds.is_mixed(variable.type) and not region.root().raw:
-                    self.as_bytes(region, [region.root().elem], variable.coord)
-            for of in self.pointers():
-                if kinds.is_mixed(of.to) and not of.region.root().raw:
-                    self.as_bytes(of.region, [of.to], None)
-            for node, model in self.modelled:
-                self.by_bytes(node, model)
-
-    def raws(self) -> int:
-        regions = {one.root() for one in self.homes.values()} | {of.region.root() for of in self.pointers()}
-        return sum(1 for one in regions if one.raw or one.fault)
-
-    def pointers(self) -> list[Pointer]:
-        return [of for _, of in self.values.values() if isinstance(of, Pointer)]
-
-    def by_bytes(self, node: Any, model: Model) -> None:
-        """A call of a library's function on objects that it doesn't take as whole elements."""
-        of = [self.value(one) for one in arguments(node) if not self.is_null(one)]
-        regions = [one.region.root() for one in of if isinstance(one, Pointer)]
-        elems = [one.elem for one in regions]
-        if all(isinstance(one, Int) and one.bits == 8 for one in elems) or any(one.fault for one in regions):
-            return
-        known = all(one is not None and kinds.has_bytes(one) for one in elems)
-        sizes = {kinds.size(one) for one in elems if one is not None}
-        alike = not any(one.raw for one in regions) and not any(self.differ(elems[0], one) for one in elems[1:])
-        whole = known and alike and len(sizes) == 1 and model.name in WHOLE and self.is_whole(node, model, sizes.pop() or 1)
-        if model.name == "memset" and self.constants.value(arguments(node)[1]) != 0:
-            whole = False
-        if known and not whole:
-            for one in regions:
-                self.as_bytes(one, [one.elem], node.coord)
-
-    def is_whole(self, node: Any, model: Model, size: int) -> bool:
-        try:
-            element_count(self.constants, arguments(node)[-1], size)
-        except Refused:
-            return False
-        return True
+                    visit(self, node)
+        settle(self)
 
     # ---- types of expressions, with their regions
 
@@ -127,7 +73,11 @@ class PointsTo(Unification):
             of = self.constants.type_of(node)
             return of, Region(of)
         if isinstance(node, (c_ast.ExprList, c_ast.Assignment, c_ast.TernaryOp)):
-            parts = [node.iftrue] if isinstance(node, c_ast.TernaryOp) else [node.exprs[-1] if isinstance(node, c_ast.ExprList) else node.lvalue]
+            parts = (
+                [node.iftrue]
+                if isinstance(node, c_ast.TernaryOp)
+                else [node.exprs[-1] if isinstance(node, c_ast.ExprList) else node.lvalue]
+            )
             return self.place(parts[0])
         raise Refused(node.coord, "what is no named object", "use a variable")
 
@@ -249,6 +199,23 @@ class PointsTo(Unification):
             inner = inner.name
         return Pointer(of, region)
 
+    def of_heap(self, node: Any) -> str:
+        """The function of the heap that a call calls, if it does."""
+        return heap_call(self.names.meaning.get(id(node))) or known_call(node, self.learned)
+
+    def allocated(self, node: Any) -> Type:
+        """Memory that a call gives: an object of its own."""
+        name = self.of_heap(node)
+        variable = Variable("heap", kinds.VOID, node.coord, "pool", function=self.function, defined=True)
+        self.pools[id(node)] = Pool(node, name, variable, self.names.pool[0])
+        made = Pointer(kinds.VOID)
+        made.region.objects.append(variable)
+        made.region.pointed = True
+        if name == "realloc":
+            self.flow(arguments(node)[0], made)
+            made.region.root().freed = True
+        return made
+
     def text(self, node: Any) -> Type:
         """A string is an object of its own."""
         if id(node) not in self.texts:
@@ -322,130 +289,3 @@ class PointsTo(Unification):
             self.flow(node, to)
         except Refused:
             pass  # (told where it is written)
-
-    def visit(self, node: Any) -> None:
-        try:
-            if isinstance(node, c_ast.Decl) and node.init is not None:
-                variable = self.names.meaning.get(id(node))
-                if isinstance(variable, Variable) and not isinstance(node.init, c_ast.InitList):
-                    self.flow(node.init, variable.type)
-            elif isinstance(node, c_ast.Assignment):
-                self.assigned(node)
-            elif isinstance(node, c_ast.FuncCall):
-                self.called(node)
-            elif isinstance(node, c_ast.Return) and node.expr is not None and self.function is not None:
-                self.flow(node.expr, self.function.result)
-            elif isinstance(node, c_ast.UnaryOp) and node.op in ("++", "--", "p++", "p--"):
-                of = self.value(node.expr)
-                if isinstance(of, Pointer):
-                    root = of.region.root()
-                    root.moved, root.down = True, root.down or "--" in node.op
-            elif isinstance(node, c_ast.BinaryOp):
-                self.compared(node)
-            elif isinstance(node, (c_ast.ArrayRef, c_ast.StructRef)) or (
-                isinstance(node, c_ast.UnaryOp) and node.op == "*"
-            ):
-                self.place(node)
-            elif isinstance(node, (c_ast.Cast, c_ast.TernaryOp)):
-                self.value(node)
-        except Refused:
-            pass  # (told where it is written)
-
-    def assigned(self, node: Any) -> None:
-        to = self.value(node.lvalue)
-        if isinstance(to, Pointer) and node.op in ("+=", "-="):
-            self.moves(to.region, node.rvalue, node.op == "-=")
-        elif node.op == "=":
-            self.flow(node.rvalue, to)
-
-    def compared(self, node: Any) -> None:
-        if node.op in ("==", "!=", "<", ">", "<=", ">="):
-            if self.is_null(node.left) or self.is_null(node.right):
-                return
-            left, right = self.value(node.left), self.value(node.right)
-            if isinstance(left, Pointer) and isinstance(right, Pointer):
-                self.unify(left.region, right.region, node.coord)
-        elif node.op in ("+", "-"):
-            self.value(node)
-
-    def of_heap(self, node: Any) -> str:
-        """The function of the heap that a call calls, if it does."""
-        return heap_call(self.names.meaning.get(id(node))) or known_call(node, self.learned)
-
-    def allocated(self, node: Any) -> Type:
-        """Memory that a call gives: an object of its own."""
-        name = self.of_heap(node)
-        variable = Variable("heap", kinds.VOID, node.coord, "pool", function=self.function, defined=True)
-        self.pools[id(node)] = Pool(node, name, variable, self.names.pool[0])
-        made = Pointer(kinds.VOID)
-        made.region.objects.append(variable)
-        made.region.pointed = True
-        if name == "realloc":
-            self.flow(arguments(node)[0], made)
-            made.region.root().freed = True
-        return made
-
-    def called_heap(self, node: Any, name: str) -> None:
-        if len(arguments(node)) != TAKES[name]:
-            raise Refused(
-                node.coord, f"{name} is declared otherwise than in the library", "declare it as stdlib.h does"
-            )
-        of = self.value(arguments(node)[0] if name == "free" else node)
-        if isinstance(of, Pointer):
-            of.region.root().freed = of.region.root().freed or name == "free"
-
-    def called(self, node: Any) -> None:
-        function = self.names.meaning.get(id(node))
-        if is_offset(node):
-            return
-        if self.of_heap(node):
-            self.called_heap(node, self.of_heap(node))
-            return
-        if model_of(function):
-            self.of_model(node)
-        if not isinstance(function, Function):
-            self.called_by_pointer(node)
-        if not isinstance(function, Function) or function.definition is None:
-            return
-        for argument, parameter in zip(arguments(node), function.parameters):
-            if parameter.is_bound and not isinstance(parameter.type, (Int, Struct)):
-                of, region = self.bound(parameter)
-                mine, _ = self.pointee(argument)
-                if self.differ(of, mine):
-                    self.names.refusals.apart.add(key(parameter))
-                self.same_type(of, mine, node.coord, region)
-            else:
-                self.tried(argument, parameter.type)
-
-    def called_by_pointer(self, node: Any) -> None:
-        of = self.value(node.name)
-        if not isinstance(of, Pointer) or not isinstance(of.to, Signature):
-            raise Refused(node.coord, "a call of what is no function", "call a function")
-        self.pointer_calls.append((self.function, node))
-        for argument, to in zip(arguments(node), of.to.parameters):
-            self.tried(argument, to)
-
-    def of_model(self, node: Any) -> None:
-        """A call of a library's function goes through the objects of its pointers, and may copy from one to the other."""
-        found = [self.value(one) for one in arguments(node) if not self.is_null(one)]
-        regions = [of.region.root() for of in found if isinstance(of, Pointer)]
-        for region in regions:
-            region.pointed = region.moved = True
-        model = model_of(self.names.meaning.get(id(node)))
-        if model is not None and len(arguments(node)) == len(model.parameters):
-            self.modelled.append((node, model))
-        if len(regions) == 2 and all(region.root().elem is not None for region in regions):
-            left, right = [region.root().elem for region in regions]
-            if not self.differ(left, right):
-                self.same_type(left, right, node.coord, regions[0])
-
-    @staticmethod
-    def differ(one: Type, other: Type) -> bool:
-        """Whether objects of two types have one form only as their bytes."""
-        one, other = kinds.element(one), kinds.element(other)
-        if isinstance(one, Int) and isinstance(other, Int):
-            return one.bits != other.bits or one.boolean != other.boolean
-        if isinstance(one, Struct) and isinstance(other, Struct) and one.tag == other.tag:
-            names = [[name for name, _ in of.members or []] for of in (one, other)]
-            return names[0] != names[1]  # (else one struct, of several sources)
-        return one is not other and kinds.has_bytes(one) and kinds.has_bytes(other)

@@ -23,7 +23,8 @@ class Raw:
 
     def array(self, place: Place) -> str:
         """The name of what has the integers of a place's kind: the column, or an array that there isn't."""
-        kind, column = place.type, self.writer.spelling.leaf(place.variable, ())
+        kind: Any = place.type
+        column: str = self.writer.spelling.leaf(place.variable, ())
         assert isinstance(kind, Int)
         if kind.bits == 8:
             return column
@@ -60,7 +61,8 @@ class Raw:
 
     def index(self, place: Place, stable: bool = False, checked: bool = True) -> Value:
         """The number of a place's first byte in its column; -1 where the place isn't within its object."""
-        writer, tests = self.writer, []
+        writer = self.writer
+        tests: list[str] = []
         at = place.indexes[0][0] if len(place.indexes) == 1 and isinstance(place.indexes[0][0], At) else None
         base = Value("0", kinds.INT, PRIMARY)
         for node, length in place.shifted():

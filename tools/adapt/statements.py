@@ -7,11 +7,12 @@ from pycparser import c_ast
 
 from . import kinds
 from .expressions import Expressions
-from .calls import MOST_COPIED
+from .wholes import MOST_COPIED
 from .initialisers import filled, none_of
 from .kinds import Int, Pointer, Struct
 from .jumps import LOOPS
 from .declarators import Variable
+from .outlives import check_outlives
 from .places import Place
 from .refusals import Refused
 
@@ -273,7 +274,7 @@ class Statements(Expressions):
         if node.expr is not None and function.result == kinds.VOID:
             self.effect(node.expr)
         if node.expr is not None and isinstance(function.result, Pointer):
-            self.check_outlives(node.expr)
+            check_outlives(self, node.expr)
             self.return_pointer(function, function.result, node.expr)
             return
         if node.expr is None or not isinstance(function.result, Int):
@@ -286,25 +287,6 @@ class Statements(Expressions):
             text = self.temporary(function.result, text)
         self.hand_back()
         self.emit(f"return {text};")
-
-    def check_outlives(self, node: Any, taken: bool = False) -> None:
-        """Refuses the address of a local as a result: behind the call its content has no meaning (6.2.4p2)."""
-        parts: list[Any] = []
-        if isinstance(node, c_ast.TernaryOp):
-            parts = [node.iftrue, node.iffalse]
-        elif isinstance(node, c_ast.UnaryOp) and node.op == "&":
-            parts, taken = [node.expr], True
-        elif isinstance(node, c_ast.Cast):
-            parts = [node.expr]
-        elif isinstance(node, c_ast.BinaryOp) and node.op in "+-":
-            parts = [one for one in (node.left, node.right) if self.is_pointer(one)]
-        elif isinstance(node, c_ast.ArrayRef) or (isinstance(node, c_ast.StructRef) and node.type == "."):
-            parts = [node.name] if not isinstance(self.constants.type_of(node.name), Pointer) else []
-        for one in parts:
-            self.check_outlives(one, taken)
-        meaning = self.names.meaning.get(id(node)) if isinstance(node, c_ast.ID) else None
-        if isinstance(meaning, Variable) and meaning.home == "local" and (taken or isinstance(meaning.type, kinds.Array)):
-            raise Refused(node.coord, f"the address of the local {meaning.name} as a result", "make it static")
 
     def hand_back(self) -> None:
         """Writes the copies out, before a return."""

@@ -1,27 +1,18 @@
 """`goto` back, or into a block: what has labels is taken apart (a loop becomes tests and jumps, 6.8.5), and its parts are the cases of
 one loop over a state, in which a jump sets the state and goes on (6.8.6.1)."""
 
-import copy
 from typing import Any, Callable
 
 from pycparser import c_ast
 
 from .jumps import LEFT_BY_BREAK, LOOPS, snippet, walk
+from .lists import listed
 from .refusals import Refused
-
-
-MOST_LISTED = 64
 
 
 def holds(node: Any, names: set[str]) -> bool:
     """Whether a label of these stands in a statement."""
     return any(isinstance(one, c_ast.Label) and one.name in names for one in walk(node))
-
-
-def target_name(node: Any) -> str:
-    while isinstance(node, c_ast.ArrayRef):
-        node = node.name
-    return str(node.name)
 
 
 def jump(name: str, coord: Any) -> Any:
@@ -60,8 +51,8 @@ class States:
                 cases[-1][1].append(one)
         made: list[Any] = []
         coord = body.coord
-        for number, listed in cases:
-            block = c_ast.Compound(listed, coord)
+        for number, own in cases:
+            block = c_ast.Compound(own, coord)
             self.jumps(block, at, taken, numbers, 0)
             inner = list(block.block_items) or [c_ast.EmptyStatement(coord)]
             where = next((one.coord for one in inner if one.coord), coord)
@@ -114,38 +105,12 @@ class States:
             return []
         node.init, node.quals = None, []
         if isinstance(init, c_ast.InitList) or isinstance(node.type, c_ast.ArrayDecl):
-            return self.listed(node.type, c_ast.ID(node.name, at), init, at)
+            return listed(node.type, c_ast.ID(node.name, at), init, at)
         of = node.type
         while isinstance(of, c_ast.PtrDecl):
             of.quals = []
             of = of.type
         return [c_ast.Assignment("=", c_ast.ID(node.name, at), init, at)]
-
-    def listed(self, of: Any, target: Any, init: Any, at: Any) -> list[Any]:
-        """The assignments that a list of first values is."""
-        if isinstance(of, c_ast.TypeDecl):
-            if isinstance(init, c_ast.InitList):
-                whole = c_ast.TypeDecl(None, [], None, of.type, at)
-                init = c_ast.CompoundLiteral(c_ast.Typename(None, [], None, whole, at), init, at)
-            return [c_ast.Assignment("=", target, init, at)]
-        if isinstance(of, c_ast.PtrDecl) and not isinstance(init, c_ast.InitList):
-            return [c_ast.Assignment("=", target, init, at)]
-        values = init.exprs or [] if isinstance(init, c_ast.InitList) else []
-        known = isinstance(of, c_ast.ArrayDecl) and isinstance(of.dim, c_ast.Constant) and of.dim.value.isdecimal()
-        plain = known and values and not any(isinstance(one, c_ast.NamedInitializer) for one in values)
-        count = int(of.dim.value) if known else 0
-        inner = of.type if known else None
-        words = isinstance(inner, (c_ast.ArrayDecl, c_ast.PtrDecl)) or isinstance(getattr(inner, "type", None), c_ast.IdentifierType)
-        if not plain or count > MOST_LISTED or (len(values) < count and not words):
-            raise Refused(at, f"the list of first values of {target_name(target)}, in a function with goto back", "assign them")
-        made = []
-        for number in range(count):
-            element = c_ast.ArrayRef(copy.deepcopy(target), c_ast.Constant("int", str(number), at), at)
-            value = values[number] if number < len(values) else c_ast.Constant("int", "0", at)
-            if number >= len(values) and isinstance(inner, c_ast.ArrayDecl):
-                value = c_ast.InitList([c_ast.Constant("int", "0", at)], at)
-            made += self.listed(inner, element, value, at)
-        return made
 
     def flat_Label(self, node: Any) -> list[Any]:
         return self.flat(node.stmt)  # (nothing goes to it)

@@ -11,14 +11,14 @@ from .heap import heap_call
 from .jumps import walk
 from .kinds import Int, Pointer, Struct
 from .declarators import Function, Variable
-from .library import OUTPUT
 from .models import model_of
 from .output import FELL, File, unmarked
-from .places import Place, arguments
+from .places import Place
 from .reading import is_system
 from .refusals import Refused
 from .calls import MOST_ELEMENTS
 from .checks import Checks
+from .uses import first_uses, is_outer
 from .choosers import written
 
 
@@ -29,7 +29,7 @@ class Units(Checks):
         self.files: dict[str, File] = {}
         self.registers: list[Variable] = []
         self.done: set[Any] = set()
-        self.uses = self.first_uses()
+        self.uses = first_uses(self)
         self.write_columns()
         for number, (unit, item) in enumerate(self.names.items):
             source = str(item.coord.file) if item.coord else unit.path
@@ -43,8 +43,9 @@ class Units(Checks):
                 self.item(item, number)
         front, end = written(self, self.places.choosers)
         gives = [f"{text} {name}(void);" for (_, text), name in self.outer_values.items()]
-        outer = [*gives, *(self.heading(one) + ";" for one in self.names.functions if self.is_outer(one))]
-        made = [(self.begin[1], text) for text in [*outer, *self.heap.front(), *self.raw.front(), *front, *(text for _, text in self.written_models.values())]]
+        outer = [*gives, *(self.heading(one) + ";" for one in self.names.functions if is_outer(self, one))]
+        models = [text for _, text in self.written_models.values()]
+        made = [(self.begin[1], text) for text in [*outer, *self.heap.front(), *self.raw.front(), *front, *models]]
         if end:
             last = self.files.setdefault(self.names.items[-1][0].path, File(self.names.items[-1][0].path))
             last.pieces += [(last.pieces[-1][0] if last.pieces else 1, text) for text in end]
@@ -55,46 +56,12 @@ class Units(Checks):
             file.pieces = [(line, self.large.rewritten(text)) for line, text in file.pieces]
         return self.files
 
-    def is_outer(self, function: Function) -> bool:
-        """Whether a header of the system declares an input function."""
-        if function.definition is not None or not function.calls or not is_system(str(function.coord.file)):
-            return False
-        known = model_of(function) or heap_call(function) or function.name in ("assert", "assume")
-        used = function.name not in OUTPUT or function in self.outer_used
-        return not known and used and isinstance(function.result, Int)
-
     def finished(self, texts: dict[str, str]) -> dict[str, str]:
         """The texts as they are put into files."""
         return texts
 
     def put_table(self, folder: str) -> None:
         """Writes what stands beside the files."""
-
-    def first_uses(self) -> dict[Variable, int]:
-        """For each variable the number of the first function that names it."""
-        found: dict[Variable, int] = {}
-        for number, (_, item) in enumerate(self.names.items):
-            nodes = walk(item) if isinstance(item, c_ast.FuncDef) else []
-            handed = {id(one) for node in nodes for one in self.only_handed(node)}
-            for node in nodes:
-                if id(node) in handed:
-                    continue
-                meaning = self.names.meaning.get(id(node))
-                if isinstance(meaning, Variable):
-                    found.setdefault(meaning, number)
-        for function in self.names.functions:
-            for parameter in function.parameters:
-                if isinstance(parameter.binding, Place):
-                    variable = parameter.binding.variable
-                    found[variable] = min(found.get(variable, function.number), function.number)
-        return found
-
-    def only_handed(self, node: Any) -> list[Any]:
-        """What stands alone as an argument of a function that gives an input and whose arguments don't matter."""
-        called = self.names.meaning.get(id(node)) if isinstance(node, c_ast.FuncCall) else None
-        if not isinstance(called, Function) or called.definition is not None or called.name not in self.inputs:
-            return []
-        return [one for one in arguments(node) if isinstance(one, c_ast.ID)]
 
     def once(self, key: Any) -> bool:
         """Whether an item comes for the first time."""

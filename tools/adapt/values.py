@@ -63,6 +63,10 @@ def plus(one: Value, other: Value) -> Value:
     return Value(f"{one.within(9)} + {other.within(10)}", kind, 9, calls=calls)
 
 
+def minus(known: int) -> Value:
+    return Value(str(-known), kinds.INT, UNARY)
+
+
 def times(one: Value, factor: int) -> Value:
     """An index with a stride, by a shift where it is a power of 2."""
     known = number(one)

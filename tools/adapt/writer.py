@@ -55,7 +55,9 @@ class Writer:
         self.large = LargeArrays(spelling.fresh)
         self.raw = Raw(self)
         self.inputs: set[str] = set()
-        self.outer_values: dict[tuple[Function, str], str] = {}  # the inputs that objects get by functions that no source defines
+        self.outer_values: dict[
+            tuple[Function, str], str
+        ] = {}  # the inputs that objects get by functions that no source defines
         self.outer_used: set[Function] = set()  # whose values are used
 
     def value(self, node: Any) -> Value:

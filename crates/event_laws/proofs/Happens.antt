@@ -1,5 +1,5 @@
 -- What passes a test among all that is told passes it at one edge.
-use Rattle.std.proofs.Common.{◌≡◌, ◌↔◌, ℕ, zero, suc, ◌+◌, ◌<◌, ◌≤◌, Bool, true, false, List, [], ◌∷◌, ◌++◌, Option, Some, None, refl, sym, ap, subst, ◌∙◌, arith, ⊎_elim}
+use Rattle.std.proofs.Common.{◌≡◌, ℕ, zero, suc, ◌≤◌, Bool, true, false, List, [], ◌∷◌, ◌++◌, Option, Some, None, refl, sym, ap, subst, ◌∙◌, arith, ⊎_elim}
 use Rattle.std.specs.Prelude.{IsTrue, ◌||◌, slice_get}
 use Rattle.std.specs.List.{list_any}
 use Rattle.std.proofs.lemmas.Bool.{cases_lt}
@@ -12,7 +12,6 @@ use Rattle.c_meaning.specs.declared.stepped.Stepped.TheVariants.{Moved, Returned
 use Rattle.c_meaning.specs.Runs.{state_from}
 use Rattle.c_meaning.specs.Steps.{next}
 use Rattle.edge_events.specs.declared.event.Event.{Event}
-use Rattle.edge_events.specs.Told.{told}
 use Rattle.expression_events.specs.Follows.{edge_tells, step_tells, state_tells, tells}
 use Rattle.event_laws.specs.Happens.{Takes, HappensWhereTaken}
 use Rattle.event_laws.proofs.Law.{ended_edges_tell}

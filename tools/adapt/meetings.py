@@ -1,0 +1,143 @@
+"""What calls bring together: arguments and parameters, also of the library's functions, and of calls by pointers."""
+
+from typing import Any
+
+from pycparser import c_ast
+
+from . import kinds
+from .bindings import key
+from .constants import is_offset
+from .declarators import Function, Variable
+from .heap import TAKES
+from .kinds import Int, Pointer, Signature, Struct, Type
+from .models import model_of
+from .places import arguments
+from .refusals import Refused
+
+
+def visit(points: Any, node: Any) -> None:
+    try:
+        if isinstance(node, c_ast.Decl) and node.init is not None:
+            variable = points.names.meaning.get(id(node))
+            if isinstance(variable, Variable) and not isinstance(node.init, c_ast.InitList):
+                points.flow(node.init, variable.type)
+        elif isinstance(node, c_ast.Assignment):
+            assigned(points, node)
+        elif isinstance(node, c_ast.FuncCall):
+            called(points, node)
+        elif isinstance(node, c_ast.Return) and node.expr is not None and points.function is not None:
+            points.flow(node.expr, points.function.result)
+        elif isinstance(node, c_ast.UnaryOp) and node.op in ("++", "--", "p++", "p--"):
+            of = points.value(node.expr)
+            if isinstance(of, Pointer):
+                root = of.region.root()
+                root.moved, root.down = True, root.down or "--" in node.op
+        elif isinstance(node, c_ast.BinaryOp):
+            compared(points, node)
+        elif isinstance(node, (c_ast.ArrayRef, c_ast.StructRef)) or (
+            isinstance(node, c_ast.UnaryOp) and node.op == "*"
+        ):
+            points.place(node)
+        elif isinstance(node, (c_ast.Cast, c_ast.TernaryOp)):
+            points.value(node)
+    except Refused:
+        pass  # (told where it is written)
+
+
+def assigned(points: Any, node: Any) -> None:
+    to = points.value(node.lvalue)
+    if isinstance(to, Pointer) and node.op in ("+=", "-="):
+        points.moves(to.region, node.rvalue, node.op == "-=")
+    elif node.op == "=":
+        points.flow(node.rvalue, to)
+
+
+def compared(points: Any, node: Any) -> None:
+    if node.op in ("==", "!=", "<", ">", "<=", ">="):
+        if points.is_null(node.left) or points.is_null(node.right):
+            return
+        left, right = points.value(node.left), points.value(node.right)
+        if isinstance(left, Pointer) and isinstance(right, Pointer):
+            points.unify(left.region, right.region, node.coord)
+    elif node.op in ("+", "-"):
+        points.value(node)
+
+
+def called(points: Any, node: Any) -> None:
+    function = points.names.meaning.get(id(node))
+    if is_offset(node):
+        return
+    if points.of_heap(node):
+        called_heap(points, node, points.of_heap(node))
+        return
+    if model_of(function):
+        of_model(points, node)
+    if not isinstance(function, Function):
+        called_by_pointer(points, node)
+    if not isinstance(function, Function) or function.definition is None:
+        return
+    for argument, parameter in zip(arguments(node), function.parameters):
+        if parameter.is_bound and not isinstance(parameter.type, (Int, Struct)):
+            of, region = points.bound(parameter)
+            mine, _ = points.pointee(argument)
+            if differ(of, mine):
+                points.names.refusals.apart.add(key(parameter))
+            points.same_type(of, mine, node.coord, region)
+        else:
+            points.tried(argument, parameter.type)
+
+
+def called_by_pointer(points: Any, node: Any) -> None:
+    of = points.value(node.name)
+    if not isinstance(of, Pointer) or not isinstance(of.to, Signature):
+        raise Refused(node.coord, "a call of what is no function", "call a function")
+    points.pointer_calls.append((points.function, node))
+    for argument in arguments(node):
+        try:
+            points.value(argument)
+        except Refused:
+            pass  # (told where it is written)
+
+
+def handed_by_pointer(points: Any, done: set[int]) -> None:
+    """What calls by pointers hand over reaches parameters where the pointer meets a function."""
+    for _, node in points.pointer_calls:
+        of = points.value(node.name)
+        if id(node) not in done and of.region.root().targets:
+            done.add(id(node))
+            for argument, to in zip(arguments(node), of.to.parameters):
+                points.tried(argument, to)
+
+
+def of_model(points: Any, node: Any) -> None:
+    """A call of a library's function goes through the objects of its pointers, and may copy from one to the other."""
+    found = [points.value(one) for one in arguments(node) if not points.is_null(one)]
+    regions = [of.region.root() for of in found if isinstance(of, Pointer)]
+    for region in regions:
+        region.pointed = region.moved = True
+    model = model_of(points.names.meaning.get(id(node)))
+    if model is not None and len(arguments(node)) == len(model.parameters):
+        points.modelled.append((node, model))
+    if len(regions) == 2 and all(region.root().elem is not None for region in regions):
+        left, right = [region.root().elem for region in regions]
+        if not differ(left, right):
+            points.same_type(left, right, node.coord, regions[0])
+
+
+def differ(one: Type, other: Type) -> bool:
+    """Whether objects of two types have one form only as their bytes."""
+    one, other = kinds.element(one), kinds.element(other)
+    if isinstance(one, Int) and isinstance(other, Int):
+        return one.bits != other.bits or one.boolean != other.boolean
+    if isinstance(one, Struct) and isinstance(other, Struct) and one.tag == other.tag:
+        names = [[name for name, _ in of.members or []] for of in (one, other)]
+        return names[0] != names[1]  # (else one struct, of several sources)
+    return one is not other and kinds.has_bytes(one) and kinds.has_bytes(other)
+
+
+def called_heap(points: Any, node: Any, name: str) -> None:
+    if len(arguments(node)) != TAKES[name]:
+        raise Refused(node.coord, f"{name} is declared otherwise than in the library", "declare it as stdlib.h does")
+    of = points.value(arguments(node)[0] if name == "free" else node)
+    if isinstance(of, Pointer):
+        of.region.root().freed = of.region.root().freed or name == "free"

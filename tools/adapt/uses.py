@@ -1,0 +1,51 @@
+"""What stands where: the first uses of objects, and the input functions that headers of the system declare."""
+
+from typing import Any
+
+from pycparser import c_ast
+
+from .declarators import Function, Variable
+from .heap import heap_call
+from .jumps import walk
+from .kinds import Int
+from .library import OUTPUT
+from .models import model_of
+from .places import Place, arguments
+from .reading import is_system
+
+
+def first_uses(writer: Any) -> dict[Variable, int]:
+    """For each variable the number of the first function that names it."""
+    found: dict[Variable, int] = {}
+    for number, (_, item) in enumerate(writer.names.items):
+        nodes = walk(item) if isinstance(item, c_ast.FuncDef) else []
+        handed = {id(one) for node in nodes for one in only_handed(writer, node)}
+        for node in nodes:
+            if id(node) in handed:
+                continue
+            meaning = writer.names.meaning.get(id(node))
+            if isinstance(meaning, Variable):
+                found.setdefault(meaning, number)
+    for function in writer.names.functions:
+        for parameter in function.parameters:
+            if isinstance(parameter.binding, Place):
+                variable = parameter.binding.variable
+                found[variable] = min(found.get(variable, function.number), function.number)
+    return found
+
+
+def only_handed(writer: Any, node: Any) -> list[Any]:
+    """What stands alone as an argument of a function that gives an input and whose arguments don't matter."""
+    called = writer.names.meaning.get(id(node)) if isinstance(node, c_ast.FuncCall) else None
+    if not isinstance(called, Function) or called.definition is not None or called.name not in writer.inputs:
+        return []
+    return [one for one in arguments(node) if isinstance(one, c_ast.ID)]
+
+
+def is_outer(writer: Any, function: Function) -> bool:
+    """Whether a header of the system declares an input function."""
+    if function.definition is not None or not function.calls or not is_system(str(function.coord.file)):
+        return False
+    known = model_of(function) or heap_call(function) or function.name in ("assert", "assume")
+    used = function.name not in OUTPUT or function in writer.outer_used
+    return not known and used and isinstance(function.result, Int)
