@@ -29,9 +29,7 @@ def program_itself():
     """The path of the program that the launcher starts, since the launcher raises the stack."""
     if "FSHELL" in os.environ:
         return os.environ["FSHELL"]
-    return subprocess.run([os.path.join(ROOT, "bin", "program")], check=True, stdout=subprocess.PIPE, text=True).stdout[
-        :-1
-    ]
+    return subprocess.run([os.path.join(ROOT, "bin", "program")], check=True, stdout=subprocess.PIPE, text=True).stdout[:-1]
 
 
 def refused(words, folder=None, stack=None):
@@ -40,19 +38,11 @@ def refused(words, folder=None, stack=None):
     The line is that of its standard error, and where a signal ended it, the signal's number. The stack may grow to so
     many bytes, where they are given.
     """
-
     def limit():
         hard = resource.getrlimit(resource.RLIMIT_STACK)[1]
         resource.setrlimit(resource.RLIMIT_STACK, (stack, hard))
-
-    with subprocess.Popen(
-        words,
-        cwd=folder,
-        stdout=subprocess.DEVNULL,
-        stderr=subprocess.PIPE,
-        text=True,
-        preexec_fn=limit if stack else None,
-    ) as child:
+    with subprocess.Popen(words, cwd=folder, stdout=subprocess.DEVNULL, stderr=subprocess.PIPE, text=True,
+                          preexec_fn=limit if stack else None) as child:
         line = child.stderr.read().strip()
         status, usage = os.wait4(child.pid, 0)[1:]
         child.returncode = os.waitstatus_to_exitcode(status)
@@ -89,9 +79,7 @@ def instructions(words, folder=None):
     if shutil.which("valgrind") is None:
         return None
     counted = ["valgrind", "--tool=callgrind", "--callgrind-out-file=/dev/null", *words]
-    said = subprocess.run(
-        counted, cwd=folder, check=True, stdout=subprocess.DEVNULL, stderr=subprocess.PIPE, text=True
-    ).stderr
+    said = subprocess.run(counted, cwd=folder, check=True, stdout=subprocess.DEVNULL, stderr=subprocess.PIPE, text=True).stderr
     return int(re.search(r"Collected : (\d+)", said).group(1))
 
 

@@ -28,6 +28,7 @@ DRIVER = """
 void adapt_fell(void) { _exit(77); }
 static FILE *adapt_told; /* (what the sources print goes nowhere) */
 void adapt_tell(long long value) { fprintf(adapt_told, " %%lld", value); }
+static void adapt_give(long long value) { fprintf(adapt_told, "%%lld", value); }
 static long long adapt_answers[64]; static int adapt_answer_count, adapt_answer_taken;
 long long adapt_answer(void) { return adapt_answer_taken < adapt_answer_count ? adapt_answers[adapt_answer_taken++] : 0; }
 static char **adapt_words;
@@ -173,7 +174,7 @@ class Comparison:
             words = "".join(f" long long adapt_{at} = adapt_word();" for at in range(len(one.parameters)))
             given = ", ".join(f"({getattr(p.type, 'text', '')}) adapt_{at}" for at, p in enumerate(one.parameters))
             call = f"{one.out}({given})"
-            shown = f"adapt_tell((long long) {call});" if isinstance(one.result, Int) else f"{call};"
+            shown = f"adapt_give((long long) {call});" if isinstance(one.result, Int) else f"{call};"
             lines.append(f"    case {number}: {{{words} {shown} break; }}")
         return "\n".join(lines)
 
