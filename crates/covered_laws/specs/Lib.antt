@@ -2,3 +2,4 @@ pub mod Covered
 pub mod Filters
 pub mod Conditions
 pub mod Names
+pub mod Units

@@ -2,6 +2,7 @@
 ghost use Rattle.covered_laws.specs.Conditions.{ConditionCovered, GuardCovered};
 ghost use Rattle.covered_laws.specs.Covered.{CoveredWhereHappens};
 ghost use Rattle.covered_laws.specs.Names.{DefinitionsSelect, LabelsSelect};
+ghost use Rattle.covered_laws.specs.Units.{UnitsAreMade};
 ghost use Rattle.covered_laws.specs.Filters.{
   CallsSelect,
   ConditionsSelect,
@@ -83,4 +84,9 @@ pub fn definitions_select()
 /// `@LABEL` keeps the edges that tell that control comes to its label.
 pub fn labels_select()
     ensures { LabelsSelect }
+{}
+
+/// Each unit of texts in which nothing is wrong is one that the laws speak of.
+pub fn units_are_made()
+    ensures { UnitsAreMade }
 {}

@@ -17,7 +17,7 @@ use Rattle.event_laws.specs.Laws.{UnitEdgesTell, UnitEndedEdgesTell}
 use Rattle.event_laws.proofs.Law.{edges_tell, ended_edges_tell}
 
 -- they are made
-unit_made : (texts : List SourceText) (tokens : List Token) (items : List Item) (files : List (List ℕ)) → Lexed texts tokens → DerivesItems items (map terminal_of tokens) → faults_of items ≡ [] → length files ≡ length texts → IsMade (typed_of items) (length files)
+pub unit_made : (texts : List SourceText) (tokens : List Token) (items : List Item) (files : List (List ℕ)) → Lexed texts tokens → DerivesItems items (map terminal_of tokens) → faults_of items ≡ [] → length files ≡ length texts → IsMade (typed_of items) (length files)
 unit_made texts tokens items files lexed derived none long = record {
   fitting = subst (IsFitting (typed_of items)) (sym long) (unit_fits items (length texts) (units_of_texts texts tokens items lexed derived) none);
   apart = unit_apart items;
