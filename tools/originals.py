@@ -69,6 +69,10 @@ class Original(Source):
         first = self.begin(self.index(*self.spot(line, column)))
         return self.between(first, max(first, self.end_of(first, _ENDS) - 1))
 
+    def guard_spot(self, line: int, column: int) -> Spot:
+        """The line and the column where the part of a condition begins of which a token stands at a place of what was written."""
+        return self.where(self.begin(self.index(*self.spot(line, column))))
+
     def begin(self, at: int) -> int:
         """The number of the first token of the part of a condition that has a token."""
         first = at

@@ -10,12 +10,13 @@ from concurrent.futures import ThreadPoolExecutor
 from dataclasses import dataclass, replace
 
 from tools import graph as graphs
-from tools import inputs, leaving, program
+from tools import inputs, leaving, program, progress
 from tools.asked import Asked
 from tools.campaign import measured
 from tools.folder import STEPS, TOO_LARGE, Folder
 from tools.graph import Graph
 from tools.program import Failure
+from tools.progress import Progress
 from tools.reports import Input, Run
 
 ENDINGS, REACHED = "cover NODES(ID)$", "cover NODES(ID)"
@@ -73,8 +74,10 @@ def decide(folder: Folder, asked: Asked, wanted: Iterable[int], jobs: int) -> di
             found.setdefault(goal.number, made.inputs[goal.input - 1])
     known = set(folder.numbers("certificates", ".cert")) | set(found) | set(folder.open(asked.budget))
     easy = folder.known_refuted()
-    with side_by_side(jobs) as pool:
-        list(pool.map(lambda goal: folder.decide(goal, goal in easy), sorted(set(wanted) - known)))
+    left = sorted(set(wanted) - known)
+    with side_by_side(jobs) as pool, progress.shown(Progress("rte: goals", len(left))) as tell:
+        for _ in pool.map(lambda goal: folder.decide(goal, goal in easy), left):
+            tell.step()
     return folder.found() | found
 
 

@@ -192,7 +192,10 @@ class Faces:
         return (original.name, *original.spot(line, column)) if original else (file, line, column)
 
     def spot(self, edge: Edge) -> tuple[str, int, int]:
-        """The place of an edge in the user's own source."""
+        """The place of an edge in the user's own source; of a guard that where its part of the condition begins."""
+        original = self.originals.get(edge.file)
+        if original and edge.is_guard and not self.is_label(edge):
+            return original.name, *original.guard_spot(edge.line, edge.column)
         return self.at(edge.file, edge.line, edge.column)
 
     def line(self, edge: Edge) -> int:

@@ -85,6 +85,12 @@ def columns_are_those_of_the_user(folder):
     yield (places["14"], places["19"], places["24"], places["32"]) == ("7", "9", "12", "10")
 
 
+def a_condition_with_an_assignment_begins_at_its_bracket(folder):
+    source = "typedef int word;\nint in(void);\nint f(int x)\n{\n  word w;\n  if ((w = in()) != x && -w < 9)\n    return w;\n  return 0;\n}\n"
+    told = run(folder, ["explain", QUERY, *adapted(folder, {"f.c": source}, "f.c")]).stdout
+    yield re.findall(r" f.c:6:(\d+) f: (.*?) is true", told) == [("7", "(w = in()) != x"), ("26", "-w < 9")]
+
+
 def each_report_names_the_original(folder):
     """lcov, MC/DC, the page and a harness; the lines of the whole are those of the user's own file."""
     sources = adapted(folder)
@@ -247,6 +253,6 @@ def the_project_reports_the_original(folder):
 
 WAYS = [("can.c", []), ("uart.c", []), ("pid.c", ["--input", "sensor_read", "--input", "actuator_write"]),
         ("menu.c", ["--input", "display_show"]), ("modbus.c", ["--input", "line_write"])]
-TRIED = [(NEEDS, explain_shows_what_the_user_wrote), (NEEDS, columns_are_those_of_the_user), ((*NEEDS, "jinja2"), each_report_names_the_original),
+TRIED = [(NEEDS, explain_shows_what_the_user_wrote), (NEEDS, columns_are_those_of_the_user), (NEEDS, a_condition_with_an_assignment_begins_at_its_bracket), ((*NEEDS, "jinja2"), each_report_names_the_original),
          (NEEDS, bounds_and_orders_name_the_original), (NEEDS, without_a_map_all_is_as_before), (NEEDS, a_bad_map_is_told_in_a_line),
          *((NEEDS, of_module(*given)) for given in WAYS), (NEEDS, a_module_of_four_hundred_lines), ((*NEEDS, "jinja2"), the_project_reports_the_original)]

@@ -4,6 +4,7 @@ import io
 import json
 import os
 import pty
+import re
 import subprocess
 import sys
 
@@ -81,6 +82,12 @@ def tools_tell_on_a_terminal_alone(folder):
     yield run(folder, ["mcdc", "fee", "fee.c"]).stderr == ""
 
 
+def rte_tells_on_a_terminal(folder):
+    put(folder, {"f.c": "int f(int a, int b) {\n  int t[4] = {1, 2, 3, 4};\n  if (b > 0 && b < 4) {\n    return a / b + t[b];\n  }\n  return t[a & 3];\n}\n"})
+    told, status = on_terminal(folder, "rte", "f", "f.c", "-o", "new")
+    yield status == 0 and re.search(r"\r\033\[Krte: goals: \d+ of \d+ done, \d+ left, ", told) is not None and told.endswith("\r\033[K")
+
+
 def a_campaign_tells_on_a_terminal(folder):
     put(folder, {"fee.c": "int fee(int a, int b) {\n  if (a > 3 && b < 9) {\n    return 1;\n  }\n  return b == 4 ? 7 : 8;\n}\n"})
     told, status = on_terminal(folder, "campaign", "fee", QUERY, "fee.c", "-o", "new")
@@ -137,5 +144,5 @@ def what_cant_be_split_is_asked_whole(folder):
     yield parts("cover NODES(ID)") == [] and parts("cover @LINE(2)") == []
 
 
-TRIED = [((), function) for function in (a_line_each_ten_seconds, one_line_on_a_terminal, tools_tell_on_a_terminal_alone, what_cant_be_split_is_asked_whole)]
+TRIED = [((), function) for function in (a_line_each_ten_seconds, one_line_on_a_terminal, tools_tell_on_a_terminal_alone, rte_tells_on_a_terminal, what_cant_be_split_is_asked_whole)]
 TRIED += [(("parallel",), function) for function in (a_campaign_tells_on_a_terminal, a_generate_over_many_goals_is_split_and_joined)]

@@ -28,6 +28,7 @@ DRIVER = """
 void adapt_fell(void) { _exit(77); }
 static FILE *adapt_told; /* (what the sources print goes nowhere) */
 void adapt_tell(long long value) { fprintf(adapt_told, " %%lld", value); }
+static void adapt_give(long long value) { fprintf(adapt_told, "%%lld", value); }
 static long long adapt_answers[64]; static int adapt_answer_count, adapt_answer_taken;
 long long adapt_answer(void) { return adapt_answer_taken < adapt_answer_count ? adapt_answers[adapt_answer_taken++] : 0; }
 static char **adapt_words;
@@ -48,13 +49,18 @@ int main(int adapt_argc, char **adapt_argv) {
 }
 """
 FLAGS = ["-std=gnu11", "-O0", "-w", "-fwrapv", "-ftrivial-auto-var-init=zero"]
-# what has no meaning ends the original's run: an index outside of its array, as far as the address sanitizer sees it (with
-# an array of our own before the first object of the file), and what the other one sees
+# what has no meaning ends the original's run: an index outside of its array, as far as the address sanitizer sees it , and what the other one sees
 WATCHED = [
     "-fsanitize=address,shift-exponent,integer-divide-by-zero,bounds,null,signed-integer-overflow",
     "-fsanitize-undefined-trap-on-error",
 ]
-GUARDS = "char adapt_guard_{0}[64] = {{1}}, adapt_other_guard_{0}[64];\n"
+GUARDS = """void __asan_poison_memory_region(const volatile void *, unsigned long);
+char adapt_data_{0}_{1}[4096] = {{1}}, adapt_rest_{0}_{1}[4096]; const char adapt_const_{0}_{1}[4096] = {{1}};
+__attribute__((constructor)) static void adapt_poison_{0}_{1}(void) {{
+  __asan_poison_memory_region(adapt_data_{0}_{1}, 4096); __asan_poison_memory_region(adapt_rest_{0}_{1}, 4096);
+  __asan_poison_memory_region(adapt_const_{0}_{1}, 4096);
+}}
+"""
 QUIET = "max_malloc_fill_size=65536:malloc_fill_byte=0:detect_leaks=0:abort_on_error=0:exitcode=70"
 ENDED, FAILED, FELL_OFF = 0, -6, 77  # a run to its end, one whose assert failed, one off the end of a function
 TELLING = [0, 1, -1, 2, 3, 4, 5, 7, 8, 10, 16, 31, 64, 100, 127, 128, 200, 255, 256, -128, 32767, 65535]
@@ -168,7 +174,7 @@ class Comparison:
             words = "".join(f" long long adapt_{at} = adapt_word();" for at in range(len(one.parameters)))
             given = ", ".join(f"({getattr(p.type, 'text', '')}) adapt_{at}" for at, p in enumerate(one.parameters))
             call = f"{one.out}({given})"
-            shown = f"adapt_tell((long long) {call});" if isinstance(one.result, Int) else f"{call};"
+            shown = f"adapt_give((long long) {call});" if isinstance(one.result, Int) else f"{call};"
             lines.append(f"    case {number}: {{{words} {shown} break; }}")
         return "\n".join(lines)
 
@@ -183,7 +189,7 @@ class Comparison:
             own = [one for one in self.shared if one.unit.path == path]
             defined = "".join(answering(self.writer, one, "adapt_answer()") for one in outer) if number == 0 else ""
             texts.append(
-                f"{GUARDS.format(number)}{self.text(path)}#include <stdio.h>\nlong long adapt_answer(void);\nvoid adapt_tell(long long);\n{defined}void adapt_dump_{number}(void) {{\n{self.dump(own, False)}\n}}\n"
+                f"{GUARDS.format(number, 'before')}{self.text(path)}{GUARDS.format(number, 'behind')}#include <stdio.h>\nlong long adapt_answer(void);\nvoid adapt_tell(long long);\n{defined}void adapt_dump_{number}(void) {{\n{self.dump(own, False)}\n}}\n"
             )
             dumps += f"    adapt_dump_{number}();\n"
         head = "".join(f"void adapt_dump_{number}(void);\n" for number in range(len(sources)))

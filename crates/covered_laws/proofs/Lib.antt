@@ -1,2 +1,6 @@
 pub mod Moves
 pub mod Covered
+pub mod Tells
+pub mod Selects
+pub mod Goals
+pub mod Names

@@ -1,1 +1,4 @@
 pub mod Covered
+pub mod Filters
+pub mod Conditions
+pub mod Names

@@ -166,7 +166,7 @@ module _ (r : Reads) (m : Proving) (said : Said) where
 
     by_proved : (of : Named) → Proved of → SaysCovered r m said
     by_proved of (inl a) = absurd (no_refusal said talks_covered m.sources _ a)
-    by_proved of (inr a) = by_decided of a.1.0 a.1.2
+    by_proved of (inr a) = by_decided of a.1.0 a.1.3
 
     says_covered : IsDueOf r (asks.prove m) said → SaysCovered r m said
     says_covered due = let it = goal_of_prove talks_covered due in by_proved it.0 it.1
