@@ -113,7 +113,9 @@ def matches(due: list[str], got: str) -> bool:
 def can_run(line: str) -> bool:
     """Whether what an example's line needs is there."""
     adapts = "/adapt " in line or "adapted/" in line
-    return ("/campaign " not in line or shutil.which("parallel") is not None) and (not adapts or all(map(tool_tests.is_there, ("pycparser", "gcc"))))
+    return ("/campaign " not in line or shutil.which("parallel") is not None) and (
+        not adapts or all(map(tool_tests.is_there, ("pycparser", "gcc")))
+    )
 
 
 def wrong_tool_examples(text: str) -> Outcome:
@@ -146,7 +148,8 @@ def paths(document: str, text: str) -> Iterator[str]:
     """The paths that a document names, from the top."""
     for path in re.findall(rf"`((?:{FOLDERS})/[\w./-]+)`", text):
         yield path
-    for path in re.findall(r"\]\(([\w./-]+)(?:#[\w-]+)?\)", text):
+    words = re.sub(r"^ {4}.*$|`[^`\n]*`", "", text, flags=re.MULTILINE)  # (no code is a link)
+    for path in re.findall(r"\]\(([\w./-]+)(?:#[\w-]+)?\)", words):
         yield os.path.normpath(os.path.join(os.path.dirname(document), path))
 
 
