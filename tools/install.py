@@ -132,7 +132,7 @@ def install(prefix: str) -> int:
     for name in ("fshell", *usage.TOOLS):
         copy(os.path.join(ROOT, "bin", name), os.path.join(at["scripts"], name))
         link(f"../lib/fshell/bin/{name}", os.path.join(at["bin"], name if name == "fshell" else f"fshell-{name}"))
-    for folder, endings in (("tools", (".py", ".html", ".css", ".c", ".h")), ("docs", (".md", ".png"))):
+    for folder, endings in (("tools", (".py", ".html", ".css", ".c", ".h")), ("docs", (".md",))):
         copy_tree(os.path.join(ROOT, folder), at[folder], endings)
     # (what is under share may be left out of a machine, and the program's help is made of the documents)
     for name in sorted(os.listdir(at["docs"])):
