@@ -1,5 +1,5 @@
 -- Queries whose goal asks for the edges that a filter keeps.
-use Rattle.std.proofs.Common.{rules, ◌≡◌, ℕ, ◌+◌, Bool, not, cond, List, [], ◌∷◌, None, refl, ap, ◌∙◌}
+use Rattle.std.proofs.Common.{rules, ◌≡◌, ℕ, ◌+◌, Bool, not, cond, List, [], ◌∷◌, refl, ap, ◌∙◌}
 use Rattle.std.proofs.lemmas.Slice.Eq.{bytes_eq-Decides}
 use Rattle.cfa.specs.declared.parts.GraphParts.{GraphParts}
 use Rattle.fql_read.specs.declared.cover.CoverTree.{the_lemmas as cover_lemmas}
