@@ -4,3 +4,4 @@ pub mod Tells
 pub mod Selects
 pub mod Goals
 pub mod Names
+pub mod Queries

@@ -3,3 +3,4 @@ pub mod Filters
 pub mod Conditions
 pub mod Names
 pub mod Units
+pub mod Queries

@@ -2,6 +2,7 @@
 ghost use Rattle.covered_laws.specs.Conditions.{ConditionCovered, GuardCovered};
 ghost use Rattle.covered_laws.specs.Covered.{CoveredWhereHappens};
 ghost use Rattle.covered_laws.specs.Names.{DefinitionsSelect, LabelsSelect};
+ghost use Rattle.covered_laws.specs.Queries.{QuotedFilterAsks};
 ghost use Rattle.covered_laws.specs.Units.{UnitsAreMade};
 ghost use Rattle.covered_laws.specs.Filters.{
   CallsSelect,
@@ -89,4 +90,9 @@ pub fn labels_select()
 /// Each unit of texts in which nothing is wrong is one that the laws speak of.
 pub fn units_are_made()
     ensures { UnitsAreMade }
+{}
+
+/// A query that covers a filter in quotation marks has one goal, which asks for the edges that the filter keeps.
+pub fn quoted_filter_asks()
+    ensures { QuotedFilterAsks }
 {}
