@@ -69,7 +69,8 @@ def gathered(of_function: dict[str, list[str]], total: int) -> Iterator[tuple[li
     names: list[str] = []
     goals: list[str] = []
     for name, own in of_function.items():
-        names, goals = [*names, name], goals + own
+        names.append(name)
+        goals += own
         if len(goals) * PARTS >= total:
             yield names, goals
             names, goals = [], []
@@ -79,15 +80,14 @@ def gathered(of_function: dict[str, list[str]], total: int) -> Iterator[tuple[li
 
 def joined(asked: Asked, answers: list[dict[str, Any]]) -> dict[str, Any]:
     """The answers of the parts as one, in the order of the whole query's goals."""
-    inputs: list[dict[str, Any]] = []
+    inputs: dict[str, dict[str, Any]] = {}
+    places: dict[str, int] = {}
     by_text: dict[str, dict[str, Any]] = {}
     suite: list[int] = []
     for value in answers:
-        numbers = []
-        for one in value["inputs"]:
-            if one not in inputs:
-                inputs.append(one)
-            numbers.append(inputs.index(one) + 1)
+        keys = [json.dumps(one, sort_keys=True) for one in value["inputs"]]
+        inputs |= zip(keys, value["inputs"])
+        numbers = [places.setdefault(key, len(places) + 1) for key in keys]
         for goal in value["goals"]:
             by_text[goal["text"]] = goal | ({"input": numbers[goal["input"] - 1]} if "input" in goal else {})
         suite += [numbers[number - 1] for number in value["suite"]]
@@ -99,7 +99,7 @@ def joined(asked: Asked, answers: list[dict[str, Any]]) -> dict[str, Any]:
         **counts,
         **ends,
         "goals": goals,
-        "inputs": inputs,
+        "inputs": list(inputs.values()),
         "suite": sorted(set(suite)),
     }
 
