@@ -1,5 +1,7 @@
 """What bin/test compares of the pages: each check finds the fault that a page is given here, and none in the page as it is."""
 
+from collections.abc import Iterator
+
 import crates
 import decisions
 import documents
@@ -69,7 +71,7 @@ CHANGES = """# Changelog
 """
 
 
-def of_decisions(folder):
+def of_decisions(folder: str) -> Iterator[bool]:
     yield decisions.faults(DECISIONS) == []
     yield decisions.index(DECISIONS) == "- [Names](#names)\n  - [Newer](#newer)\n  - [Older](#older)\n"
     for before, after in (
@@ -83,14 +85,14 @@ def of_decisions(folder):
         yield len(decisions.faults(DECISIONS.replace(before, after))) >= 1
 
 
-def of_the_gate(folder):
+def of_the_gate(folder: str) -> Iterator[bool]:
     yield figures.faults(GATE) == []
     yield len(figures.faults(GATE.replace("| 120 |", "| 121 |"))) == 1
     yield len(figures.faults(GATE.replace("| 149 |", "| |"))) == 1
     yield len(figures.faults("## The gate\n\nNo table.\n")) == 1
 
 
-def of_releases(folder):
+def of_releases(folder: str) -> Iterator[bool]:
     yield releases.faults(CHANGES) == []
     for before, after in (
         ("2026-11-29", "2026-11-30"),
@@ -101,15 +103,20 @@ def of_releases(folder):
         yield len(releases.faults(CHANGES.replace(before, after))) >= 1
 
 
-def of_headings(folder):
+def of_headings(folder: str) -> Iterator[bool]:
     """A heading of another page by its name, one of the page's own, and a link."""
     text = '# A\n\n## Own part\n\nSee `CI.md`, "Jenkins", and the part ("Own part"), [here](#own-part).\n'
     yield documents.wrong_headings("docs/A.md", text) == []
-    for before, after in (("Jenkins", "Nobody"), ('("Own part")', '("Other part")'), ("#own-part", "#other"), ("`CI.md`", "`NONE.md`")):
+    for before, after in (
+        ("Jenkins", "Nobody"),
+        ('("Own part")', '("Other part")'),
+        ("#own-part", "#other"),
+        ("`CI.md`", "`NONE.md`"),
+    ):
         yield len(documents.wrong_headings("docs/A.md", text.replace(before, after))) == 1
 
 
-def of_what_is_proved(folder):
+def of_what_is_proved(folder: str) -> Iterator[bool]:
     """A section of the page, which loses a call, a definition or a part."""
     text = text_of(crates.PROVED)
     section = dict(crates.sections(text))["sample"]
@@ -119,7 +126,11 @@ def of_what_is_proved(folder):
     yield len(proved.faults_of("sample", section.replace("*Refuses*", "*Denies*"))) == 1
     yield len(proved.faults_of("sample", section + "\n| `NoSuchThing` | nothing | `specs/Sample.antt` |\n")) == 1
     yield proved.unknown("`sample_query` and `no_name_of_a_crate`") == ["no crate has no_name_of_a_crate"]
-    yield [fault for fault in proved.faults("# Page\n\n" + "x" * 301 + "\n\n## Ground\n") if fault.startswith("line 3 has 301")] != []
+    yield [
+        fault
+        for fault in proved.faults("# Page\n\n" + "x" * 301 + "\n\n## Ground\n")
+        if fault.startswith("line 3 has 301")
+    ] != []
 
 
 TRIED = [((), case) for case in (of_decisions, of_the_gate, of_releases, of_headings, of_what_is_proved)]
