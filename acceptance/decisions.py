@@ -35,7 +35,7 @@ def parts(text: str) -> list[tuple[str, list[tuple[str, str]]]]:
 
 
 def index(text: str) -> str:
-    """The index of a page."""
+    """The lines that stand at the head of a page and lead to each decision, with those of its part behind the part."""
     lines = []
     for heading, decisions in parts(text):
         lines.append(f"- [{heading}](#{anchor(heading)})")

@@ -138,5 +138,5 @@ def replayed(case: Case, words: list[str], report: str) -> Outcome:
 
 
 def parts() -> list[Callable[[], Outcome]]:
-    """The measurements, a part each."""
+    """A part for each measurement, whose traces are replayed."""
     return [functools.partial(replayed, *measurement) for measurement in measurements()]

@@ -171,5 +171,5 @@ def sources() -> Iterator[tuple[str, Differing]]:
 
 
 def parts() -> list[Callable[[], Outcome]]:
-    """The sources, a part each."""
+    """A part for each source, by the automaton and by the trees."""
     return [functools.partial(told, name, differing) for name, differing in sources()]

@@ -23,5 +23,5 @@ def tried(case: Callable[[Tree], Iterator[bool]]) -> side_by_side.Outcome:
 
 
 def parts() -> list[side_by_side.Part]:
-    """A part for each case."""
+    """A part for each case, which has a fresh tree of its own."""
     return [functools.partial(tried, case) for case in CASES]

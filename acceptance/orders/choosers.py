@@ -69,7 +69,7 @@ class Picker:
         return chosen
 
     def flip(self) -> bool:
-        """Whether the elements of a list are set behind all values, by the way of choosing."""
+        """Whether the elements of a list are set behind all values: one of two, by the way of choosing."""
         return bool(self.number(2))
 
     def of(self, root: Part, leaves: list[Part], machine: Expressions) -> Part:

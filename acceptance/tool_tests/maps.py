@@ -199,7 +199,7 @@ def no_word_of_adapt_is_shown(folder: str, name: str, words: Sequence[str]) -> I
 
 
 def of_module(name: str, words: Sequence[str]) -> Callable[[str], Iterator[bool]]:
-    """A module as a case."""
+    """The case of a module: whether all that is told of it is as the user wrote it."""
 
     def made(folder: str) -> Iterator[bool]:
         yield from no_word_of_adapt_is_shown(folder, name, words)

@@ -199,7 +199,8 @@ def some_inputs(seed: int, count: int) -> list[Given]:
 
 
 def random_programs(first: int, count: int) -> Iterator[tuple[int, str, set[str]]]:
-    """Programs with what is told of them."""
+    """Programs that are drawn by so many seeds from the first one on, each with its seed and the classes that the rule
+    tells of it."""
     from orders.programs import Programs
 
     for seed in range(first, first + count):

@@ -23,7 +23,7 @@ class Terminal(io.StringIO):
     """A terminal that keeps what is written."""
 
     def isatty(self) -> bool:
-        """It is one."""
+        """Always true, so that progress is shown."""
         return True
 
 

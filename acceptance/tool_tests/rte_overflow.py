@@ -110,7 +110,7 @@ def adapted(folder: str, text: str, *words: str) -> tuple[str, list[dict[str, An
 
 
 def without_blanks(text: str) -> list[str]:
-    """A text without its blanks."""
+    """The lines of a text, each with one blank in place of several."""
     return [" ".join(line.split()) for line in text.splitlines()]
 
 

@@ -13,26 +13,28 @@ import programs
 
 RULES = os.path.join(programs.ROOT, "tools", "pyproject.toml")
 CHECKED = ("tools", "acceptance", os.path.join("acceptance", "run"))
-ROW = '''"""A text."""
+ROW = '''"""A small text with faults."""
 def bare(): pass
 def _own(): pass
 def case(folder): yield True
 def helper(folder): pass
 class Open:
-    """A class."""
+    """A class with a method."""
     def shut(self): pass
 def raises():
-    """Raises."""
+    """Ends in an error that callers see."""
     raise Fault("so")
 def told():
-    """Raises Fault."""
+    """Raises Fault, which callers see."""
     raise Fault("so")
 def many() -> int:
-    """As it is."""
+    """What stands there while nobody looks."""
+def rows_of_table():
+    """The rows of a table."""
 '''
 FAULTS = [
     "a:bare has no docstring", "a:helper has no docstring", "a:Open.shut has no docstring", "a:raises: its docstring doesn't name Fault",
-    "a:many: its docstring doesn't say what its number is of",
+    "a:many: its docstring doesn't say what its number is of", "a:rows_of_table: its docstring repeats its name",
 ]  # fmt: skip
 
 
@@ -75,7 +77,7 @@ def what_it_is_for_is_said(folder: str) -> Iterator[bool]:
 
 
 def first_line(path: str) -> str:
-    """The first line of a file."""
+    """What stands on the first line of a file, as the name of what runs a script."""
     with open(path, encoding="utf-8") as file:
         return file.readline().strip()
 
