@@ -6,6 +6,7 @@ import crates
 import decisions
 import documents
 import figures
+import lists
 import proved
 import releases
 from pages import text_of
@@ -133,4 +134,20 @@ def of_what_is_proved(folder: str) -> Iterator[bool]:
     ] != []
 
 
-TRIED = [((), case) for case in (of_decisions, of_the_gate, of_releases, of_headings, of_what_is_proved)]
+def of_lists(folder: str) -> Iterator[bool]:
+    """What a landing page names, and a tool that nobody tries."""
+    page, of_commands, of_tools = (
+        "`runs`, `prove`, `check`, `bin/page`, `docs/A.md`\n",
+        "## runs\n\n## prove and check\n",
+        "## bin/page\n",
+    )
+    given = (of_commands, of_tools, ["docs/A.md"])
+    yield lists.faults(page, *given) == [] and lists.without_cases(of_tools + "## bin/package\n") == []
+    for name in ("runs", "check", "bin/page", "docs/A.md"):
+        yield lists.faults(page.replace(f"`{name}`", name), *given) == [f"it doesn't name `{name}`"]
+    yield lists.faults(page + "word " * 894, *given) == []
+    yield len(lists.faults(page + "word " * 895, *given)) == 1
+    yield lists.without_cases(of_tools + "## bin/nothing\n") == ["nothing has no cases"]
+
+
+TRIED = [((), case) for case in (of_decisions, of_the_gate, of_releases, of_headings, of_what_is_proved, of_lists)]
