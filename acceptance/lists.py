@@ -1,7 +1,8 @@
-"""Lists that README.md has of what stands elsewhere, and its length; and that each tool has cases.
+"""Lists that README.md has of what stands elsewhere, and its length; that each tool has cases; and that pages name one kit.
 
 README.md has fewer than 900 words, and names each command that docs/COMMANDS.md has a heading of, each tool of docs/TOOLS.md and each
-page of docs/. Each of those tools has a module of its own in tool_tests/, or is tried by the one that `TRIED_BY` names.
+page of docs/. Each of those tools has a module of its own in tool_tests/, or is tried by the one that `TRIED_BY` names. The kit that pages say
+proved all is that of release/KIT.
 """
 
 import os
@@ -41,10 +42,22 @@ def without_cases(of_tools: str) -> list[str]:
     return [f"{tool} has no cases" for tool, path in modules.items() if not os.path.exists(path)]
 
 
+def of_kit(text: str, kit: str) -> list[str]:
+    """A line for each kit that a page names, by the line that `rt version` has of it, and that isn't this one."""
+    named = re.findall(r"`(rattle-kit-\w+ logic \w+)`", text)
+    return [f"it names the kit {one}, and {kit} built the release" for one in named if one != kit]
+
+
 def wrong() -> list[str]:
-    """A line for each fault of README.md, and for each tool without cases."""
+    """A line for each fault of README.md, for each tool without cases, and for each page that names another kit."""
     docs = os.path.join(programs.ROOT, "docs")
     pages = [f"docs/{name}" for name in sorted(os.listdir(docs)) if name.endswith(".md")]
     of_commands, of_tools = (text_of(os.path.join(docs, name)) for name in ("COMMANDS.md", "TOOLS.md"))
     found = faults(text_of(os.path.join(programs.ROOT, "README.md")), of_commands, of_tools, pages)
-    return [f"README.md: {fault}" for fault in found] + [f"bin/{fault}" for fault in without_cases(of_tools)]
+    kit = text_of(os.path.join(programs.ROOT, "release", "KIT")).strip()
+    of_kits = [
+        f"{page}: {fault}"
+        for page in ("README.md", *pages)
+        for fault in of_kit(text_of(os.path.join(programs.ROOT, page)), kit)
+    ]
+    return [f"README.md: {fault}" for fault in found] + [f"bin/{fault}" for fault in without_cases(of_tools)] + of_kits

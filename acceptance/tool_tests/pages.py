@@ -148,6 +148,8 @@ def of_lists(folder: str) -> Iterator[bool]:
     yield lists.faults(page + "word " * 894, *given) == []
     yield len(lists.faults(page + "word " * 895, *given)) == 1
     yield lists.without_cases(of_tools + "## bin/nothing\n") == ["nothing has no cases"]
+    named = "Kit: `rattle-kit-1 logic a1` (`rt version`).\n"
+    yield lists.of_kit(named, "rattle-kit-1 logic a1") == [] and len(lists.of_kit(named, "rattle-kit-2 logic a1")) == 1
 
 
 TRIED = [((), case) for case in (of_decisions, of_the_gate, of_releases, of_headings, of_what_is_proved, of_lists)]
