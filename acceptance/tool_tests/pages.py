@@ -91,6 +91,8 @@ def of_the_gate(folder: str) -> Iterator[bool]:
     yield len(figures.faults(GATE.replace("| 120 |", "| 121 |"))) == 1
     yield len(figures.faults(GATE.replace("| 149 |", "| |"))) == 1
     yield len(figures.faults("## The gate\n\nNo table.\n")) == 1
+    yield figures.untold("3 s, 5 MB, 2 to 4 KB", "2, 3 and 4 s in 5 MB, 1 to 4 KB") == []
+    yield figures.untold("9 s, 2 to 5 s, 5 MB", "19 s, 2 to 4 s, 5 ms") == ["9 s", "2 to 5 s", "5 MB"]
 
 
 def of_releases(folder: str) -> Iterator[bool]:
