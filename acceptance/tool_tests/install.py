@@ -10,7 +10,7 @@ import subprocess
 import programs
 from tool_tests import Case, example, put, run
 
-COMMANDS = ["fshell-" + name for name in ("measure", "goals", "runs", "generate", "prove", "check", "bounds", "prove-bounds", "check-bounds", "least", "traces", "replay", "trees", "graph", "sample")]
+COMMANDS = ["fshell-" + name for name in ("measure", "goals", "runs", "generate", "prove", "check", "bounds", "prove-bounds", "check-bounds", "least", "traces", "replay", "trees", "events", "graph", "sample")]
 TOOLS = ["fshell-" + name for name in ("inputs", "explain", "lcov", "harness", "campaign", "page", "mcdc", "order", "rte", "adapt", "driver", "project", "drat")]
 CASES = [
     Case("install: a folder that can't be made", ["install", "a/b"], {"a": "a file\n"}, 2, "", "install: a/b/bin: Not a directory\n"),

@@ -15,6 +15,7 @@ RULES = os.path.join(programs.ROOT, "tools", "pyproject.toml")
 TYPED = (
     "all_inputs.py", "cases.py", "certificates.py", "corpus.py", "counts.py", "crates.py", "decisions.py", "docstrings.py", "documents.py",
     "figures.py", "pages.py", "programs.py", "proved.py", "releases.py", "replays.py", "side_by_side.py", "tool_tests/__init__.py",
+    "told_events.py",
     "tree_ends.py",
 )  # fmt: skip
 ROW = '''"""A text."""
