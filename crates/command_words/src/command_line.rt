@@ -9,9 +9,9 @@ use crate::CommandOption;
 use crate::matching::{WORDS, matches, values_of};
 use crate::requests::{
     Bounds, Refused, Request, bounds_given, budget_given, check_bounds_with, check_with,
-    ends_given, events_with, flag_given, generate_with, goals_with, graph_with, least_with, measure_with,
-    number_given, prove_bounds_with, prove_with, replay_with, runs_with, sample_with, steps_given,
-    suffice_with, traces_with, trees_with,
+    ends_given, events_with, flag_given, generate_with, goals_with, graph_with, least_with,
+    measure_with, number_given, prove_bounds_with, prove_with, replay_with, runs_with, sample_with,
+    steps_given, suffice_with, traces_with, trees_with,
 };
 use clap::ArgMatches;
 use std::alloc::{AllocError, Global};

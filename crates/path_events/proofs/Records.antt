@@ -120,7 +120,7 @@ module _ (t : Typed) (files : List (List ℕ)) (entry : ℕ) (f : TypedFunction)
         subst (λ (end : RunEnd). IsEndOf (told_end t entry input turns) end) (ap (λ (s : State). end_at (next_of parts input s)) same ∙ sym end_is) (recorded (told_end t entry input turns) (next_of parts input told.to) is))
         (is_out (told_end t entry input turns))
       where
-        abbrev told : Tells t files entry f input turns
+        told : Tells t files entry f input turns
         told = trees_are_told t files entry f input turns made there starts
 
         not_past : turns ≤ told.moves → count ≤ steps → ⊥

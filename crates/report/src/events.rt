@@ -96,7 +96,11 @@ fn push_what(
             push_name(text, name)
         }
         What::Entered { function } => {
-            push_two(text, b"entered ", function_name(graph.functions(), *function))
+            push_two(
+                text,
+                b"entered ",
+                function_name(graph.functions(), *function),
+            )
         }
         What::Left => push_two(text, b"left ", last_name(graph, entered)),
         What::Answered { input } => {
@@ -179,12 +183,7 @@ fn push_told(
 }
 
 // Appends what the edges of a run tell.
-fn push_along(
-    alloc: Global,
-    text: &mut Vec<u8>,
-    graph: &Graph,
-    edges: &[u32],
-) -> Result<(), Memory>
+fn push_along(alloc: Global, text: &mut Vec<u8>, graph: &Graph, edges: &[u32]) -> Result<(), Memory>
     ensures { OnOk result (text.new.items ≡ text.old.items ++ event_lines graph.now [] (told_along graph.now edges.now)) }
 {
     let mut entered = Vec::new(alloc);
