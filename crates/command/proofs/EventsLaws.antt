@@ -58,5 +58,13 @@ module _ (texts : List SourceText) (graph : GraphParts) (a : IsAutomatonOf texts
       subst (λ (es : List Event). HappensBy (typed_of a.items) entry.number input steps path.end es) (sym (along_same graph path.edges)) (agrees input starts)
 
   -- what is said of inputs on which a run can start
-  pub are_events : (given : List Input) → All (λ (input : Input). CanStart entry.function input.words) given → (said : Said) → IsEventful graph entry steps given said → AreEvents graph (typed_of a.items) entry steps given said
+  are_events : (given : List Input) → All (λ (input : Input). CanStart entry.function input.words) given → (said : Said) → IsEventful graph entry steps given said → AreEvents graph (typed_of a.items) entry steps given said
   are_events given starts said text = record { text = text; trees = λ k d within. of_trees _ (starts k d within) }
+
+-- the same of an equal automaton
+pub events_at : (texts : List SourceText) (graph : GraphParts) (a : IsAutomatonOf texts graph) (entry : EntryFunction) (steps : ℕ) (h : GraphParts) → h ≡ graph → slice_get h.functions entry.number ≡ Some entry.function
+    → (given : List Input) → All (λ (input : Input). CanStart entry.function input.words) given → (said : Said) → IsEventful h entry steps given said → AreEvents h (typed_of a.items) entry steps given said
+events_at texts graph a entry steps h is there given starts said text =
+    subst (λ (g : GraphParts). AreEvents g (typed_of a.items) entry steps given said) (sym is)
+    (are_events texts graph a entry (subst (λ (g : GraphParts). slice_get g.functions entry.number ≡ Some entry.function) is there) steps given starts said
+    (subst (λ (g : GraphParts). IsEventful g entry steps given said) is text))

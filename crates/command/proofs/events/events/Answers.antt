@@ -1,4 +1,4 @@
-use Rattle.std.proofs.Common.{inl, inr, refl, sym}
+use Rattle.std.proofs.Common.{inl, inr, refl}
 use Rattle.std.proofs.lemmas.Result.{err_from_is_err_and}
 use Rattle.command_words.specs.Request.{running}
 use Rattle.command.specs.Entries.{seen}
@@ -8,7 +8,7 @@ use Rattle.command.specs.Stages.{OfTrees}
 use Rattle.command.proofs.AtEntry.{EventsThen}
 use Rattle.command.proofs.CallLaws.{at_entry, no_entry, refused_at_entry, refused_at_trees, trees_not_given}
 use Rattle.command.proofs.DueLaws.{at_trees, inputs_since, refused_since}
-use Rattle.command.proofs.EventsLaws.{are_events, with_tree}
+use Rattle.command.proofs.EventsLaws.{events_at, with_tree}
 use Rattle.command.proofs.GivesLaws.{tells_map, tells_refused}
 use Rattle.command.proofs.ReadsLaws.{refused_map}
 use Rattle.command.proofs.events.events.Goals as goal
@@ -56,8 +56,7 @@ returns g c =
     let e = c.in_ok-entry.entry in
     let inputs = c.in_ok-inputs.inputs.items in
     let given = inputs_since _ _ _ _ _ _ _ _ _ c.in_ok-automaton.ensures.same_files c.in_ok-automaton.ensures.no_fault c.in_ok-automaton.ensures.received _ _ _ c.in_ok-inputs.ensures.answer in
-    let automaton = rw (sym c.in_ok-entry.ensures.0) at have.automaton in
     tells_map (IsEventful e.graph.now (seen e) m.steps inputs) (OfTrees _ m.sources (IsDueOfEvents _ m)) m.sources c.list.result
     (λ said text. at_trees _ m.sources (IsDueOfEvents _ m) graph t.0 said t.1
     (at_entry graph m.entry (EventsThen _ m t.0) e c.in_ok-entry.ensures said
-    (inr (inputs, given, are_events have.texts e.graph.now automaton (seen e) e.there m.steps inputs c.in_ok-inputs.ensures.start said text)))) (rw c.deref-2.ensures.value at (c.list.ensures m.sources))
+    (inr (inputs, given, events_at have.texts graph have.automaton (seen e) m.steps e.graph.now c.in_ok-entry.ensures.0 e.there inputs c.in_ok-inputs.ensures.start said text)))) (rw c.deref-2.ensures.value at (c.list.ensures m.sources))
