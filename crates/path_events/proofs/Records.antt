@@ -11,7 +11,7 @@ use Rattle.cfa.specs.declared.state.State.{State}
 use Rattle.c_meaning.specs.declared.input.Input.{Input}
 use Rattle.c_meaning.specs.declared.stepped.Stepped.{Stepped}
 use Rattle.c_meaning.specs.declared.stepped.Stepped.TheVariants as next
-use Rattle.c_meaning.specs.Runs.{Move, Run, last_in, state_at, state_moved}
+use Rattle.c_meaning.specs.Runs.{AreMoves, Move, last_state, state_at, state_moved}
 use Rattle.c_meaning.specs.Starts.{CanStart, start_of}
 use Rattle.c_meaning.specs.Steps.{next as next_of}
 use Rattle.path_runner.specs.declared.path.PathRecord.{PathRecord}
@@ -83,7 +83,10 @@ module _ (t : Typed) (files : List (List ℕ)) (entry : ℕ) (f : TypedFunction)
   first = start_of parts (function_of entry f) input.words
 
   abbrev last : State
-  last = last_in kept.run
+  last = last_state first moves
+
+  begins : AreMoves parts input first moves
+  begins = subst (λ (s : State). AreMoves parts input s moves) kept.begins.start kept.begins.moves
 
   abbrev count : ℕ
   count = length moves
@@ -92,16 +95,16 @@ module _ (t : Typed) (files : List (List ℕ)) (entry : ℕ) (f : TypedFunction)
   es = all_tell parts path.edges
 
   reaches : state_at parts (function_of entry f) input count ≡ Some last
-  reaches = last_there parts input first moves kept.begins.moves
+  reaches = last_there parts input first moves begins
 
   edges_are : path.edges ≡ edges_of moves
   edges_are = ap (λ (q : PathRecord). q.edges) kept.recorded
 
   tell_all : tells parts input count first ≡ es
-  tell_all = tells_along parts input first moves kept.begins.moves ∙ ap (all_tell parts) (sym edges_are)
+  tell_all = tells_along parts input first moves begins ∙ ap (all_tell parts) (sym edges_are)
 
   end_is : path.end ≡ end_at (next_of parts input last)
-  end_is = ap (λ (q : PathRecord). q.end) kept.recorded
+  end_is = ap (λ (q : PathRecord). q.end) kept.recorded ∙ ap (λ (s : State). end_at (next_of parts input (last_state s moves))) kept.begins.start
 
   -- ---- where the run ends
 
@@ -144,12 +147,12 @@ module _ (t : Typed) (files : List (List ℕ)) (entry : ℕ) (f : TypedFunction)
 
     begun : BeginsWith t entry input steps path.end es
     begun = record {
-      long = let least = long parts input first moves kept.begins.moves in let same = ap (λ (xs : List ℕ). length (all_tell parts xs)) edges_are in omega (arith, least, same, taken);
+      long = let least = long parts input first moves begins in let same = ap (λ (xs : List ℕ). length (all_tell parts xs)) edges_are in omega (arith, least, same, taken);
       happens = λ more.
           let one = edges_tell t files entry f input count last made there starts reaches in
-          let next = more_turns_tell_more t entry input steps more in (
-            one.0 ++ next.0,
-            next.1 ∙ ap (λ (xs : List Event). xs ++ next.0) (ap (λ n. tree_events t entry input n) (sym taken) ∙ one.1 ∙ ap (λ (xs : List Event). xs ++ one.0) tell_all) ∙ append_assoc es one.0 next.0,
+          let grown = more_turns_tell_more t entry input steps more in (
+            one.0 ++ grown.0,
+            grown.1 ∙ ap (λ (xs : List Event). xs ++ grown.0) (ap (λ n. tree_events t entry input n) (sym taken) ∙ one.1 ∙ ap (λ (xs : List Event). xs ++ one.0) tell_all) ∙ append_assoc es one.0 grown.0,
           );
     }
 
