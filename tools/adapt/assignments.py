@@ -4,10 +4,11 @@ from typing import Any, Callable
 
 from pycparser import c_ast
 
-from . import kinds
+from . import kinds, statement_exprs
 from .calls import Calls
 from .constants import LOGICAL
 from .effects import STEPS
+from .gnu import StatementExpr
 from .jumps import walk
 from .kinds import Int, Pointer, Struct
 from .output import unmarked
@@ -183,6 +184,8 @@ class Assignments(Calls):
             self.emit(self.stepping(node, *self.step(node, self.kind_has_width(node.expr))))
         elif isinstance(node, c_ast.FuncCall):
             self.call_effect(node)
+        elif isinstance(node, StatementExpr):
+            statement_exprs.effect(self, node)
         elif isinstance(node, c_ast.TernaryOp):
             self.either(node, self.effect)
         elif isinstance(node, c_ast.BinaryOp) and node.op in LOGICAL:
@@ -210,7 +213,7 @@ class Assignments(Calls):
         """A statement without calls and sequence points: steps of objects that it names only once are taken behind it."""
         nodes = walk(node)
         inner = [one for one in nodes if isinstance(one, c_ast.UnaryOp) and one.op in ("p++", "p--")]
-        sequenced = (c_ast.FuncCall, c_ast.TernaryOp, c_ast.ExprList)
+        sequenced = (c_ast.FuncCall, c_ast.TernaryOp, c_ast.ExprList, StatementExpr)
         if inner and not any(
             isinstance(one, sequenced) or (isinstance(one, c_ast.BinaryOp) and one.op in LOGICAL) for one in nodes
         ):

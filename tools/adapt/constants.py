@@ -6,6 +6,7 @@ from typing import Any, Callable, Optional
 from pycparser import c_ast
 
 from . import kinds, unions
+from .gnu import StatementExpr
 from .kinds import Array, Int, Struct, Type, fit
 from .refusals import Refused
 
@@ -139,6 +140,8 @@ class Constants:
             return self.type_of(node.lvalue)
         if isinstance(node, c_ast.ExprList):
             return self.type_of(node.exprs[-1])
+        if isinstance(node, StatementExpr):
+            return kinds.VOID if node.last is None else kinds.adjusted(self.type_of(node.last))
         if isinstance(node, (c_ast.Cast, c_ast.CompoundLiteral)):
             to: Type = self.names.types.get(id(node.to_type if isinstance(node, c_ast.Cast) else node.type), kinds.VOID)
             return to

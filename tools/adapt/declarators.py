@@ -8,6 +8,7 @@ from pycparser import c_ast
 
 from . import kinds
 from .constants import Constants
+from .gnu import Typeof
 from .kinds import Array, Int, Other, Pointer, Signature, Struct, Type
 from .reading import Unit
 from .refusals import Refusals, Refused
@@ -120,6 +121,8 @@ class Declarators:
             return self.type_of(node.type)
         if isinstance(node, c_ast.IdentifierType):
             return self.named(node)
+        if isinstance(node, Typeof):
+            return self.type_of_typeof(node)
         if isinstance(node, c_ast.ArrayDecl):
             of = self.type_of(node.type)
             if node.dim is None:
@@ -139,6 +142,14 @@ class Declarators:
         if isinstance(node, c_ast.FuncDecl):
             return self.signature(node)
         raise Refused(node.coord, f"a type ({type(node).__name__})", "use an integer, an array or a struct")
+
+    def type_of_typeof(self, node: Typeof) -> Type:
+        """What typeof gives, as gcc has it; its pointers have regions of their own."""
+        if isinstance(node.of, c_ast.Typename):
+            return self.type_of(node.of.type)
+        if not node.known:
+            self.expression(node.of)
+        return kinds.renewed(self.constants.type_of(node.of))
 
     def signature(self, node: Any) -> Signature:
         """The type of a function (6.7.6.3); its parameters are what they are adjusted to."""

@@ -4,10 +4,11 @@ from typing import Any, Callable, Optional
 
 from pycparser import c_ast
 
-from . import kinds
+from . import kinds, statement_exprs
 from .assignments import Assignments
 from .constants import COMPARED, LOGICAL, SHIFTS, number
 from .effects import STEPS
+from .gnu import StatementExpr
 from .kinds import Array, Int, Pointer
 from .declarators import Enumerator, Function, Variable
 from .output import unmarked
@@ -70,6 +71,8 @@ class Expressions(Assignments):
             return self.cast(node)
         if isinstance(node, c_ast.FuncCall):
             return self.call_value(node)
+        if isinstance(node, StatementExpr):
+            return statement_exprs.value(self, node)
         raise Refused(node.coord, f"an expression ({type(node).__name__})", "write it with the operators of integers")
 
     def constant(self, node: Any) -> Value:

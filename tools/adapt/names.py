@@ -9,6 +9,7 @@ from pycparser import c_ast, c_generator
 from . import kinds
 from .constants import is_offset
 from .declarators import Declarators, Function, Variable
+from .gnu import StatementExpr
 from .kinds import Array, Other
 from .reading import Unit, is_system
 from .refusals import Refused
@@ -233,6 +234,8 @@ class Names(Declarators):
             self.variables.append(text)
             self.meaning[id(node.name)] = text
             self.expression(node.subscript)
+        elif isinstance(node, StatementExpr):
+            self.statement(node.body)
         elif isinstance(node, c_ast.Typename):
             self.types[id(node)] = self.type_of(node.type)
         elif isinstance(node, c_ast.InitList):

@@ -5,9 +5,10 @@ from typing import Any, Optional
 
 from pycparser import c_ast
 
-from . import kinds
+from . import kinds, statement_exprs
 from .declarators import Function, Variable
 from .effects import STEPS
+from .gnu import StatementExpr
 from .heap import heap_call
 from .kinds import Array, Pointer, Signature
 from .models import Model, model_of
@@ -98,6 +99,8 @@ class Pointers(Writer):
             return self.pointer(node.exprs[-1])
         if isinstance(node, c_ast.FuncCall):
             return self.given_back(node, of)
+        if isinstance(node, StatementExpr):
+            return statement_exprs.pointer(self, node, of.region.parts())
         if isinstance(self.constants.type_of(node), Array):
             return self.pointing_at_first(self.array(node))
         return self.loaded(node)

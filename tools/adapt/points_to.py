@@ -7,6 +7,7 @@ from pycparser import c_ast
 from . import kinds, unions
 from .bindings import with_parents
 from .declarators import Function, Variable
+from .gnu import StatementExpr
 from .heap import GIVES, Pool, heap_call, known_call
 from .initialisers import filled
 from .kinds import Array, Int, Pointer, Signature, Struct, Type
@@ -69,7 +70,7 @@ class PointsTo(Unification):
             return of, region
         if isinstance(node, c_ast.UnaryOp) and node.op == "*":
             return self.pointee(node.expr)
-        if isinstance(node, c_ast.FuncCall):
+        if isinstance(node, (c_ast.FuncCall, StatementExpr)):
             of = self.constants.type_of(node)
             return of, Region(of)
         if isinstance(node, (c_ast.ExprList, c_ast.Assignment, c_ast.TernaryOp)):
@@ -153,6 +154,8 @@ class PointsTo(Unification):
             return one
         if isinstance(node, c_ast.ExprList):
             return self.value(node.exprs[-1])
+        if isinstance(node, StatementExpr):
+            return kinds.VOID if node.last is None else self.value(node.last)
         if isinstance(node, c_ast.Assignment):
             return self.value(node.lvalue)
         if isinstance(node, c_ast.FuncCall) and self.of_heap(node) in GIVES:

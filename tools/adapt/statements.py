@@ -7,6 +7,8 @@ from pycparser import c_ast
 
 from . import kinds
 from .expressions import Expressions
+from .gnu import CaseRange
+from .statement_exprs import ranged
 from .wholes import MOST_COPIED
 from .initialisers import filled, none_of
 from .kinds import Int, Pointer, Struct
@@ -163,7 +165,11 @@ class Statements(Expressions):
 
     def group(self, node: Any, last: bool) -> None:
         self.go(node)
-        self.emit("default:" if isinstance(node, c_ast.Default) else f"case {self.value(node.expr).text}:")
+        if isinstance(getattr(node, "expr", None), CaseRange):
+            for text in ranged(self.constants, node.expr):
+                self.emit(text)
+        else:
+            self.emit("default:" if isinstance(node, c_ast.Default) else f"case {self.value(node.expr).text}:")
         for one in node.stmts or []:
             self.statement(one)
         if last and not node.stmts:

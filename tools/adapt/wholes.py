@@ -4,8 +4,9 @@ from typing import Any, Optional
 
 from pycparser import c_ast
 
-from . import kinds
+from . import kinds, statement_exprs
 from .effects import Effects, objects
+from .gnu import StatementExpr
 from .initialisers import filled
 from .kinds import Leaf
 from .declarators import Function, Variable
@@ -41,6 +42,9 @@ class Wholes(ModelCalls, OutsideCalls):
         if isinstance(source, c_ast.TernaryOp):
             self.either(source, lambda one: self.assign_whole(target, one, node))
             return
+        if isinstance(source, StatementExpr):
+            statement_exprs.whole(self, target, source, node)
+            return
         if isinstance(source, c_ast.ExprList):
             for one in source.exprs[:-1]:
                 self.effect(one)
@@ -69,6 +73,10 @@ class Wholes(ModelCalls, OutsideCalls):
         local = Variable("whole", of, node.coord, "local", out=self.spelling.fresh("whole"))
         self.declared(local)
         self.assign_whole(Place(local, (), (), of), node, node)
+        return self.named_as(local, node)
+
+    def named_as(self, local: Variable, node: Any) -> Any:
+        """A name for a local that is written without one of the sources."""
         made = c_ast.ID(local.out, node.coord)
         self.names.meaning[id(made)] = local
         self.kept_nodes.append(made)

@@ -7,6 +7,7 @@ from pycparser import c_ast
 
 from . import kinds
 from .effects import STEPS, Effected
+from .gnu import StatementExpr
 from .jumps import walk
 from .heap import Heap, heap_call
 from .kinds import Int, Leaf, Struct
@@ -31,7 +32,8 @@ def is_no_object(node: Any) -> bool:
     member = False
     while (isinstance(node, c_ast.StructRef) and node.type == ".") or isinstance(node, c_ast.ArrayRef):
         member, node = member or isinstance(node, c_ast.StructRef), node.name
-    return member and isinstance(node, (c_ast.FuncCall, c_ast.ExprList, c_ast.TernaryOp, c_ast.Assignment))
+    gives = (c_ast.FuncCall, c_ast.ExprList, c_ast.TernaryOp, c_ast.Assignment, StatementExpr)
+    return member and isinstance(node, gives)
 
 
 class Writer:
@@ -126,7 +128,7 @@ class Writer:
         if is_no_object(node):
             return True
         stepped = isinstance(node, c_ast.UnaryOp) and node.op in STEPS
-        return stepped or isinstance(node, (c_ast.Assignment, c_ast.ExprList, c_ast.CompoundLiteral))
+        return stepped or isinstance(node, (c_ast.Assignment, c_ast.ExprList, c_ast.CompoundLiteral, StatementExpr))
 
     def outs(self, function: Function) -> list[tuple[Variable, Leaf]]:
         """What a call gives back by copies: each integer of an object that the function writes, with its parameter."""
