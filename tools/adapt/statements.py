@@ -141,13 +141,18 @@ class Statements(Expressions):
         self.emit(f"if ({self.test(node.cond).text}) {{")
         self.body(node.iftrue)
         other = node.iffalse
-        if isinstance(other, c_ast.If) and not self.needs_statements(other.cond):
+        if isinstance(other, c_ast.If) and self.inline_test(other.cond) is not None:
             self.go(other)
             self.emit("else")
             self.write_If(other)
         elif other is not None:
             self.emit("else {")
             self.body(other)
+
+    def inline_test(self, node: Any) -> Optional[str]:
+        """The text of a condition that is a value alone."""
+        made = self.inline(node, lambda: self.test(node))
+        return None if made is None else made.text
 
     def inner(self, node: Any) -> None:
         """Writes a statement's own statements, where braces stand around it already."""
@@ -195,18 +200,20 @@ class Statements(Expressions):
             self.unless(node, lambda: self.emit("break;"))
 
     def write_While(self, node: Any) -> None:
-        if not self.needs_statements(node.cond):
-            self.emit(f"while ({self.test(node.cond).text}) {{")
+        test = self.inline_test(node.cond)
+        if test is not None:
+            self.emit(f"while ({test}) {{")
         else:
             self.emit("for (;;) {")
             self.leave(node.cond)
         self.body(node.stmt)
 
     def write_DoWhile(self, node: Any) -> None:
-        if not self.needs_statements(node.cond):
+        test = self.inline_test(node.cond)
+        if test is not None:
             self.emit("do {")
             self.body(node.stmt)
-            self.emit(f"while ({self.test(node.cond).text});")
+            self.emit(f"while ({test});")
             return
         if continues(node.stmt):
             raise Refused(
@@ -228,14 +235,14 @@ class Statements(Expressions):
         if init is None and node.init is not None:
             self.inner(node.init)
         step = self.head(node.next)
+        test = "" if node.cond is None else self.inline_test(node.cond)
         if step is None and node.next is not None:
             self.stepwise(node, init or "")
-        elif self.needs_statements(node.cond):
+        elif test is None:
             self.emit(f"for ({init or ''}; ; {step or ''}) {{")
             self.leave(node.cond)
             self.body(node.stmt)
         else:
-            test = "" if node.cond is None else self.test(node.cond).text
             self.emit(f"for ({init or ''}; {test}; {step or ''}) {{")
             self.body(node.stmt)
         if local:

@@ -1,7 +1,7 @@
 """What the writing of a function's expressions, calls and statements stands on: its names, pieces and checks of order."""
 
 from itertools import combinations
-from typing import Any, Optional
+from typing import Any, Callable, Optional, TypeVar
 
 from pycparser import c_ast
 
@@ -22,6 +22,7 @@ from .refusals import Refused
 from .spelling import Spelling
 from .values import PRIMARY, UNARY, Value, number, plus, times
 
+Made = TypeVar("Made")
 ORDER = "C leaves open whether {} is read or written first; use two statements"
 
 
@@ -114,6 +115,21 @@ class Writer:
             self.needing[id(node)] = node, any(self.needs(one) for one in nodes if id(one) not in skipped | listed)
         return self.needing[id(node)][1]
 
+    def inline(self, node: Any, write: Callable[[], Made]) -> Optional[Made]:
+        """What is written of an expression as a value alone; nothing where it takes statements before it, which stand apart where
+        the expression is evaluated again, or not at all."""
+        if self.needs_statements(node):
+            return None
+        pieces, self.file.pieces = self.file.pieces, []
+        try:
+            made = write()
+        finally:
+            own, self.file.pieces = self.file.pieces, pieces
+        if own:
+            self.needing[id(node)] = node, True
+            return None
+        return made
+
     def needs(self, node: Any) -> bool:
         if isinstance(node, c_ast.ArrayRef) and self.check:
             return isinstance(node.name, c_ast.ArrayRef)
@@ -176,6 +192,10 @@ class Writer:
             )
         return Value(text, kinds.INT, 0, calls=value.calls)
 
+    def steady_value(self, value: Value) -> Value:
+        """A value that calls no function, so that it may be named twice."""
+        return Value(self.temporary(value.kind, value.text), value.kind, PRIMARY) if value.calls else value
+
     def steady(self, node: Any, value: Value) -> Value:
         """An index that stays the same when it is read again."""
         loads = any(
@@ -208,6 +228,7 @@ class Writer:
             known = self.constants.value(node)
             inner = length > 1 and (whole is not None and (number(whole) != 0 or not self.alone(place, length)))
             if inner and not self.check and not self.below(node, one, length):
+                one = self.steady_value(one)
                 wide = "unsigned long" if one.kind.bits == 64 else "unsigned int"
                 text = one.within(UNARY) if not one.kind.signed else f"({wide}) {one.within(UNARY)}"
                 tests.append(unmarked(f"{text} >= {length}"))
