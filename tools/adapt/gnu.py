@@ -261,8 +261,9 @@ class Settled:
 
 
 def is_auto(node: Any) -> bool:
-    of = getattr(node.type, "type", None)
-    return isinstance(node.type, c_ast.TypeDecl) and isinstance(of, c_ast.IdentifierType) and of.names == [AUTO]
+    """Whether a declaration's type is that of its value (`__auto_type`)."""
+    of = node.type.type if isinstance(node.type, c_ast.TypeDecl) else None
+    return isinstance(of, c_ast.IdentifierType) and AUTO in of.names
 
 
 def put(node: Any, slot: str, made: Any) -> None:

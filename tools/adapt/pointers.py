@@ -5,7 +5,7 @@ from typing import Any, Optional
 
 from pycparser import c_ast
 
-from . import kinds, statement_exprs
+from . import first_members, kinds, statement_exprs
 from .declarators import Function, Variable
 from .effects import STEPS
 from .gnu import StatementExpr
@@ -80,7 +80,8 @@ class Pointers(Writer):
         if isinstance(self.constants.type_of(node), Signature):
             return self.code(node, of)
         if isinstance(node, c_ast.Cast):
-            return self.pointer(node.expr)
+            first = self.places.columns.points.firsts.get(id(node))
+            return first_members.cast(self, node, first) if first else self.pointer(node.expr)
         if isinstance(node, c_ast.UnaryOp) and node.op == "&":
             return self.address(node)
         if isinstance(node, c_ast.UnaryOp) and node.op in STEPS:

@@ -7,6 +7,7 @@ from pycparser import c_ast
 from . import kinds, unions
 from .bindings import with_parents
 from .declarators import Function, Variable
+from .first_members import FirstMember, related
 from .gnu import StatementExpr
 from .heap import GIVES, Pool, heap_call, known_call
 from .initialisers import filled
@@ -25,6 +26,7 @@ class PointsTo(Unification):
     def __init__(self, names: Names, learned: set[Any]) -> None:
         self.names, self.constants, self.learned = names, names.constants, learned
         self.pools: dict[int, Pool] = {}
+        self.firsts: dict[int, FirstMember] = {}
         self.parts: list[tuple[Region, Region, Any]] = []
         self.modelled: list[tuple[Any, Model]] = []
         super().__init__()
@@ -165,8 +167,10 @@ class PointsTo(Unification):
             return self.value(arguments(node)[0])
         if isinstance(node, c_ast.Cast):
             to = self.names.types.get(id(node.to_type), kinds.VOID)
-            self.flow(node.expr, to)
-            return to
+            first = related(self, node, to)
+            if first is None:
+                self.flow(node.expr, to)
+            return first or to
         if isinstance(node, (c_ast.ID, c_ast.StructRef, c_ast.ArrayRef, c_ast.UnaryOp)):
             return self.decayed(node)
         return self.constants.type_of(node)

@@ -13,7 +13,7 @@ from .values import PRIMARY, Value
 MOST_CASES = 300
 
 
-def block(writer: Any, node: StatementExpr, do: Callable[[Any], None]) -> None:
+def block(writer: Any, node: StatementExpr, do: Callable[[Any], Any]) -> None:
     """Writes the statements, the last one as is asked."""
     line = writer.line, writer.column
     behind, writer.after = writer.after, []
