@@ -263,7 +263,7 @@ class Settled:
 def is_auto(node: Any) -> bool:
     """Whether a declaration's type is that of its value (`__auto_type`)."""
     of = node.type.type if isinstance(node.type, c_ast.TypeDecl) else None
-    return isinstance(of, c_ast.IdentifierType) and AUTO in of.names
+    return isinstance(of, c_ast.IdentifierType) and bool(AUTO in of.names)
 
 
 def put(node: Any, slot: str, made: Any) -> None:

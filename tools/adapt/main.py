@@ -114,6 +114,7 @@ def written(given: argparse.Namespace, refusals: Refusals, apart: set[Any]) -> t
     from .overflow import writer_of
     from .places import Places
     from .reading import read
+    from .sorting import check_sizes
     from .spelling import Spelling
     from .unions import settle
     from pycparser import c_ast
@@ -128,7 +129,7 @@ def written(given: argparse.Namespace, refusals: Refusals, apart: set[Any]) -> t
         return next(name for name in (f"{stem}_{n}" for n in numbers) if name not in taken)
 
     Clones(units, apart, flag)
-    Library(units, taken)
+    library = Library(units, taken)
     names = Names(refusals)
     names.pool = given.pool
     for unit in units:
@@ -139,6 +140,7 @@ def written(given: argparse.Namespace, refusals: Refusals, apart: set[Any]) -> t
                 Jumps(flag, refusals).function(item.body, {getattr(one, "name", "") or "" for one in listed})
         taken.update(node.name for node in walk(unit.tree) if isinstance(node, c_ast.ID))
         names.unit(unit)
+    check_sizes(names, library.sorted)
     settle(names.structs, names.named_members, names.initialised)
     places = Places(names)
     Bindings(places, apart).bind()
