@@ -216,8 +216,8 @@ class Settled:
 
     def is_lifted(self, item: Any) -> bool:
         if isinstance(item, c_ast.FuncDef):
-            return item.decl.name.startswith("$")
-        return isinstance(item, c_ast.Typedef) and item.name.startswith("$")
+            return str(item.decl.name).startswith("$")
+        return isinstance(item, c_ast.Typedef) and str(item.name).startswith("$")
 
     def inside(self, node: Any) -> None:
         """Replaces what stands in a node, and in what is put there."""

@@ -109,6 +109,7 @@ def written(given: argparse.Namespace, refusals: Refusals, apart: set[Any]) -> t
     from .gate import check
     from .jumps import Jumps, walk
     from .library import OUTPUT, Library
+    from .lifetimes import Lifetimes
     from .names import Names
     from .output import File
     from .overflow import writer_of
@@ -146,10 +147,11 @@ def written(given: argparse.Namespace, refusals: Refusals, apart: set[Any]) -> t
     Bindings(places, apart).bind()
     places.columns = Columns(names, apart)
     places.choosers = Choosers(names, places.columns)
+    lifetimes = Lifetimes(names, places.columns)
     inputs = set(given.inputs) | OUTPUT
     effected = Effected(names, places, inputs)
     writer = writer_of(given)(names, places, effected, Spelling(names, taken), given.check)
-    writer.inputs = inputs
+    writer.inputs, writer.lifetimes = inputs, lifetimes
     files = writer.write()
     for path in given.sources:
         files.setdefault(path, File(path))  # (which has no code)

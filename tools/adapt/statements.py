@@ -14,7 +14,6 @@ from .initialisers import filled, none_of
 from .kinds import Int, Pointer, Struct
 from .jumps import LOOPS
 from .declarators import Variable
-from .outlives import check_outlives
 from .places import Place
 from .refusals import Refused
 
@@ -287,7 +286,6 @@ class Statements(Expressions):
         if node.expr is not None and function.result == kinds.VOID:
             self.effect(node.expr)
         if node.expr is not None and isinstance(function.result, Pointer):
-            check_outlives(self, node.expr)
             self.return_pointer(function, function.result, node.expr)
             return
         if node.expr is None or not isinstance(function.result, Int):
@@ -296,7 +294,7 @@ class Statements(Expressions):
             return
         one = self.converted(self.value(node.expr), function.result)
         text = one.text
-        if self.outs(function) and one.calls:
+        if (self.outs(function) and one.calls) or function in self.lifetimes.ended:
             text = self.temporary(function.result, text)
         self.hand_back()
         self.emit(f"return {text};")
@@ -307,3 +305,10 @@ class Statements(Expressions):
         for parameter, leaf in self.outs(self.function):
             own = self.spelling.special(self.function, parameter.name, parameter.type.to, self.special)  # type: ignore[union-attr]
             self.emit(f"{self.spelling.leaf(own, leaf.path)} = {self.spelling.leaf(parameter, leaf.path)};")
+        for text in self.lifetimes.texts(self, self.function):
+            self.emit(text)
+
+    def hands_back(self) -> bool:
+        """Whether something is written before a return."""
+        assert self.function is not None
+        return bool(self.outs(self.function)) or self.function in self.lifetimes.ended

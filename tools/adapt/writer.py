@@ -58,6 +58,7 @@ class Writer:
         self.large = LargeArrays(spelling.fresh)
         self.raw = Raw(self)
         self.inputs: set[str] = set()
+        self.lifetimes: Any = None
         self.outer_values: dict[
             tuple[Function, str], str
         ] = {}  # the inputs that objects get by functions that no source defines
