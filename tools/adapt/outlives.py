@@ -2,9 +2,7 @@
 
 from typing import Any
 
-from pycparser import c_ast
-
-from . import kinds
+from . import kinds, tree
 from .declarators import Variable
 from .kinds import Pointer
 from .refusals import Refused
@@ -13,18 +11,18 @@ from .refusals import Refused
 def check_outlives(writer: Any, node: Any, taken: bool = False) -> None:
     """Refuses the address of a local as a result: behind the call its content has no meaning (6.2.4p2)."""
     parts: list[Any] = []
-    if isinstance(node, c_ast.TernaryOp):
+    if isinstance(node, tree.TernaryOp):
         parts = [node.iftrue, node.iffalse]
-    elif isinstance(node, c_ast.UnaryOp) and node.op == "&":
+    elif isinstance(node, tree.UnaryOp) and node.op == "&":
         parts, taken = [node.expr], True
-    elif isinstance(node, c_ast.Cast):
+    elif isinstance(node, tree.Cast):
         parts = [node.expr]
-    elif isinstance(node, c_ast.BinaryOp) and node.op in "+-":
+    elif isinstance(node, tree.BinaryOp) and node.op in "+-":
         parts = [one for one in (node.left, node.right) if writer.is_pointer(one)]
-    elif isinstance(node, c_ast.ArrayRef) or (isinstance(node, c_ast.StructRef) and node.type == "."):
+    elif isinstance(node, tree.ArrayRef) or (isinstance(node, tree.StructRef) and node.type == "."):
         parts = [node.name] if not isinstance(writer.constants.type_of(node.name), Pointer) else []
     for one in parts:
         check_outlives(writer, one, taken)
-    meaning = writer.names.meaning.get(id(node)) if isinstance(node, c_ast.ID) else None
+    meaning = writer.names.meaning.get(node) if isinstance(node, tree.ID) else None
     if isinstance(meaning, Variable) and meaning.home == "local" and (taken or isinstance(meaning.type, kinds.Array)):
         raise Refused(node.coord, f"the address of the local {meaning.name} as a result", "make it static")

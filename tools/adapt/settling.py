@@ -3,7 +3,7 @@ members have no common form, and memory that is copied, set or compared by bytes
 
 from typing import Any
 
-from . import kinds
+from . import kinds, tree
 from .kinds import Int, Pointer
 from .meetings import differ, handed_by_pointer
 from .models import WHOLE, Model, element_count
@@ -17,7 +17,7 @@ def settle(points: Any) -> None:
     for variable in points.names.variables:
         if kinds.is_mixed(variable.type):
             points.home(variable)
-    before, done = -1, set[int]()
+    before, done = -1, set[tree.Node]()
     while before != raws(points) + len(done):
         before = raws(points) + len(done)
         handed_by_pointer(points, done)
@@ -43,7 +43,7 @@ def raws(points: Any) -> int:
 
 
 def pointers(points: Any) -> list[Pointer]:
-    return [of for _, of in points.values.values() if isinstance(of, Pointer)]
+    return [of for of in points.values.values() if isinstance(of, Pointer)]
 
 
 def by_bytes(points: Any, node: Any, model: Model) -> None:
