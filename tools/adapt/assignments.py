@@ -101,7 +101,7 @@ class Assignments(Calls):
         whole, _ = self.leaf(place, True)
         of, shift = self.places.carrier_kind(place), self.part_shift(place)
         word, own = kinds.FIXED[f"uint{of.bits}_t"].text, kinds.FIXED[f"uint{kind.bits}_t"].text
-        given = unmarked(value(self.part(place, whole)).within(UNARY))
+        given = unmarked(self.converted(value(self.part(place, whole)), kind).within(UNARY))
         if kind.bits == of.bits:
             self.emit(f"{whole} = {given};")
             return self.part(place, whole).text, kind

@@ -60,7 +60,7 @@ __attribute__((constructor)) static void adapt_poison_{0}_{1}(void) {{
   __asan_poison_memory_region(adapt_const_{0}_{1}, 4096);
 }}
 """
-QUIET = "max_malloc_fill_size=65536:malloc_fill_byte=0:detect_leaks=0:abort_on_error=0:exitcode=70"
+QUIET = "max_malloc_fill_size=65536:malloc_fill_byte=0:detect_leaks=0:abort_on_error=0:exitcode=70:detect_stack_use_after_return=1"
 ENDED, FAILED, FELL_OFF = 0, -6, 77  # a run to its end, one whose assert failed, one off the end of a function
 TELLING = [0, 1, -1, 2, 3, 4, 5, 7, 8, 10, 16, 31, 64, 100, 127, 128, 200, 255, 256, -128, 32767, 65535]
 TELLING += [2**31 - 1, -(2**31), 2**32 - 1, 2**63 - 1]

@@ -191,8 +191,9 @@ class Expressions(Assignments):
         return isinstance(node, tree.UnaryOp) and node.op == "sizeof"
 
     def logical(self, node: Any) -> Value:
-        if not self.needs_statements(node.right):
-            left, right = self.test(node.left), self.test(node.right)
+        right = self.inline(node.right, lambda: self.test(node.right))
+        if right is not None:
+            left = self.test(node.left)
             level = LEVELS[node.op]
             text = f"{left.within(level)} {node.op} {right.within(level + 1)}"
             return Value(text, kinds.INT, level, truth=True, calls=left.calls or right.calls)
@@ -225,8 +226,10 @@ class Expressions(Assignments):
         kind = self.constants.type_of(node)
         if not isinstance(kind, Int):
             raise Refused(node.coord, "a choice between what are no integers", "use if")
-        if not (self.needs_statements(node.iftrue) or self.needs_statements(node.iffalse)):
-            test, yes, no = self.test(node.cond), self.value(node.iftrue), self.value(node.iffalse)
+        yes = self.inline(node.iftrue, lambda: self.value(node.iftrue))
+        no = self.inline(node.iffalse, lambda: self.value(node.iffalse))
+        if yes is not None and no is not None:
+            test = self.test(node.cond)
             text = f"{test.within(1)} ? {yes.text} : {no.within(0)}"
             return Value(text, kind, 0, truth=yes.truth and no.truth, calls=test.calls or yes.calls or no.calls)
         made = self.temporary(kind, "0")

@@ -149,7 +149,7 @@ class Settled:
     def is_lifted(self, item: Any) -> bool:
         if isinstance(item, tree.FuncDef):
             return str(item.decl.name).startswith("$")
-        return isinstance(item, tree.Typedef) and item.name.startswith("$")
+        return isinstance(item, tree.Typedef) and str(item.name).startswith("$")
 
     def inside(self, node: Any) -> None:
         """Replaces what stands in a node, and in what is put there."""
@@ -198,5 +198,6 @@ class Settled:
 
 
 def is_auto(node: Any) -> bool:
-    of = getattr(node.type, "type", None)
-    return isinstance(node.type, tree.TypeDecl) and isinstance(of, tree.IdentifierType) and of.names == [AUTO]
+    """Whether a declaration's type is that of its value (`__auto_type`)."""
+    of = node.type.type if isinstance(node.type, tree.TypeDecl) else None
+    return isinstance(of, tree.IdentifierType) and bool(AUTO in of.names)

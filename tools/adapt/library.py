@@ -10,9 +10,10 @@ from . import tree
 from .tree import walk
 from .parsing import parsed
 from .reading import Unit
+from .sorting import SORTING, Sorted, written_for
 
 FOLDER = os.path.join(os.path.dirname(os.path.abspath(__file__)), "models")
-FILES = ("ctype.c", "stdlib.c", "builtin.c")
+FILES = ("ctype.c", "stdlib.c", "builtin.c", "sort.c")
 OUTPUT = set(
     "printf fprintf vprintf vfprintf puts fputs putchar putc fputc fflush perror setbuf setvbuf syslog".split()
 )
@@ -70,7 +71,10 @@ class Library:
         self.missing, self.names = set(models()) - own, own | self.declared
         self.added: list[Any] = []
         self.wanted: dict[str, Any] = {}
-        self.expand(nodes)
+        self.sorted: list[Sorted] = []
+        for unit in units:
+            self.unit = unit
+            self.expand(walk(unit.tree))
         if "errno" in self.declared and not self.is_defined("errno"):
             self.add("errno", known()["errno"])
         front = units[0].files[0] if units else ""
@@ -96,9 +100,12 @@ class Library:
 
     def expand(self, nodes: list[Any]) -> None:
         """Finds the uses of models in a tree's nodes, and adds these."""
-        called = {node.name for node in nodes if isinstance(node, tree.FuncCall)}
+        called = {node.name: node for node in nodes if isinstance(node, tree.FuncCall)}
         for node in nodes:
-            if (
+            if isinstance(node, tree.ID) and node.name in SORTING:
+                if node in called and node.name in self.missing:
+                    self.sort(called[node])
+            elif (
                 isinstance(node, tree.ID)
                 and node.name in self.missing
                 and (node.name in self.declared or node in called)
@@ -112,6 +119,39 @@ class Library:
             elif node in called and isinstance(node, tree.ID) and node.name in known() and node.name not in self.names:
                 self.names.add(node.name)
                 self.added.insert(0, copy.deepcopy(known()[node.name]))
+
+    def declare(self, nodes: list[Any]) -> None:
+        """Declares what a model uses."""
+        for one in nodes:
+            if isinstance(one, tree.ID) and one.name in known() and one.name not in self.wanted:
+                self.wanted[one.name] = None
+                self.added.insert(0, copy.deepcopy(known()[one.name]))
+
+    def sort(self, call: Any) -> None:
+        """Puts the model of a call of qsort or bsearch behind its unit, and declares it in front."""
+        number, name = 1, f"{call.name.name}_1"
+        while name in self.taken:
+            number += 1
+            name = f"{call.name.name}_{number}"
+        self.taken.add(name)
+        tree = self.unit.tree
+        functions = {one.decl.name for one in tree.ext if isinstance(one, tree.FuncDef)}
+        functions |= {one.name for one in tree.ext if isinstance(one, tree.Decl) and self.is_function(one)}
+        made = written_for(call, models()[call.name.name], name, functions)
+        line = max(
+            (one.coord.line for one in tree.ext if one.coord and str(one.coord.file) == self.unit.path), default=1
+        )
+        first = min(
+            (one.coord.line for one in tree.ext if one.coord and str(one.coord.file) == self.unit.path), default=1
+        )
+        for item, at in ((made.prototype, first), (made.definition, line)):
+            for node in walk(item):
+                self.count += 1
+                node.coord = Spot(self.unit.path, at, self.count)
+        self.declare(walk(made.definition))
+        tree.ext[0:0] = [made.prototype]
+        tree.ext.append(made.definition)
+        self.sorted.append(made)
 
     def anew(self, node: Any, model: Any) -> None:
         """Adds a model for one call."""
@@ -129,9 +169,6 @@ class Library:
         if isinstance(made, tree.FuncDef):
             tree.rename(made.decl, name)
             inner = walk(made)
-            for one in inner:
-                if isinstance(one, tree.ID) and one.name in known() and one.name not in self.wanted:
-                    self.wanted[one.name] = None
-                    self.added.insert(0, copy.deepcopy(known()[one.name]))
+            self.declare(inner)
             self.expand(inner)
         self.added.append(made)

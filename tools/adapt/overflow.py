@@ -32,6 +32,9 @@ def span_of(kind: Int) -> Span:
     """The least and the greatest number of a kind."""
     if kind.boolean:
         return 0, 1
+    if kind.width:  # (a bit-field)
+        half = 1 << (kind.width - 1)
+        return (-half, half - 1) if kind.below_zero else (0, 2 * half - 1)
     return (-(1 << (kind.bits - 1)), (1 << (kind.bits - 1)) - 1) if kind.signed else (0, (1 << kind.bits) - 1)
 
 
@@ -214,7 +217,9 @@ class Checked(Units):
 
     def operated(self, node: Any, op: str, own: Value, given: Value) -> Value:
         made = self.checked(node, op, own, given) if op in CHECKED else None
-        return super().operated(node, op, own, given) if made is None else made
+        made = self.unchecked(op, own, given) if made is None else made
+        self.last = node, made
+        return made
 
     def step(self, node: Any, stable: bool = False) -> tuple[str, Int]:
         return super().step(node, True)
@@ -238,7 +243,7 @@ class Checked(Units):
         if node is None or node.coord is None or self.function is None or not self.narrows(value, kind):
             return super().converted(value, kind)
         function = self.helper(
-            ("to", value.kind.bits == 64 and not value.kind.signed, kind.bits, kind.signed),
+            ("to", value.kind.bits == 64 and not value.kind.signed, kind.bits, kind.signed, span_of(kind)),
             overflow_texts.conversion_stem(value.kind, kind),
             lambda called: overflow_texts.conversion(called, value.kind, kind),
         )

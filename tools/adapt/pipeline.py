@@ -27,12 +27,14 @@ from .effects import Effected
 from .gate import check
 from .jumps import Jumps
 from .library import OUTPUT, Library
+from .lifetimes import Lifetimes
 from .names import Names
 from .output import File
 from .overflow import writer_of
 from .places import Places
 from .reading import Unit, read
 from .refusals import Refusals
+from .sorting import check_sizes
 from .spelling import Spelling
 from .unions import settle
 from .units import Units
@@ -70,16 +72,17 @@ def written(given: Namespace, refusals: Refusals, apart: set[Any]) -> Optional[A
     if any(unit.tree is None for unit in units):
         return None
     taken = {word for unit in units for word in unit.words}
-    expanded(units, taken, apart, refusals)
-    names = named(units, given, refusals, taken)
+    library = expanded(units, taken, apart, refusals)
+    names = named(units, library, given, refusals, taken)
     places = Places(names)
     Bindings(places, apart).bind()
     places.columns = Columns(names, apart)
     places.choosers = Choosers(names, places.columns)
+    lifetimes = Lifetimes(names, places.columns)
     inputs = set(given.inputs) | OUTPUT
     effected = Effected(names, places, inputs)
     writer = writer_of(given)(names, places, effected, Spelling(names, taken), given.check)
-    writer.inputs = inputs
+    writer.inputs, writer.lifetimes = inputs, lifetimes
     files = writer.write()
     texts = writer.finished(laid_out(files, units, given.sources))
     if not refusals.found:
@@ -98,23 +101,25 @@ def free_names(taken: set[str]) -> Callable[[str], str]:
     return lambda stem: next(name for name in (f"{stem}_{n}" for n in numbers) if name not in taken)
 
 
-def expanded(units: list[Unit], taken: set[str], apart: set[Any], refusals: Refusals) -> None:
-    """Changes the trees: what is left has no jumps, and switches whose cases stand directly in them."""
+def expanded(units: list[Unit], taken: set[str], apart: set[Any], refusals: Refusals) -> Library:
+    """Changes the trees: what is left has no jumps, and switches whose cases stand directly in them; the models in front."""
     fresh = free_names(taken)
     Clones(units, apart, fresh)
-    Library(units, taken)
+    library = Library(units, taken)
     for item in [item for unit in units for item in unit.tree.ext if isinstance(item, tree.FuncDef)]:
         Cases(fresh).function(item.body)
         Jumps(fresh, refusals).function(item)
+    return library
 
 
-def named(units: list[Unit], given: Namespace, refusals: Refusals, taken: set[str]) -> Names:
+def named(units: list[Unit], library: Library, given: Namespace, refusals: Refusals, taken: set[str]) -> Names:
     """What the names stand for. The names that jumps got become taken."""
     names = Names(refusals)
     names.pool = given.pool
     for unit in units:
         taken.update(node.name for node in tree.walk(unit.tree) if isinstance(node, tree.ID))
         names.unit(unit)
+    check_sizes(names, library.sorted)
     settle(names.structs, names.named_members, names.initialised)
     return names
 

@@ -19,6 +19,9 @@ class PointerEffects(Pointers):
     def hand_back(self) -> None:
         raise NotImplementedError
 
+    def hands_back(self) -> bool:
+        raise NotImplementedError
+
     def compared(self, node: Any) -> Value:
         """A comparison of pointers."""
         self.unsequenced(node, [node.left, node.right])
@@ -130,7 +133,7 @@ class PointerEffects(Pointers):
         """Writes the return of a pointer: its index, and what else it has in objects of the file."""
         parts = self.pointer(expr)
         text = parts[INDEX].text
-        if parts[INDEX].calls and (self.outs(function) or len(of.region.parts()) > 1):
+        if parts[INDEX].calls and len(of.region.parts()) > 1 or self.hands_back():
             text = self.temporary(kinds.INT, text)
         for part in of.region.parts()[1 if function.calls else 0 :]:  # (what nothing calls gives no number)
             self.emit(f"{self.result_part(function, part)} = {parts[part].text};")

@@ -3,7 +3,7 @@ its object. An access outside of the object becomes the index -1, which ends a r
 
 from typing import Any, Optional
 
-from . import kinds, statement_exprs, tree
+from . import first_members, kinds, statement_exprs, tree
 from .declarators import Function, Variable
 from .effects import STEPS
 from .heap import heap_call
@@ -77,7 +77,8 @@ class Pointers(Writer):
         if isinstance(self.constants.type_of(node), Signature):
             return self.code(node, of)
         if isinstance(node, tree.Cast):
-            return self.pointer(node.expr)
+            first = self.places.columns.points.firsts.get(node)
+            return first_members.cast(self, node, first) if first else self.pointer(node.expr)
         if isinstance(node, tree.UnaryOp) and node.op == "&":
             return self.address(node)
         if isinstance(node, tree.UnaryOp) and node.op in STEPS:
@@ -185,9 +186,6 @@ class Pointers(Writer):
         of = self.places.columns.pointer(node)
         return (kinds.size(of.to) or 1) if of.region.root().raw else kinds.elements(of.to)
 
-    def steady_value(self, value: Value) -> Value:
-        return Value(self.temporary(value.kind, value.text), value.kind, PRIMARY) if value.calls else value
-
     def moved(self, node: Any, base: Any, by: Any, op: str) -> Parts:
         """A pointer moved by a number of elements."""
         self.unsequenced(node, [base, by])
@@ -220,8 +218,10 @@ class Pointers(Writer):
 
     def chosen_pointer(self, node: Any, of: Pointer) -> Parts:
         names = of.region.parts()
-        if not (self.needs_statements(node.iftrue) or self.needs_statements(node.iffalse)):
-            test, yes, no = self.test(node.cond), self.pointer(node.iftrue), self.pointer(node.iffalse)
+        yes = self.inline(node.iftrue, lambda: self.pointer(node.iftrue))
+        no = self.inline(node.iffalse, lambda: self.pointer(node.iffalse))
+        if yes is not None and no is not None:
+            test = self.test(node.cond)
             if not any(one.calls for one in [test, *yes.values(), *no.values()]) or len(names) == 1:
                 texts = {name: f"{test.within(1)} ? {yes[name].text} : {no[name].within(0)}" for name in names}
                 return {name: Value(text, kinds.INT, 0, calls=test.calls) for name, text in texts.items()}

@@ -5,6 +5,7 @@ from typing import Any, Optional
 from . import kinds, tree, unions
 from .tree import with_parents
 from .declarators import Function, Variable
+from .first_members import FirstMember, related
 from .heap import GIVES, Pool, heap_call, known_call
 from .initialisers import filled
 from .kinds import Array, Int, Pointer, Signature, Struct, Type
@@ -22,6 +23,7 @@ class PointsTo(Unification):
     def __init__(self, names: Names, learned: set[Any]) -> None:
         self.names, self.constants, self.learned = names, names.constants, learned
         self.pools: dict[tree.Node, Pool] = {}
+        self.firsts: dict[tree.Node, FirstMember] = {}
         self.parts: list[tuple[Region, Region, Any]] = []
         self.modelled: list[tuple[Any, Model]] = []
         super().__init__()
@@ -162,8 +164,10 @@ class PointsTo(Unification):
             return self.value(arguments(node)[0])
         if isinstance(node, tree.Cast):
             to: Type = self.names.types.get(node.to_type, kinds.VOID)
-            self.flow(node.expr, to)
-            return to
+            first = related(self, node, to)
+            if first is None:
+                self.flow(node.expr, to)
+            return first or to
         if isinstance(node, (tree.ID, tree.StructRef, tree.ArrayRef, tree.UnaryOp)):
             return self.decayed(node)
         return self.constants.type_of(node)

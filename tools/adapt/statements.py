@@ -11,7 +11,6 @@ from .initialisers import filled, none_of
 from .kinds import Int, Pointer, Struct
 from .tree import LOOPS
 from .declarators import Variable
-from .outlives import check_outlives
 from .places import Place
 from .refusals import Refused
 
@@ -138,13 +137,18 @@ class Statements(Expressions):
         self.emit(f"if ({self.test(node.cond).text}) {{")
         self.body(node.iftrue)
         other = node.iffalse
-        if isinstance(other, tree.If) and not self.needs_statements(other.cond):
+        if isinstance(other, tree.If) and self.inline_test(other.cond) is not None:
             self.go(other)
             self.emit("else")
             self.write_If(other)
         elif other is not None:
             self.emit("else {")
             self.body(other)
+
+    def inline_test(self, node: Any) -> Optional[str]:
+        """The text of a condition that is a value alone."""
+        made = self.inline(node, lambda: self.test(node))
+        return None if made is None else made.text
 
     def inner(self, node: Any) -> None:
         """Writes a statement's own statements, where braces stand around it already."""
@@ -192,18 +196,20 @@ class Statements(Expressions):
             self.unless(node, lambda: self.emit("break;"))
 
     def write_While(self, node: Any) -> None:
-        if not self.needs_statements(node.cond):
-            self.emit(f"while ({self.test(node.cond).text}) {{")
+        test = self.inline_test(node.cond)
+        if test is not None:
+            self.emit(f"while ({test}) {{")
         else:
             self.emit("for (;;) {")
             self.leave(node.cond)
         self.body(node.stmt)
 
     def write_DoWhile(self, node: Any) -> None:
-        if not self.needs_statements(node.cond):
+        test = self.inline_test(node.cond)
+        if test is not None:
             self.emit("do {")
             self.body(node.stmt)
-            self.emit(f"while ({self.test(node.cond).text});")
+            self.emit(f"while ({test});")
             return
         if continues(node.stmt):
             raise Refused(
@@ -225,14 +231,14 @@ class Statements(Expressions):
         if init is None and node.init is not None:
             self.inner(node.init)
         step = self.head(node.next)
+        test = "" if node.cond is None else self.inline_test(node.cond)
         if step is None and node.next is not None:
             self.stepwise(node, init or "")
-        elif self.needs_statements(node.cond):
+        elif test is None:
             self.emit(f"for ({init or ''}; ; {step or ''}) {{")
             self.leave(node.cond)
             self.body(node.stmt)
         else:
-            test = "" if node.cond is None else self.test(node.cond).text
             self.emit(f"for ({init or ''}; {test}; {step or ''}) {{")
             self.body(node.stmt)
         if local:
@@ -277,7 +283,6 @@ class Statements(Expressions):
         if node.expr is not None and function.result == kinds.VOID:
             self.effect(node.expr)
         if node.expr is not None and isinstance(function.result, Pointer):
-            check_outlives(self, node.expr)
             self.return_pointer(function, function.result, node.expr)
             return
         if node.expr is None or not isinstance(function.result, Int):
@@ -286,7 +291,7 @@ class Statements(Expressions):
             return
         one = self.converted(self.value(node.expr), function.result)
         text = one.text
-        if self.outs(function) and one.calls:
+        if (self.outs(function) and one.calls) or function in self.lifetimes.ended:
             text = self.temporary(function.result, text)
         self.hand_back()
         self.emit(f"return {text};")
@@ -297,3 +302,10 @@ class Statements(Expressions):
         for parameter, leaf in self.outs(self.function):
             own = self.spelling.special(self.function, parameter.name, parameter.type.to, self.special)  # type: ignore[union-attr]
             self.emit(f"{self.spelling.leaf(own, leaf.path)} = {self.spelling.leaf(parameter, leaf.path)};")
+        for text in self.lifetimes.texts(self, self.function):
+            self.emit(text)
+
+    def hands_back(self) -> bool:
+        """Whether something is written before a return."""
+        assert self.function is not None
+        return bool(self.outs(self.function)) or self.function in self.lifetimes.ended

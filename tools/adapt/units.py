@@ -265,7 +265,7 @@ class Units(Checks):
         for one in items:
             self.statement(one)
         self.go_to_end(node.body)
-        if self.outs(function) and not (items and isinstance(items[-1], tree.Return)):
+        if self.hands_back() and not (items and isinstance(items[-1], tree.Return)):
             self.hand_back()
         self.emit("}" if function.result == kinds.VOID else FELL + "}")
         self.function = None

@@ -1,7 +1,7 @@
 """What the writing of a function's expressions, calls and statements stands on: its names, pieces and checks of order."""
 
 from itertools import combinations
-from typing import Any, Optional
+from typing import Any, Callable, Optional, TypeVar
 
 from . import kinds, tree
 from .effects import STEPS, Effected
@@ -19,6 +19,7 @@ from .refusals import Refused
 from .spelling import Spelling
 from .values import PRIMARY, UNARY, Value, number, plus, times
 
+Made = TypeVar("Made")
 ORDER = "C leaves open whether {} is read or written first; use two statements"
 
 
@@ -53,6 +54,7 @@ class Writer:
         self.large = LargeArrays(spelling.fresh)
         self.raw = Raw(self)
         self.inputs: set[str] = set()
+        self.lifetimes: Any = None
         self.outer_values: dict[
             tuple[Function, str], str
         ] = {}  # the inputs that objects get by functions that no source defines
@@ -106,6 +108,21 @@ class Writer:
             listed = {one.args for one in nodes if isinstance(one, tree.FuncCall)}
             self.needing[node] = any(self.needs(one) for one in nodes if one not in skipped | listed)
         return self.needing[node]
+
+    def inline(self, node: Any, write: Callable[[], Made]) -> Optional[Made]:
+        """What is written of an expression as a value alone; nothing where it takes statements before it, which stand apart where
+        the expression is evaluated again, or not at all."""
+        if self.needs_statements(node):
+            return None
+        pieces, self.file.pieces = self.file.pieces, []
+        try:
+            made = write()
+        finally:
+            own, self.file.pieces = self.file.pieces, pieces
+        if own:
+            self.needing[node] = True
+            return None
+        return made
 
     def needs(self, node: Any) -> bool:
         if isinstance(node, tree.ArrayRef) and self.check:
@@ -169,6 +186,10 @@ class Writer:
             )
         return Value(text, kinds.INT, 0, calls=value.calls)
 
+    def steady_value(self, value: Value) -> Value:
+        """A value that calls no function, so that it may be named twice."""
+        return Value(self.temporary(value.kind, value.text), value.kind, PRIMARY) if value.calls else value
+
     def steady(self, node: Any, value: Value) -> Value:
         """An index that stays the same when it is read again."""
         loads = any(
@@ -201,6 +222,7 @@ class Writer:
             known = self.constants.value(node)
             inner = length > 1 and (whole is not None and (number(whole) != 0 or not self.alone(place, length)))
             if inner and not self.check and not self.below(node, one, length):
+                one = self.steady_value(one)
                 wide = "unsigned long" if one.kind.bits == 64 else "unsigned int"
                 text = one.within(UNARY) if not one.kind.signed else f"({wide}) {one.within(UNARY)}"
                 tests.append(unmarked(f"{text} >= {length}"))
