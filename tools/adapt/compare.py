@@ -6,8 +6,6 @@ import subprocess
 import tempfile
 from typing import Any, Iterator
 
-from pycparser import c_generator
-
 from . import kinds
 from .heap import heap_call
 from .kinds import Array, Int, Path, Struct, Type
@@ -16,6 +14,7 @@ from .declarators import Function, Variable
 from .reading import compiler, is_system
 from .refusals import Stop
 from .models import model_of
+from .parsing import printed
 from .output import FELL, unmarked
 from .units import Units
 
@@ -107,7 +106,7 @@ def answering(writer: Units, function: Function, answer: str) -> str:
     node: Any = function.declaration
     result = f"return ({kinds.c_words(function.result)}) {answer};" if isinstance(function.result, Int) else ""
     node.storage, node.funcspec = [], []
-    return f"{c_generator.CGenerator().visit(node)} {{ {result} }}\n"
+    return f"{printed(node)} {{ {result} }}\n"
 
 
 class Comparison:

@@ -60,7 +60,7 @@ def related(points: Any, node: Any, to: Type) -> Optional[Type]:
         made = made.member(name, kinds.element(type_here))
     points.unify(made, inner.region, node.coord)
     made.root().pointed = True
-    points.firsts[id(node)] = FirstMember(region, path, inwards)
+    points.firsts[node] = FirstMember(region, path, inwards)
     return to
 
 

@@ -4,10 +4,9 @@ function in a function of its own, at the lines and columns that it had. In the 
 
 import re
 from dataclasses import dataclass, field
-from typing import Any, Iterator
+from typing import Any
 
-from pycparser import c_ast
-
+from . import tree
 from .refusals import Refusals
 
 TOKEN = re.compile(
@@ -18,74 +17,6 @@ RANGE = re.compile(r"\bcase\b(?:'(?:\\.|[^'\\\n])*'|[^:;{}?'\"])*?\.\.\.")
 TYPEOF = ("typeof", "__typeof__", "__typeof")
 AUTO = "$auto"
 RANGED = "$"  # stands between the ends of a range, by `||`
-LOOPS = (c_ast.For, c_ast.While, c_ast.DoWhile)
-
-
-class StatementExpr(c_ast.Node):  # type: ignore[misc]
-    """`({ .. })`: the block, whose last statement may be the expression that gives the value."""
-
-    __slots__ = ("body", "coord", "__weakref__")
-    attr_names = ()
-
-    def __init__(self, body: Any, coord: Any = None) -> None:
-        self.body, self.coord = body, coord
-
-    def children(self) -> tuple[tuple[str, Any], ...]:
-        return (("body", self.body),)
-
-    def __iter__(self) -> Iterator[Any]:
-        yield self.body
-
-    @property
-    def items(self) -> list[Any]:
-        """The statements whose effect alone counts."""
-        found = list(self.body.block_items or [])
-        return found[:-1] if self.last is not None else found
-
-    @property
-    def last(self) -> Any:
-        """The expression that gives the value, if there is one."""
-        found = self.body.block_items or []
-        return found[-1] if found and is_expression(found[-1]) else None
-
-
-class Typeof(c_ast.Node):  # type: ignore[misc]
-    """The type of an expression, or of a type's name. Of one that is `known` the names have their meanings already."""
-
-    __slots__ = ("of", "known", "coord", "__weakref__")
-    attr_names = ()
-
-    def __init__(self, of: Any, coord: Any = None, known: bool = False) -> None:
-        self.of, self.coord, self.known = of, coord, known
-
-    def children(self) -> tuple[tuple[str, Any], ...]:
-        return ()  # (it isn't evaluated)
-
-    def __iter__(self) -> Iterator[Any]:
-        return iter(())
-
-
-class CaseRange(c_ast.Node):  # type: ignore[misc]
-    """The ends of a range of cases."""
-
-    __slots__ = ("low", "high", "coord", "__weakref__")
-    attr_names = ()
-
-    def __init__(self, low: Any, high: Any, coord: Any = None) -> None:
-        self.low, self.high, self.coord = low, high, coord
-
-    def children(self) -> tuple[tuple[str, Any], ...]:
-        return (("low", self.low), ("high", self.high))
-
-    def __iter__(self) -> Iterator[Any]:
-        yield from (self.low, self.high)
-
-
-def is_expression(node: Any) -> bool:
-    """Whether a statement is an expression."""
-    kinds = (c_ast.ID, c_ast.Constant, c_ast.UnaryOp, c_ast.BinaryOp, c_ast.TernaryOp, c_ast.Assignment, c_ast.ExprList)
-    more = (c_ast.Cast, c_ast.CompoundLiteral, c_ast.FuncCall, c_ast.ArrayRef, c_ast.StructRef, StatementExpr)
-    return isinstance(node, kinds + more)
 
 
 # ---- the text
@@ -204,20 +135,21 @@ class Settled:
         self.refusals = refusals
         self.bodies: dict[str, Any] = {}
 
-    def unit(self, tree: Any) -> None:
+    def unit(self, unit: tree.FileAST) -> None:
         names = re.compile(r"\$\d+f")
-        for item in tree.ext:
-            if isinstance(item, c_ast.FuncDef) and names.fullmatch(item.decl.name):
-                self.bodies[item.decl.name[:-1]] = item.body
-        own = [item for item in tree.ext if not self.is_lifted(item)]
-        tree.ext[:] = own
+        for item in unit.ext:
+            name = str(item.decl.name) if isinstance(item, tree.FuncDef) else ""
+            if isinstance(item, tree.FuncDef) and names.fullmatch(name):
+                self.bodies[name[:-1]] = item.body
+        own = [item for item in unit.ext if not self.is_lifted(item)]
+        unit.ext[:] = own
         for item in own:
             self.inside(item)
 
     def is_lifted(self, item: Any) -> bool:
-        if isinstance(item, c_ast.FuncDef):
+        if isinstance(item, tree.FuncDef):
             return str(item.decl.name).startswith("$")
-        return isinstance(item, c_ast.Typedef) and str(item.name).startswith("$")
+        return isinstance(item, tree.Typedef) and str(item.name).startswith("$")
 
     def inside(self, node: Any) -> None:
         """Replaces what stands in a node, and in what is put there."""
@@ -227,49 +159,45 @@ class Settled:
             for slot, child in list(one.children()):
                 made = self.made(child)
                 if made is not child:
-                    put(one, slot, made)
-                if isinstance(made, Typeof):
+                    one.put(slot, made)
+                if isinstance(made, tree.Typeof):
                     made.of = self.made(made.of)
                     rest.append(made.of)
                 rest.append(made)
-            if isinstance(one, c_ast.Decl) and one.init is not None and is_auto(one):
-                one.type.type = Typeof(one.init, one.coord)
+            if (
+                isinstance(one, tree.Decl)
+                and one.init is not None
+                and isinstance(one.type, tree.TypeDecl)
+                and is_auto(one)
+            ):
+                one.type.type = tree.Typeof(one.init, one.coord)
 
     def made(self, node: Any) -> Any:
-        if isinstance(node, c_ast.ID) and node.name in self.bodies:
+        if isinstance(node, tree.ID) and node.name in self.bodies:
             body = self.bodies[node.name]
             self.leaves(body)
-            return StatementExpr(body, node.coord)
-        if isinstance(node, c_ast.IdentifierType) and node.names[0] in self.bodies:
-            return Typeof(self.bodies[node.names[0]].block_items[0].expr, node.coord)
-        if isinstance(node, c_ast.BinaryOp) and node.op == "||" and isinstance(node.left, c_ast.BinaryOp):
-            if isinstance(node.left.right, c_ast.ID) and node.left.right.name == RANGED:
-                return CaseRange(node.left.left, node.right, node.coord)
+            return tree.StatementExpr(body, node.coord)
+        if isinstance(node, tree.IdentifierType) and node.names[0] in self.bodies:
+            return tree.Typeof(self.bodies[node.names[0]].block_items[0].expr, node.coord)
+        if isinstance(node, tree.BinaryOp) and node.op == "||" and isinstance(node.left, tree.BinaryOp):
+            if isinstance(node.left.right, tree.ID) and node.left.right.name == RANGED:
+                return tree.CaseRange(node.left.left, node.right, node.coord)
         return node
 
     def leaves(self, node: Any, in_loop: bool = False, in_switch: bool = False) -> None:
         """Refuses what jumps out of statements within an expression, or within them."""
-        jumps = isinstance(node, (c_ast.Goto, c_ast.Label, c_ast.Return))
-        out = isinstance(node, c_ast.Break) and not (in_loop or in_switch)
-        if jumps or out or (isinstance(node, c_ast.Continue) and not in_loop):
+        jumps = isinstance(node, (tree.Goto, tree.Label, tree.Return))
+        out = isinstance(node, tree.Break) and not (in_loop or in_switch)
+        if jumps or out or (isinstance(node, tree.Continue) and not in_loop):
             cause = "a jump or a label in statements within an expression"
             self.refusals.add(node.coord, cause, "put them before the statement")
             return
-        in_loop, in_switch = in_loop or isinstance(node, LOOPS), in_switch or isinstance(node, c_ast.Switch)
+        in_loop, in_switch = in_loop or isinstance(node, tree.LOOPS), in_switch or isinstance(node, tree.Switch)
         for _, child in node.children():
             self.leaves(child, in_loop, in_switch)
 
 
 def is_auto(node: Any) -> bool:
     """Whether a declaration's type is that of its value (`__auto_type`)."""
-    of = node.type.type if isinstance(node.type, c_ast.TypeDecl) else None
-    return isinstance(of, c_ast.IdentifierType) and bool(AUTO in of.names)
-
-
-def put(node: Any, slot: str, made: Any) -> None:
-    """Puts a node into a slot, as children() names it."""
-    name, _, rest = slot.partition("[")
-    if rest:
-        getattr(node, name)[int(rest[:-1])] = made
-    else:
-        setattr(node, name, made)
+    of = node.type.type if isinstance(node.type, tree.TypeDecl) else None
+    return isinstance(of, tree.IdentifierType) and bool(AUTO in of.names)

@@ -4,12 +4,9 @@ the file or of the heap have it then, they become -1 at the end of the function,
 
 from typing import Any, Iterator, Optional
 
-from pycparser import c_ast
-
-from . import kinds
-from .bindings import with_parents
+from . import kinds, tree
+from .tree import with_parents
 from .declarators import Function, Variable
-from .gnu import StatementExpr
 from .initialisers import filled
 from .kinds import Array, Pointer, Struct
 from .models import model_of
@@ -58,7 +55,7 @@ class Lifetimes:
 
     def gather(self) -> None:
         for variable in self.names.variables:
-            if isinstance(variable.init, c_ast.InitList):
+            if isinstance(variable.init, tree.InitList):
                 self.listed(variable)
         for function in self.names.functions:
             self.function = function
@@ -69,19 +66,19 @@ class Lifetimes:
                     pass  # (told where it is written)
 
     def visit(self, node: Any) -> None:
-        if isinstance(node, c_ast.Decl) and node.init is not None and not isinstance(node.init, c_ast.InitList):
-            variable = self.names.meaning.get(id(node))
+        if isinstance(node, tree.Decl) and node.init is not None and not isinstance(node.init, tree.InitList):
+            variable = self.names.meaning.get(node)
             if isinstance(variable, Variable):
                 self.put(variable.type, self.points.home(variable), node.init, node.coord)
-        elif isinstance(node, c_ast.Assignment) and node.op == "=":
+        elif isinstance(node, tree.Assignment) and node.op == "=":
             of, region = self.points.place(node.lvalue)
             self.put(of, region, node.rvalue, node.coord)
-        elif isinstance(node, c_ast.Return) and node.expr is not None and self.function is not None:
+        elif isinstance(node, tree.Return) and node.expr is not None and self.function is not None:
             of = self.function.result
             for path in pointer_paths(of):
                 found = self.sources(node.expr) if isinstance(of, Pointer) else self.of_member(node.expr, path)
                 self.flows.append((found, ("result", self.function, path), node.coord))
-        elif isinstance(node, c_ast.FuncCall):
+        elif isinstance(node, tree.FuncCall):
             self.called(node)
 
     def put(self, of: Any, region: Region, source: Any, at: Any) -> None:
@@ -100,7 +97,7 @@ class Lifetimes:
             self.put(of, region, source, variable.coord)
 
     def called(self, node: Any) -> None:
-        model = model_of(self.names.meaning.get(id(node)))
+        model = model_of(self.names.meaning.get(node))
         given = arguments(node)
         if model is not None and len(given) > 1:
             regions = [of.region for of in map(self.points.value, given[:2]) if isinstance(of, Pointer)]
@@ -121,7 +118,7 @@ class Lifetimes:
             self.flows += [(nodes[:1], nodes[1], at), (nodes[1:], nodes[0], at)]
 
     def targets(self, node: Any) -> list[Function]:
-        known = self.names.meaning.get(id(node))
+        known = self.names.meaning.get(node)
         if isinstance(known, Function):
             return [known] if known.definition is not None else []
         of = self.points.value(node.name)
@@ -131,25 +128,25 @@ class Lifetimes:
 
     def sources(self, node: Any) -> list[Node]:
         """Where a pointer's value comes from."""
-        if isinstance(node, c_ast.Cast):
+        if isinstance(node, tree.Cast):
             return self.sources(node.expr)
-        if isinstance(node, c_ast.TernaryOp):
+        if isinstance(node, tree.TernaryOp):
             return self.sources(node.iftrue) + self.sources(node.iffalse)
-        if isinstance(node, c_ast.ExprList):
+        if isinstance(node, tree.ExprList):
             return self.sources(node.exprs[-1])
-        if isinstance(node, StatementExpr):
+        if isinstance(node, tree.StatementExpr):
             return self.sources(node.last) if node.last is not None else []
-        if isinstance(node, c_ast.Assignment):
+        if isinstance(node, tree.Assignment):
             return self.sources(node.lvalue)
-        if isinstance(node, c_ast.BinaryOp):
+        if isinstance(node, tree.BinaryOp):
             return self.sources(node.left) + self.sources(node.right) if node.op in "+-" else []
-        if isinstance(node, c_ast.UnaryOp) and node.op == "&":
+        if isinstance(node, tree.UnaryOp) and node.op == "&":
             return self.base(node.expr)
-        if isinstance(node, c_ast.UnaryOp) and node.op != "*":
+        if isinstance(node, tree.UnaryOp) and node.op != "*":
             return self.sources(node.expr) if node.op in ("++", "--", "p++", "p--") else []
-        if isinstance(node, c_ast.FuncCall):
+        if isinstance(node, tree.FuncCall):
             return self.given(node)
-        if isinstance(node, (c_ast.ID, c_ast.StructRef, c_ast.ArrayRef, c_ast.UnaryOp)):
+        if isinstance(node, (tree.ID, tree.StructRef, tree.ArrayRef, tree.UnaryOp)):
             of = self.names.constants.type_of(node)
             if isinstance(of, Array):
                 return self.base(node)
@@ -158,38 +155,38 @@ class Lifetimes:
 
     def given(self, node: Any) -> list[Node]:
         """What a call gives; a function of the library that gives a pointer gives its first argument's."""
-        model = model_of(self.names.meaning.get(id(node)))
+        model = model_of(self.names.meaning.get(node))
         if model is not None:
             return self.sources(arguments(node)[0]) if model.gives_pointer and arguments(node) else []
         return [("result", one, ()) for one in self.targets(node)]
 
     def base(self, node: Any) -> list[Node]:
         """The object in which something lies."""
-        if isinstance(node, c_ast.ID):
-            meaning = self.names.meaning.get(id(node))
+        if isinstance(node, tree.ID):
+            meaning = self.names.meaning.get(node)
             local = isinstance(meaning, Variable) and meaning.home in ("local", "parameter") and not meaning.is_bound
             return [("local", meaning)] if local else []
-        if isinstance(node, c_ast.StructRef):
+        if isinstance(node, tree.StructRef):
             return self.base(node.name) if node.type == "." else self.sources(node.name)
-        if isinstance(node, c_ast.ArrayRef):
+        if isinstance(node, tree.ArrayRef):
             is_array = isinstance(self.names.constants.type_of(node.name), Array)
             return self.base(node.name) if is_array else self.sources(node.name) + self.sources(node.subscript)
-        return self.sources(node.expr) if isinstance(node, c_ast.UnaryOp) and node.op == "*" else []
+        return self.sources(node.expr) if isinstance(node, tree.UnaryOp) and node.op == "*" else []
 
     def of_member(self, node: Any, path: tuple[str, ...]) -> list[Node]:
         """Where a pointer in a struct's value comes from."""
-        if isinstance(node, c_ast.TernaryOp):
+        if isinstance(node, tree.TernaryOp):
             return self.of_member(node.iftrue, path) + self.of_member(node.iffalse, path)
-        if isinstance(node, c_ast.ExprList):
+        if isinstance(node, tree.ExprList):
             return self.of_member(node.exprs[-1], path)
-        if isinstance(node, StatementExpr):
+        if isinstance(node, tree.StatementExpr):
             return self.of_member(node.last, path) if node.last is not None else []
-        if isinstance(node, c_ast.Assignment):
+        if isinstance(node, tree.Assignment):
             return self.of_member(node.lvalue, path)
-        if isinstance(node, c_ast.FuncCall):
+        if isinstance(node, tree.FuncCall):
             return [("result", one, path) for one in self.targets(node)]
-        if isinstance(node, c_ast.CompoundLiteral):
-            of = self.names.types.get(id(node.type), kinds.VOID)
+        if isinstance(node, tree.CompoundLiteral):
+            of = self.names.types.get(node.type, kinds.VOID)
             given = filled(self.names.constants, of, node.init).given
             return [one for (own, _), source in given.items() if own == path for one in self.sources(source)]
         of, region = self.points.place(node)

@@ -12,13 +12,12 @@ import re
 from dataclasses import dataclass
 from typing import Any, Optional
 
-from pycparser import c_generator
-
 from tools import program
 
 from . import kinds, overflow_texts
 from .kinds import Int
 from .operators import Original, spot
+from .parsing import printed
 from .output import FELL, unmarked
 from .units import Units
 from .values import LEVELS, PRIMARY, UNARY, Value, number
@@ -140,7 +139,7 @@ class Checked(Units):
         """The text of a call, with the mark of its site."""
         file = str(node.coord.file)
         line, column = spot(self.original_of(file), node)
-        text = " ".join(c_generator.CGenerator(reduce_parentheses=True).visit(node).split())
+        text = " ".join(printed(node, True).split())
         self.sites.append(Site(name, what, file, line, column, text))
         return f"{name}\x04{len(self.sites) - 1}\x05({', '.join(words)})"
 

@@ -3,9 +3,7 @@
 from dataclasses import replace
 from typing import Any, Optional
 
-from pycparser import c_ast
-
-from . import kinds
+from . import kinds, tree
 from .declarators import Function, Variable
 from .effects import objects
 from .kinds import Array, Pointer
@@ -47,7 +45,7 @@ class PointerEffects(Pointers):
             return
         if node.op != "=":
             raise Refused(node.coord, "arithmetic with a pointer", "use + and -")
-        self.unsequenced(node, [c_ast.ExprList([one for one, _ in place.indexes]), node.rvalue])
+        self.unsequenced(node, [tree.ExprList([one for one, _ in place.indexes]), node.rvalue])
         self.not_twice(node, place, node.rvalue)
         target = self.parts_at(place, self.index(place, True))
         parts = self.pointer(node.rvalue)
@@ -85,7 +83,7 @@ class PointerEffects(Pointers):
     def stepped_into(self, place: Place, names: list[str], numbers: list[int]) -> Place:
         while names or numbers:
             if isinstance(place.type, Array) and numbers:
-                place = self.places.element(place, c_ast.Constant("int", str(numbers.pop(0))))
+                place = self.places.element(place, tree.Constant("int", str(numbers.pop(0))))
             elif names and isinstance(place.type, kinds.Struct) and self.places.is_raw(place) and place.type.is_parts():
                 place = replace(place, type=place.type.type_of(names.pop(0)))
             elif names and names[0].startswith("@"):

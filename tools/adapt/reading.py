@@ -5,9 +5,9 @@ import re
 import shutil
 import subprocess
 from dataclasses import dataclass, field
-from typing import Any, NamedTuple, Optional
+from typing import Any, Optional
 
-from . import gnu
+from . import gnu, parsing, tree
 from .refusals import JUDGED, Refusals, Stop
 
 HEADERS = os.path.join(os.path.dirname(os.path.abspath(__file__)), "headers")
@@ -80,11 +80,6 @@ QUOTED = re.compile(r'"(?:\\.|[^"\\])*"|\'(?:\\.|[^\'\\])*\'')
 MARKER = re.compile(r'#\s*(?:line\s+)?(\d+)\s+"((?:\\.|[^"\\])*)"([ \d]*)')
 
 
-class Coord(NamedTuple):
-    file: str
-    line: int
-
-
 @dataclass
 class Unit:
     """One source with all that it includes, as a tree. `closings` has for each line the lines of the braces that close its `{`."""
@@ -124,7 +119,7 @@ def told_errors(path: str, told: str, refusals: Refusals) -> None:
             header = "correct it"
             if "No such file" in found.group(3):
                 header = HEADERS_LEFT_OUT.get(found.group(3).split(":")[0], "leave it out, or name its folder (-I)")
-            refusals.add(Coord(found.group(1), int(found.group(2))), f"{JUDGED}: {found.group(3)}", header)
+            refusals.add(tree.Coord(found.group(1), int(found.group(2))), f"{JUDGED}: {found.group(3)}", header)
     if not refusals.found:
         first = told.splitlines()[:1]
         raise Stop(f"{path} can't be read: {first[0] if first else 'the compiler failed'}")
@@ -217,8 +212,8 @@ def scanned(unit: Unit, text: str, refusals: Refusals) -> str:
         file, line = places.file, places.line
         if not is_system(file):
             if "$" in QUOTED.sub("", row):
-                refusals.add(Coord(file, line), "a name with $", "write it with letters, digits and _")
-            row = without_foreign(row, refusals, Coord(file, line))
+                refusals.add(tree.Coord(file, line), "a name with $", "write it with letters, digits and _")
+            row = without_foreign(row, refusals, tree.Coord(file, line))
             unit.words.update(re.findall(r"[A-Za-z_]\w*", row))
         for found in WORDS.finditer(row):
             if found.group() == "{":
@@ -226,7 +221,9 @@ def scanned(unit: Unit, text: str, refusals: Refusals) -> str:
             elif found.group() == "}" and opened:
                 unit.closings.setdefault(opened.pop(), []).append(line)
         if re.match(r"\s*#\s*pragma\s+pack", row) and not is_system(file):
-            refusals.add(Coord(file, line), "structs are packed", "leave the pragma out, and write sizes as numbers")
+            refusals.add(
+                tree.Coord(file, line), "structs are packed", "leave the pragma out, and write sizes as numbers"
+            )
         made.append("" if row.startswith("#") else row)
         if made[-1].strip():
             unit.rows.setdefault((file, line), []).append(made[-1])
@@ -237,8 +234,6 @@ def scanned(unit: Unit, text: str, refusals: Refusals) -> str:
 
 def read(path: str, flags: list[str], refusals: Refusals) -> Unit:
     """The unit of a source. What is no C, and what pycparser can't read, is refused."""
-    from pycparser import c_parser
-
     if not os.path.isfile(path):
         raise Stop(f"{path} can't be read")
     unit = Unit(path, None)
@@ -253,15 +248,15 @@ def read(path: str, flags: list[str], refusals: Refusals) -> Unit:
     told = run_compiler(path, flags, ["-E", "-dM"]).stdout
     unit.macros = {name: bool(mark) for name, mark in re.findall(r"^#define (\w+)(\(?)", told, re.MULTILINE)}
     try:
-        unit.tree = c_parser.CParser().parse(gnu.lifted(text), path)
+        unit.tree = parsing.parsed(gnu.lifted(text), path)
         gnu.Settled(refusals).unit(unit.tree)
-    except c_parser.ParseError as fault:
+    except parsing.Unread as fault:
         found = re.match(r"(.*):(\d+):\d+: (.*)", str(fault))
-        at = Coord(found.group(1), int(found.group(2))) if found else Coord(path, 0)
+        at = tree.Coord(found.group(1), int(found.group(2))) if found else tree.Coord(path, 0)
         refusals.add(at, f"pycparser can't read it ({found.group(3) if found else fault})", "write it in plain C11")
     except RecursionError:
-        refusals.add(Coord(path, 0), "it is nested too deep", "split its expressions")
+        refusals.add(tree.Coord(path, 0), "it is nested too deep", "split its expressions")
     except AssertionError:  # (by a brace too many, which the compiler tells)
         if not judged.returncode:
-            refusals.add(Coord(path, 0), "pycparser can't read it", "write it in plain C11")
+            refusals.add(tree.Coord(path, 0), "pycparser can't read it", "write it in plain C11")
     return unit

@@ -4,11 +4,8 @@ the function that compares by its name, where it is named. The size that a call 
 import copy
 from typing import Any, NamedTuple
 
-from pycparser import c_ast
-
-from . import kinds
-from .gnu import Typeof, put
-from .jumps import walk
+from . import kinds, tree
+from .tree import walk
 
 ELEMENT, COMPARE = "element", "compare"
 
@@ -30,50 +27,50 @@ class Sorted(NamedTuple):
     prototype: Any
     definition: Any
     size: Any
-    element: Typeof
+    element: tree.Typeof
     called: str
 
 
 def is_void(node: Any) -> bool:
     """Whether a type's name is that of a pointer to void."""
     of = getattr(getattr(node.type, "type", None), "type", None)
-    return isinstance(node.type, c_ast.PtrDecl) and isinstance(of, c_ast.IdentifierType) and "void" in of.names
+    return isinstance(node.type, tree.PtrDecl) and isinstance(of, tree.IdentifierType) and "void" in of.names
 
 
 def plain(node: Any) -> Any:
     """A pointer without a cast to `void *`."""
-    while isinstance(node, c_ast.Cast) and is_void(node.to_type):
+    while isinstance(node, tree.Cast) and is_void(node.to_type):
         node = node.expr
     return node
 
 
 def named(node: Any, functions: set[str]) -> str:
     """The function that an argument names, if it does."""
-    while isinstance(node, c_ast.Cast) or (isinstance(node, c_ast.UnaryOp) and node.op == "&"):
+    while isinstance(node, tree.Cast) or (isinstance(node, tree.UnaryOp) and node.op == "&"):
         node = node.expr
-    return str(node.name) if isinstance(node, c_ast.ID) and node.name in functions else ""
+    return str(node.name) if isinstance(node, tree.ID) and node.name in functions else ""
 
 
 def written_for(call: Any, model: Any, name: str, functions: set[str]) -> Sorted:
     """The model of a call, which from now on calls it; `functions` are those of the sources."""
     spots, called = SORTING[call.name.name], str(call.name.name)
     given = list(call.args.exprs)
-    element = Typeof(c_ast.UnaryOp("*", plain(given[spots.base]), call.coord), call.coord, known=True)
+    element = tree.Typeof(tree.UnaryOp("*", plain(given[spots.base]), call.coord), call.coord, known=True)
     compare = named(given[spots.compare], functions)
     gone = [spots.compare] if compare else []
     made = copy.deepcopy(model)
     made.decl.name = name
     of = made.decl.type
-    while not isinstance(of, c_ast.TypeDecl):
+    while not isinstance(of, tree.TypeDecl):
         of = of.type
     of.declname = name
     listed = made.decl.type.args.params
     made.decl.type.args.params = [one for at, one in enumerate(listed) if at not in gone]
     for node in walk(made):
         for slot, child in list(node.children()):
-            if isinstance(child, c_ast.IdentifierType) and child.names == [ELEMENT]:
-                put(node, slot, element)
-        if isinstance(node, c_ast.ID) and node.name == COMPARE and compare:
+            if isinstance(child, tree.IdentifierType) and child.names == [ELEMENT]:
+                node.put(slot, element)
+        if isinstance(node, tree.ID) and node.name == COMPARE and compare:
             node.name = compare
     call.name.name = name
     call.args.exprs = [one for at, one in enumerate(given) if at not in gone]

@@ -2,9 +2,8 @@
 
 from typing import Any, Callable
 
-from . import kinds
+from . import kinds, tree
 from .declarators import Variable
-from .gnu import CaseRange, StatementExpr
 from .kinds import Int
 from .places import Place
 from .refusals import Refused
@@ -13,7 +12,7 @@ from .values import PRIMARY, Value
 MOST_CASES = 300
 
 
-def block(writer: Any, node: StatementExpr, do: Callable[[Any], Any]) -> None:
+def block(writer: Any, node: tree.StatementExpr, do: Callable[[Any], object]) -> None:
     """Writes the statements, the last one as is asked."""
     line = writer.line, writer.column
     behind, writer.after = writer.after, []
@@ -29,7 +28,7 @@ def block(writer: Any, node: StatementExpr, do: Callable[[Any], Any]) -> None:
     writer.after, (writer.line, writer.column) = behind, line
 
 
-def value(writer: Any, node: StatementExpr) -> Value:
+def value(writer: Any, node: tree.StatementExpr) -> Value:
     """The value of an integer."""
     of = writer.constants.type_of(node)
     if not isinstance(of, Int):
@@ -39,7 +38,7 @@ def value(writer: Any, node: StatementExpr) -> Value:
     return Value(made, kinds.promoted(of), PRIMARY)
 
 
-def pointer(writer: Any, node: StatementExpr, names: list[str]) -> dict[str, Value]:
+def pointer(writer: Any, node: tree.StatementExpr, names: list[str]) -> dict[str, Value]:
     """The integers of a pointer."""
     made = {name: writer.temporary(kinds.INT, "0", "pointer") for name in names}
 
@@ -52,12 +51,12 @@ def pointer(writer: Any, node: StatementExpr, names: list[str]) -> dict[str, Val
     return {name: Value(text, kinds.INT, PRIMARY) for name, text in made.items()}
 
 
-def effect(writer: Any, node: StatementExpr) -> None:
+def effect(writer: Any, node: tree.StatementExpr) -> None:
     """Writes them for their effect alone."""
     block(writer, node, writer.statement)
 
 
-def whole(writer: Any, target: Place, node: StatementExpr, at: Any) -> None:
+def whole(writer: Any, target: Place, node: tree.StatementExpr, at: Any) -> None:
     """Writes that a struct gets their value, which is kept first: within the block names may be other ones."""
     local = Variable("whole", target.type, node.coord, "local", out=writer.spelling.fresh("whole"))
     place = Place(local, (), (), target.type)
@@ -66,7 +65,7 @@ def whole(writer: Any, target: Place, node: StatementExpr, at: Any) -> None:
     writer.assign_whole(target, writer.named_as(local, at), at)
 
 
-def ranged(constants: Any, node: CaseRange) -> list[str]:
+def ranged(constants: Any, node: tree.CaseRange) -> list[str]:
     """The cases of a range (gcc: none where it is empty)."""
     low, high = constants.value(node.low), constants.value(node.high)
     if low is None or high is None or high < low or high - low >= MOST_CASES:

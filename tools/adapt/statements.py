@@ -3,16 +3,13 @@
 from bisect import bisect_left
 from typing import Any, Optional
 
-from pycparser import c_ast
-
-from . import kinds
+from . import kinds, tree
 from .expressions import Expressions
-from .gnu import CaseRange
 from .statement_exprs import ranged
 from .wholes import MOST_COPIED
 from .initialisers import filled, none_of
 from .kinds import Int, Pointer, Struct
-from .jumps import LOOPS
+from .tree import LOOPS
 from .declarators import Variable
 from .places import Place
 from .refusals import Refused
@@ -20,7 +17,7 @@ from .refusals import Refused
 
 def continues(node: Any) -> bool:
     """Whether a `continue` in it belongs to a loop around it."""
-    if isinstance(node, c_ast.Continue):
+    if isinstance(node, tree.Continue):
         return True
     return not isinstance(node, LOOPS) and any(continues(child) for _, child in node.children())
 
@@ -44,7 +41,7 @@ class Statements(Expressions):
 
     def go_to_end(self, node: Any) -> None:
         """What is written next stands on the line of the brace that closes a block."""
-        if not isinstance(node, c_ast.Compound) or not node.coord or str(node.coord.file) != self.original:
+        if not isinstance(node, tree.Compound) or not node.coord or str(node.coord.file) != self.original:
             return
         lines = self.closings.get((self.original, node.coord.line), [])
         at = bisect_left(lines, self.line)
@@ -80,7 +77,7 @@ class Statements(Expressions):
             self.statement(one)
 
     def write_Decl(self, node: Any) -> None:
-        variable = self.names.meaning.get(id(node))
+        variable = self.names.meaning.get(node)
         if not isinstance(variable, Variable) or variable.home != "local":
             return
         fault = None if self.places.columns.in_column(variable) else kinds.fault_of(variable.type)
@@ -90,10 +87,10 @@ class Statements(Expressions):
             self.check_lengths(variable)
         if node.init is None:
             self.declared(variable)
-        elif isinstance(variable.type, Struct) and not isinstance(node.init, c_ast.InitList):
+        elif isinstance(variable.type, Struct) and not isinstance(node.init, tree.InitList):
             self.declared(variable)
             self.assign_whole(self.places.of_variable(variable), node.init, node)
-        elif isinstance(variable.type, Pointer) and not isinstance(node.init, c_ast.InitList):
+        elif isinstance(variable.type, Pointer) and not isinstance(node.init, tree.InitList):
             self.pointer_begun(variable, node)
         elif self.places.columns.in_column(variable) or self.lies_apart(variable):
             self.initialised_apart(variable, node.init)
@@ -126,7 +123,7 @@ class Statements(Expressions):
             self.emit(f"{leaf.kind.text} {self.spelling.leaf(variable, leaf.path)}{value};")
         for (path, spot), of, source in made.wholes:
             indexes = tuple(
-                (c_ast.Constant("int", str(one)), length)
+                (tree.Constant("int", str(one)), length)
                 for one, length in zip(spot, next(kinds.leaves(variable.type)).dims)
             )
             self.assign_whole(Place(variable, path, indexes, of), source, source)
@@ -140,7 +137,7 @@ class Statements(Expressions):
         self.emit(f"if ({self.test(node.cond).text}) {{")
         self.body(node.iftrue)
         other = node.iffalse
-        if isinstance(other, c_ast.If) and self.inline_test(other.cond) is not None:
+        if isinstance(other, tree.If) and self.inline_test(other.cond) is not None:
             self.go(other)
             self.emit("else")
             self.write_If(other)
@@ -155,25 +152,25 @@ class Statements(Expressions):
 
     def inner(self, node: Any) -> None:
         """Writes a statement's own statements, where braces stand around it already."""
-        for one in (node.block_items or []) if isinstance(node, c_ast.Compound) else [node]:
+        for one in (node.block_items or []) if isinstance(node, tree.Compound) else [node]:
             self.statement(one)
 
     def write_Switch(self, node: Any) -> None:
         self.emit(f"switch ({self.value(node.cond).text}) {{")
-        items = (node.stmt.block_items or []) if isinstance(node.stmt, c_ast.Compound) else [node.stmt]
+        items = (node.stmt.block_items or []) if isinstance(node.stmt, tree.Compound) else [node.stmt]
         for one in items:
-            if not isinstance(one, (c_ast.Case, c_ast.Default)):
+            if not isinstance(one, (tree.Case, tree.Default)):
                 raise Refused(one.coord, "a statement of a switch before its first case", "put it before the switch")
             self.group(one, one is items[-1])
         self.close(node.stmt)
 
     def group(self, node: Any, last: bool) -> None:
         self.go(node)
-        if isinstance(getattr(node, "expr", None), CaseRange):
+        if isinstance(getattr(node, "expr", None), tree.CaseRange):
             for text in ranged(self.constants, node.expr):
                 self.emit(text)
         else:
-            self.emit("default:" if isinstance(node, c_ast.Default) else f"case {self.value(node.expr).text}:")
+            self.emit("default:" if isinstance(node, tree.Default) else f"case {self.value(node.expr).text}:")
         for one in node.stmts or []:
             self.statement(one)
         if last and not node.stmts:
@@ -192,7 +189,7 @@ class Statements(Expressions):
 
     def leave(self, node: Any) -> None:
         """Writes that a loop is left where its condition doesn't hold."""
-        if isinstance(node, c_ast.BinaryOp) and node.op == "&&" and self.needs_statements(node):
+        if isinstance(node, tree.BinaryOp) and node.op == "&&" and self.needs_statements(node):
             self.leave(node.left)
             self.leave(node.right)
         elif node is not None:
@@ -228,7 +225,7 @@ class Statements(Expressions):
 
     def write_For(self, node: Any) -> None:
         init = self.head(node.init)
-        local = isinstance(node.init, c_ast.DeclList) and init is None
+        local = isinstance(node.init, tree.DeclList) and init is None
         if local:
             self.emit("{")
         if init is None and node.init is not None:
@@ -249,11 +246,11 @@ class Statements(Expressions):
 
     def head(self, node: Any) -> Optional[str]:
         """A part of a `for` as the one statement that it is in the profile; None where it isn't one."""
-        if node is None or isinstance(node, c_ast.ExprList):
+        if node is None or isinstance(node, tree.ExprList):
             return None
         pieces, self.file.pieces = self.file.pieces, []
         with self.names.refusals.gathered():
-            (self.write_DeclList if isinstance(node, c_ast.DeclList) else self.effect)(node)
+            (self.write_DeclList if isinstance(node, tree.DeclList) else self.effect)(node)
         made, self.file.pieces = self.file.pieces, pieces
         return made[0][1].rstrip(";") if len(made) == 1 else None
 
