@@ -7,7 +7,7 @@ from typing import Optional
 
 from tools import program, source_map, usage
 
-from . import harness, mapping
+from . import harness, mapping, needed
 from .compare import compared
 from .output import FELL
 from .pipeline import adapt, flags_of
@@ -152,9 +152,7 @@ def main(given: Optional[list[str]] = None) -> int:
         put_map(asked.out, texts, writer)
         print("wrote " + " ".join(paths))
         if asked.bounds:
-            from .needed import text_of
-
-            print(text_of(texts, set(asked.sources)))
+            print(needed.text_of(texts, set(asked.sources)))
         if asked.harness:
             write_harness(asked, writer, paths)
         return compare(asked, writer, texts) if asked.compare else 0

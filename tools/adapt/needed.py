@@ -6,8 +6,8 @@ import re
 from dataclasses import dataclass, field
 from typing import Any, Optional
 
-from pycparser import c_ast, c_parser
 
+from . import parsing, tree
 from .output import FELL
 
 WORDS = "".join(
@@ -15,23 +15,13 @@ WORDS = "".join(
     for name in "int8_t uint8_t int16_t uint16_t int32_t uint32_t int64_t uint64_t size_t bool".split()
 )
 HEAP = "malloc_fails"  # is asked once, whatever calls there are
+Counts = dict[Any, Optional[int]]  # how often loops go back, where that is known
 MOST = {"turns": 1000, "frames": 64, "answers": 256}
-LOOPS = (c_ast.For, c_ast.While, c_ast.DoWhile)
 STEPS = ("++", "p++", "--", "p--")
 
 
-def walk(node: Any) -> list[Any]:
-    """A tree's nodes, outer ones first."""
-    found, rest = [], [node] if node is not None else []
-    while rest:
-        one = rest.pop()
-        found.append(one)
-        rest.extend(child for _, child in reversed(one.children()))
-    return found
-
-
 def name_of(call: Any) -> str:
-    return str(call.name.name) if isinstance(call.name, c_ast.ID) else ""
+    return str(call.name.name) if isinstance(call.name, tree.ID) else ""
 
 
 @dataclass
@@ -63,29 +53,29 @@ class Written:
                 r"(?m)^[ \t]*#.*$", "", re.sub(r"//.*|/\*(?:[^*]|\*(?!/))*\*/", blank, text.replace(FELL, ""))
             )
             joined.append(f'# 1 "{path}"\n{plain}')
-        tree = c_parser.CParser().parse(WORDS + "\n" + "\n".join(joined), "")
-        declared = set()
-        for item in tree.ext:
-            if isinstance(item, c_ast.FuncDef):
-                self.functions[item.decl.name] = item
-                self.files[item.decl.name] = str(item.decl.coord.file)
-            elif isinstance(item, c_ast.Decl) and isinstance(item.type, c_ast.FuncDecl):
-                declared.add(item.name)
-            for one in walk(item) if isinstance(item, c_ast.Decl) else []:
+        whole: Any = parsing.parsed(WORDS + "\n" + "\n".join(joined))
+        declared = set[str]()
+        for item in whole.ext:
+            if isinstance(item, tree.FuncDef):
+                name, at = str(item.decl.name), item.decl.coord
+                self.functions[name], self.files[name] = item, str(at.file) if at else ""
+            elif isinstance(item, tree.Decl) and isinstance(item.type, tree.FuncDecl):
+                declared.add(str(item.name))
+            for one in tree.walk(item) if isinstance(item, tree.Decl) else []:
                 self.enumerated(one)
         self.inputs = declared - set(self.functions) - {"assert", "assume"}
         self.handed = self.arguments()
 
     def enumerated(self, node: Any) -> None:
         last = -1
-        for one in node.values.enumerators if isinstance(node, c_ast.Enum) and node.values is not None else []:
+        for one in node.values.enumerators if isinstance(node, tree.Enum) and node.values is not None else []:
             known = self.value(one.value, {}) if one.value is not None else last + 1
             last = known if known is not None else last + 1
             self.constants[one.name] = last
 
     def calls(self, function: str) -> list[Any]:
-        nodes = walk(self.functions[function].body) if function in self.functions else []
-        return [one for one in nodes if isinstance(one, c_ast.FuncCall)]
+        nodes = tree.walk(self.functions[function].body) if function in self.functions else []
+        return [one for one in nodes if isinstance(one, tree.FuncCall)]
 
     def parameters(self, function: str) -> list[str]:
         listed = self.functions[function].decl.type.args
@@ -110,22 +100,22 @@ class Written:
 
     def value(self, node: Any, known: dict[str, int]) -> Optional[int]:
         """The value of a constant expression of small numbers; None of any other one."""
-        if isinstance(node, c_ast.Constant):
+        if isinstance(node, tree.Constant):
             digits = node.value.rstrip("uUlL")
             return (
                 int(digits, 0)
                 if re.fullmatch(r"\d+|0[xX][0-9a-fA-F]+", digits) and not re.fullmatch(r"0\d+", digits)
                 else None
             )
-        if isinstance(node, c_ast.ID):
+        if isinstance(node, tree.ID):
             return known.get(node.name, self.constants.get(node.name))
-        if isinstance(node, c_ast.Cast):
+        if isinstance(node, tree.Cast):
             one = self.value(node.expr, known)
             return one if one is not None and 0 <= one < 128 else None
-        if isinstance(node, c_ast.UnaryOp) and node.op == "-":
+        if isinstance(node, tree.UnaryOp) and node.op == "-":
             one = self.value(node.expr, known)
             return None if one is None else -one
-        if isinstance(node, c_ast.BinaryOp) and node.op in ("+", "-", "*", "/"):
+        if isinstance(node, tree.BinaryOp) and node.op in ("+", "-", "*", "/"):
             left, right = self.value(node.left, known), self.value(node.right, known)
             if left is None or right is None or (node.op == "/" and right <= 0):
                 return None
@@ -140,14 +130,14 @@ def blank(found: "re.Match[str]") -> str:
 def stepped(node: Any, name: str) -> Optional[int]:
     """By how much an expression steps a variable, where that is known and above 0, or below."""
     if (
-        isinstance(node, c_ast.UnaryOp)
+        isinstance(node, tree.UnaryOp)
         and node.op in STEPS
-        and isinstance(node.expr, c_ast.ID)
+        and isinstance(node.expr, tree.ID)
         and node.expr.name == name
     ):
         return 1 if "+" in node.op else -1
-    if isinstance(node, c_ast.Assignment) and node.op in ("+=", "-=") and isinstance(node.lvalue, c_ast.ID):
-        if node.lvalue.name == name and isinstance(node.rvalue, c_ast.Constant) and node.rvalue.value.isdecimal():
+    if isinstance(node, tree.Assignment) and node.op in ("+=", "-=") and isinstance(node.lvalue, tree.ID):
+        if node.lvalue.name == name and isinstance(node.rvalue, tree.Constant) and node.rvalue.value.isdecimal():
             return int(node.rvalue.value) * (1 if node.op == "+=" else -1) or None
     return None
 
@@ -155,40 +145,40 @@ def stepped(node: Any, name: str) -> Optional[int]:
 def changes(node: Any, name: str) -> list[Any]:
     """What changes a variable."""
     found = []
-    for one in walk(node):
+    for one in tree.walk(node):
         target = (
             one.lvalue
-            if isinstance(one, c_ast.Assignment)
+            if isinstance(one, tree.Assignment)
             else one.expr
-            if isinstance(one, c_ast.UnaryOp) and one.op in STEPS
+            if isinstance(one, tree.UnaryOp) and one.op in STEPS
             else None
         )
-        declared = isinstance(one, c_ast.Decl) and one.name == name
-        if declared or (isinstance(target, c_ast.ID) and target.name == name):
+        declared = isinstance(one, tree.Decl) and one.name == name
+        if declared or (isinstance(target, tree.ID) and target.name == name):
             found.append(one)
     return found
 
 
 def leaves(loop: Any) -> bool:
     """Whether a loop is there for its `break` alone: it never goes back."""
-    items = loop.stmt.block_items or [] if isinstance(loop.stmt, c_ast.Compound) else [loop.stmt]
+    items = loop.stmt.block_items or [] if isinstance(loop.stmt, tree.Compound) else [loop.stmt]
     rest, goes_on = list(items), False
     while rest:
         one = rest.pop()
-        goes_on = goes_on or isinstance(one, c_ast.Continue)
-        rest += [] if isinstance(one, LOOPS) else [child for _, child in one.children()]
-    return bool(items) and isinstance(items[-1], c_ast.Break) and not goes_on
+        goes_on = goes_on or isinstance(one, tree.Continue)
+        rest += [] if isinstance(one, tree.LOOPS) else [child for _, child in one.children()]
+    return bool(items) and isinstance(items[-1], tree.Break) and not goes_on
 
 
 def first_of(node: Any, name: str) -> Any:
     """What a variable is given by the statement before a loop, or in its head."""
-    for one in node.decls if isinstance(node, c_ast.DeclList) else [node]:
-        if isinstance(one, c_ast.Decl) and one.name == name:
+    for one in node.decls if isinstance(node, tree.DeclList) else [node]:
+        if isinstance(one, tree.Decl) and one.name == name:
             return one.init
         if (
-            isinstance(one, c_ast.Assignment)
+            isinstance(one, tree.Assignment)
             and one.op == "="
-            and isinstance(one.lvalue, c_ast.ID)
+            and isinstance(one.lvalue, tree.ID)
             and one.lvalue.name == name
         ):
             return one.rvalue
@@ -209,19 +199,19 @@ class Needed:
         test = loop.cond
         if test is None and leaves(loop):
             return 0
-        tested = test.left if isinstance(test, c_ast.BinaryOp) and not isinstance(loop, c_ast.DoWhile) else None
-        tested = tested.expr if isinstance(tested, c_ast.Cast) else tested
-        if not isinstance(tested, c_ast.ID):
+        tested = test.left if isinstance(test, tree.BinaryOp) and not isinstance(loop, tree.DoWhile) else None
+        tested = tested.expr if isinstance(tested, tree.Cast) else tested
+        if not isinstance(tested, tree.ID):
             return None
         name, last = tested.name, self.written.value(test.right, known)
-        step, body = (loop.next, loop.stmt) if isinstance(loop, c_ast.For) else (None, loop.stmt)
+        step, body = (loop.next, loop.stmt) if isinstance(loop, tree.For) else (None, loop.stmt)
         first = self.written.value(
-            first_of(loop.init if isinstance(loop, c_ast.For) and loop.init else before, name), known
+            first_of(loop.init if isinstance(loop, tree.For) and loop.init else before, name), known
         )
         changed = changes(body, name)
-        if isinstance(loop, c_ast.While):
-            top = body.block_items or [] if isinstance(body, c_ast.Compound) else [body]
-            goes_on = any(isinstance(one, c_ast.Continue) for one in walk(body))
+        if isinstance(loop, tree.While):
+            top = body.block_items or [] if isinstance(body, tree.Compound) else [body]
+            goes_on = any(isinstance(one, tree.Continue) for one in tree.walk(body))
             step = changed[0] if len(changed) == 1 and any(one is changed[0] for one in top) and not goes_on else None
             changed = []
         by = stepped(step, name) if step is not None else None
@@ -234,14 +224,14 @@ class Needed:
         item = self.written.functions[function]
         own = {name: v for name, v in self.written.handed.get(function, {}).items() if not changes(item.body, name)}
         found = []
-        for node in walk(item.body):
+        for node in tree.walk(item.body):
             items = (
-                node.block_items or [] if isinstance(node, c_ast.Compound) else [child for _, child in node.children()]
+                node.block_items or [] if isinstance(node, tree.Compound) else [child for _, child in node.children()]
             )
             for at, one in enumerate(items):
-                if isinstance(one, LOOPS):
+                if isinstance(one, tree.LOOPS):
                     found.append(
-                        (one, self.turns(one, items[at - 1] if at and isinstance(node, c_ast.Compound) else None, own))
+                        (one, self.turns(one, items[at - 1] if at and isinstance(node, tree.Compound) else None, own))
                     )
         return found
 
@@ -252,37 +242,38 @@ class Needed:
         if function in open_ or function not in self.written.functions:
             return Asked()
         if function not in self.asked:
-            counts = {id(loop): count for loop, count in self.loops(function)}
+            counts = {loop: count for loop, count in self.loops(function)}
             self.asked[function] = self.of(self.written.functions[function].body, counts, (*open_, function))
         return self.asked[function]
 
-    def of(self, node: Any, counts: dict[int, Optional[int]], open_: tuple[str, ...]) -> Asked:
+    def of(self, node: Any, counts: Counts, open_: tuple[str, ...]) -> Asked:
         """The answers that a statement or an expression reads."""
         if node is None:
             return Asked()
-        if isinstance(node, (c_ast.If, c_ast.TernaryOp)):
+        if isinstance(node, (tree.If, tree.TernaryOp)):
             ways = [self.of(one, counts, open_) for one in (node.iftrue, node.iffalse)]
             return self.of(node.cond, counts, open_).plus(max(ways, key=lambda one: one.total))
-        if isinstance(node, c_ast.Switch):
+        if isinstance(node, tree.Switch):
             return self.of(node.cond, counts, open_).plus(self.of_cases(node, counts, open_))
         made = Asked()
         for _, child in node.children():
             made = made.plus(
-                self.of(child, counts, open_), (counts.get(id(node)) or 1) if isinstance(node, LOOPS) else 1
+                self.of(child, counts, open_), (counts.get(node) or 1) if isinstance(node, tree.LOOPS) else 1
             )
-        if isinstance(node, LOOPS) and counts.get(id(node)):
+        if isinstance(node, tree.LOOPS) and counts.get(node):
             made = made.plus(self.of(node.cond, counts, open_))
-        if isinstance(node, c_ast.FuncCall):
+        if isinstance(node, tree.FuncCall):
             name = name_of(node)
             made = made.plus(Asked({name: 1}) if name in self.written.inputs else self.answers(name, open_))
         return made
 
-    def of_cases(self, node: Any, counts: dict[int, Optional[int]], open_: tuple[str, ...]) -> Asked:
+    def of_cases(self, node: Any, counts: Counts, open_: tuple[str, ...]) -> Asked:
         """What the cases of a switch read: the one that reads most, or all of them where one goes on into the next."""
-        groups = node.stmt.block_items or [] if isinstance(node.stmt, c_ast.Compound) else [node.stmt]
+        groups = node.stmt.block_items or [] if isinstance(node.stmt, tree.Compound) else [node.stmt]
         made = [self.of(one, counts, open_) for one in groups]
-        ends = (c_ast.Break, c_ast.Return, c_ast.Continue)
-        falls = any(getattr(one, "stmts", None) and not isinstance(one.stmts[-1], ends) for one in groups[:-1])
+        ends = (tree.Break, tree.Return, tree.Continue)
+        lists = [getattr(one, "stmts", None) or [] for one in groups[:-1]]
+        falls = any(one and not isinstance(one[-1], ends) for one in lists)
         if not falls:
             return max(made, key=lambda one: one.total, default=Asked())
         whole = Asked()
@@ -328,7 +319,7 @@ class Needed:
         found = []
         for name, item in self.written.functions.items():
             listed = item.decl.type.args.params if item.decl.type.args else []
-            arrays = any(isinstance(one.type, c_ast.ArrayDecl) for one in listed)
+            arrays = any(isinstance(one.type, tree.ArrayDecl) for one in listed)
             if name not in called and not arrays and self.written.files[name] in files:
                 found.append(name)
         return found
