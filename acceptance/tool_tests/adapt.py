@@ -145,7 +145,7 @@ bounds of h: --frames 3 --answers 1
 """
 
 
-def bounds_are_those_that_suffice(folder):
+def bounds_are_those_that_suffice(folder: str) -> Iterator[bool]:
     """What --bounds prints, and by the program that these bounds suffice and that none is too great."""
     put(folder, {"a.c": NEEDED})
     yield run(folder, ["adapt", "a.c", "-o", "new", "--bounds"]).stdout == FIRST + "wrote new/a.c\n" + NEEDS_OF

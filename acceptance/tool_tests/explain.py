@@ -264,7 +264,7 @@ def a_bound_that_is_left_is_told(folder: str) -> Iterator[bool]:
     yield said[4].startswith("bounds to try next: --turns ")
 
 
-def pairs_are_counted_as_the_program_does(folder):
+def pairs_are_counted_as_the_program_does(folder: str) -> Iterator[bool]:
     """By the formula above 49,665 pairs with 126 turns, 50,440 with 127, and the program refuses these alone for their number."""
     put(folder, {"w.c": MULTIPLIED})
     for turns, pairs in ((126, 3 * 127 * 127 + 10 * 127 + 8), (127, 3 * 128 * 128 + 10 * 128 + 8)):
