@@ -248,5 +248,5 @@ def of_program(program: Program) -> Outcome:
 
 
 def parts() -> list[Callable[[], Outcome]]:
-    """The programs, a part each."""
+    """A part for each program of the table."""
     return [functools.partial(of_program, program) for program in TABLE]

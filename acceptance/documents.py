@@ -219,13 +219,15 @@ def of_counts() -> Outcome:
     import counts  # which reads this module
     import decisions
     import figures
+    import lists
     import proved
     import releases
 
     sys.path.insert(0, programs.ROOT)
     from tools import believed
 
-    wrong = counts.wrong() + decisions.wrong() + figures.wrong() + proved.wrong() + releases.wrong() + believed.wrong()
+    wrong = counts.wrong() + decisions.wrong() + figures.wrong() + lists.wrong()
+    wrong += proved.wrong() + releases.wrong() + believed.wrong()
     return max(1, len(wrong)), wrong
 
 

@@ -23,6 +23,7 @@ import all_inputs
 import cases
 import programs
 import replays
+from command_cases import Case
 from side_by_side import Outcome
 
 RANDOM = range(1001, 1025)
@@ -148,7 +149,7 @@ def told(name: str, differing: Differing) -> Outcome:
     return 1, [f"{name}: {'; '.join(lines)}"[:600]] if lines else []
 
 
-def of_case(case: cases.Case, words: list[str], report: str, folder: str) -> list[str]:
+def of_case(case: Case, words: list[str], report: str, folder: str) -> list[str]:
     """The same of a measurement of the cases."""
     cases.make_files(folder, case["files"])
     return of_measurement(words, report, folder)
@@ -170,5 +171,5 @@ def sources() -> Iterator[tuple[str, Differing]]:
 
 
 def parts() -> list[Callable[[], Outcome]]:
-    """The sources, a part each."""
+    """A part for each source, by the automaton and by the trees."""
     return [functools.partial(told, name, differing) for name, differing in sources()]

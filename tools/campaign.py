@@ -146,7 +146,8 @@ def waited(process: "subprocess.Popen[bytes]") -> int | None:
 
 
 def sizes() -> Iterator[int]:
-    """The sizes of rounds."""
+    """How many goals each round takes, one round after the other, without an end: twice as many each time, up to a
+    limit."""
     size = FIRST_ROUND
     while True:
         yield size
@@ -169,7 +170,7 @@ def jobs(word: str) -> int:
 
 
 def parser_of_words() -> usage.Parser:
-    """What reads the words."""
+    """What reads the words of bin/campaign; a wrong word ends the tool with status 2."""
     done = "each goal is decided, and the gate of --at-least passes"
     parser = usage.parser("campaign", __doc__, done, "a goal is undecided, or the gate fails")
     parser.add_argument("words", nargs="*", metavar="ENTRY QUERY SOURCE..", help="none where a campaign goes on")
@@ -205,7 +206,8 @@ def words() -> argparse.Namespace:
 
 
 def asked_by(given: argparse.Namespace) -> Asked:
-    """What the words ask for."""
+    """The question of the words: entry, query, sources with their sums, bounds, ends and budget. Raises Failure where a
+    source can't be read or its name has a line feed."""
     entry, query, *sources = given.words
     place = os.getcwd()
     program.check_names(sources)
@@ -222,7 +224,8 @@ def with_meaning(asked: Asked) -> Asked:
 
 
 def given_inputs(given: argparse.Namespace, folder: Folder) -> list[Input]:
-    """The inputs that are given."""
+    """The inputs of the file that --inputs names, checked by the entry's parameters; none where it isn't given. Raises
+    Failure where the file isn't read."""
     if not given.inputs:
         return []
     if given.words:

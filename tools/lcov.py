@@ -176,7 +176,7 @@ def left_out(given: argparse.Namespace, graph: Graph, runs: list[Run]) -> LeftOu
 
 
 def parser_of_words() -> usage.Parser:
-    """What reads the words."""
+    """What reads the words of bin/lcov; a wrong word ends the tool with status 2."""
     parser = usage.parser("lcov", __doc__, "the tracefile is written")
     parser.add_argument("entry", metavar="ENTRY", help="the function in which runs begin")
     parser.add_argument("inputs", metavar="INPUTS", help="a file of inputs, in any form that bin/inputs reads")

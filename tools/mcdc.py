@@ -84,7 +84,7 @@ def certify(given: argparse.Namespace, all_asked: list[Asked]) -> int:
 
 
 def parser_of_words() -> usage.Parser:
-    """What reads the words."""
+    """What reads the words of bin/mcdc; a wrong word ends the tool with status 2."""
     parser = usage.parser(
         "mcdc",
         __doc__,

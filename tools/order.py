@@ -67,7 +67,8 @@ def watched_by(query: str) -> set[str]:
 
 
 def classes(query: str | None = "", ends: str = "returned", watch: Iterable[str] = ()) -> tuple[str, ...]:
-    """The classes that are looked for."""
+    """Which kinds of open orders matter for a query, the ends of runs that count, and variables that are watched
+    (docs/ORDER.md); the query None stands for any."""
     return (
         ALWAYS
         + (("watched",) if watch or query is None or watched_by(query) else ())
@@ -138,7 +139,7 @@ def restriction(entry: str, sources: Sequence[str], query: str | None, ends: str
 
 
 def parser_of_words() -> usage.Parser:
-    """What reads the words."""
+    """What reads the words of bin/order; a wrong word ends the tool with status 2."""
     parser = usage.parser(
         "order", __doc__, "nothing is told: each order of evaluation gives the same", "places are told"
     )

@@ -32,7 +32,8 @@ BARS = (Verdict.COVERED, Verdict.UNREACHABLE, Verdict.REFUTED, Verdict.UNDECIDED
 
 
 def page_text(page: Page) -> str:
-    """The page."""
+    """The page as HTML, by jinja2 and the templates beside this file. Raises Failure where jinja2 isn't there, or the
+    program refuses what the tabs ask of it."""
     try:
         import jinja2
     except ImportError:
@@ -60,7 +61,7 @@ def page_text(page: Page) -> str:
 
 
 def parser_of_words() -> usage.Parser:
-    """What reads the words."""
+    """What reads the words of bin/page; a wrong word ends the tool with status 2."""
     parser = usage.parser("page", __doc__, "the page is written")
     parser.add_argument("reports", nargs="+", metavar="REPORT", help="a report, or a campaign's folder")
     parser.add_argument("-o", metavar="FILE", dest="out", required=True, help="the page that is written")
@@ -77,6 +78,8 @@ def parser_of_words() -> usage.Parser:
 
 
 def words() -> argparse.Namespace:
+    """The words that the tool was called with; a wrong one, or another number of queries than of reports, ends it with
+    status 2, --help with 0."""
     parser = parser_of_words()
     given = parser.parse_intermixed_args()
     if len(given.query) not in (0, len(given.reports)):
@@ -87,6 +90,8 @@ def words() -> argparse.Namespace:
 
 
 def main() -> int:
+    """Writes the page, and says on standard output what is on it; the status: 0. Raises Failure, by which the tool ends
+    with status 2, where a report can't be read, or reports are of different sources."""
     given = words()
     if any(page_rte.is_folder(name) for name in given.reports):
         if len(given.reports) > 1:

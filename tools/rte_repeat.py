@@ -79,13 +79,15 @@ int main(int count, char **words) {{
 
 
 def command(folder: str, header: str) -> list[str]:
-    """The command that compiles the file; `header` is the source of checked operations, if there is one."""
+    """The command that compiles the file in `folder`; `header` is the source of checked operations, if there is one:
+    without it overflows wrap, as FShell's do."""
     path = os.path.join(folder, NAME)
     return ["gcc", *FLAGS, *([] if header else [WRAPS]), "-o", path, path + ".c"]
 
 
 def text_of(entry: str, given: Sequence[Input], names: Sequence[str], header: str, folder: str) -> str:
-    """The whole file; `header` is the source of checked operations, if there is one."""
+    """The whole file, which runs the input of a number on the sources of these `names`; `header` is the source of
+    checked operations, if there is one. Raises Failure where a source can't be read."""
     sources = [Source(name, program.read(name)) for name in names]
     heads = items.input_heads(sources)
     parts = [HEAD.format(entry=entry, command=" ".join(command(folder, header)))]
@@ -105,7 +107,8 @@ def text_of(entry: str, given: Sequence[Input], names: Sequence[str], header: st
 
 
 def compiled(folder: str, header: str) -> str:
-    """Has gcc compile the file; the program's path."""
+    """The path of the program that gcc makes of the file in `folder`. Raises Failure where gcc isn't there, or with its
+    first error."""
     if not shutil.which("gcc"):
         raise Failure("gcc isn't there (Debian: apt-get install gcc)")
     path = os.path.join(folder, NAME)
@@ -117,7 +120,8 @@ def compiled(folder: str, header: str) -> str:
 
 
 def confirmed(folder: str, header: str, count: int) -> Iterator[str]:
-    """What gcc's sanitizers, or an assert, say of each input."""
+    """What gcc's sanitizers, or an assert, say of each input from 1 to `count`, within ten seconds each. Raises Failure
+    as `compiled` does."""
     path = compiled(folder, header)
     for number in range(1, count + 1):
         try:

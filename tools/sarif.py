@@ -13,22 +13,22 @@ class Found(Protocol):
 
     @property
     def rule(self) -> str:
-        """The name of its rule."""
+        """A key of the table of rules."""
         ...
 
     @property
     def file(self) -> str:
-        """The file, from the folder."""
+        """Its place: the path from the folder."""
         ...
 
     @property
     def line(self) -> int:
-        """The line, from 1."""
+        """Its place: the line, counted from 1."""
         ...
 
     @property
     def column(self) -> int:
-        """The column, from 1."""
+        """Its place: the column, counted from 1."""
         ...
 
     @property
@@ -38,7 +38,7 @@ class Found(Protocol):
 
     @property
     def text(self) -> str:
-        """What is told."""
+        """The message that a reader sees."""
         ...
 
 
