@@ -1,8 +1,8 @@
 -- What the edges of a recorded run tell is what happens by the trees.
-use Rattle.std.proofs.Common.{◌≡◌, ◌≢◌, ◌⊎◌, ℕ, ◌+◌, ◌-◌, ◌<◌, ◌≤◌, List, [], ◌++◌, length, map, Some, None, refl, sym, ap, subst, ◌∙◌, ⊎_elim, inl, inr, arith, append_assoc}
+use Rattle.std.proofs.Common.{◌≡◌, ◌≢◌, ◌⊎◌, ℕ, zero, suc, ◌+◌, ◌-◌, ◌<◌, ◌≤◌, List, [], ◌∷◌, ◌++◌, length, Some, None, refl, sym, ap, subst, ◌∙◌, ⊎_elim, inl, inr, arith, append_assoc}
 use Rattle.std.specs.Prelude.{slice_get}
-use Rattle.std.proofs.lemmas.Bool.{cases_lt}
 use Rattle.std.proofs.lemmas.List.{length-map}
+use Rattle.std.proofs.lemmas.Option.{same_Some}
 use Rattle.c_types.specs.Units.{typed_of}
 use Rattle.cfa.specs.declared.parts.Function.{Function}
 use Rattle.cfa.specs.declared.parts.GraphParts.{GraphParts}
@@ -22,8 +22,7 @@ use Rattle.path_runner.proofs.Lengths.{cuts}
 use Rattle.path_runner.proofs.Records.{records}
 use Rattle.typed_trees.specs.declared.unit.Typed.{Typed}
 use Rattle.typed_trees.specs.declared.unit.TypedFunction.{TypedFunction}
-use Rattle.graph_of.specs.GraphOf.{graph_of, function_of}
-use Rattle.graph_rules.proofs.WholeSettings.{function_from}
+use Rattle.graph_of.specs.GraphOf.{graph_of, function_of, functions_from}
 use Rattle.edge_events.specs.declared.event.Event.{Event}
 use Rattle.tree_meaning.specs.declared.ends.TreeEnd.{TreeEnd}
 use Rattle.tree_meaning.specs.declared.ends.TreeEnd.TheVariants as tree
@@ -175,7 +174,15 @@ module _ (t : Typed) (files : List (List ℕ)) (entry : ℕ) (f : TypedFunction)
 pub records_tell : RecordsTell
 records_tell t files entry f input p steps made there starts = agrees t files entry f input p steps made there starts
 
--- the function of a number in the automaton is that in the tree
+-- which function of the unit a function of the automaton is
+function_from : (i : ℕ) (fs : List TypedFunction) (k : ℕ) (g : Function) → slice_get (functions_from i fs) k ≡ Some g → (f : TypedFunction) × (slice_get fs k ≡ Some f) × (g ≡ function_of (i + k) f)
+function_from i [] k g is = absurd (cc)
+function_from i (f ∷ fs) zero g is = let e : i ≡ i + 0 = omega arith in (f, refl, sym (same_Some (function_of i f) g is) ∙ ap (λ j. function_of j f) e)
+function_from i (f ∷ fs) (suc k) g is =
+    let r = function_from (i + 1) fs k g is in
+    let e : i + 1 + k ≡ i + suc k = omega arith in
+    (r.0, r.1, r.2 ∙ ap (λ j. function_of j r.0) e)
+
 function_there : (t : Typed) (files : List (List ℕ)) (entry : ℕ) (g : Function) → slice_get (graph_of t files).functions entry ≡ Some g
     → (f : TypedFunction) × (slice_get t.functions entry ≡ Some f) × (g ≡ function_of entry f)
 unfolding graph_of
