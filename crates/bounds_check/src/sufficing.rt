@@ -12,12 +12,11 @@ use crate::staying::open_formula;
 use crate::suffice::Suffice;
 use c_meaning::Ends;
 use cfa::{Graph, Predicates};
-use confirmation::confirm;
+use confirmation::{Outcome, outcome};
 use containers::Vector;
 use fq_core::{Fault, Memory};
 use goal_formula::GoalFormula;
 use reached::Bounds;
-use search::{Found, search_both};
 use std::alloc::Global;
 use unwinder::unwind;
 
@@ -35,21 +34,18 @@ fn searched(
     requires small { formula.formula.variables ≤ 2 ^ 30 }
     ensures { IfOk result (λ suffice. (f : OneFunction) → slice_get graph.now.functions entry ≡ Some f → IsSuffice graph.now f bounds budget suffice) }
 {
-    match search_both(alloc, &formula.formula, budget)? {
-        Found::Model(model) => {
+    match outcome(alloc, &formula.formula, budget)? {
+        Outcome::Model(model) => {
             graph.well_formed();
             let function = &graph.functions()[entry as usize];
             let input = left_input(alloc, &formula, &model, &function.parameters)?;
             Ok(Suffice::Left(input))
         }
-        Found::NoModel(derivation) => {
-            confirm(alloc, &formula.formula, &derivation)?;
-            Ok(Suffice::Yes {
-                formula: formula.formula,
-                derivation,
-            })
-        }
-        Found::Spent(history) => Ok(Suffice::Open {
+        Outcome::Refuted(derivation) => Ok(Suffice::Yes {
+            formula: formula.formula,
+            derivation,
+        }),
+        Outcome::Open(history) => Ok(Suffice::Open {
             formula: formula.formula,
             history,
         }),

@@ -9,8 +9,8 @@ use Rattle.cfa.specs.declared.state.Predicates.{Predicates}
 use Rattle.goals.specs.declared.plan.Plan.{Plan}
 use Rattle.typed_trees.specs.declared.unit.Typed.{Typed}
 use Rattle.command_words.specs.Reading.{Text}
-use Rattle.command.specs.declared.given.Entry.{Entry}
-use Rattle.command.specs.declared.given.Planned.{Planned}
+use Rattle.given.specs.declared.entry.Entry.{Entry}
+use Rattle.given.specs.declared.planned.Planned.{Planned}
 use Rattle.command.specs.Calls.{AreNotGiven, IsEntryAs, IsNoEntry, IsNotPlanned, IsPlannedAs}
 use Rattle.command.specs.Entries.{seen}
 use Rattle.command.specs.Reads.{Reads}

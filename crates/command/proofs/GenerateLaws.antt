@@ -14,17 +14,15 @@ use Rattle.c_values.specs.Kind.{IsValue}
 use Rattle.fq_core.specs.Refusals.{IfRefused}
 use Rattle.fq_core.specs.declared.refusal.Fault.{Fault}
 use Rattle.fq_core.specs.declared.refusal.Fault.TheVariants as fault
-use Rattle.goals.specs.GoalForm.{GoalForm}
-use Rattle.goals.specs.declared.answer.Answer.TheVariants.{Undecided}
 use Rattle.goals.specs.declared.plan.Plan.{Plan}
 use Rattle.input_text.specs.Laws.{HasWords}
 use Rattle.reached.specs.declared.bounds.Bounds.{Bounds}
 use Rattle.report.specs.Made.{parameter_kinds}
 use Rattle.suite.specs.Generated.{IsGenerateFault, IsGenerated, Shown, seen_also}
-use Rattle.suite.specs.Made.{FallsShort}
+use Rattle.suite.specs.Seeking.{AreOpenWhereShort, CannotGenerate, IsGenerationOf}
 use Rattle.suite.specs.declared.generated.Generated.{Generated}
 use Rattle.command_words.specs.Reading.{Text}
-use Rattle.command.specs.declared.given.Given.{Given}
+use Rattle.given.specs.declared.given.Given.{Given}
 use Rattle.command.specs.declared.reply.Reply.TheVariants as reply
 use Rattle.command.specs.Parts.{IsMadeAs}
 use Rattle.command.specs.Generate.{IsGeneration, IsOpenWhereShort, is_open}
@@ -88,20 +86,7 @@ module _ (graph : GraphParts) (f : Function) (p : Predicates) (plan : Plan) (bou
 
 -- what the call that makes inputs answers
 pub made_as : (given : Given) (budget : ℕ) (w : Watched) (result : Result Generated Fault)
-    → (let graph = given.planned.entry.graph.now in let number = given.planned.entry.number in let p = given.planned.predicates in let plan = given.planned.plan in
-    IfOk result (λ made. (f : Function) → slice_get graph.functions number ≡ Some f
-    → (shown : List Shown) × IsGenerated graph f p plan given.bounds given.ends budget made shown × (w.after ≡ seen_also w.before shown))
-    → IfOk result (λ made. (f : Function) (place : ℕ) (g : GoalForm) → slice_get graph.functions number ≡ Some f → slice_get plan.goals place ≡ Some g
-    → slice_get made.answers place ≡ Some Undecided → FallsShort graph f p plan given.bounds g budget)
-    → IfErr result (λ e. (f : Function) → slice_get graph.functions number ≡ Some f → IsGenerateFault graph f p plan given.bounds given.ends e)
-    → IfErr result (λ e. IfRefused e (λ _. w.after ≡ w.before)) → IsMadeAs given budget w result)
-made_as given budget w (Ok made) generated enough refused unseen =
-    let f = given.planned.entry.function.now in
-    let there = given.planned.entry.there in
-    let is = generated f there in (
-      is.0,
-      is.1,
-      λ place g is_goal open_there. enough f place g there is_goal open_there,
-      is.2,
-    )
-made_as given budget w (Err e) generated enough refused unseen = (refused given.planned.entry.function.now given.planned.entry.there, unseen)
+    → IfOk result (λ made. (shown : List Shown) × IsGenerationOf given budget made shown × (w.after ≡ seen_also w.before shown))
+    → IfOk result (AreOpenWhereShort given budget) → IfErr result (CannotGenerate given) → IfErr result (λ e. IfRefused e (λ _. w.after ≡ w.before)) → IsMadeAs given budget w result
+made_as given budget w (Ok made) generated enough refused unseen = (generated.0, generated.1, enough, generated.2)
+made_as given budget w (Err e) generated enough refused unseen = (refused, unseen)

@@ -13,38 +13,25 @@ use Rattle.cfa.specs.declared.state.Predicates.{Predicates}
 use Rattle.cnf.proofs.ChecksLaws.{no_model}
 use Rattle.cnf.specs.Checks.{Checks}
 use Rattle.cnf.specs.declared.derivation.Derivation.{Derivation}
-use Rattle.fq_core.specs.Refusals.{IfRefused}
-use Rattle.fq_core.specs.declared.refusal.Fault.{Fault}
-use Rattle.fq_core.specs.declared.refusal.Fault.TheVariants as fault
 use Rattle.goal_formula.specs.Exact.{IsExact}
-use Rattle.goal_formula.specs.Sizes.{IsFormulaFault, goal_size}
 use Rattle.goal_formula.specs.declared.goal.GoalFormula.{GoalFormula}
 use Rattle.goals.specs.GoalForm.{GoalForm}
 use Rattle.goals.specs.declared.plan.Plan.{Plan}
 use Rattle.input_text.specs.Laws.{HasWords}
-use Rattle.least_input.specs.Answers.{IsAnswered, IsOpenWhereShort}
-use Rattle.least_input.specs.declared.least.Least.{Least}
 use Rattle.path_runner.specs.Paths.{record_of}
 use Rattle.path_runner.specs.declared.path.PathRecord.{PathRecord}
 use Rattle.reached.specs.declared.bounds.Bounds.{Bounds}
 use Rattle.report.specs.Generated.{proved_text}
 use Rattle.report.specs.Made.{parameter_kinds}
-use Rattle.suite.proofs.Models.{has_made}
-use Rattle.suite.specs.Made.{HasRunWithin, IsDecided, IsMadeFor, IsOpenWhereShort as OpenWhereShort, NoneHits}
-use Rattle.suite.specs.declared.decided.Decided.{Decided}
+use Rattle.suite.specs.Made.{IsMadeFor, NoneHits}
 use Rattle.suite.specs.declared.decided.Decided.TheVariants.{Covered}
-use Rattle.unwinder.specs.Unwinding.{IsUnwindFault, IsUnwound}
+use Rattle.unwinder.specs.Unwinding.{IsUnwound}
 use Rattle.unwinder.specs.declared.unwound.Unwound.{Unwound}
-use Rattle.command.specs.OneGoal.{IsGoalRefused, IsGoalTooLarge, IsGoalWithin}
 use Rattle.command.specs.Prove.{IsSaidOf}
 use Rattle.command.specs.Runs.{EntryFunction}
 use Rattle.command.specs.Said.{Said, answered}
 
 module _ (parts : GraphParts) (f : Function) (p : Predicates) (plan : Plan) (bounds : Bounds) (goal : GoalForm) where
-  pub unwind_refused : (e : Fault) → IsUnwindFault parts p bounds f e → IfRefused e (IsGoalRefused parts f p plan bounds goal)
-  unwind_refused (fault.Refused x) why = inl why
-  unwind_refused fault.Memory why = tt
-
   -- no input at all hits a goal, for which there is a formula that is exact and a derivation that checks over it
   pub none_hits : (ends : Ends) (g : GoalFormula) (d : Derivation) → IsExact parts p f bounds ends plan goal g → Checks g.formula d → NoneHits parts f p plan bounds ends goal
   none_hits ends g d exact checks = λ input for hits.
@@ -66,63 +53,12 @@ module _ (parts : GraphParts) (p : Predicates) (f : Function) (entry : ℕ) (bou
   there_still there = ap (slice_get parts.functions) is.given_entry ∙ there
 
   module _ (plan : Plan) (goal : GoalForm) where
-    pub goal_is_within : goal_size plan goal u.pairs ≤ 8388608 → IsGoalWithin parts f p plan bounds goal
-    goal_is_within size = record {
-      pairs = is.pairs;
-      steps = is.steps;
-      reached = is.reached;
-      few_pairs = is.few_pairs;
-      small = is.small;
-      size = subst (λ (n : ℕ). goal_size plan goal n ≤ 8388608) is.pair_count size;
-    }
-
-    goal_is_too_large : 8388608 < goal_size plan goal u.pairs → IsGoalTooLarge parts f p plan bounds goal
-    goal_is_too_large size = record {
-      pairs = is.pairs;
-      steps = is.steps;
-      reached = is.reached;
-      few_pairs = is.few_pairs;
-      small = is.small;
-      large = subst (λ (n : ℕ). 8388608 < goal_size plan goal n) is.pair_count size;
-    }
-
-    pub goal_refused : (e : Fault) → IsFormulaFault (goal_size plan goal u.pairs) e → IfRefused e (IsGoalRefused parts f p plan bounds goal)
-    goal_refused (fault.Refused x) why = inr (why.0, goal_is_too_large why.1)
-    goal_refused fault.Memory why = tt
-
     pub exact_at : (g : GoalFormula) → IsExact parts p f u.bounds u.ends plan goal g → IsExact parts p f bounds ends plan goal g
     exact_at g exact =
         subst (λ (e : Ends). IsExact parts p f bounds e plan goal g) is.given_ends (subst (λ (b : Bounds). IsExact parts p f b u.ends plan goal g) is.given_bounds exact)
 
-    pub decided_at : (budget : ℕ) (d : Decided) → IsDecided parts f p plan u.bounds u.ends goal budget d → IsDecided parts f p plan bounds ends goal budget d
-    decided_at budget d decided =
-        subst (λ (e : Ends). IsDecided parts f p plan bounds e goal budget d) is.given_ends
-        (subst (λ (b : Bounds). IsDecided parts f p plan b u.ends goal budget d) is.given_bounds decided)
-
-    pub answered_at : (budget : ℕ) (l : Least) → IsAnswered parts f p plan u.bounds u.ends goal budget l → IsAnswered parts f p plan bounds ends goal budget l
-    answered_at budget l answered =
-        subst (λ (e : Ends). IsAnswered parts f p plan bounds e goal budget l) is.given_ends
-        (subst (λ (b : Bounds). IsAnswered parts f p plan b u.ends goal budget l) is.given_bounds answered)
-
-    pub short_at : (budget : ℕ) (l : Least) → IsOpenWhereShort parts f p plan u.bounds goal budget l → IsOpenWhereShort parts f p plan bounds goal budget l
-    short_at budget l short = subst (λ (b : Bounds). IsOpenWhereShort parts f p plan b goal budget l) is.given_bounds short
-
-    pub open_at : (budget : ℕ) (d : Decided) → OpenWhereShort parts f p plan u.bounds goal budget d → OpenWhereShort parts f p plan bounds goal budget d
-    open_at budget d short = subst (λ (b : Bounds). OpenWhereShort parts f p plan b goal budget d) is.given_bounds short
-
-    pub said_at : (e : EntryFunction) (number : ℕ) (d : Decided) (said : Said) → IsSaidOf parts e p plan u.bounds u.ends number goal d said
-        → IsSaidOf parts e p plan bounds ends number goal d said
-    said_at e number d said is_said =
-        subst (λ (x : Ends). IsSaidOf parts e p plan bounds x number goal d said) is.given_ends
-        (subst (λ (b : Bounds). IsSaidOf parts e p plan b u.ends number goal d said) is.given_bounds is_said)
-
 module _ (parts : GraphParts) (f : Function) (p : Predicates) (plan : Plan) (bounds : Bounds) (ends : Ends) (goal : GoalForm) (input : Input) (made : IsMadeFor parts f p plan bounds ends goal input) where
-  -- an input that was made has a run within the bounds
-  pub has_run : f.arrays ≡ [] → (o : Option Function) → o ≡ Some f → IsSomeAnd o (λ h. HasRunWithin parts h bounds ends input)
-  has_run arrays o there =
-      subst (λ (x : Option Function). IsSomeAnd x (λ h. HasRunWithin parts h bounds ends input)) (sym there) (has_made parts p f bounds ends input made.run arrays made.made)
-
-  -- and a word for each parameter
+  -- an input that was made has a word for each parameter
   pub has_words : (number : ℕ) → slice_get parts.functions number ≡ Some f → HasWords (length (parameter_kinds parts number)) input
   has_words number there =
       AllZip-long IsValue f.parameters input.words made.made.words_fit ∙ ap length (sym (ap (λ (o : Option Function). option_map_or (λ (g : Function). g.parameters) o []) there))

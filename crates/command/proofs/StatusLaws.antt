@@ -57,7 +57,7 @@ use Rattle.command.specs.Inputs as inputs
 use Rattle.command.specs.Least.{IsDueOfLeast, IsLowered, said_of_least}
 use Rattle.command.specs.Measure.{IsMeasured}
 use Rattle.command.specs.Trees.{ended}
-use Rattle.command.specs.OneGoal.{IsGoalRefused}
+use Rattle.suite.specs.OneGoal.{IsGoalRefused}
 use Rattle.command.specs.Prove.{IsDueOfProve, IsProved, IsSaidOf}
 use Rattle.command.specs.Queries as queries
 use Rattle.command.specs.Ranges.{within}

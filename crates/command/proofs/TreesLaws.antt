@@ -9,7 +9,7 @@ use Rattle.c_front.specs.Automata as automata
 use Rattle.c_lex.specs.declared.token.SourceText.{SourceText}
 use Rattle.typed_sources.specs.Trees as trees
 use Rattle.command_words.specs.Reading.{Text}
-use Rattle.command.specs.declared.given.Trees.{Trees}
+use Rattle.command.specs.declared.types.Trees.{Trees}
 use Rattle.command.specs.Calls.{AreTreesAs, HaveTreesAs}
 use Rattle.command.specs.Reads.{Reads}
 use Rattle.command.specs.Sources.{AreRead}

@@ -15,11 +15,11 @@ use Rattle.goals.specs.declared.plan.Plan.{Plan}
 use Rattle.trace_file.specs.declared.trace.Trace.{Trace}
 use Rattle.typed_sources.specs.Trees.{IsTypedOf}
 use Rattle.command_words.specs.Reading.{Text}
-use Rattle.command.specs.declared.given.Automaton.{Automaton}
-use Rattle.command.specs.declared.given.Certificate.{Certificate}
-use Rattle.command.specs.declared.given.Entry.{Entry}
-use Rattle.command.specs.declared.given.Planned.{Planned}
-use Rattle.command.specs.declared.given.Trees.{Trees}
+use Rattle.command.specs.declared.types.Automaton.{Automaton}
+use Rattle.command.specs.declared.types.Certificate.{Certificate}
+use Rattle.given.specs.declared.entry.Entry.{Entry}
+use Rattle.given.specs.declared.planned.Planned.{Planned}
+use Rattle.command.specs.declared.types.Trees.{Trees}
 use Rattle.command.specs.CertificateFile as certificates
 use Rattle.command.specs.CertificateFile.{AreCertificateOf}
 use Rattle.command.specs.Entries.{seen}

@@ -14,7 +14,7 @@ use Rattle.report.specs.Generated.{refuted_text}
 use Rattle.command_words.specs.Reading.{Text}
 use Rattle.command_words.specs.Request.{Checking}
 use Rattle.command.specs.Comparison.{IsCompared}
-use Rattle.command.specs.OneGoal.{IsGoalRefused, IsGoalWithin}
+use Rattle.suite.specs.OneGoal.{IsGoalRefused, IsGoalWithin}
 use Rattle.command.specs.Ranges.{within}
 use Rattle.command.specs.Reads.{Reads}
 use Rattle.command.specs.Runs.{EntryFunction}

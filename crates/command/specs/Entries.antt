@@ -1,5 +1,5 @@
 -- The entry, as the code has it.
-use Rattle.command.specs.declared.given.Entry.{Entry}
+use Rattle.given.specs.declared.entry.Entry.{Entry}
 use Rattle.command.specs.Runs.{EntryFunction}
 
 abbrev pub seen : Entry → EntryFunction

@@ -16,7 +16,7 @@ use Rattle.report.specs.Generated.{generated_text, is_undecided}
 use Rattle.report.specs.GeneratedJson.{generated_json}
 use Rattle.suite.specs.Generated.{IsGenerateFault, IsGenerated, Shown}
 use Rattle.suite.specs.Made.{FallsShort}
-use Rattle.suite.specs.Suite.{kept_of}
+use Rattle.reduction.specs.Suite.{kept_of}
 use Rattle.suite.specs.declared.generated.Generated.{Generated}
 use Rattle.command_words.specs.Reading.{Text}
 use Rattle.command_words.specs.Request.{Generating}

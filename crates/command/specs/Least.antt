@@ -14,7 +14,7 @@ use Rattle.report.specs.Least.{least_text, open_text}
 use Rattle.command_words.specs.Reading.{Text}
 use Rattle.command_words.specs.Request.{Proving}
 use Rattle.command.specs.declared.status.Status.TheVariants as status
-use Rattle.command.specs.OneGoal.{IsGoalRefused, IsGoalWithin}
+use Rattle.suite.specs.OneGoal.{IsGoalRefused, IsGoalWithin}
 use Rattle.command.specs.Ranges.{within}
 use Rattle.command.specs.Runs.{EntryFunction}
 use Rattle.command.specs.Said.{Said, answered}

@@ -16,7 +16,6 @@ pub mod Inputs
 pub mod Laws
 pub mod Least
 pub mod Measure
-pub mod OneGoal
 pub mod Outcome
 pub mod Parts
 pub mod Prove

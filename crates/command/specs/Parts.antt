@@ -13,16 +13,13 @@ use Rattle.path_runner.specs.declared.path.RunEnd.{RunEnd}
 use Rattle.report.specs.Generated.{sample_text}
 use Rattle.report.specs.Made.{parameter_kinds}
 use Rattle.suite.specs.Generated.{IsGenerateFault, IsGenerated, Shown}
-use Rattle.suite.specs.Made.{IsDecided, IsMadeFor}
-use Rattle.suite.specs.Unwindings.{IsUnwindingOf}
 use Rattle.suite.specs.declared.decided.Decided.{Decided}
 use Rattle.suite.specs.declared.generated.Generated.{Generated}
-use Rattle.unwinder.specs.declared.unwound.Unwound.{Unwound}
 use Rattle.command_words.specs.Reading.{Text}
-use Rattle.command.specs.declared.given.Certificate.{Certificate}
-use Rattle.command.specs.declared.given.Given.{Given}
-use Rattle.command.specs.declared.given.Goal.{Goal}
-use Rattle.command.specs.declared.given.Planned.{Planned}
+use Rattle.command.specs.declared.types.Certificate.{Certificate}
+use Rattle.given.specs.declared.given.Given.{Given}
+use Rattle.given.specs.declared.goal.Goal.{Goal}
+use Rattle.given.specs.declared.planned.Planned.{Planned}
 use Rattle.command.specs.Asked.{sample_file}
 use Rattle.command.specs.Check.{IsCheckedAt}
 use Rattle.command.specs.Entries.{seen}
@@ -99,40 +96,21 @@ module _ (given : Given) where
 
 module _ (goal : Goal) where
   abbrev graph_at : GraphParts
-  graph_at = goal.given.planned.entry.graph.now
-
-  abbrev function_at : Function
-  function_at = goal.given.planned.entry.function.now
-
-  abbrev pub IsGoalOf : GoalForm → Type 0
-  IsGoalOf one = slice_get goal.given.planned.plan.goals (goal.number - 1) ≡ Some one
-
-  -- an unwinding from the entry
-  abbrev pub IsUnwindingFor : Unwound → Type 0
-  IsUnwindingFor u = (u.entry ≡ goal.given.planned.entry.number) × IsUnwindingOf graph_at goal.given.planned.predicates u
-
-  module _ (u : Unwound) (one : GoalForm) where
-    abbrev pub IsMadeOver : Input → Type 0
-    IsMadeOver input =
-        IsMadeFor graph_at function_at goal.given.planned.predicates goal.given.planned.plan u.bounds u.ends one input
-
-    abbrev pub IsDecidedOver : ℕ → Decided → Type 0
-    IsDecidedOver budget decided =
-        IsDecided graph_at function_at goal.given.planned.predicates goal.given.planned.plan u.bounds u.ends one budget decided
-
-    abbrev pub IsSaidOver : Decided → Said → Type 0
-    IsSaidOver decided said =
-        IsSaidOf graph_at (seen goal.given.planned.entry) goal.given.planned.predicates goal.given.planned.plan u.bounds u.ends goal.number one decided said
+  graph_at = goal.given.now.planned.entry.graph.now
 
   module _ (one : GoalForm) where
+    abbrev pub IsSaidFor : Decided → Said → Type 0
+    IsSaidFor decided said =
+        IsSaidOf graph_at (seen goal.given.now.planned.entry) goal.given.now.planned.predicates goal.given.now.planned.plan goal.given.now.bounds goal.given.now.ends goal.number one decided said
+
     abbrev pub IsProvedFor : ℕ → List Text → Said → Type 0
     IsProvedFor budget names said =
-        IsProved graph_at (seen goal.given.planned.entry) goal.given.planned.predicates goal.given.planned.plan goal.given.bounds goal.given.ends goal.number one names budget said
+        IsProved graph_at (seen goal.given.now.planned.entry) goal.given.now.planned.predicates goal.given.now.planned.plan goal.given.now.bounds goal.given.now.ends goal.number one names budget said
 
     abbrev pub IsLoweredFor : ℕ → List Text → Said → Type 0
     IsLoweredFor budget names said =
-        IsLowered graph_at (seen goal.given.planned.entry) goal.given.planned.predicates goal.given.planned.plan goal.given.bounds goal.given.ends goal.number one names budget said
+        IsLowered graph_at (seen goal.given.now.planned.entry) goal.given.now.planned.predicates goal.given.now.planned.plan goal.given.now.bounds goal.given.now.ends goal.number one names budget said
 
     abbrev pub IsCheckedFor : Certificate → List Text → Said → Type 0
     IsCheckedFor theirs names said =
-        IsCheckedAt names graph_at (seen goal.given.planned.entry) goal.given.planned.predicates goal.given.planned.plan goal.given.bounds goal.given.ends goal.number one theirs.formula theirs.derivation said
+        IsCheckedAt names graph_at (seen goal.given.now.planned.entry) goal.given.now.planned.predicates goal.given.now.planned.plan goal.given.now.bounds goal.given.now.ends goal.number one theirs.formula theirs.derivation said

@@ -17,7 +17,7 @@ use Rattle.suite.specs.declared.decided.Decided.TheVariants.{Covered, Refuted, U
 use Rattle.command_words.specs.Reading.{Text}
 use Rattle.command_words.specs.Request.{Proving}
 use Rattle.command.specs.declared.status.Status.TheVariants as status
-use Rattle.command.specs.OneGoal.{IsGoalRefused, IsGoalWithin}
+use Rattle.suite.specs.OneGoal.{IsGoalRefused, IsGoalWithin}
 use Rattle.command.specs.Ranges.{within}
 use Rattle.command.specs.Runs.{EntryFunction}
 use Rattle.command.specs.Said.{Said, answered}

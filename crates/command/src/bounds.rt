@@ -12,7 +12,6 @@ ghost use Rattle.command.specs.Watched.{watched};
 
 use crate::entry::entry_named;
 use crate::generate::within;
-use crate::given::Entry;
 use crate::reply::Reply;
 use crate::sources::automaton;
 use bounds_check::{Suffice, bounds_suffice};
@@ -21,6 +20,7 @@ use cnf::{Derivation, Formula};
 use command_words::Suffice as Asked;
 use fq_core::{Fault, Memory};
 use fq_io::Files;
+use given::Entry;
 use reached::Bounds;
 use report::{left_text, open_bounds_text, suffice_text};
 use search::Watch;

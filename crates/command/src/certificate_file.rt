@@ -2,8 +2,8 @@
 ghost use Rattle.command.specs.Calls.{IsCertificateAs};
 ghost use Rattle.command.specs.Reads.{reads};
 
-use crate::given::Certificate;
 use crate::sources::read;
+use crate::types::Certificate;
 use certificate::read_certificate;
 use fq_core::Fault;
 use fq_io::Files;

@@ -6,21 +6,23 @@ ghost use Rattle.command_words.specs.Request as asks;
 ghost use Rattle.command.specs.Answered.{IsTold};
 ghost use Rattle.command.specs.Ranges.{IsInRange};
 ghost use Rattle.command.specs.Reads.{reads};
-ghost use Rattle.command.specs.Parts.{IsCheckedFor, IsGoalOf};
+ghost use Rattle.command.specs.Parts.{IsCheckedFor};
 ghost use Rattle.command.specs.Replies.{Tells};
 ghost use Rattle.goals.specs.GoalForm.{GoalForm};
+ghost use Rattle.suite.specs.Seeking.{IsGoalOf};
 
 use crate::certificate_file::read_certificate_file;
 use crate::comparison::compared;
 use crate::generate::within;
-use crate::given::{Certificate, Given, Goal};
 use crate::query::plan_at;
 use crate::refusal::no_such_goal;
 use crate::reply::Reply;
 use crate::sources::automaton;
+use crate::types::Certificate;
 use command_words::Check;
 use fq_core::Fault;
 use fq_io::Files;
+use given::{Given, Goal};
 use goal_formula::formula;
 use report::refuted_text;
 use std::alloc::Global;
@@ -31,7 +33,7 @@ fn checked(alloc: Global, goal: &Goal, theirs: &Certificate) -> Result<Reply, Fa
     ensures { (names : List Text) (one : GoalForm) → IsGoalOf goal.now one →
         Tells (IsCheckedFor goal.now one theirs.now names) names result }
 {
-    let given = &goal.given;
+    let given = goal.given;
     let graph = given.planned.entry.graph;
     let entry = given.planned.entry.number;
     let predicates = &given.planned.predicates;
@@ -60,7 +62,7 @@ pub fn check<F: Files>(alloc: Global, request: &Check, files: &mut F) -> Result<
         ends: request.ends,
     };
     let goal = Goal {
-        given,
+        given: &given,
         number: request.goal,
     };
     checked(alloc, &goal, &theirs)

@@ -5,9 +5,9 @@ ghost use Rattle.command.specs.Comparison.{IsCompared, IsJudged};
 ghost use Rattle.command.specs.Replies.{Tells};
 
 use crate::difference::difference_line;
-use crate::given::Certificate;
 use crate::refusal::nowhere;
 use crate::reply::Reply;
+use crate::types::Certificate;
 use certificate::compare;
 use cnf::{Derivation, Formula};
 use derivation_check::{Checker, Verdict};

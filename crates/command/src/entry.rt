@@ -1,9 +1,10 @@
 // The entry.
 ghost use Rattle.command.specs.Calls.{IsEntryAs};
 
-use crate::given::{Automaton, Entry};
 use crate::refusal::nowhere;
+use crate::types::Automaton;
 use fq_core::Fault;
+use given::Entry;
 
 /// The function of this name, where a run can begin at it.
 pub fn entry_named<'a>(automaton: &'a Automaton, name: &str) -> Result<Entry<'a>, Fault>

@@ -12,7 +12,6 @@ ghost use Rattle.command.specs.Reads.{reads};
 ghost use Rattle.command.specs.Replies.{Tells};
 
 use crate::entry::entry_named;
-use crate::given::Entry;
 use crate::inputs::read_inputs;
 use crate::reply::Reply;
 use crate::runs::recorded;
@@ -21,6 +20,7 @@ use c_meaning::Input;
 use command_words::Runs;
 use fq_core::Fault;
 use fq_io::Files;
+use given::Entry;
 use report::events_text;
 use std::alloc::Global;
 

@@ -11,13 +11,13 @@ ghost use Rattle.command.specs.Replies.{Gives};
 ghost use Rattle.command.specs.Parts.{IsGenerationFor, IsMadeAs, IsReportable, report_for};
 ghost use Rattle.command.specs.Watched.{watched};
 
-use crate::given::Given;
 use crate::query::plan_at;
 use crate::reply::Reply;
 use crate::sources::automaton;
 use command_words::Generate;
 use fq_core::{Fault, Memory};
 use fq_io::Files;
+use given::Given;
 use goals::Answer;
 use reached::Bounds;
 use report::{generated_json, generated_text};
@@ -78,17 +78,7 @@ pub fn make_inputs<W: Watch>(
 ) -> Result<Generated, Fault>
     ensures { IsMadeAs given.now budget (watched W.Watch watch.old watch.new) result }
 {
-    suite::generate(
-        alloc,
-        given.planned.entry.graph,
-        given.planned.entry.number,
-        &given.planned.plan,
-        &given.planned.predicates,
-        given.bounds,
-        given.ends,
-        budget,
-        watch,
-    )
+    suite::generate(alloc, given, budget, watch)
 }
 
 // Makes inputs for the goals, and reports them.

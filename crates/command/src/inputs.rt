@@ -5,11 +5,11 @@ ghost use Rattle.c_meaning.specs.Starts.{CanStart};
 ghost use Rattle.command.specs.Calls.{AreInputsAs};
 ghost use Rattle.command.specs.Reads.{reads};
 
-use crate::given::Entry;
 use crate::sources::read;
 use c_meaning::Input;
 use fq_core::{Fault, Memory};
 use fq_io::Files;
+use given::Entry;
 use input_text::inputs;
 use std::alloc::Global;
 

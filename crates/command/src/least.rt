@@ -1,19 +1,19 @@
 // The least input of a goal.
 ghost use Rattle.std.specs.Prelude.{◌≡◌, List, IfOk};
 ghost use Rattle.goals.specs.GoalForm.{GoalForm};
+ghost use Rattle.suite.specs.Seeking.{IsGoalOf};
 ghost use Rattle.command_words.specs.Reading.{Text};
 ghost use Rattle.command_words.specs.Request.{proving};
 ghost use Rattle.command_words.specs.Request as asks;
 ghost use Rattle.command.specs.Answered.{IsGiven};
 ghost use Rattle.command.specs.Least.{IsSaidOfLeast};
-ghost use Rattle.command.specs.Parts.{IsGoalOf, IsLoweredFor};
+ghost use Rattle.command.specs.Parts.{IsLoweredFor};
 ghost use Rattle.command.specs.Ranges.{IsInRange};
 ghost use Rattle.command.specs.Reads.{reads};
 ghost use Rattle.command.specs.Replies.{Gives, IsReply};
 ghost use Rattle.command.specs.Watched.{watched};
 
 use crate::generate::within;
-use crate::given::{Given, Goal};
 use crate::query::plan_at;
 use crate::refusal::no_such_goal;
 use crate::reply::Reply;
@@ -21,13 +21,14 @@ use crate::sources::automaton;
 use command_words::Prove;
 use fq_core::{Fault, Memory};
 use fq_io::Files;
+use given::{Given, Goal};
 use least_input::{Least, find_least};
 use path_runner::Ends;
 use reached::Bounds;
 use report::{least_text, open_text, refuted_text};
 use search::Watch;
 use std::alloc::Global;
-use unwinder::unwind;
+use suite::Sought;
 
 // What is said of what is found of a goal. The watch is shown the search of one that stays open.
 fn said_of<W: Watch>(
@@ -80,21 +81,9 @@ fn lowered<W: Watch>(alloc: Global, goal: &Goal, budget: u64, watch: &mut W) -> 
         Gives (IsLoweredFor goal.now one budget names) names
         (watched W.Watch watch.old watch.new) result }
 {
-    let given = &goal.given;
-    let graph = given.planned.entry.graph;
-    let entry = given.planned.entry.number;
-    let predicates = &given.planned.predicates;
-    let plan = &given.planned.plan;
-    let mut unwound = unwind(alloc, graph, entry, predicates, given.bounds, given.ends)?;
-    let least = find_least(
-        alloc,
-        graph,
-        predicates,
-        &mut unwound,
-        plan,
-        goal.number,
-        budget,
-    )?;
+    let given = goal.given;
+    let mut sought = Sought::at(alloc, *goal)?;
+    let least = find_least(alloc, &mut sought, budget)?;
     let reply = said_of(alloc, goal.number, given.bounds, given.ends, least, watch)?;
     Ok(reply)
 }
@@ -121,7 +110,7 @@ pub fn least<F: Files, W: Watch>(
         ends: request.ends,
     };
     let goal = Goal {
-        given,
+        given: &given,
         number: request.goal,
     };
     lowered(alloc, &goal, request.budget as u64, watch)

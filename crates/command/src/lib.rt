@@ -17,7 +17,7 @@
 //! `measurer`, made inputs and reduced suites `suite`, over `unwinder`, `goal_formula` and `search`, certificates `certificate`
 //! and `derivation_check`, the program of `sample` `sample`, the printed texts `report`. Each command has a module by its word
 //! (`samples` and `goal_list` for `sample` and `goals`, whose words are crates), with one call that answers what is due. What
-//! a stage gives keeps what holds of it on its type (given.rt). Start at [`run`] in command.rt.
+//! a stage gives keeps what holds of it on its type (types.rt, `given`). Start at [`run`] in command.rt.
 #![tactic(auto)]
 
 mod bounds;
@@ -30,7 +30,6 @@ mod difference;
 mod entry;
 mod events;
 mod generate;
-mod given;
 mod goal_list;
 mod graph;
 mod inputs;
@@ -49,6 +48,7 @@ mod sources;
 mod status;
 mod traces;
 mod trees;
+mod types;
 
 pub use command::run;
 pub use status::Status;

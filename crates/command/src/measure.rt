@@ -12,22 +12,23 @@ ghost use Rattle.command.specs.Reads.{reads};
 ghost use Rattle.command.specs.Parts.{AreHitsOf, IsReportOf};
 ghost use Rattle.command.specs.Runs.{run_of};
 
-use crate::given::{Entry, Planned, Steps};
 use crate::inputs::read_inputs;
 use crate::query::plan_at;
 use crate::reply::Reply;
 use crate::sources::automaton;
+use crate::types::Steps;
 use c_meaning::Input;
 use cfa::Predicates;
 use command_words::Measure;
 use fq_core::{Fault, Memory};
 use fq_io::Files;
+use given::{Entry, Planned};
 use goals::Answer;
 use measurer::Measurer;
 use path_runner::{Ends, PathRecord, RunEnd, trace_run};
+use reduction::reduce;
 use report::{measured_json, measured_text};
 use std::alloc::Global;
-use suite::reduce;
 
 /// The path of an input's run, up to its end or so many edges.
 pub fn run_of(

@@ -1,11 +1,12 @@
 // One goal decided, and what is said of it.
 ghost use Rattle.std.specs.Prelude.{ℕ, List, IfOk};
 ghost use Rattle.goals.specs.GoalForm.{GoalForm};
+ghost use Rattle.suite.specs.Seeking.{IsDecidedAs, IsGoalOf, IsMadeAs};
 ghost use Rattle.command_words.specs.Reading.{Text};
 ghost use Rattle.command_words.specs.Request.{proving};
 ghost use Rattle.command_words.specs.Request as asks;
 ghost use Rattle.command.specs.Answered.{IsGiven};
-ghost use Rattle.command.specs.Parts.{IsDecidedOver, IsGoalOf, IsMadeOver, IsProvedFor, IsSaidOver, IsUnwindingFor};
+ghost use Rattle.command.specs.Parts.{IsProvedFor, IsSaidFor};
 ghost use Rattle.command.specs.Ranges.{IsInRange};
 ghost use Rattle.command.specs.Reads.{reads};
 ghost use Rattle.command.specs.Replies.{Gives, IsReply};
@@ -13,7 +14,6 @@ ghost use Rattle.command.specs.Said.{answered};
 ghost use Rattle.command.specs.Watched.{watched};
 
 use crate::generate::within;
-use crate::given::{Given, Goal};
 use crate::query::plan_at;
 use crate::refusal::no_such_goal;
 use crate::reply::Reply;
@@ -23,26 +23,25 @@ use certificate::write_certificate;
 use command_words::Prove;
 use fq_core::{Fault, Memory};
 use fq_io::Files;
+use given::{Given, Goal};
 use report::{proved_text, undecided_text};
 use search::Watch;
 use std::alloc::Global;
-use suite::{Decided, decide, replay};
-use unwinder::{Unwound, unwind};
+use suite::{Decided, Sought, decide, replay};
 
 // The line of a goal that an input covers.
-fn covered(alloc: Global, goal: &Goal, unwound: &Unwound, input: &Input) -> Result<Vec<u8>, Memory>
-    requires unwound { IsUnwindingFor goal.now unwound.now }
-    requires made { (one : GoalForm) × IsMadeOver goal.now unwound.now one input.now }
-    ensures { IfOk result (λ text. (one : GoalForm) → IsMadeOver goal.now unwound.now one input.now
-        → IsSaidOver goal.now unwound.now one (Decided.Covered input.now) (answered text.items)) }
+fn covered(alloc: Global, sought: &Sought, input: &Input) -> Result<Vec<u8>, Memory>
+    requires { (one : GoalForm) × IsMadeAs sought.now.goal one input.now }
+    ensures { IfOk result (λ text. (one : GoalForm) → IsMadeAs sought.now.goal one input.now
+        → IsSaidFor sought.now.goal one (Decided.Covered input.now) (answered text.items)) }
 {
-    let planned = &goal.given.planned;
-    let graph = planned.entry.graph;
-    let run = replay(alloc, graph, &planned.predicates, unwound, input)?;
+    let goal = sought.goal();
+    let entry = goal.given.planned.entry;
+    let run = replay(alloc, sought, input)?;
     proved_text(
         alloc,
-        graph,
-        planned.entry.number,
+        entry.graph,
+        entry.number,
         goal.number,
         input,
         &run.taken,
@@ -52,22 +51,19 @@ fn covered(alloc: Global, goal: &Goal, unwound: &Unwound, input: &Input) -> Resu
 // What is said of what is found of a goal. The watch is shown the search of one that stays undecided.
 fn said_of<W: Watch>(
     alloc: Global,
-    goal: &Goal,
-    unwound: &Unwound,
+    sought: &Sought,
     decided: Decided,
     watch: &mut W,
 ) -> Result<Reply, Memory>
-    requires unwound { IsUnwindingFor goal.now unwound.now }
-    requires decided { (one : GoalForm) × ((budget : ℕ)
-        × IsDecidedOver goal.now unwound.now one budget decided) }
+    requires { (one : GoalForm) × ((budget : ℕ) × IsDecidedAs sought.now.goal one budget decided) }
     ensures { IfOk result (λ reply. (one : GoalForm) (budget : ℕ)
-        → IsDecidedOver goal.now unwound.now one budget decided
-        → IsReply (IsSaidOver goal.now unwound.now one decided)
+        → IsDecidedAs sought.now.goal one budget decided
+        → IsReply (IsSaidFor sought.now.goal one decided)
         (watched W.Watch watch.old watch.new) reply) }
 {
     match decided {
         Decided::Covered(input) => {
-            let text = covered(alloc, goal, unwound, &input)?;
+            let text = covered(alloc, sought, &input)?;
             Ok(Reply::Answer {
                 text,
                 left_open: false,
@@ -84,7 +80,7 @@ fn said_of<W: Watch>(
             })
         }
         Decided::Undecided { formula, history } => {
-            let number = goal.number;
+            let number = sought.goal().number;
             let text = undecided_text(alloc, number)?;
             watch.shown(number, &formula.formula, &history)?;
             Ok(Reply::Answer {
@@ -101,22 +97,9 @@ fn proof<W: Watch>(alloc: Global, goal: &Goal, budget: u64, watch: &mut W) -> Re
         Gives (IsProvedFor goal.now one budget names) names
         (watched W.Watch watch.old watch.new) result }
 {
-    let given = &goal.given;
-    let graph = given.planned.entry.graph;
-    let entry = given.planned.entry.number;
-    let predicates = &given.planned.predicates;
-    let plan = &given.planned.plan;
-    let mut unwound = unwind(alloc, graph, entry, predicates, given.bounds, given.ends)?;
-    let decided = decide(
-        alloc,
-        graph,
-        predicates,
-        &mut unwound,
-        plan,
-        goal.number,
-        budget,
-    )?;
-    let reply = said_of(alloc, goal, &unwound, decided, watch)?;
+    let mut sought = Sought::at(alloc, *goal)?;
+    let decided = decide(alloc, &mut sought, budget)?;
+    let reply = said_of(alloc, &sought, decided, watch)?;
     Ok(reply)
 }
 
@@ -142,7 +125,7 @@ pub fn prove<F: Files, W: Watch>(
         ends: request.ends,
     };
     let goal = Goal {
-        given,
+        given: &given,
         number: request.goal,
     };
     proof(alloc, &goal, request.budget as u64, watch)

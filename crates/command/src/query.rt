@@ -8,10 +8,11 @@ ghost use Rattle.command.specs.Calls.{IsPlannedAs};
 ghost use Rattle.command.specs.Calls.{IsQueryAs};
 
 use crate::entry::entry_named;
-use crate::given::{Automaton, Planned};
+use crate::types::Automaton;
 use cfa::{Graph, Predicates};
 use fq_core::Fault;
 use fql_read::{Query, read_query};
+use given::Planned;
 use goals::{Plan, plan_of};
 use predicates::resolve;
 use std::alloc::Global;

@@ -7,15 +7,16 @@ ghost use Rattle.command.specs.Reads.{reads};
 ghost use Rattle.command.specs.Calls.{AreTracesAs};
 ghost use Rattle.command.specs.TraceFile.{inputs_in, longest};
 
-use crate::given::{Planned, Steps};
 use crate::measure::report;
 use crate::query::plan_at;
 use crate::reply::Reply;
 use crate::sources::{automaton, read};
+use crate::types::Steps;
 use c_meaning::Input;
 use command_words::Replay;
 use fq_core::{Fault, Memory};
 use fq_io::Files;
+use given::Planned;
 use path_runner::Ends;
 use std::alloc::Global;
 use trace_file::{Trace, read_trace};

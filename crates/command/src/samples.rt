@@ -12,15 +12,16 @@ ghost use Rattle.command.specs.Sample.{IsDueOfSample, sample_source};
 ghost use Rattle.command.specs.Watched.{watched};
 
 use crate::generate::{is_open, make_inputs};
-use crate::given::{Automaton, Given};
 use crate::query::plan_at;
 use crate::reply::Reply;
+use crate::types::Automaton;
 use c_front::automaton_of_texts;
 use c_lex::SourceText;
 use c_meaning::Ends;
 use cfa::Graph;
 use containers::Vector;
 use fq_core::{Fault, Name};
+use given::Given;
 use reached::Bounds;
 use report::sample_text;
 use sample::{program, sample_query};

@@ -9,7 +9,7 @@ ghost use Rattle.fq_core.specs.Refusals.{IfRefused};
 ghost use Rattle.command.specs.Calls.{AreTreesAs, HaveAutomatonAs, HaveTreesAs};
 ghost use Rattle.command.specs.Sources.{AreRead, IsRead, IsReadUpTo, IsUnread, most_source};
 
-use crate::given::{Automaton, Trees};
+use crate::types::{Automaton, Trees};
 use c_front::automaton_of_texts;
 use c_lex::SourceText;
 use containers::Vector;

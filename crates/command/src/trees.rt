@@ -9,10 +9,10 @@ ghost use Rattle.command.specs.Reads.{reads};
 ghost use Rattle.command.specs.Trees.{ends_on_trees, listed_end};
 
 use crate::entry::entry_named;
-use crate::given::Trees;
 use crate::inputs::read_inputs;
 use crate::reply::Reply;
 use crate::sources::read_trees;
+use crate::types::Trees;
 use c_meaning::Input;
 use command_words::Runs;
 use fq_core::{Fault, Memory};

@@ -28,7 +28,7 @@ use Rattle.command.specs.CertificateFile.{AreCertificateOf}
 use Rattle.command.specs.Check.{IsChecked, accepted_text}
 use Rattle.command.specs.Comparison.{IsCompared, said_of_verdict}
 use Rattle.command.specs.Due.{IsDueOf}
-use Rattle.command.specs.OneGoal.{IsGoalWithin}
+use Rattle.suite.specs.OneGoal.{IsGoalWithin}
 use Rattle.command.specs.Prove.{IsProved, IsSaidOf}
 use Rattle.command.specs.Queries.{IsPlanned}
 use Rattle.command.specs.Ranges.{within}

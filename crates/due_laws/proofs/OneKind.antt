@@ -70,7 +70,7 @@ use Rattle.due_laws.specs.Determined.{AreAlike, AreOfOneCheck, AreOfOneKind, Are
 use Rattle.command.specs.Due.{IsDueOf}
 use Rattle.command.specs.Generate.{IsGeneration, concluded, generated_report, is_open}
 use Rattle.command.specs.Least.{IsLowered, said_of_least}
-use Rattle.command.specs.OneGoal.{IsGoalRefused, IsGoalTooLarge, IsGoalWithin}
+use Rattle.suite.specs.OneGoal.{IsGoalRefused, IsGoalTooLarge, IsGoalWithin}
 use Rattle.command.specs.Prove.{IsProved, IsSaidOf}
 use Rattle.command.specs.Ranges.{within}
 use Rattle.command.specs.Reads.{Reads}

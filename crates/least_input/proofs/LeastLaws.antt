@@ -4,7 +4,7 @@ use Rattle.std.specs.Prelude.{reverse, slice_get}
 use Rattle.std.specs.List.{flat_map, list_all}
 use Rattle.std.proofs.lemmas.List.{length-map}
 use Rattle.std.proofs.lemmas.List.Concat.{flat_map-append}
-use Rattle.std.proofs.lemmas.Option.{same_Some, slice_get-get_or, slice_get_read, slice_get_within}
+use Rattle.std.proofs.lemmas.Option.{same_Some, slice_get-get_or, slice_get_within}
 use Rattle.c_meaning.specs.declared.ends.Ends.{Ends}
 use Rattle.c_meaning.specs.declared.input.Input.{Input}
 use Rattle.c_values.specs.Kind.{IsKind}
@@ -79,12 +79,6 @@ all_at : {A : Type 0} (P : A → Type 0) (xs : List A) (k : ℕ) (x : A) → All
 all_at P xs k x all at =
     let lt = slice_get_within xs k x at in
     subst P (same_Some (get_or xs k x) x (sym (slice_get-get_or xs k x lt) ∙ at)) (all k x lt)
-
--- the function that was read is the one of its number
-pub function_read : (functions read : List Function) (entry : ℕ) (f there : Function) → read ≡ functions → f ≡ get_or read entry f → slice_get functions entry ≡ Some there → slice_get functions entry ≡ Some f
-function_read functions read entry f there same is at =
-    let within : entry < length read = subst (λ (fs : List Function). entry < length fs) (sym same) (slice_get_within functions entry there at) in
-    ap (λ (fs : List Function). slice_get fs entry) (sym same) ∙ slice_get_read read (length read) entry f refl within is
 
 module _ (parts : GraphParts) (p : Predicates) (k : ℕ) (f : Function) (plan : Plan) (bounds : Bounds) (ends : Ends) (goal : GoalForm) (g : GoalFormula) (model : List Bool) (budget : ℕ) (fixed : List Fixed)
     (graph : IsGraph parts) (own : slice_get parts.functions k ≡ Some f) (arrays : f.arrays ≡ []) (exact : IsExact parts p f bounds ends plan goal g)

@@ -1,5 +1,6 @@
+pub mod Answers
+pub mod AtGoal
 pub mod Order
 pub mod Least
 pub mod Fixing
 pub mod Parts
-pub mod Answers

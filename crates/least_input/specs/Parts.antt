@@ -76,12 +76,3 @@ without_sign kind = record { width = kind.width; signed = false }
 -- the input whose words and answers are the numbers of their bits
 abbrev pub numbers_in : (ℕ → Bool) → GoalFormula → Input
 numbers_in value g = record { words = map (number_in value) g.words; answers = map (number_in value) g.answers }
-
--- a formula of a function's inputs, over its variables
-pub record IsFor (f : Function) (g : GoalFormula) : Type 0 where
-  pub arrays : f.arrays ≡ []
-  pub answers : ℕ
-  pub shape : IsShaped f.parameters answers g
-  pub inputs : AreInputsOver g
-  pub over : IsFormula g.formula
-  pub small : g.formula.variables ≤ 2 ^ 30

@@ -9,10 +9,10 @@ ghost use Rattle.least_input.specs.declared.descent.Descent.{Descent as OneDesce
 
 use crate::least::Fixed;
 use cnf::{Clause, Derivation, Formula, negation};
-use confirmation::confirm;
+use confirmation::{Outcome, outcome};
 use containers::Vector;
 use fq_core::Memory;
-use search::{Found, History, search_both};
+use search::History;
 use std::alloc::{AllocError, Global};
 
 /// How far the bits are set: the formula with unit clauses at its end, their literals, a model of it, and what shows of each
@@ -53,7 +53,8 @@ fn add_unit(alloc: Global, descent: &mut Descent, literal: i32) -> Result<(), Me
 
 /// Takes the last unit clause off.
 fn drop_unit(descent: &mut Descent)
-    ensures { (before : OneDescent) (literal : ℤ) → Adds before literal descent.old → descent.new ≡ before }
+    ensures { (before : OneDescent) (literal : ℤ) → Adds before literal descent.old
+        → descent.new ≡ before }
 {
     drop_last(&mut descent.formula.clauses);
     drop_last(&mut descent.units);
@@ -61,7 +62,8 @@ fn drop_unit(descent: &mut Descent)
 
 /// Keeps what shows that the last unit clause can't be.
 fn keep_part(alloc: Global, descent: &mut Descent, derivation: Derivation) -> Result<(), AllocError>
-    ensures { OnOk result (descent.new ≡ record descent.old { fixed = descent.old.fixed ++ record { units = descent.old.units; derivation = derivation } ∷ [] }) }
+    ensures { OnOk result (descent.new ≡ record descent.old { fixed = descent.old.fixed
+        ++ record { units = descent.old.units; derivation = derivation } ∷ [] }) }
 {
     let units = Vec::from_slice(alloc, &descent.units)?;
     let units = Vector::from_vec(units);
@@ -79,7 +81,8 @@ pub(crate) fn lower(
     requires there { variable ≤ descent.old.formula.variables }
     requires small { descent.old.formula.variables ≤ 2 ^ 30 }
     requires over { IsFormula descent.old.formula }
-    ensures { (base : OneFormula) (variables : List ℕ) → IsDescent base budget variables descent.old → IfOk result (IsLowered base budget (variables ++ variable ∷ []) descent.new) }
+    ensures { (base : OneFormula) (variables : List ℕ) → IsDescent base budget variables descent.old
+        → IfOk result (IsLowered base budget (variables ++ variable ∷ []) descent.new) }
 {
     let is_one = value_of(&descent.model, variable);
     let one = variable as i32;
@@ -87,18 +90,17 @@ pub(crate) fn lower(
     if !is_one {
         return Ok(None);
     }
-    match search_both(alloc, &descent.formula, budget)? {
-        Found::Model(model) => {
+    match outcome(alloc, &descent.formula, budget)? {
+        Outcome::Model(model) => {
             descent.model = model;
             Ok(None)
         }
-        Found::NoModel(derivation) => {
-            confirm(alloc, &descent.formula, &derivation)?;
+        Outcome::Refuted(derivation) => {
             keep_part(alloc, descent, derivation)?;
             drop_unit(descent);
             add_unit(alloc, descent, one)?;
             Ok(None)
         }
-        Found::Spent(history) => Ok(Some(history)),
+        Outcome::Open(history) => Ok(Some(history)),
     }
 }

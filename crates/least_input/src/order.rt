@@ -9,7 +9,8 @@ use std::alloc::{AllocError, Global};
 
 /// Adds the variables of a row of bits, from its last on.
 fn add_row(variables: &mut Vec<u32>, row: &[Option<u32>]) -> Result<(), AllocError>
-    ensures { OnOk result (variables.new.items ≡ variables.old.items ++ filter_map (λ v. v) (reverse row.now)) }
+    ensures { OnOk result (variables.new.items
+        ≡ variables.old.items ++ filter_map (λ v. v) (reverse row.now)) }
 {
     for place in (0..row.len()).rev() {
         if let Some(number) = row[place] {
@@ -21,7 +22,8 @@ fn add_row(variables: &mut Vec<u32>, row: &[Option<u32>]) -> Result<(), AllocErr
 
 /// Adds the variables of rows of bits, each from its last on.
 fn add_rows(variables: &mut Vec<u32>, rows: &[Vector<Option<u32>>]) -> Result<(), AllocError>
-    ensures { OnOk result (variables.new.items ≡ variables.old.items ++ filter_map (λ v. v) (flat_map reverse rows.now)) }
+    ensures { OnOk result (variables.new.items
+        ≡ variables.old.items ++ filter_map (λ v. v) (flat_map reverse rows.now)) }
 {
     for row in rows {
         add_row(variables, row)?;

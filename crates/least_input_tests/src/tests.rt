@@ -1,22 +1,23 @@
 // Least inputs of the goals of small programs, worked by hand.
-ghost use Rattle.std.specs.Prelude.{◌≡◌, ◌<◌, ◌≤◌, [], IfOk, length, slice_get};
-ghost use Rattle.std.specs.Option.{IsSomeAnd};
+ghost use Rattle.std.specs.Prelude.{IfOk};
 ghost use Rattle.cfa.specs.Contexts.{IsOnce};
-ghost use Rattle.cfa.specs.Predicates.{IsPredicates};
+ghost use Rattle.fql_read.specs.Usable.{IsUsable};
 
 use c_front::automaton_of_texts;
 use c_meaning::Ends;
-use cfa::{Graph, Predicates};
+use cfa::Graph;
 use fq_core::Fault;
 use fql_read::{Query, read_query};
-use goals::{Plan, plan_of};
+use given::{Entry, Given, Goal, Planned};
+use goals::plan_of;
 use least_input::{Least, find_least};
 use predicates::resolve;
 use reached::Bounds;
 use std::alloc::Global;
 use std::test::Fail;
+use suite::Sought;
 use test_programs::texts_of;
-use test_unwindings::{entry_of, unwound_of};
+use test_unwindings::entry_of;
 
 // A program, a query whose first goal is asked, and the words and answers of its least input, with how many bits of them
 // are 1.
@@ -84,12 +85,6 @@ static ROWS: [Row; 6] = [
     (SUM, "cover EDGES(@CONDITIONEDGE)", &[0], [3, 0], 2),
 ];
 
-fn predicates_of(alloc: Global, graph: &Graph, query: &Query) -> Result<Predicates, Fault>
-    ensures { IfOk result (λ p. IsPredicates graph.now p) }
-{
-    resolve(alloc, query, graph)
-}
-
 // The automaton of a source.
 fn automaton_of(alloc: Global, source: &str) -> Result<Graph, Fail>
     ensures { IfOk result (λ graph. IsOnce graph) }
@@ -106,22 +101,35 @@ fn automaton_of(alloc: Global, source: &str) -> Result<Graph, Fail>
     }
 }
 
-// What is found of the first goal of a plan.
-fn found_in(
-    alloc: Global,
-    graph: &Graph,
-    entry: u32,
-    predicates: &Predicates,
-    plan: &Plan,
-    budget: u64,
-) -> Result<Least, Fault>
-    requires once { IsOnce graph.now }
-    requires entry { IsSomeAnd (slice_get graph.now.functions entry) (λ f. f.arrays ≡ []) }
-    requires predicates { IsPredicates graph.now predicates.now }
-    requires there { 1 ≤ length plan.now.goals }
+// The predicates and the goals of a query.
+fn planned_of<'a>(alloc: Global, entry: Entry<'a>, query: &Query) -> Result<Planned<'a>, Fault>
+    requires { IsUsable query.now }
 {
-    let mut unwound = unwound_of(alloc, graph, entry, predicates, BOUNDS, Ends::Returned)?;
-    find_least(alloc, graph, predicates, &mut unwound, plan, 1, budget)
+    let predicates = resolve(alloc, query, entry.graph)?;
+    let plan = plan_of(alloc, query, entry.graph)?;
+    Ok(Planned {
+        entry,
+        predicates,
+        plan,
+    })
+}
+
+// What is found of the first goal of a query.
+fn found_in(alloc: Global, entry: Entry, query: &Query, budget: u64) -> Result<Least, Fault>
+    requires { IsUsable query.now }
+{
+    let given = Given {
+        planned: planned_of(alloc, entry, query)?,
+        bounds: BOUNDS,
+        ends: Ends::Returned,
+    };
+    let goal = Goal {
+        given: &given,
+        number: 1,
+    };
+    let mut sought = Sought::at(alloc, goal)?;
+    let least = find_least(alloc, &mut sought, budget)?;
+    Ok(least)
 }
 
 fn found_of(alloc: Global, source: &str, query: &str, budget: u64) -> Result<Least, Fail> {
@@ -129,19 +137,19 @@ fn found_of(alloc: Global, source: &str, query: &str, budget: u64) -> Result<Lea
     let Ok(query) = read_query(alloc, query.as_bytes()) else {
         return Err(Fail::from("no query"));
     };
-    let Ok(predicates) = predicates_of(alloc, &graph, &query) else {
-        return Err(Fail::from("no predicates"));
-    };
-    let Ok(plan) = plan_of(alloc, &query, &graph) else {
-        return Err(Fail::from("no plan"));
-    };
-    let Some(entry) = entry_of(&graph) else {
+    let Some(number) = entry_of(&graph) else {
         return Err(Fail::from("no function"));
     };
-    if plan.goals.is_empty() {
-        return Err(Fail::from("no goal"));
+    let function = &graph.functions()[number as usize];
+    if function.arrays.len() > 0 {
+        return Err(Fail::from("no entry"));
     }
-    match found_in(alloc, &graph, entry, &predicates, &plan, budget) {
+    let entry = Entry {
+        graph: &graph,
+        number,
+        function,
+    };
+    match found_in(alloc, entry, &query, budget) {
         Ok(found) => Ok(found),
         Err(_) => Err(Fail::from("refused")),
     }

@@ -24,7 +24,7 @@ use Rattle.measurer.specs.Firsts.{first_hit, has_number}
 use Rattle.path_runner.specs.Paths.{record_of}
 use Rattle.reached.specs.declared.bounds.Bounds.{Bounds}
 use Rattle.suite.specs.Generated.{AreAnswered, IsAnswer, IsCovered, IsMeasuredInput, IsShown, NoEarlierHits, Shown, seen_also, undecided_from}
-use Rattle.suite.specs.Progress.{AddsInput, AllAnswered, AnswersMore, IsNext, Tried}
+use Rattle.suite.specs.Progress.{AddsInput, AllAnswered, AnswersMore, IsNext, Tried, nothing}
 use Rattle.suite.specs.declared.generated.Generated.{Generated}
 use Rattle.suite.proofs.Firsts.{any_contains, contains_any, found, missing, none_at, rises_further, there_at}
 
@@ -406,9 +406,6 @@ seen_twice None a b = refl
 seen_twice (Some list) a b = ap Some (append_assoc list a b)
 
 module _ (parts : GraphParts) (f : Function) (p : Predicates) (plan : Plan) (bounds : Bounds) (ends : Ends) (budget : ℕ) where
-  abbrev nothing : Generated
-  nothing = record { answers = []; inputs = []; taken = []; hits = [] }
-
   none_answered : AreAnswered parts f p plan bounds ends budget nothing [] []
   none_answered = record {
     rise = λ k lt. absurd (omega (arith, lt));

@@ -35,23 +35,21 @@ module _ (parts : GraphParts) (f : Function) (p : Predicates) (plan : Plan) (ent
   too_large fault.Memory is = tt
 
   pub all_generated : (budget : ℕ) (made : Generated) (before after : Option (List Shown)) → AreSmall plan u.pairs → length made.answers ≡ length plan.goals
-      → AllAnswered parts f p plan u.bounds u.ends budget made before after → (shown : List Shown) × IsGenerated parts f p plan bounds ends budget made shown × (after ≡ seen_also before shown)
-  all_generated budget made before after small count all =
-      let by_bounds : AllAnswered parts f p plan bounds u.ends budget made before after = subst (λ (b : Bounds). AllAnswered parts f p plan b u.ends budget made before after) h.given_bounds all in
-      let it : AllAnswered parts f p plan bounds ends budget made before after = subst (λ (e : Ends). AllAnswered parts f p plan bounds e budget made before after) h.given_ends by_bounds in (
-        it.shown,
-        record {
-          limits = record {
-            pairs = h.pairs;
-            steps = h.steps;
-            reached = h.reached;
-            few_pairs = h.few_pairs;
-            small = h.small;
-            goals = λ place goal there. subst (λ n. goal_size plan goal n ≤ 8388608) h.pair_count (small place goal there);
-          };
-          answer_count = count;
-          made_for = it.made_for;
-          answered = it.answered;
-        },
-        it.seen,
-      )
+      → AllAnswered parts f p plan bounds ends budget made before after → (shown : List Shown) × IsGenerated parts f p plan bounds ends budget made shown × (after ≡ seen_also before shown)
+  all_generated budget made before after small count it = (
+    it.shown,
+    record {
+      limits = record {
+        pairs = h.pairs;
+        steps = h.steps;
+        reached = h.reached;
+        few_pairs = h.few_pairs;
+        small = h.small;
+        goals = λ place goal there. subst (λ n. goal_size plan goal n ≤ 8388608) h.pair_count (small place goal there);
+      };
+      answer_count = count;
+      made_for = it.made_for;
+      answered = it.answered;
+    },
+    it.seen,
+  )

@@ -1,13 +1,13 @@
 pub mod Answering
 pub mod Firsts
 pub mod Generation
+pub mod GoalSizes
+pub mod RoundLaws
+pub mod SeekingLaws
 pub mod Short
-pub mod Irredundant
-pub mod MarksLaws
 pub mod Models
 pub mod Nexts
 pub mod Refuted
-pub mod SuiteLaws
 pub mod Trimming
 pub mod PoolLaws
 pub mod Early

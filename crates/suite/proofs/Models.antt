@@ -2,10 +2,8 @@
 use Rattle.std.proofs.Common.{◌≡◌, ℕ, zero, suc, replicate, ◌≤◌, ◌<◌, ◌^◌, Bool, true, false, cond, List, [], ◌∷◌, map, length, Some, Option, sym, ap, subst, ◌∙◌, arith, pos, All, get_or}
 use Rattle.std.specs.Prelude.{slice_get}
 use Rattle.std.specs.List.{AllZip, filter}
-use Rattle.std.specs.Option.{IsSomeAnd}
 use Rattle.std.proofs.lemmas.List.{length-map}
 use Rattle.std.proofs.lemmas.List.Elements.{All-map}
-use Rattle.std.proofs.lemmas.Option.{same_Some}
 use Rattle.std.proofs.lemmas.Slice.Zip.{AllZip-long}
 use Rattle.patterns.specs.Paths.{IsPath}
 use Rattle.c_meaning.proofs.Longest.{one_longest, runs_within}
@@ -18,7 +16,6 @@ use Rattle.c_meaning.specs.declared.input.Input.{Input}
 use Rattle.c_values.proofs.Fitting.{IsValue-wrapped, value_parts}
 use Rattle.c_values.specs.Kind.{IsKind, IsValue}
 use Rattle.c_values.specs.declared.kinds.Kind.{Kind}
-use Rattle.cfa.proofs.Exits.{taken}
 use Rattle.cfa.specs.Graph.{IsGraph}
 use Rattle.cfa.specs.declared.parts.Function.{Function}
 use Rattle.cfa.specs.declared.parts.GraphParts.{GraphParts}
@@ -43,22 +40,9 @@ use Rattle.reached.specs.declared.bounds.Bounds.{Bounds}
 use Rattle.search.specs.Nexts.{IsModel}
 use Rattle.unwinder.proofs.Made.{parameter_kinds}
 use Rattle.unwinder.specs.Lists.{IsInputFor, ListsRuns, Tells, after_move, entries_in, reached_in}
-use Rattle.unwinder.specs.Unwinding.{IsUnwound}
 use Rattle.unwinder.specs.declared.unwound.Entry.{Entry}
-use Rattle.unwinder.specs.declared.unwound.Unwound.{Unwound}
 use Rattle.suite.specs.Made.{HasRunWithin, IsMade, IsMadeFor}
 use Rattle.suite.proofs.Trimming.{answers_fit, trimmed, trimmed_record, trimmed_run, values}
-
--- what holds of the function of a number
-pub at_function : (P : Function → Type 0) (o : Option Function) (f : Function) → o ≡ Some f → IsSomeAnd o P → P f
-at_function P o f own h = let it = taken P o h in subst P (same_Some it.0 f (sym it.1 ∙ own)) it.2
-
--- an unwinding is one by what it says of itself
-pub own_unwound : (parts : GraphParts) (p : Predicates) (f : Function) (entry : ℕ) (bounds : Bounds) (ends : Ends) (u : Unwound) → IsUnwound parts p f entry bounds ends u → IsUnwound parts p f u.entry u.bounds u.ends u
-own_unwound parts p f entry bounds ends u h =
-    let by_entry : IsUnwound parts p f u.entry bounds ends u = subst (λ e. IsUnwound parts p f e bounds ends u) (sym h.given_entry) h in
-    let by_bounds : IsUnwound parts p f u.entry u.bounds ends u = subst (λ b. IsUnwound parts p f u.entry b ends u) (sym h.given_bounds) by_entry in
-    subst (λ e. IsUnwound parts p f u.entry u.bounds e u) (sym h.given_ends) by_bounds
 
 -- what is recorded of a run is a path
 pub record_is_path : (parts : GraphParts) (x : Input) (p : Predicates) (run : Run) → IsPath (path_in (record_of parts x p run))
@@ -132,9 +116,9 @@ words_fit value (kind ∷ kinds) (row ∷ rows) e h =
     let rest : map length rows ≡ map (λ (k : Kind). k.width) kinds = cc in
     (IsValue-wrapped kind (pos (number_in value row)) (h 0 kind (omega arith)), words_fit value kinds rows rest (λ k d lt. h (suc k) d (omega arith)))
 
-module _ (parts : GraphParts) (p : Predicates) (f : Function) (u : Unwound) (plan : Plan) (goal : GoalForm) (g : GoalFormula) (model : List Bool)
-    (graph : IsGraph parts) (own : slice_get parts.functions u.entry ≡ Some f) (unwound : IsUnwound parts p f u.entry u.bounds u.ends u)
-    (exact : IsExact parts p f u.bounds u.ends plan goal g) (is_model : IsModel g.formula model) where
+module _ (parts : GraphParts) (p : Predicates) (f : Function) (entry : ℕ) (bounds : Bounds) (ends : Ends) (plan : Plan) (goal : GoalForm) (g : GoalFormula) (model : List Bool)
+    (graph : IsGraph parts) (own : slice_get parts.functions entry ≡ Some f) (arrays : f.arrays ≡ [])
+    (exact : IsExact parts p f bounds ends plan goal g) (is_model : IsModel g.formula model) where
   abbrev value : ℕ → Bool
   value = assignment model
 
@@ -142,31 +126,31 @@ module _ (parts : GraphParts) (p : Predicates) (f : Function) (u : Unwound) (pla
   found = input_from value f.parameters g
 
   pub given : IsInputFor f found
-  given = input_given value f u.bounds.answers g unwound.arrays exact.shape
+  given = input_given value f bounds.answers g arrays exact.shape
 
-  pub hits : InputHitsWithin parts f p plan u.ends u.bounds.turns u.bounds.frames u.bounds.answers goal found
+  pub hits : InputHitsWithin parts f p plan ends bounds.turns bounds.frames bounds.answers goal found
   hits = exact.sound value is_model.1
 
   kinds : All IsKind f.parameters
-  kinds = parameter_kinds parts u.entry f graph own
+  kinds = parameter_kinds parts entry f graph own
 
-  pub has_run : HasRunWithin parts f u.bounds u.ends found
+  pub has_run : HasRunWithin parts f bounds ends found
   has_run = record { given = given; run = hits.run; is_run = hits.is_run; within = hits.within }
 
   -- the input with the answers alone that its run reads
-  pub made_for : (path : PathRecord) → path ≡ record_of parts found p hits.run → IsMadeFor parts f p plan u.bounds u.ends goal (record { words = found.words; answers = values path.taken })
+  pub made_for : (path : PathRecord) → path ≡ record_of parts found p hits.run → IsMadeFor parts f p plan bounds ends goal (record { words = found.words; answers = values path.taken })
   made_for path recorded =
-      let same = trimmed_record parts graph f p u.ends found hits.run hits.is_run in
+      let same = trimmed_record parts graph f p ends found hits.run hits.is_run in
       let own_record = record_of parts found p hits.run in
-      let made : IsMadeFor parts f p plan u.bounds u.ends goal (trimmed parts graph f p u.ends found hits.run hits.is_run) = record {
+      let made : IsMadeFor parts f p plan bounds ends goal (trimmed parts graph f p ends found hits.run hits.is_run) = record {
         run = hits.run;
         made = record {
-          is_run = trimmed_run parts graph f p u.ends found hits.run hits.is_run;
+          is_run = trimmed_run parts graph f p ends found hits.run hits.is_run;
           within = hits.within;
           answers = ap (λ (q : PathRecord). values q.taken) same;
           answers_fit = subst (λ (q : PathRecord). All (λ (a : Kind × ℕ). IsValue a.0 a.1) q.taken) (sym same) (answers_fit parts graph found hits.run.moves);
           words_fit = words_fit value f.parameters g.words exact.shape.words kinds;
         };
-        hits = subst (Hits plan u.ends goal) (sym same) hits.hits;
+        hits = subst (Hits plan ends goal) (sym same) hits.hits;
       } in
-      subst (λ (q : PathRecord). IsMadeFor parts f p plan u.bounds u.ends goal (record { words = found.words; answers = values q.taken })) (sym recorded) made
+      subst (λ (q : PathRecord). IsMadeFor parts f p plan bounds ends goal (record { words = found.words; answers = values q.taken })) (sym recorded) made

@@ -83,8 +83,8 @@ module _ (parts : GraphParts) (graph : IsGraph parts) (f : Function) (p : Predic
 
 -- the first input of a pool that hits a goal was made for it
 pub first_made : (parts : GraphParts) (f : Function) (p : Predicates) (plan : Plan) (bounds : Bounds) (ends : Ends) (pool : Pool) (goal number : ℕ) (input : Input) (g : GoalForm)
-    → IsPool parts f p plan bounds ends pool → first_hit (hits_of pool.measurer) goal ≡ Some number → slice_get pool.inputs (number - 1) ≡ Some input → 0 < goal → slice_get plan.goals (goal - 1) ≡ Some g → IsMadeFor parts f p plan bounds ends g input
-first_made parts f p plan bounds ends pool goal number input g is first at some there =
+    → IsPool parts f p plan bounds ends pool → first_hit (hits_of pool.measurer) goal ≡ Some number → slice_get pool.inputs (number - 1) ≡ Some input → slice_get plan.goals (goal - 1) ≡ Some g → IsMadeFor parts f p plan bounds ends g input
+first_made parts f p plan bounds ends pool goal number input g is first at there =
     let it = found (has_number goal) 1 number (hits_of pool.measurer) first in
     let one = zip_at (IsPooled parts f p plan bounds ends) pool.inputs (hits_of pool.measurer) (number - 1) input it.goals is.inputs at it.here in
     let hit = (one.hits.exact goal).0 (contains_any it.goals goal it.passes) in
@@ -94,12 +94,6 @@ first_made parts f p plan bounds ends pool goal number input g is first at some 
     let place : goal - 1 ≡ hit.place = omega (arith, numbered) in
     let same : own.0 ≡ g = same_Some own.0 g (sym own.1 ∙ ap (slice_get plan.goals) (sym place) ∙ there) in
     record { run = one.run; made = one.made; hits = subst (λ (h : GoalForm). Hits plan ends h path) same own.2 }
-
--- the function that was read is the one of its number
-pub own_function : (functions read : List Function) (entry : ℕ) (f there : Function) → read ≡ functions → f ≡ get_or read entry f → slice_get functions entry ≡ Some there → f ≡ there
-own_function functions read entry f there same is at =
-    let within : entry < length read = subst (λ (fs : List Function). entry < length fs) (sym same) (slice_get_within functions entry there at) in
-    same_Some f there (sym (ap (λ (fs : List Function). slice_get fs entry) (sym same) ∙ slice_get_read read (length read) entry f refl within is) ∙ at)
 
 pub some_weaker : {X : Type 0} (o : Option X) (P Q : X → Type 0) → ((x : X) → P x → Q x) → IfSome o P → IfSome o Q
 some_weaker None P Q f h = tt

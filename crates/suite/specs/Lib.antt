@@ -1,8 +1,8 @@
 pub mod Generated
-pub mod Laws
+pub mod Inside
 pub mod Made
-pub mod Marks
+pub mod OneGoal
 pub mod Pool
 pub mod Progress
-pub mod Suite
-pub mod Unwindings
+pub mod Seeking
+pub mod Standing

@@ -1,7 +1,6 @@
 -- What the inputs of a pool are. No public clause needs it.
 use Rattle.std.specs.Prelude.{◌≡◌, ℕ, ◌-◌, List, Some, slice_get, true}
 use Rattle.std.specs.List.{AllZip}
-use Rattle.std.specs.Option.{IsSomeAnd}
 use Rattle.c_meaning.specs.Runs.{Run}
 use Rattle.c_meaning.specs.declared.ends.Ends.{Ends}
 use Rattle.c_meaning.specs.declared.input.Input.{Input}
@@ -14,7 +13,6 @@ use Rattle.hits.specs.Hits.{AreHits}
 use Rattle.measurer.specs.Measurers.{IsMadeFor as MeasuresFor, hits_of}
 use Rattle.path_runner.specs.Paths.{record_of}
 use Rattle.reached.specs.declared.bounds.Bounds.{Bounds}
-use Rattle.unwinder.specs.declared.unwound.Unwound.{Unwound}
 use Rattle.suite.specs.Made.{IsMade, IsMadeFor, NoneHits}
 use Rattle.suite.specs.declared.pool.Pool.{Pool}
 
@@ -31,10 +29,6 @@ module _ (parts : GraphParts) (f : Function) (p : Predicates) (plan : Plan) (bou
     pub measures : MeasuresFor plan pool.measurer
     pub inputs : AllZip IsPooled pool.inputs (hits_of pool.measurer)
     pub refuted : (place : ℕ) (goal : GoalForm) → slice_get plan.goals place ≡ Some goal → slice_get pool.refuted.items place ≡ Some true → NoneHits parts f p plan bounds ends goal
-
--- it is the pool of the function of an unwinding
-abbrev pub HasPool : GraphParts → Predicates → Plan → Unwound → Pool → Type 0
-HasPool parts p plan u pool = IsSomeAnd (slice_get parts.functions u.entry) (λ f. IsPool parts f p plan u.bounds u.ends pool)
 
 -- an input was made for the goal of a number, of whatever plan the pool is one
 abbrev pub IsForGoal : Pool → ℕ → Input → Type 0

@@ -40,6 +40,10 @@ abbrev pub IsSizeFault : Plan → ℕ → Fault → Type 0
 IsSizeFault plan pairs (fault.Refused r) = (fault.Refused r ≡ refusal 82 (place.Limit 8388608)) × SomeIsLarge plan pairs
 IsSizeFault plan pairs fault.Memory = Unit {0}
 
+-- nothing is made
+abbrev pub nothing : Generated
+nothing = record { answers = []; inputs = []; taken = []; hits = [] }
+
 -- what is made so far
 abbrev pub so_far : Making → Generated
 so_far m = record { answers = m.answers; inputs = m.inputs; taken = m.taken; hits = hits_of m.measurer }

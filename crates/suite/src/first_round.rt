@@ -1,53 +1,42 @@
-// The rounds before goals are answered: what is cheap, and then the whole search, tried for each goal that is open.
-ghost use Rattle.std.specs.Prelude.{◌≡◌, ◌<◌, ◌≤◌, ◌^◌, ℕ, OnOk, length};
-ghost use Rattle.cfa.specs.Predicates.{IsPredicates};
-ghost use Rattle.suite.specs.Made.{IsDecided};
-ghost use Rattle.suite.specs.Pool.{HasPool};
+// The rounds before goals are answered.
+ghost use Rattle.std.specs.Prelude.{◌≡◌, ℕ, IfOk, IfSome};
 ghost use Rattle.suite.specs.Progress.{AreSmall};
-ghost use Rattle.suite.specs.Unwindings.{ForGoal, IsUnwindingOf};
+ghost use Rattle.suite.specs.Seeking.{IsDecidedAt, IsOfSame};
 
 use crate::decided::Decided;
 use crate::deciding::{found_early, found_late};
-use crate::pool::{LEAST, Pool};
-use cfa::{Graph, Predicates};
+use crate::pool::LEAST;
+use crate::sought::Sought;
 use fq_core::Memory;
-use goals::Plan;
 use std::alloc::Global;
-use unwinder::Unwound;
+
+/// A round over all goals.
+#[derive(Clone, Copy)]
+pub(crate) enum Round {
+    /// Tries what is cheap.
+    Early,
+    /// Tries the whole search.
+    Late,
+}
 
 /// Keeps what was found of a goal: an input that was made for it goes to the pool, unless one is there that hits it, and where
 /// none hits it, that is noted.
-fn keep(
-    alloc: Global,
-    graph: &Graph,
-    plan: &Plan,
-    predicates: &Predicates,
-    unwound: &Unwound,
-    pool: &mut Pool,
-    goal: u32,
-    found: Decided,
-) -> Result<(), Memory>
-    requires predicates { IsPredicates graph.now predicates.now }
-    requires unwound { IsUnwindingOf graph.now predicates.now unwound.now }
-    requires some { 0 < goal }
-    requires there { goal ≤ length plan.now.goals }
-    requires pool { HasPool graph.now predicates.now plan.now unwound.now pool.old }
-    requires found { (budget : ℕ) × ForGoal graph.now plan.now unwound.now goal (λ f g. IsDecided graph.now f predicates.now plan.now unwound.now.bounds unwound.now.ends g budget found) }
-    ensures { OnOk result (HasPool graph.now predicates.now plan.now unwound.now pool.new) }
+fn keep(alloc: Global, sought: &mut Sought, found: Decided) -> Result<(), Memory>
+    requires { (budget : ℕ) × IsDecidedAt sought.old.goal budget found }
+    ensures { sought.new ≡ sought.old }
 {
     match found {
         Decided::Covered(input) => {
-            if pool.measurer.first(goal).is_some() {
+            if sought.is_closed() {
                 return Ok(());
             }
-            pool.add(alloc, graph, plan, predicates, unwound, input)?;
-            Ok(())
+            sought.add_input(alloc, input)
         }
         Decided::Refuted {
             formula: _formula,
             derivation: _derivation,
         } => {
-            pool.refute(goal);
+            sought.refute();
             Ok(())
         }
         Decided::Undecided {
@@ -57,140 +46,58 @@ fn keep(
     }
 }
 
-/// Whether an input of a pool hits a goal, or none hits it at all.
-fn is_closed(pool: &Pool, goal: u32) -> bool
-    requires { 0 < goal }
+/// What a round finds of a goal.
+fn found_in(
+    alloc: Global,
+    sought: &mut Sought,
+    budget: u64,
+    round: Round,
+) -> Result<Option<Decided>, Memory>
+    ensures decided { IfOk result (λ found. IfSome found (IsDecidedAt sought.old.goal budget)) }
+    ensures same { sought.new ≡ sought.old }
 {
-    pool.measurer.first(goal).is_some() || pool.is_refuted(goal)
+    match round {
+        Round::Early => found_early(alloc, sought, budget),
+        Round::Late => found_late(alloc, sought, budget),
+    }
 }
 
-/// Tries what is cheap for a goal that is open.
-fn try_early(
-    alloc: Global,
-    graph: &Graph,
-    plan: &Plan,
-    predicates: &Predicates,
-    unwound: &mut Unwound,
-    budget: u64,
-    pool: &mut Pool,
-    goal: u32,
-) -> Result<(), Memory>
-    requires predicates { IsPredicates graph.now predicates.now }
-    requires unwound { IsUnwindingOf graph.now predicates.now unwound.old }
-    requires some { 0 < goal }
-    requires there { goal ≤ length plan.now.goals }
-    requires small { AreSmall plan.now unwound.old.pairs }
-    requires pool { HasPool graph.now predicates.now plan.now unwound.old pool.old }
-    ensures unwound { unwound.new ≡ unwound.old }
-    ensures pool { OnOk result (HasPool graph.now predicates.now plan.now unwound.old pool.new) }
+/// Tries a goal, where it is open.
+fn try_goal(alloc: Global, sought: &mut Sought, budget: u64, round: Round) -> Result<(), Memory>
+    ensures { sought.new ≡ sought.old }
 {
-    if is_closed(pool, goal) {
+    if sought.is_closed() {
         return Ok(());
     }
-    let found = found_early(alloc, graph, predicates, unwound, plan, goal, budget, pool)?;
-    match found {
-        Some(decided) => keep(alloc, graph, plan, predicates, unwound, pool, goal, decided),
+    match found_in(alloc, sought, budget, round)? {
+        Some(decided) => keep(alloc, sought, decided),
         None => Ok(()),
     }
 }
 
-/// Tries the whole search for a goal that is open.
-fn try_late(
+/// Whether a round is of use: with a budget below 1,000 none is, and the whole search is tried where several goals are open, so
+/// that an input that it finds for one of them covers each that it hits.
+fn is_due(sought: &Sought, budget: u64, round: Round) -> bool {
+    budget >= LEAST && (matches!(round, Round::Early) || sought.are_several_open())
+}
+
+/// Tries each goal that is open in a round.
+pub(crate) fn try_all(
     alloc: Global,
-    graph: &Graph,
-    plan: &Plan,
-    predicates: &Predicates,
-    unwound: &mut Unwound,
+    sought: &mut Sought,
     budget: u64,
-    pool: &mut Pool,
-    goal: u32,
+    round: Round,
 ) -> Result<(), Memory>
-    requires predicates { IsPredicates graph.now predicates.now }
-    requires unwound { IsUnwindingOf graph.now predicates.now unwound.old }
-    requires some { 0 < goal }
-    requires there { goal ≤ length plan.now.goals }
-    requires small { AreSmall plan.now unwound.old.pairs }
-    requires pool { HasPool graph.now predicates.now plan.now unwound.old pool.old }
-    ensures unwound { unwound.new ≡ unwound.old }
-    ensures pool { OnOk result (HasPool graph.now predicates.now plan.now unwound.old pool.new) }
+    requires { AreSmall sought.old.goal.given.now.planned.plan sought.old.pairs }
+    ensures { IsOfSame sought.old sought.new }
 {
-    if is_closed(pool, goal) {
+    if !is_due(sought, budget, round) {
         return Ok(());
     }
-    let found = found_late(alloc, graph, predicates, unwound, plan, goal, budget, pool)?;
-    match found {
-        Some(decided) => keep(alloc, graph, plan, predicates, unwound, pool, goal, decided),
-        None => Ok(()),
+    for place in 0..sought.goal_count() {
+        sought.turn_to(place + 1);
+        try_goal(alloc, sought, budget, round)?;
     }
-}
-
-/// Tries what is cheap for each goal.
-pub(crate) fn try_all_early(
-    alloc: Global,
-    graph: &Graph,
-    plan: &Plan,
-    predicates: &Predicates,
-    unwound: &mut Unwound,
-    budget: u64,
-    pool: &mut Pool,
-) -> Result<(), Memory>
-    requires predicates { IsPredicates graph.now predicates.now }
-    requires unwound { IsUnwindingOf graph.now predicates.now unwound.old }
-    requires few { length plan.now.goals < 2 ^ 32 }
-    requires small { AreSmall plan.now unwound.old.pairs }
-    requires pool { HasPool graph.now predicates.now plan.now unwound.old pool.old }
-    ensures unwound { unwound.new ≡ unwound.old }
-    ensures pool { OnOk result (HasPool graph.now predicates.now plan.now unwound.old pool.new) }
-{
-    for place in 0..plan.goals.len() {
-        let goal = place as u32 + 1;
-        try_early(alloc, graph, plan, predicates, unwound, budget, pool, goal)?;
-    }
-    Ok(())
-}
-
-/// Whether more than one goal is open.
-fn are_several_open(plan: &Plan, pool: &Pool) -> bool
-    requires { length plan.now.goals < 2 ^ 32 }
-{
-    let mut found = false;
-    for place in 0..plan.goals.len() {
-        if !is_closed(pool, place as u32 + 1) {
-            if found {
-                return true;
-            }
-            found = true;
-        }
-    }
-    false
-}
-
-/// Tries the whole search for each goal that is open, where there are several: so an input that it finds for one of them covers
-/// each that it hits. Where one alone is open, or the budget is below 1,000, nothing is tried.
-pub(crate) fn try_all_late(
-    alloc: Global,
-    graph: &Graph,
-    plan: &Plan,
-    predicates: &Predicates,
-    unwound: &mut Unwound,
-    budget: u64,
-    pool: &mut Pool,
-) -> Result<(), Memory>
-    requires predicates { IsPredicates graph.now predicates.now }
-    requires unwound { IsUnwindingOf graph.now predicates.now unwound.old }
-    requires few { length plan.now.goals < 2 ^ 32 }
-    requires small { AreSmall plan.now unwound.old.pairs }
-    requires pool { HasPool graph.now predicates.now plan.now unwound.old pool.old }
-    ensures unwound { unwound.new ≡ unwound.old }
-    ensures pool { OnOk result (HasPool graph.now predicates.now plan.now unwound.old pool.new) }
-{
-    if budget < LEAST || !are_several_open(plan, pool) {
-        return Ok(());
-    }
-    for place in 0..plan.goals.len() {
-        let goal = place as u32 + 1;
-        try_late(alloc, graph, plan, predicates, unwound, budget, pool, goal)?;
-    }
-    pool.are_spent = true;
+    sought.set_spent(matches!(round, Round::Late));
     Ok(())
 }

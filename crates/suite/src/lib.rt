@@ -1,34 +1,32 @@
-//! Suites of inputs: generation, and the reduced suite.
+//! Suites of inputs: generation.
 //!
-//! Start at [`generate`] in generating.rt: it unwinds the runs of a function within bounds (`unwinder`), and answers each goal
-//! of a plan in order. A goal that no input hits so far is decided ([`decide`] in deciding.rt): its formula (`goal_formula`)
-//! is searched (`search`); a model is made into an input, which is replayed (`path_runner`) and measured (`measurer`); a
-//! derivation is confirmed (`confirmation`); and who watches is shown a search that spent its budget. Before goals are
-//! searched, and before one stays open, inputs are run beside the search (`candidates`, pool.rt). The
-//! layers above use the contract of [`generate`]: the answers are true of the goals as specs/Generated.antt says
-//! (`IsGenerated`), by specs/Made.antt for one goal (`IsDecided`).
+//! Start at [`generate`] in generating.rt: it unwinds the runs of what is given (`given`, `unwinder`), and answers each goal of
+//! the plan in order. [`Sought`] in sought.rt is a goal that is sought: the unwinding, and beside it the inputs that are run
+//! (pool.rt, `candidates`); what holds of them stands on it. Candidates are run first. Before the first answer all goals are gone
+//! over in rounds (first_round.rt), so that what is found for one goal answers others as well: once for what a short search
+//! finds, and once, where several goals are open, by the whole search, whose history isn't made. A goal that no input hits so
+//! far is then decided ([`decide`] in deciding.rt): its formula (`goal_formula`) is searched (`search`); a model is made into an
+//! input, which is replayed (`path_runner`) and measured (`measurer`); a derivation is confirmed (`confirmation`); and who
+//! watches is shown a search that spent its budget. The layers above use the contract of [`generate`]: the answers are true of
+//! the goals as specs/Generated.antt says (`IsGenerated`), by specs/Made.antt for one goal (`IsDecided`).
 //!
-//! [`reduce`] gives the numbers of the inputs that are kept, exactly those of specs/Suite.antt (`kept_of`). The laws say that
-//! the inputs that are kept hit every goal that some input hits, and that each of them hits a goal that no other of them hits.
+//! [`reduce`] and its laws are those of `reduction`.
 #![tactic(auto)]
 
 mod decided;
 mod deciding;
-mod first_hit;
 mod first_round;
 mod generated;
 mod generating;
-mod laws;
 mod making;
-mod marking;
 mod pool;
-mod reduction;
 mod replaying;
+mod sought;
 
 pub use decided::Decided;
 pub use deciding::decide;
 pub use generated::Generated;
 pub use generating::generate;
-pub use laws::{kept_are_needed, kept_hit_all};
-pub use reduction::reduce;
+pub use reduction::{kept_are_needed, kept_hit_all, reduce};
 pub use replaying::replay;
+pub use sought::Sought;

@@ -1,31 +1,17 @@
 // Inputs that are run beside the search.
-ghost use Rattle.std.specs.Prelude.{◌≡◌, ◌-◌, ◌<◌, ◌≤◌, ℕ, IfOk, IfSome, IsTrue, OnOk, Some, length, map, slice_get};
-ghost use Rattle.std.specs.Option.{IsSomeAnd};
-ghost use Rattle.c_meaning.specs.declared.ends.Ends.{Ends as OneEnds};
+ghost use Rattle.std.specs.Prelude.{◌≡◌, ◌-◌, ℕ, List, IfOk, IfSome, IsTrue, map};
 ghost use Rattle.c_values.specs.declared.kinds.Kind.{Kind as OneKind};
-ghost use Rattle.candidates.specs.Within.{AreEdgesWithin};
-ghost use Rattle.cfa.specs.Predicates.{IsPredicates};
-ghost use Rattle.cfa.specs.declared.parts.Function.{Function as OneFunction};
-ghost use Rattle.cfa.specs.declared.state.Predicates.{Predicates as SomePredicates};
-ghost use Rattle.goals.specs.GoalForm.{GoalForm};
-ghost use Rattle.path_runner.specs.Counted.{counts_end};
-ghost use Rattle.reached.specs.declared.bounds.Bounds.{Bounds as RunBounds};
-ghost use Rattle.suite.specs.Made.{IsMadeFor};
-ghost use Rattle.suite.specs.Pool.{HasPool, IsForGoal, IsNoneFor, IsNoted, IsPool};
-ghost use Rattle.suite.specs.Unwindings.{IsUnwindingOf};
+ghost use Rattle.suite.specs.Inside.{IsProper};
 
-use crate::replaying::replay;
 use c_meaning::Input;
 use c_values::Kind;
 use candidates::{Candidates, is_within};
-use cfa::{Graph, Predicates};
 use containers::{TryClone, Vector};
 use fq_core::Memory;
-use goals::Plan;
+use given::Given;
 use measurer::Measurer;
 use path_runner::{PathRecord, trace_run};
 use std::alloc::{AllocError, Global};
-use unwinder::Unwound;
 
 /// Inputs that are run beside the search of goals: of the candidates that were tried those whose runs count and are within the
 /// bounds, with the answers alone that these read, what early searches made, and the goals that they hit.
@@ -33,7 +19,7 @@ use unwinder::Unwound;
 pub struct Pool {
     candidates: Candidates,
     /// How many candidates were tried.
-    tried: u64,
+    pub(crate) tried: u64,
     /// How many edges their runs took.
     edges: u64,
     pub(crate) measurer: Measurer,
@@ -86,26 +72,19 @@ fn copy_of(alloc: Global, input: &Input) -> Result<Input, Memory>
 }
 
 /// Whether a run that was recorded counts and is within the bounds.
-fn is_proper(
-    alloc: Global,
-    graph: &Graph,
-    unwound: &Unwound,
-    path: &PathRecord,
-) -> Result<bool, Memory>
-    requires frames { 1 ≤ unwound.now.bounds.frames }
-    requires entry { unwound.now.entry < length graph.now.functions }
-    ensures { IfOk result (λ proper. IsTrue proper → IsTrue (counts_end unwound.now.ends path.now.end) × ((f : OneFunction) → slice_get graph.now.functions unwound.now.entry ≡ Some f → AreEdgesWithin graph.now unwound.now.bounds f path.now.edges)) }
+fn is_proper(alloc: Global, given: &Given, path: &PathRecord) -> Result<bool, Memory>
+    ensures { IfOk result (λ proper. IsTrue proper → IsProper given.now path.now) }
 {
-    if !path.end.is_counted(unwound.ends) {
+    if !path.end.is_counted(given.ends) {
         return Ok(false);
     }
-    let function = &graph.functions()[unwound.entry as usize];
+    let entry = given.planned.entry;
     is_within(
         alloc,
-        graph,
-        function,
+        entry.graph,
+        entry.function,
         path.edges.as_slice(),
-        &unwound.bounds,
+        &given.bounds,
     )
 }
 
@@ -127,11 +106,19 @@ fn fruitless_after(measurer: &Measurer, fruitless: u64) -> u64 {
 }
 
 impl Pool {
+    ghost use Rattle.std.specs.Prelude.{◌≡◌, ◌+◌, ◌<◌, ◌^◌, List, ℕ, IfOk, IfSome, IsTrue};
+    ghost use Rattle.patterns.specs.Paths.{IsPath};
+    ghost use Rattle.hits.specs.Hits.{AreHits, path_in};
+    ghost use Rattle.suite.specs.Pool.{IsForGoal, IsNoneFor, IsNoted};
+    ghost use Rattle.suite.specs.Standing.{IsPoolOf, IsPooledOf};
+
     /// The pool of a plan's goals from an entry, of which nothing was tried.
-    pub(crate) fn new(alloc: Global, graph: &Graph, plan: &Plan, entry: u32) -> Result<Pool, Memory>
-        ensures { IfOk result (λ pool. (f : OneFunction) (p : SomePredicates) (bounds : RunBounds) (ends : OneEnds) → IsPool graph.now f p plan.now bounds ends pool) }
+    pub(crate) fn new(alloc: Global, given: &Given) -> Result<Pool, Memory>
+        ensures { IfOk result (IsPoolOf given.now) }
     {
-        let candidates = Candidates::new(alloc, graph, entry)?;
+        let entry = given.planned.entry;
+        let plan = &given.planned.plan;
+        let candidates = Candidates::new(alloc, entry.graph, entry.number)?;
         let measurer = Measurer::new(alloc, plan)?;
         let refuted = vec![in alloc; false; plan.goals.len()]?;
         Ok(Pool {
@@ -148,10 +135,9 @@ impl Pool {
 
     /// Notes that no input at all hits a goal.
     pub(crate) fn refute(&mut self, goal: u32)
-        requires { 0 < goal }
         ensures { IsNoted self.old self.new goal }
     {
-        let place = goal as usize - 1;
+        let place = (goal as usize).saturating_sub(1);
         if place >= self.refuted.len() {
             return;
         }
@@ -160,10 +146,9 @@ impl Pool {
 
     /// Whether it was noted that no input at all hits a goal.
     pub(crate) fn is_refuted(&self, goal: u32) -> bool
-        requires { 0 < goal }
         ensures { IsTrue result → IsNoneFor self.now goal }
     {
-        let place = goal as usize - 1;
+        let place = (goal as usize).saturating_sub(1);
         let refuted = self.refuted.as_slice();
         if place >= refuted.len() {
             return false;
@@ -171,9 +156,27 @@ impl Pool {
         refuted[place]
     }
 
+    /// Whether an input of the pool hits a goal, or none hits it at all.
+    pub(crate) fn is_closed(&self, goal: u32) -> bool {
+        self.measurer.first(goal).is_some() || self.is_refuted(goal)
+    }
+
+    /// Whether more than one of so many goals is open.
+    pub(crate) fn are_several_open(&self, goals: u32) -> bool {
+        let mut found = false;
+        for place in 0..goals {
+            if !self.is_closed(place.saturating_add(1)) {
+                if found {
+                    return true;
+                }
+                found = true;
+            }
+        }
+        false
+    }
+
     /// The first input of the pool that hits a goal.
     pub(crate) fn first(&self, alloc: Global, goal: u32) -> Result<Option<Input>, Memory>
-        requires { 0 < goal }
         ensures { IfOk result (λ found. IfSome found (IsForGoal self.now goal)) }
     {
         let Some(number) = self.measurer.first(goal) else {
@@ -186,89 +189,63 @@ impl Pool {
         Ok(Some(copy_of(alloc, input)?))
     }
 
-    /// Adds an input that was made for a goal: it is replayed and measured.
+    /// Adds an input with its run, which is measured. Where memory runs out the pool is as it was.
     pub(crate) fn add(
         &mut self,
-        alloc: Global,
-        graph: &Graph,
-        plan: &Plan,
-        predicates: &Predicates,
-        unwound: &Unwound,
+        given: &Given,
+        run: &PathRecord,
         input: Input,
     ) -> Result<(), Memory>
-        requires predicates { IsPredicates graph.now predicates.now }
-        requires unwound { IsUnwindingOf graph.now predicates.now unwound.now }
-        requires input { IsSomeAnd (slice_get graph.now.functions unwound.now.entry) (λ f. (goal : GoalForm) × IsMadeFor graph.now f predicates.now plan.now unwound.now.bounds unwound.now.ends goal input) }
-        requires pool { HasPool graph.now predicates.now plan.now unwound.now self.old }
-        ensures { OnOk result (HasPool graph.now predicates.now plan.now unwound.now self.new) }
+        requires pool { IsPoolOf given.now self.old }
+        requires path { IsPath (path_in run.now) }
+        requires made { (numbers : List ℕ) → AreHits given.now.planned.plan given.now.ends run.now numbers
+            → IsPooledOf given.now input numbers }
+        ensures { IsPoolOf given.now self.new }
     {
-        let run = replay(alloc, graph, predicates, unwound, &input)?;
-        self.measurer.add(plan, &run, unwound.ends)?;
         self.inputs.push(input)?;
-        Ok(())
+        match self.measurer.add(&given.planned.plan, run, given.ends) {
+            Ok(()) => Ok(()),
+            Err(Memory) => {
+                let _unmeasured = self.inputs.pop();
+                Err(Memory)
+            }
+        }
     }
 
-    /// Runs the next candidate, and measures its run where that counts and is within the bounds.
-    fn try_next(
+    /// Runs the next candidate, over at most so many edges, and adds it where its run counts and is within the bounds.
+    pub(crate) fn try_next(
         &mut self,
         alloc: Global,
-        graph: &Graph,
-        plan: &Plan,
-        predicates: &Predicates,
-        unwound: &Unwound,
+        given: &Given,
+        limit: u64,
     ) -> Result<(), Memory>
-        requires predicates { IsPredicates graph.now predicates.now }
-        requires unwound { IsUnwindingOf graph.now predicates.now unwound.now }
-        requires pool { HasPool graph.now predicates.now plan.now unwound.now self.old }
-        ensures { OnOk result (HasPool graph.now predicates.now plan.now unwound.now self.new) }
+        requires few { limit + 1 < 2 ^ 64 }
+        requires pool { IsPoolOf given.now self.old }
+        ensures { IsPoolOf given.now self.new }
     {
-        graph.well_formed();
-        let function = &graph.functions()[unwound.entry as usize];
-        let kinds = function.parameters.as_slice();
-        let answers = unwound.bounds.answers;
-        let input = self.candidates.input(alloc, kinds, answers, self.tried)?;
+        let entry = given.planned.entry;
+        let predicates = &given.planned.predicates;
+        entry.graph.well_formed();
+        let kinds = entry.function.parameters.as_slice();
+        let input = self
+            .candidates
+            .input(alloc, kinds, given.bounds.answers, self.tried)?;
         self.tried = self.tried.wrapping_add(1);
-        let limit = unwound.entries.len() as u64;
-        let path = trace_run(alloc, graph, unwound.entry, &input, predicates, limit)?;
+        let path = trace_run(alloc, entry.graph, entry.number, &input, predicates, limit)?;
         self.edges = self.edges.saturating_add(path.edges.len() as u64);
         self.fruitless = self.fruitless.saturating_add(1);
-        if !is_proper(alloc, graph, unwound, &path)? {
+        if !is_proper(alloc, given, &path)? {
             return Ok(());
         }
+        let words = input.words;
         let answers = values_of(alloc, path.taken.as_slice())?;
-        self.measurer.add(plan, &path, unwound.ends)?;
+        self.add(given, &path, Input { words, answers })?;
         self.fruitless = fruitless_after(&self.measurer, self.fruitless);
-        self.inputs.push(Input {
-            words: input.words,
-            answers,
-        })?;
         Ok(())
     }
 
-    /// Tries the candidates that weren't tried up to so many, until the runs of all took so many edges, or so many of them in
-    /// turn hit no goal that none before them did.
-    pub(crate) fn fill(
-        &mut self,
-        alloc: Global,
-        graph: &Graph,
-        plan: &Plan,
-        predicates: &Predicates,
-        unwound: &Unwound,
-        count: u64,
-        edges: u64,
-        patience: u64,
-    ) -> Result<(), Memory>
-        requires predicates { IsPredicates graph.now predicates.now }
-        requires unwound { IsUnwindingOf graph.now predicates.now unwound.now }
-        requires pool { HasPool graph.now predicates.now plan.now unwound.now self.old }
-        ensures { OnOk result (HasPool graph.now predicates.now plan.now unwound.now self.new) }
-    {
-        'candidates: for _number in self.tried..count {
-            if self.edges >= edges || self.fruitless >= patience {
-                return Ok(());
-            }
-            self.try_next(alloc, graph, plan, predicates, unwound)?;
-        }
-        Ok(())
+    /// Whether the runs of all candidates took so many edges, or so many of them in turn hit no goal that none before them did.
+    pub(crate) fn is_worn(&self, edges: u64, patience: u64) -> bool {
+        self.edges >= edges || self.fruitless >= patience
     }
 }

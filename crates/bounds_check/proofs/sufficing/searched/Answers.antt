@@ -7,7 +7,8 @@ use Rattle.c_meaning.specs.declared.input.Input.{Input}
 use Rattle.cfa.proofs.Exits.{taken}
 use Rattle.cfa.specs.declared.parts.Function.{Function}
 use Rattle.goal_formula.specs.Bits.{assignment, input_from}
-use Rattle.search.specs.Nexts.{IsFound, IsModel, IsRefutation}
+use Rattle.confirmation.specs.Outcomes.{IsOutcome}
+use Rattle.search.specs.Nexts.{IsModel}
 use Rattle.unwinder.proofs.Made.{parameter_kinds}
 use Rattle.bounds_check.specs.Sufficing.{IsSpent}
 use Rattle.bounds_check.proofs.Lefts.{left, rows_long}
@@ -15,13 +16,8 @@ use Rattle.bounds_check.proofs.Reading.{own_function, own_same, there_within}
 use Rattle.bounds_check.proofs.Short.{none_leaves, own_bits}
 use Rattle.bounds_check.proofs.sufficing.searched.Goals as goal
 
-pub search_both-requires-clause-formula : goal.search_both-requires-clause-formula
-search_both-requires-clause-formula c =
-    let it = taken (λ (f : Function). f.arrays ≡ []) (slice_get c.args.graph.now.functions c.args.entry) c.requires.entry in
-    (c.requires.exact it.0 it.1).over
-
-pub confirm-requires-clause-formula : goal.confirm-requires-clause-formula
-confirm-requires-clause-formula c =
+pub outcome-requires-clause-formula : goal.outcome-requires-clause-formula
+outcome-requires-clause-formula c =
     let it = taken (λ (f : Function). f.arrays ≡ []) (slice_get c.args.graph.now.functions c.args.entry) c.requires.entry in
     (c.requires.exact it.0 it.1).over
 
@@ -59,19 +55,19 @@ returns-in_ok-input-in-Model c = λ f own.
     let kinds : c.deref-in-Model.result.now ≡ f.parameters = c.deref-in-Model.ensures ∙ ap (λ (g : Function). g.parameters) same in
     let arrays : f.arrays ≡ [] = ap (λ (g : Function). g.arrays) (same_Some f it.0 (sym own ∙ it.1)) ∙ it.2 in
     let model = c.deref.result.now in
-    let given : IsModel c.args.formula.formula c.in-Model.model = subst (IsFound c.args.formula.formula c.args.budget) c.in-Model.is c.in_ok-model.ensures.found in
+    let given : IsModel c.args.formula.formula c.in-Model.model = subst (IsOutcome c.args.formula.formula c.args.budget) c.in-Model.is c.in_ok-model.ensures in
     let is : IsModel c.args.formula.formula model = subst (IsModel c.args.formula.formula) (sym c.deref.ensures) given in
     let found : List Kind → Input = λ (ks : List Kind). input_from (assignment model) ks c.args.formula in
     let words : c.in_ok-input-in-Model.input.words ≡ (found f.parameters).words = c.in_ok-input-in-Model.ensures.words ∙ ap (λ (ks : List Kind). (found ks).words) kinds in
     left c.args.graph.now f c.args.entry c.args.bounds c.args.formula model c.well_formed-in-Model.ensures own arrays (c.requires.exact f own) is c.in_ok-input-in-Model.input words c.in_ok-input-in-Model.ensures.answers
 
-pub returns-in_ok-confirm-in-NoModel : goal.returns-in_ok-confirm-in-NoModel
-returns-in_ok-confirm-in-NoModel c = λ f own.
+pub returns-in-Refuted : goal.returns-in-Refuted
+returns-in-Refuted c = λ f own.
     let exact = c.requires.exact f own in
-    let is : IsRefutation c.args.formula.formula c.args.budget c.in-NoModel.derivation = subst (IsFound c.args.formula.formula c.args.budget) c.in-NoModel.is c.in_ok-model.ensures.found in
-    (none_leaves c.args.graph.now f c.args.bounds c.args.formula c.in-NoModel.derivation exact is.0, own_bits c.args.graph.now f c.args.bounds c.args.formula exact, is, c.in_ok-confirm-in-NoModel.ensures)
+    let is = subst (IsOutcome c.args.formula.formula c.args.budget) c.in-Refuted.is c.in_ok-model.ensures in
+    (none_leaves c.args.graph.now f c.args.bounds c.args.formula c.in-Refuted.derivation exact is.0.0, own_bits c.args.graph.now f c.args.bounds c.args.formula exact, is)
 
-pub returns-in-Spent : goal.returns-in-Spent
-returns-in-Spent c = λ f own.
-    let is : IsSpent c.args.formula.formula c.args.budget c.in-Spent.history = subst (IsFound c.args.formula.formula c.args.budget) c.in-Spent.is c.in_ok-model.ensures.found in
+pub returns-in-Open : goal.returns-in-Open
+returns-in-Open c = λ f own.
+    let is : IsSpent c.args.formula.formula c.args.budget c.in-Open.history = subst (IsOutcome c.args.formula.formula c.args.budget) c.in-Open.is c.in_ok-model.ensures in
     (own_bits c.args.graph.now f c.args.bounds c.args.formula (c.requires.exact f own), is)

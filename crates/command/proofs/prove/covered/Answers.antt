@@ -1,18 +1,23 @@
-use Rattle.std.proofs.Common.{slice_get, ap, ◌∙◌}
+use Rattle.std.proofs.Common.{subst, sym}
+use Rattle.given.specs.declared.goal.Goal.{Goal}
+use Rattle.suite.proofs.Models.{has_made}
 use Rattle.command.proofs.GivesLaws.{ok_tells}
-use Rattle.command.proofs.GoalLaws.{covered_said, has_run, has_words}
+use Rattle.command.proofs.GoalLaws.{covered_said, has_words}
 use Rattle.command.proofs.prove.covered.Goals as goal
 
-pub replay-requires-clause-input : goal.replay-requires-clause-input
-replay-requires-clause-input c =
-    has_run _ _ _ _ _ _ _ _ c.requires.made.1 c.args.goal.now.given.planned.entry.startable _ (ap (slice_get c.args.goal.now.given.planned.entry.graph.now.functions) c.requires.unwound.0 ∙ c.args.goal.now.given.planned.entry.there)
+pub replay-requires : goal.replay-requires
+replay-requires c =
+    let g = c.args.sought.now.goal.given.now in
+    let made = c.requires.1 in
+    has_made g.planned.entry.graph.now g.planned.predicates g.planned.entry.function.now g.bounds g.ends c.args.input.now made.run g.planned.entry.startable made.made
 
 pub proved_text-requires : goal.proved_text-requires
-proved_text-requires c = has_words _ _ _ _ _ _ _ _ c.requires.made.1 _ c.args.goal.now.given.planned.entry.there
+proved_text-requires c = rw c.goal.ensures (has_words _ _ _ _ _ _ _ _ c.requires.1 _ c.args.sought.now.goal.given.now.planned.entry.there)
 
 pub returns : goal.returns
 returns c =
-    ok_tells c.proved_text.result _ _ (rw c.deref.ensures at c.proved_text.ensures) (λ text is. λ one made.
-    covered_said c.args.goal.now.given.planned.entry.graph.now c.args.goal.now.given.planned.entry.function.now c.args.goal.now.given.planned.predicates c.args.goal.now.given.planned.plan c.args.unwound.now.bounds c.args.unwound.now.ends one c.args.input.now made
-    c.args.goal.now.given.planned.entry.number c.args.goal.now.number _ text.items is
-    (λ r. c.in_ok-run.ensures c.args.goal.now.given.planned.entry.function.now r (ap (slice_get c.args.goal.now.given.planned.entry.graph.now.functions) c.requires.unwound.0 ∙ c.args.goal.now.given.planned.entry.there)))
+    let x = c.args.sought.now.goal in
+    let g = x.given.now in
+    ok_tells c.proved_text.result _ _ (rw (c.deref.ensures, c.goal.ensures) at c.proved_text.ensures) (λ text is. λ one made.
+    covered_said g.planned.entry.graph.now g.planned.entry.function.now g.planned.predicates g.planned.plan g.bounds g.ends one c.args.input.now made
+    g.planned.entry.number x.number _ text.items is c.in_ok-run.ensures)

@@ -3,8 +3,8 @@ use Rattle.command.specs.Said.{answered}
 use Rattle.command.proofs.GivesLaws.{same_open, shown_nothing}
 use Rattle.command.proofs.prove.said_of.Goals as goal
 
-pub covered-requires-clause-made : goal.covered-requires-clause-made
-covered-requires-clause-made g c = (c.requires.decided.0, rw c.in-Covered.is at c.requires.decided.1.1)
+pub covered-requires : goal.covered-requires
+covered-requires g c = (c.requires.0, rw c.in-Covered.is at c.requires.1.1)
 
 pub returns-in_ok-text-in-Covered : goal.returns-in_ok-text-in-Covered
 returns-in_ok-text-in-Covered g c = λ one budget decided.
@@ -16,4 +16,4 @@ returns-in_ok-text-in-Refuted g c = λ one budget decided.
 
 pub returns-in_ok-shown-in-Undecided : goal.returns-in_ok-shown-in-Undecided
 returns-in_ok-shown-in-Undecided g c = λ one budget decided.
-    ((c.args.goal.now.number, c.in-Undecided.formula.formula, c.in-Undecided.history) ∷ [], rw c.in-Undecided.is (same_open _ _ _ c.in_ok-text-in-Undecided.ensures), c.in_ok-shown-in-Undecided.ensures.ok)
+    ((c.args.sought.now.goal.number, c.in-Undecided.formula.formula, c.in-Undecided.history) ∷ [], rw c.in-Undecided.is (same_open _ _ _ (rw c.goal.ensures at c.in_ok-text-in-Undecided.ensures)), rw c.goal.ensures at c.in_ok-shown-in-Undecided.ensures.ok)

@@ -1,32 +1,26 @@
-use Rattle.std.proofs.Common.{Option, subst}
-use Rattle.std.specs.Prelude.{IfSome}
-use Rattle.suite.specs.Made.{IsDecided, IsOpenWhereShort}
-use Rattle.suite.specs.Unwindings.{ForGoal}
+use Rattle.std.proofs.Common.{ℕ, ◌∙◌, Option, subst}
+use Rattle.std.specs.Prelude.{IfOk, IfSome}
+use Rattle.std.proofs.lemmas.Result.{IfOk-weaker}
+use Rattle.given.specs.declared.goal.Goal.{Goal}
+use Rattle.suite.specs.Seeking.{IsDecidedAt, IsOpenAt, Seeking}
 use Rattle.suite.specs.declared.decided.Decided.{Decided}
-use Rattle.unwinder.specs.declared.unwound.Unwound.{Unwound}
 use Rattle.suite.proofs.Short.{open_where_short}
 use Rattle.suite.proofs.deciding.decide.Goals as goal
 
-pub returns-in-Some-early-clause-enough : goal.returns-in-Some-early-clause-enough
-returns-in-Some-early-clause-enough c = λ f g own at.
-    let parts = c.args.graph.now in
-    let p = c.args.predicates.now in
-    let plan = c.args.plan.now in
-    let u = c.args.unwound.now in
-    let Says : Decided → Type 0 = λ d. ForGoal parts plan u c.args.goal (λ h x. IsDecided parts h p plan u.bounds u.ends x c.args.budget d) in
-    let says = subst (λ (o : Option Decided). IfSome o Says) c.in-Some-early.is c.in_ok-early.ensures.decided in
-    open_where_short parts f p plan u.bounds u.ends g c.args.budget c.in-Some-early.decided (says f g own at)
+open_at : (x : Goal) (budget : ℕ) (d : Decided) → IsDecidedAt x budget d → IsOpenAt x budget d
+open_at x budget d h = λ form is.
+    let g = x.given.now in
+    let e = g.planned.entry in
+    open_where_short e.graph.now e.function.now g.planned.predicates g.planned.plan g.bounds g.ends form budget d (h form is)
 
-pub returns-clause-decided : goal.returns-clause-decided
-returns-clause-decided c =
-    let parts = c.args.graph.now in
-    let p = c.args.predicates.now in
-    let plan = c.args.plan.now in
-    subst (λ (v : Unwound). ForGoal parts plan v c.args.goal (λ h x. IsDecided parts h p plan v.bounds v.ends x c.args.budget c.in_ok-decided.decided)) c.in_ok-early.ensures.unwound c.in_ok-decided.ensures.decided
+pub returns-in-Some-2-clause-enough : goal.returns-in-Some-2-clause-enough
+returns-in-Some-2-clause-enough c =
+    let Says : Seeking → Decided → Type 0 = λ s d. IsDecidedAt s.goal c.args.budget d in
+    let decided = subst (λ (o : Option Decided). IfSome o (Says c.fill_first.new.sought)) c.in-Some-2.is c.in_ok-decided.ensures.decided in
+    open_at c.args.sought.now.goal c.args.budget c.in-Some-2.decided (subst (λ (s : Seeking). Says s c.in-Some-2.decided) c.in_ok-fill_first.ensures decided)
 
 pub returns-clause-enough : goal.returns-clause-enough
 returns-clause-enough c =
-    let parts = c.args.graph.now in
-    let p = c.args.predicates.now in
-    let plan = c.args.plan.now in
-    subst (λ (v : Unwound). ForGoal parts plan v c.args.goal (λ h x. IsOpenWhereShort parts h p plan v.bounds x c.args.budget c.in_ok-decided.decided)) c.in_ok-early.ensures.unwound c.in_ok-decided.ensures.enough
+    let x = c.args.sought.now.goal in
+    let decided = subst (λ (s : Seeking). IfOk c.decide_beside.result (IsDecidedAt s.goal c.args.budget)) (c.in_ok-decided.ensures.same ∙ c.in_ok-fill_first.ensures) c.decide_beside.ensures.decided in
+    IfOk-weaker c.decide_beside.result (IsDecidedAt x c.args.budget) (IsOpenAt x c.args.budget) (open_at x c.args.budget) decided

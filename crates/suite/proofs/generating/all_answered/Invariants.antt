@@ -1,16 +1,13 @@
-use Rattle.std.proofs.Common.{◌≡◌, Some, length}
-use Rattle.std.specs.Prelude.{slice_get}
-use Rattle.cfa.specs.declared.parts.Function.{Function}
+use Rattle.std.proofs.Common.{◌≡◌, length}
 use Rattle.measurer.specs.Measurers.{IsMadeFor}
-use Rattle.suite.specs.Pool.{HasPool}
-use Rattle.suite.specs.Progress.{AllAnswered, so_far}
+use Rattle.suite.specs.Progress.{so_far}
+use Rattle.suite.specs.Seeking.{AreAnsweredOf, IsOfSame}
 use Rattle.suite.proofs.generating.all_answered.Given as goal
 
-abbrev pub invariant-goals : goal.invariant-goals
-invariant-goals g l = record {
-  same : l.unwound ≡ l.fn.unwound;
-  plan : IsMadeFor l.plan l.making.measurer;
-  pool : HasPool l.graph l.predicates l.plan l.unwound l.making.pool;
-  count : length l.making.answers ≡ l._place;
-  answered : (f : Function) → slice_get l.graph.functions l.fn.unwound.entry ≡ Some f → AllAnswered l.graph f l.predicates l.plan l.fn.unwound.bounds l.fn.unwound.ends l.budget (so_far l.making) (g.W.Watch.seen l.fn.watch) (g.W.Watch.seen l.watch);
+abbrev pub invariant-loop-place : goal.invariant-loop-place
+invariant-loop-place g l = record {
+  same : IsOfSame l.fn.sought l.sought;
+  plan : IsMadeFor l.fn.sought.goal.given.now.planned.plan l.making.measurer;
+  count : length l.making.answers ≡ l.place;
+  answered : AreAnsweredOf l.fn.sought.goal.given.now l.budget (so_far l.making) (g.W.Watch.seen l.fn.watch) (g.W.Watch.seen l.watch);
 }

@@ -1,42 +1,35 @@
-use Rattle.std.proofs.Common.{◌≡◌, [], ap, ◌∙◌}
-use Rattle.std.specs.Prelude.{slice_get}
-use Rattle.cfa.proofs.Exits.{given, taken}
-use Rattle.cfa.specs.declared.parts.Function.{Function}
-use Rattle.unwinder.specs.Unwinding.{IsUnwound}
+use Rattle.std.proofs.Common.{◌≡◌, length, subst, sym}
+use Rattle.std.proofs.lemmas.Result.{err_from_is_err_and}
+use Rattle.suite.specs.Progress.{AreSmall}
+use Rattle.suite.specs.Seeking.{AreAnsweredOf, Seeking}
 use Rattle.suite.proofs.Generation.{all_generated, too_large}
-use Rattle.suite.proofs.Models.{own_unwound}
 use Rattle.suite.proofs.Short.{undecided_short}
 use Rattle.suite.proofs.generating.generate.Goals as goal
 
-pub all_answered-requires-clause-unwound : goal.all_answered-requires-clause-unwound
-all_answered-requires-clause-unwound g c =
-    let parts = c.args.graph.now in
-    let p = c.args.predicates.now in
-    let u = c.in_ok-unwound.unwound in
-    let it = taken (λ (f : Function). f.arrays ≡ []) (slice_get parts.functions c.args.entry) c.requires.entry in
-    let unwound = c.in_ok-unwound.ensures.accepted it.0 it.1 in
-    let Own : Function → Type 0 = λ f. IsUnwound parts p f u.entry u.bounds u.ends u in
-    given Own (slice_get parts.functions u.entry) it.0 (ap (slice_get parts.functions) unwound.given_entry ∙ it.1) (own_unwound parts p it.0 c.args.entry c.args.bounds c.args.ends u unwound)
+pub returns-in_err-test_sizes-clause-refused : goal.returns-in_err-test_sizes-clause-refused
+returns-in_err-test_sizes-clause-refused g c =
+    let x = c.args.given.now in
+    let e = x.planned.entry in
+    let p = err_from_is_err_and c.from_residual-in_err-test_sizes.result c.from_residual-in_err-test_sizes.ensures.1 in
+    rw (p.1, p.2) (too_large e.graph.now e.function.now x.planned.predicates x.planned.plan e.number x.bounds x.ends c.in_ok-unwound.unwound c.in_ok-unwound.ensures.accepted c.in_err-test_sizes.field-0.0 c.in_err-test_sizes.ensures.refused)
+
+pub all_answered-requires : goal.all_answered-requires
+all_answered-requires g c = subst (λ (s : Seeking). AreSmall s.goal.given.now.planned.plan s.pairs) (sym c.in_ok-sought.ensures) c.in_ok-test_sizes.ensures.small
 
 pub returns-in-Ok-clause-generated : goal.returns-in-Ok-clause-generated
-returns-in-Ok-clause-generated g c = λ f own.
-    let parts = c.args.graph.now in
-    let u = c.in_ok-unwound.unwound in
-    let unwound = c.in_ok-unwound.ensures.accepted f own in
-    all_generated parts f c.args.predicates.now c.args.plan.now c.args.entry c.args.bounds c.args.ends u unwound c.args.budget c.in-Ok.made (g.W.Watch.seen c.args.watch.now) (g.W.Watch.seen c.all_answered.new.watch) c.in_default.ensures.small c.in-Ok.ensures.count
-    (c.in-Ok.ensures.answered f (ap (slice_get parts.functions) unwound.given_entry ∙ own))
+returns-in-Ok-clause-generated g c =
+    let x = c.args.given.now in
+    let e = x.planned.entry in
+    let made = c.in-Ok.made in
+    let before = g.W.Watch.seen c.args.watch.now in
+    let after = g.W.Watch.seen c.all_answered.new.watch in
+    let count = subst (λ (s : Seeking). length made.answers ≡ length s.goal.given.now.planned.plan.goals) c.in_ok-sought.ensures c.in-Ok.ensures.count in
+    let answered = subst (λ (s : Seeking). AreAnsweredOf s.goal.given.now c.args.budget made before after) c.in_ok-sought.ensures c.in-Ok.ensures.answered in
+    all_generated e.graph.now e.function.now x.planned.predicates x.planned.plan e.number x.bounds x.ends c.in_ok-unwound.unwound c.in_ok-unwound.ensures.accepted c.args.budget made before after c.in_ok-test_sizes.ensures.small count answered
 
 pub returns-in-Ok-clause-enough : goal.returns-in-Ok-clause-enough
-returns-in-Ok-clause-enough g c = λ f place goal own there undecided.
-    let parts = c.args.graph.now in
-    let u = c.in_ok-unwound.unwound in
-    let unwound = c.in_ok-unwound.ensures.accepted f own in
-    let all = all_generated parts f c.args.predicates.now c.args.plan.now c.args.entry c.args.bounds c.args.ends u unwound c.args.budget c.in-Ok.made (g.W.Watch.seen c.args.watch.now) (g.W.Watch.seen c.all_answered.new.watch) c.in_default.ensures.small c.in-Ok.ensures.count
-    (c.in-Ok.ensures.answered f (ap (slice_get parts.functions) unwound.given_entry ∙ own)) in
-    undecided_short parts f c.args.predicates.now c.args.plan.now c.args.bounds c.args.ends c.args.budget c.in-Ok.made all.0 all.1 place goal there undecided
-
-pub returns-in-Err-clause-refused : goal.returns-in-Err-clause-refused
-returns-in-Err-clause-refused g c = λ f own.
-    let u = c.in_ok-unwound.unwound in
-    let unwound = c.in_ok-unwound.ensures.accepted f own in
-    too_large c.args.graph.now f c.args.predicates.now c.args.plan.now c.args.entry c.args.bounds c.args.ends u unwound c.in-Err.fault c.in-Err.ensures.refused
+returns-in-Ok-clause-enough g c =
+    let x = c.args.given.now in
+    let e = x.planned.entry in
+    let all = returns-in-Ok-clause-generated g c in
+    undecided_short e.graph.now e.function.now x.planned.predicates x.planned.plan x.bounds x.ends c.args.budget c.in-Ok.made all.0 all.1

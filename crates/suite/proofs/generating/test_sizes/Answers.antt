@@ -1,6 +1,7 @@
-use Rattle.std.proofs.Common.{◌≡◌, ◌+◌, ◌-◌, ◌<◌, length, refl, ap, ◌∙◌, arith}
+use Rattle.std.proofs.Common.{◌≡◌, ◌+◌, ◌-◌, ◌<◌, length, refl, sym, ap, subst, ◌∙◌, arith}
 use Rattle.std.specs.Prelude.{slice_get}
 use Rattle.std.proofs.lemmas.Option.{slice_get_within}
+use Rattle.suite.specs.Progress.{IsSizeFault}
 use Rattle.suite.proofs.Firsts.{there_at}
 use Rattle.suite.proofs.generating.test_sizes.Goals as goal
 
@@ -10,7 +11,8 @@ returns-then-branch-clause-refused c =
     let place = c.loop-place.place in
     let lt : place < length goals = omega arith in
     let it = there_at goals place lt in
-    let index : place + 1 - 1 ≡ place = omega arith in (
+    let index : place + 1 - 1 ≡ place = omega arith in
+    subst (IsSizeFault c.args.plan.now c.args.pairs) (sym c.too_large.ensures) (
       refl,
       record {
         place = place;

@@ -9,4 +9,4 @@ pub returns : goal.returns
 returns c = λ parts f p plan bounds ends g is there.
     let pool = c.args.self.now in
     let at : slice_get pool.inputs (c.in-Some.number - 1) ≡ Some c.in-Some-get.input.now = subst (λ k. slice_get pool.inputs k ≡ Some c.in-Some-get.input.now) c.saturating_sub-place.ensures (sym c.in-Some-get.ensures) in
-    subst (λ (x : Input). IsMadeFor parts f p plan bounds ends g x) (sym c.in_ok-copy_of.ensures) (first_made parts f p plan bounds ends pool c.args.goal c.in-Some.number c.in-Some-get.input.now g is (sym c.in-Some.ensures) at c.requires there)
+    subst (λ (x : Input). IsMadeFor parts f p plan bounds ends g x) (sym c.in_ok-copy_of.ensures) (first_made parts f p plan bounds ends pool c.args.goal c.in-Some.number c.in-Some-get.input.now g is (sym c.in-Some.ensures) at there)

@@ -1,0 +1,3 @@
+pub mod Irredundant
+pub mod MarksLaws
+pub mod SuiteLaws
