@@ -3,6 +3,7 @@
 from command_cases import (
     bounds,
     check_bounds,
+    events,
     generate,
     goals,
     graph,
@@ -24,5 +25,5 @@ from command_cases import (
 )
 
 MODULES = (measure_words, measure_inputs, measure_sources, measure_limits, measure_queries, measure_splits, measure_ends, goals, graph,
-           runs, trees, generate, prove, sample, bounds, prove_bounds, check_bounds, least, traces, replay)  # fmt: skip
+           runs, trees, events, generate, prove, sample, bounds, prove_bounds, check_bounds, least, traces, replay)  # fmt: skip
 CASES = [case for module in MODULES for case in module.CASES]

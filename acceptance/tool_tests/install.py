@@ -11,7 +11,7 @@ from collections.abc import Iterator
 import programs
 from tool_tests import Case, example, put, run
 
-COMMANDS = ["fshell-" + name for name in ("measure", "goals", "runs", "generate", "prove", "check", "bounds", "prove-bounds", "check-bounds", "least", "traces", "replay", "trees", "graph", "sample")]  # fmt: skip
+COMMANDS = ["fshell-" + name for name in ("measure", "goals", "runs", "generate", "prove", "check", "bounds", "prove-bounds", "check-bounds", "least", "traces", "replay", "trees", "events", "graph", "sample")]  # fmt: skip
 TOOLS = ["fshell-" + name for name in ("inputs", "explain", "lcov", "harness", "campaign", "page", "mcdc", "order", "rte", "adapt", "driver", "project", "drat")]  # fmt: skip
 CASES = [
     Case("install: a folder that can't be made", ["install", "a/b"], {"a": "a file\n"}, 2, "", "install: a/b/bin: Not a directory\n"),

@@ -95,6 +95,47 @@ int g(int a, unsigned b) {
   return checked_int32(b);
 }
 """
+# parts of a union, and bit-fields, whose values are those of their widths
+PARTS = """union u { unsigned int word; unsigned char b[4]; unsigned short h; };
+static union u v;
+struct bits { unsigned a : 3; int b : 5; unsigned long long c : 20; };
+static struct bits s;
+void f(int n) {
+  v.b[1] = n;
+  v.h = n + 1;
+  v.b[0] += n;
+  v.b[2]++;
+  v.b[3] = n & 255;
+  v.word = n;
+}
+int g(int n) {
+  s.a = n;
+  s.b = n;
+  s.a++;
+  s.a = n & 7;
+  s.c = n;
+  return s.a + s.b;
+}
+"""
+PARTS_WRITTEN = """static uint32_t v_w;
+static uint8_t s_a; static int8_t s_b; static int32_t s_c;
+void f(int n) {
+  v_w = v_w & ~((uint32_t) 0xffu << 8) | (uint32_t) (uint8_t) checked_uint8(n) << 8;
+  v_w = v_w & ~((uint32_t) 0xffffu) | (uint32_t) (uint16_t) checked_uint16(n + 1);
+  v_w = v_w & ~((uint32_t) 0xffu) | (uint32_t) (uint8_t) checked_uint8((unsigned char) v_w + n);
+  v_w = v_w & ~((uint32_t) 0xffu << 16) | (uint32_t) (uint8_t) checked_uint8((unsigned char) (v_w >> 16) + 1) << 16;
+  v_w = v_w & ~((uint32_t) 0xffu << 24) | (uint32_t) (uint8_t) (n & 255) << 24;
+  v_w = checked_uint32(n);
+}
+int g(int n) {
+  s_a = checked_uint3(n);
+  s_b = checked_int5(n);
+  s_a = checked_uint3(s_a + 1);
+  s_a = (n & 7) & 0x7;
+  s_c = checked_uint20(n);
+  return s_a + s_b;
+}
+"""
 
 
 def adapted(folder: str, text: str, *words: str) -> tuple[str, list[dict[str, Any]]]:
@@ -141,6 +182,9 @@ def conversions_are_calls(folder: str) -> Iterator[bool]:
     written, rows = adapted(folder, NARROW, "--check-conversions")
     yield without_blanks(written) == without_blanks(NARROWED)
     yield {row["what"] for row in rows} == {"conversion"} and rows[0]["place"] == "a.c:5:15"
+    parts, _ = adapted(folder, PARTS, "--check-conversions")
+    yield [line for line in without_blanks(parts) if line] == without_blanks(PARTS_WRITTEN)
+    adapted(folder, NARROW, "--check-conversions")
     ended = run(folder, ["rte", "g", "ad/overflow.h", "ad/a.c", "-o", "d"])
     found = {row["place"]: row["verdict"] for row in report(folder)["rows"] if "place" in row}
     # 70000 never fits, so nothing behind it is reached

@@ -2,13 +2,11 @@
 
 from typing import Any, Callable
 
-from pycparser import c_ast
-
-from . import kinds
+from . import kinds, statement_exprs, tree
 from .calls import Calls
 from .constants import LOGICAL
 from .effects import STEPS
-from .jumps import walk
+from .tree import walk
 from .kinds import Int, Pointer, Struct
 from .output import unmarked
 from .places import Place
@@ -40,7 +38,7 @@ class Assignments(Calls):
         place = self.places.place(node.lvalue)
         if not isinstance(place.type, Int):
             raise Refused(node.coord, "an assignment to an array", "assign its elements")
-        index = c_ast.ExprList([one for one, _ in place.indexes] + ([node.lvalue] if node.op != "=" else []))
+        index = tree.ExprList([one for one, _ in place.indexes] + ([node.lvalue] if node.op != "=" else []))
         self.unsequenced(node, [index, node.rvalue])
         self.not_twice(node, place, node.rvalue)
         kind = place.type
@@ -103,7 +101,7 @@ class Assignments(Calls):
         whole, _ = self.leaf(place, True)
         of, shift = self.places.carrier_kind(place), self.part_shift(place)
         word, own = kinds.FIXED[f"uint{of.bits}_t"].text, kinds.FIXED[f"uint{kind.bits}_t"].text
-        given = unmarked(value(self.part(place, whole)).within(UNARY))
+        given = unmarked(self.converted(value(self.part(place, whole)), kind).within(UNARY))
         if kind.bits == of.bits:
             self.emit(f"{whole} = {given};")
             return self.part(place, whole).text, kind
@@ -149,7 +147,7 @@ class Assignments(Calls):
             return Value(old, place.type, PRIMARY) if node.op.startswith("p") else self.part(place, self.leaf(place)[0])
         target, kind = self.step(node, True)
         step, before = self.stepping(node, target, kind), not node.op.startswith("p")
-        if before or id(node) in self.behind:
+        if before or node in self.behind:
             self.emit(step) if before else self.after.append(step)
             if self.kind_at(self.places.place(node.expr)) != kind:
                 return Value(f"({kind.text}) {target}", kind, UNARY)
@@ -160,20 +158,20 @@ class Assignments(Calls):
 
     def effect(self, node: Any) -> None:
         """Writes an expression for its effect alone."""
-        if isinstance(node, c_ast.ExprList):
+        if isinstance(node, tree.ExprList):
             for one in node.exprs:
                 self.effect(one)
-        elif isinstance(node, c_ast.Assignment):
+        elif isinstance(node, tree.Assignment):
             if isinstance(self.constants.type_of(node.lvalue), Pointer):
                 self.plain_effect(node, lambda: self.assign_pointer(node))
             elif isinstance(self.constants.type_of(node.lvalue), Struct):
                 self.assign_whole(self.places.place(node.lvalue), node.rvalue, node)
             else:
                 self.plain_effect(node, lambda: self.assign(node))
-        elif isinstance(node, c_ast.UnaryOp) and node.op in STEPS and self.is_pointer(node.expr):
+        elif isinstance(node, tree.UnaryOp) and node.op in STEPS and self.is_pointer(node.expr):
             place = self.places.place(node.expr)
             self.emit(self.step_text(node, self.parts_at(place, self.index(place, False))[INDEX].text))
-        elif isinstance(node, c_ast.UnaryOp) and node.op in STEPS:
+        elif isinstance(node, tree.UnaryOp) and node.op in STEPS:
             place = self.places.place(node.expr)
             if place.view is not None:
                 self.step_part(node, place)
@@ -181,13 +179,15 @@ class Assignments(Calls):
             if place.variable.is_input:
                 raise Refused(node.coord, f"a step of the register {place.variable.name}", "assign its value")
             self.emit(self.stepping(node, *self.step(node, self.kind_has_width(node.expr))))
-        elif isinstance(node, c_ast.FuncCall):
+        elif isinstance(node, tree.FuncCall):
             self.call_effect(node)
-        elif isinstance(node, c_ast.TernaryOp):
+        elif isinstance(node, tree.StatementExpr):
+            statement_exprs.effect(self, node)
+        elif isinstance(node, tree.TernaryOp):
             self.either(node, self.effect)
-        elif isinstance(node, c_ast.BinaryOp) and node.op in LOGICAL:
+        elif isinstance(node, tree.BinaryOp) and node.op in LOGICAL:
             (self.when if node.op == "&&" else self.unless)(node.left, lambda: self.effect(node.right))
-        elif isinstance(node, c_ast.Cast) and self.names.types.get(id(node.to_type)) == kinds.VOID:
+        elif isinstance(node, tree.Cast) and self.names.types.get(node.to_type) == kinds.VOID:
             self.effect(node.expr)
         elif self.effected.of(node).writes or self.has_calls(node):
             left = self.pointer(node)[INDEX] if self.is_pointer(node) else self.value(node)
@@ -204,21 +204,21 @@ class Assignments(Calls):
         return isinstance(of, Int) and of.width > 0
 
     def has_calls(self, node: Any) -> bool:
-        return any(isinstance(one, c_ast.FuncCall) for one in walk(node))
+        return any(isinstance(one, tree.FuncCall) for one in walk(node))
 
     def plain_effect(self, node: Any, write: Callable[[], Any]) -> None:
         """A statement without calls and sequence points: steps of objects that it names only once are taken behind it."""
         nodes = walk(node)
-        inner = [one for one in nodes if isinstance(one, c_ast.UnaryOp) and one.op in ("p++", "p--")]
-        sequenced = (c_ast.FuncCall, c_ast.TernaryOp, c_ast.ExprList)
+        inner = [one for one in nodes if isinstance(one, tree.UnaryOp) and one.op in ("p++", "p--")]
+        sequenced = (tree.FuncCall, tree.TernaryOp, tree.ExprList, tree.StatementExpr)
         if inner and not any(
-            isinstance(one, sequenced) or (isinstance(one, c_ast.BinaryOp) and one.op in LOGICAL) for one in nodes
+            isinstance(one, sequenced) or (isinstance(one, tree.BinaryOp) and one.op in LOGICAL) for one in nodes
         ):
-            named = [self.object_of(one) for one in nodes if isinstance(one, (c_ast.ID, c_ast.StructRef))]
+            named = [self.object_of(one) for one in nodes if isinstance(one, (tree.ID, tree.StructRef))]
             for one in inner:
                 target = self.object_of(one.expr)
                 if target is not None and named.count(target) == 1:
-                    self.behind.add(id(one))
+                    self.behind.add(one)
         write()
         for text in self.after:
             self.emit(text)

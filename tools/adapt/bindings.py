@@ -3,12 +3,11 @@ handed on: it is "lent" where it is indexed or handed an array, and becomes a wh
 of the file that each call hands over, or, where there are several, it is a "copy", in and out. Each other one is a "pointer",
 an index into a column."""
 
-from typing import Any, Iterator, Optional
+from typing import Any, Optional
 
-from pycparser import c_ast
-
+from . import tree
 from .declarators import Function, Variable
-from .jumps import walk
+from .tree import walk, with_parents
 from .kinds import VOID, Array, Pointer, Signature, Type
 from .places import Place, Places, arguments
 from .refusals import Refused
@@ -16,20 +15,12 @@ from .refusals import Refused
 Key = tuple[str, int, int, str]  # a parameter by its place and name, over several readings
 SOMEWHERE = Variable("", VOID, None, "local")  # an object of which no more is known
 MOST_LENT = 1024
-CONDITIONS = (c_ast.If, c_ast.While, c_ast.DoWhile, c_ast.For, c_ast.TernaryOp)
+CONDITIONS = (tree.If, tree.While, tree.DoWhile, tree.For, tree.TernaryOp)
 
 
 def key(parameter: Variable) -> Key:
     at = parameter.coord
     return (str(at.file), at.line, at.column or 0, parameter.name)
-
-
-def with_parents(node: Any, parents: tuple[Any, ...] = ()) -> Iterator[tuple[Any, tuple[Any, ...]]]:
-    """A tree's nodes, each with those around it, the nearest last; without what `sizeof` doesn't evaluate."""
-    yield node, parents
-    if not (isinstance(node, c_ast.UnaryOp) and node.op == "sizeof"):
-        for _, child in node.children():
-            yield from with_parents(child, parents + (node,))
 
 
 class Bindings:
@@ -96,61 +87,57 @@ class Bindings:
         return all(
             self.plain_use(node, parents, standing)
             for node, parents in uses[function]
-            if isinstance(node, c_ast.ID) and self.names.meaning.get(id(node)) is one
+            if isinstance(node, tree.ID) and self.names.meaning.get(node) is one
         )
 
     def plain_use(self, node: Any, parents: tuple[Any, ...], standing: set[Variable]) -> bool:
-        up, called = parents[-1], bool(parents[0].decl and self.names.meaning[id(parents[0])].calls)
+        up, called = parents[-1], bool(parents[0].decl and self.names.meaning[parents[0]].calls)
         if self.argument(node, parents) is not None:
             return self.argument(node, parents) in standing
-        if isinstance(up, c_ast.UnaryOp):
+        if isinstance(up, tree.UnaryOp):
             if up.op in ("!", "sizeof"):
                 return called or up.op == "sizeof"
             return up.op == "*" and self.plain_path(parents, standing)
         if isinstance(up, CONDITIONS):
             return up.cond is node and called
-        if isinstance(up, c_ast.BinaryOp):
+        if isinstance(up, tree.BinaryOp):
             other = up.right if up.left is node else up.left
             if up.op in ("&&", "||") or (up.op in ("==", "!=") and self.is_null(other)):
                 return called
             above = parents[-2]
-            plus = up.op == "+" and up.left is node and isinstance(above, c_ast.UnaryOp) and above.op == "*"
+            plus = up.op == "+" and up.left is node and isinstance(above, tree.UnaryOp) and above.op == "*"
             return plus and self.plain_path(parents[:-1], standing)
-        if isinstance(up, c_ast.StructRef):
+        if isinstance(up, tree.StructRef):
             return up.type == "->" and self.plain_path(parents, standing)
-        return isinstance(up, c_ast.ArrayRef) and up.name is node and self.plain_path(parents, standing)
+        return isinstance(up, tree.ArrayRef) and up.name is node and self.plain_path(parents, standing)
 
     def plain_path(self, parents: tuple[Any, ...], standing: set[Variable]) -> bool:
         """Whether the address of what a path of members and elements names stays with parameters of this kind."""
         node, parents = parents[-1], parents[:-1]
         up, array = parents[-1], isinstance(self.names.constants.type_of(node), Array)
-        if isinstance(up, c_ast.StructRef) and up.name is node and up.type == ".":
+        if isinstance(up, tree.StructRef) and up.name is node and up.type == ".":
             return self.plain_path(parents, standing)
-        if array and isinstance(up, c_ast.ArrayRef) and up.name is node:
+        if array and isinstance(up, tree.ArrayRef) and up.name is node:
             return self.plain_path(parents, standing)
-        if array and isinstance(up, c_ast.UnaryOp) and up.op == "*":
+        if array and isinstance(up, tree.UnaryOp) and up.op == "*":
             return self.plain_path(parents, standing)
-        if isinstance(up, c_ast.UnaryOp) and up.op == "&":
+        if isinstance(up, tree.UnaryOp) and up.op == "&":
             return self.argument(up, parents[:-1]) in standing
         if array:
-            return self.argument(node, parents) in standing or (isinstance(up, c_ast.UnaryOp) and up.op == "sizeof")
+            return self.argument(node, parents) in standing or (isinstance(up, tree.UnaryOp) and up.op == "sizeof")
         return True
 
     def argument(self, node: Any, parents: tuple[Any, ...]) -> Optional[Variable]:
         """The parameter to which an expression is handed, where it is an argument of a call of a function that is known."""
-        if (
-            len(parents) < 2
-            or not isinstance(parents[-1], c_ast.ExprList)
-            or not isinstance(parents[-2], c_ast.FuncCall)
-        ):
+        if len(parents) < 2 or not isinstance(parents[-1], tree.ExprList) or not isinstance(parents[-2], tree.FuncCall):
             return None
-        called = self.names.meaning.get(id(parents[-2]))
+        called = self.names.meaning.get(parents[-2])
         at = next(number for number, one in enumerate(parents[-1].exprs) if one is node)
         known = isinstance(called, Function) and called.definition is not None and at < len(called.parameters)
         return called.parameters[at] if known and isinstance(called, Function) else SOMEWHERE
 
     def is_null(self, node: Any) -> bool:
-        while isinstance(node, c_ast.Cast):
+        while isinstance(node, tree.Cast):
             node = node.expr
         return self.names.constants.value(node) == 0
 
@@ -163,12 +150,12 @@ class Bindings:
         return all(self.is_object(node, standing) for node in given)
 
     def is_object(self, node: Any, standing: set[Variable]) -> bool:
-        if isinstance(node, c_ast.UnaryOp) and node.op == "&":
-            return isinstance(node.expr, (c_ast.ID, c_ast.StructRef, c_ast.ArrayRef))
-        meaning = self.names.meaning.get(id(node)) if isinstance(node, c_ast.ID) else None
+        if isinstance(node, tree.UnaryOp) and node.op == "&":
+            return isinstance(node.expr, (tree.ID, tree.StructRef, tree.ArrayRef))
+        meaning = self.names.meaning.get(node) if isinstance(node, tree.ID) else None
         if isinstance(meaning, Variable) and meaning in self.types:
             return meaning in standing
-        named = isinstance(node, (c_ast.ID, c_ast.StructRef, c_ast.ArrayRef))
+        named = isinstance(node, (tree.ID, tree.StructRef, tree.ArrayRef))
         return named and isinstance(self.names.constants.type_of(node), Array)
 
     def lent(self, parameters: set[Variable]) -> set[Variable]:
@@ -176,14 +163,15 @@ class Bindings:
         found = {p for p in parameters if isinstance(p.type, Array)}
         for function in self.names.functions:
             for node in walk(function.definition) if function.definition is not None else []:
-                plus = isinstance(node, c_ast.UnaryOp) and node.op == "*" and isinstance(node.expr, c_ast.BinaryOp)
-                base = node.expr.left if plus else node.name if isinstance(node, c_ast.ArrayRef) else None
-                constant = isinstance(node, c_ast.ArrayRef) and self.names.constants.value(node.subscript) == 0
-                meaning = self.names.meaning.get(id(base)) if base is not None and not constant else None
+                plus = node.expr if isinstance(node, tree.UnaryOp) and node.op == "*" else None
+                base = node.name if isinstance(node, tree.ArrayRef) else None
+                base = plus.left if isinstance(plus, tree.BinaryOp) else base
+                constant = isinstance(node, tree.ArrayRef) and self.names.constants.value(node.subscript) == 0
+                meaning = self.names.meaning.get(base) if base is not None and not constant else None
                 if isinstance(meaning, Variable) and meaning in parameters:
                     found.add(meaning)
         handed = [
-            (self.names.meaning.get(id(argument)), parameter)
+            (self.names.meaning.get(argument), parameter)
             for function in self.names.functions
             for _, call in function.calls
             for argument, parameter in zip(arguments(call), function.parameters)
@@ -202,9 +190,9 @@ class Bindings:
         targets = []
         for _, call in function.calls:
             given = arguments(call)[at] if at < len(arguments(call)) else None
-            if given is None or self.names.meaning.get(id(given)) is parameter:
+            if given is None or self.names.meaning.get(given) is parameter:
                 continue
-            within = [self.names.meaning.get(id(one)) for one in walk(given)]
+            within = [self.names.meaning.get(one) for one in walk(given)]
             handed_on = [one.binding for one in within if isinstance(one, Variable) and one in self.types]
             if None in handed_on:
                 return False

@@ -3,9 +3,7 @@
 from contextlib import contextmanager
 from typing import Any, Iterator, Optional
 
-from pycparser import c_ast
-
-from . import kinds
+from . import kinds, tree
 from .bindings import key
 from .constants import is_offset
 from .effects import Object, may_be, objects, pointee
@@ -97,7 +95,7 @@ class Calls(Wholes):
         elif isinstance(parameter.binding, Place):
             return
         elif isinstance(parameter.type, Struct) and not isinstance(
-            argument, (c_ast.ID, c_ast.StructRef, c_ast.ArrayRef, c_ast.UnaryOp)
+            argument, (tree.ID, tree.StructRef, tree.ArrayRef, tree.UnaryOp)
         ):
             local = Variable("whole", parameter.type, argument.coord, "local", out=self.spelling.fresh("whole"))
             place = Place(local, (), (), parameter.type)

@@ -3,11 +3,10 @@ what chooses among them jumps there (6.8.4.2)."""
 
 from typing import Any, Iterator
 
-from pycparser import c_ast
+from . import tree
+from .tree import LOOPS, walk
 
-from .jumps import LOOPS, walk
-
-LABELS = (c_ast.Case, c_ast.Default)
+LABELS = (tree.Case, tree.Default)
 
 
 def cases_of(node: Any) -> Iterator[tuple[Any, str, Any]]:
@@ -15,13 +14,13 @@ def cases_of(node: Any) -> Iterator[tuple[Any, str, Any]]:
     for slot, child in node.children():
         if isinstance(child, LABELS):
             yield node, slot, child
-        if not isinstance(child, c_ast.Switch):
+        if not isinstance(child, tree.Switch):
             yield from cases_of(child)
 
 
 def is_plain(switch: Any) -> bool:
     """Whether all cases stand directly in the switch, and nothing before them."""
-    items = switch.stmt.block_items or [] if isinstance(switch.stmt, c_ast.Compound) else [switch.stmt]
+    items = switch.stmt.block_items or [] if isinstance(switch.stmt, tree.Compound) else [switch.stmt]
     direct = all(isinstance(one, LABELS) for one in items)
     return direct and all(any(child is one for one in items) for _, _, child in cases_of(switch))
 
@@ -29,18 +28,18 @@ def is_plain(switch: Any) -> bool:
 def leaves(node: Any, end: str) -> None:
     """Turns the breaks of a switch into jumps."""
     for slot, child in node.children():
-        if isinstance(child, c_ast.Break):
-            put(node, slot, [c_ast.Goto(end, child.coord)])
-        elif not isinstance(child, LOOPS) and not isinstance(child, c_ast.Switch):
+        if isinstance(child, tree.Break):
+            put(node, slot, [tree.Goto(end, child.coord)])
+        elif not isinstance(child, LOOPS) and not isinstance(child, tree.Switch):
             leaves(child, end)
 
 
 def put(node: Any, slot: str, made: list[Any]) -> None:
     name, _, rest = slot.partition("[")
     if rest:
-        getattr(node, name)[int(rest[:-1])] = made[0] if len(made) == 1 else c_ast.Compound(made)
+        getattr(node, name)[int(rest[:-1])] = made[0] if len(made) == 1 else tree.Compound(made)
     else:
-        setattr(node, name, made[0] if len(made) == 1 else c_ast.Compound(made))
+        setattr(node, name, made[0] if len(made) == 1 else tree.Compound(made))
 
 
 class Cases:
@@ -50,29 +49,29 @@ class Cases:
         self.fresh = fresh
 
     def function(self, body: Any) -> None:
-        switches = [one for one in walk(body) if isinstance(one, c_ast.Switch) and not is_plain(one)]
+        switches = [one for one in walk(body) if isinstance(one, tree.Switch) and not is_plain(one)]
         for switch in reversed(switches):
             self.replaced(body, switch)
 
     def replaced(self, body: Any, switch: Any) -> None:
-        end, heads = self.fresh("end"), []
+        end, heads = self.fresh("end"), list[tree.Node]()
         leaves(switch.stmt, end)
         default = end
-        holder = c_ast.Compound([switch.stmt])
+        holder = tree.Compound([switch.stmt])
         while (found := next(cases_of(holder), None)) is not None:
             node, slot, child = found
             name = self.fresh("case")
-            if isinstance(child, c_ast.Default):
+            if isinstance(child, tree.Default):
                 default = name
             else:
-                heads.append(c_ast.Case(child.expr, [c_ast.Goto(name, child.coord)], child.coord))
-            stmts = list(child.stmts or []) or [c_ast.EmptyStatement(child.coord)]
-            label = c_ast.Label(name, stmts[0], child.coord)
+                heads.append(tree.Case(child.expr, [tree.Goto(name, child.coord)], child.coord))
+            stmts = list(child.stmts or []) or [tree.EmptyStatement(child.coord)]
+            label = tree.Label(name, stmts[0], child.coord)
             self.spread(node, slot, child, [label, *stmts[1:]])
-        heads.append(c_ast.Default([c_ast.Goto(default, switch.coord)], switch.coord))
-        chosen = c_ast.Switch(switch.cond, c_ast.Compound(heads), switch.coord)
-        made = c_ast.Compound(
-            [chosen, holder.block_items[0], c_ast.Label(end, c_ast.EmptyStatement(switch.coord), switch.coord)]
+        heads.append(tree.Default([tree.Goto(default, switch.coord)], switch.coord))
+        chosen = tree.Switch(switch.cond, tree.Compound(heads), switch.coord)
+        made = tree.Compound(
+            [chosen, holder.block_items[0], tree.Label(end, tree.EmptyStatement(switch.coord), switch.coord)]
         )
         for node in walk(body):
             for slot, child in node.children():

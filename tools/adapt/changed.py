@@ -3,9 +3,7 @@ values behind the call, each of its integers an input of its own."""
 
 from typing import Any, Optional
 
-from pycparser import c_ast
-
-from . import kinds
+from . import kinds, tree
 from .declarators import Function
 from .kinds import Array, Pointer, Struct
 from .places import Place, arguments
@@ -24,10 +22,10 @@ CHANGING = set(
 def takes_const(function: Function, number: int) -> bool:
     """Whether a parameter is a pointer to what is const, or one of those that are any number of a function that only reads."""
     written = function.declaration.type.args.params if function.declaration.type.args else []
-    if number >= len(written) or isinstance(written[number], c_ast.EllipsisParam):
+    if number >= len(written) or isinstance(written[number], tree.EllipsisParam):
         return function.variadic and function.name not in CHANGING
     of = written[number].type
-    return isinstance(of, c_ast.PtrDecl) and "const" in (getattr(of.type, "quals", None) or [])
+    return isinstance(of, tree.PtrDecl) and "const" in (getattr(of.type, "quals", None) or [])
 
 
 def handed(places: Any, function: Function, number: int, argument: Any) -> Optional[Place]:
@@ -35,7 +33,7 @@ def handed(places: Any, function: Function, number: int, argument: Any) -> Optio
     if takes_const(function, number):
         return None
     of = places.names.constants.type_of(argument)
-    whole = isinstance(argument, c_ast.UnaryOp) and argument.op == "&"
+    whole = isinstance(argument, tree.UnaryOp) and argument.op == "&"
     if not isinstance(of, (Pointer, Array)) or not (
         whole or isinstance(of, Array) or isinstance(kinds.element(of.to), Struct)
     ):

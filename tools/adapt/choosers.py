@@ -25,7 +25,7 @@ class Choosers:
 
     def called(self, node: Any) -> Optional[Function]:
         """The function that a call calls: by its name, or by a pointer the one that chooses."""
-        known = self.names.meaning.get(id(node))
+        known = self.names.meaning.get(node)
         if isinstance(known, Function) or is_offset(node):
             return known if isinstance(known, Function) else None
         heap = known_call(node, self.columns.points.learned)

@@ -4,11 +4,9 @@ call by a pointer that meets one of them alone. What is copied is learned by a f
 import copy
 from typing import Any, Callable
 
-from pycparser import c_ast
-
-from . import kinds
+from . import kinds, tree
 from .declarators import Function
-from .jumps import walk
+from .tree import walk
 from .kinds import Pointer
 from .names import Names
 from .reading import Unit
@@ -51,9 +49,9 @@ class Clones:
         for unit in units if names else []:
             for node in walk(unit.tree) if direct else []:
                 spot = node.coord and ("direct", str(node.coord.file), str(node.coord.line), str(node.coord.column))
-                if isinstance(node, c_ast.FuncCall) and not isinstance(node.name, c_ast.ID) and spot in direct:
-                    node.name = c_ast.ID(direct[spot], node.coord)
-            items = [one for one in unit.tree.ext if isinstance(one, c_ast.FuncDef) and one.decl.name in names]
+                if isinstance(node, tree.FuncCall) and not isinstance(node.name, tree.ID) and spot in direct:
+                    node.name = tree.ID(direct[spot], node.coord)
+            items = [one for one in unit.tree.ext if isinstance(one, tree.FuncDef) and one.decl.name in names]
             for item in reversed(items):
                 if len(walk(item)) <= MOST_NODES and not self.keeps(item):
                     self.copied(unit, item)
@@ -63,20 +61,20 @@ class Clones:
         """Whether a function has static objects, or calls itself."""
         name = item.decl.name
         return any(
-            (isinstance(one, c_ast.Decl) and "static" in one.storage and one is not item.decl)
-            or (isinstance(one, c_ast.ID) and one.name == name)
+            (isinstance(one, tree.Decl) and "static" in one.storage and one is not item.decl)
+            or (isinstance(one, tree.ID) and one.name == name)
             for one in walk(item)
         )
 
     def copied(self, unit: Unit, item: Any) -> None:
         name = item.decl.name
-        calls = [
+        calls: list[Any] = [
             node
             for node in walk(unit.tree)
-            if isinstance(node, c_ast.FuncCall) and isinstance(node.name, c_ast.ID) and node.name.name == name
+            if isinstance(node, tree.FuncCall) and isinstance(node.name, tree.ID) and node.name.name == name
         ]
         made, heads, other = [], [], ""
-        first = next((one for one in unit.tree.ext if isinstance(one, c_ast.Decl) and one.name == name), None)
+        first = next((one for one in unit.tree.ext if isinstance(one, tree.Decl) and one.name == name), None)
         for number, call in enumerate(calls):
             if number < MOST_COPIES:
                 other = self.fresh(name)
@@ -93,10 +91,7 @@ class Clones:
     @staticmethod
     def renamed(item: Any, name: str) -> Any:
         made = copy.deepcopy(item)
-        decl = made.decl if isinstance(made, c_ast.FuncDef) else made
-        decl.name, decl.storage = name, ["static"]
-        of = decl.type
-        while not isinstance(of, c_ast.TypeDecl):
-            of = of.type
-        of.declname = name
+        decl = made.decl if isinstance(made, tree.FuncDef) else made
+        decl.storage = ["static"]
+        tree.rename(decl, name)
         return made

@@ -78,8 +78,7 @@ class ColumnItems(Statements):
     def column_values(self) -> dict[tuple[Variable, Path], dict[int, str]]:
         """The first values that lie in columns, by the column, the members and the number of the element."""
         found: dict[tuple[Variable, Path], dict[int, str]] = {}
-        texts = [variable for _, variable in self.places.columns.points.texts.values()]
-        for variable in [*self.names.variables, *texts]:
+        for variable in [*self.names.variables, *self.places.columns.points.texts.values()]:
             if variable.init is None or variable.home in ("local", "parameter"):
                 continue
             region = self.places.columns.home(variable)

@@ -45,7 +45,7 @@ class Columns:
         """All regions: those of objects and of the pointers in their types, and of their members."""
         found: dict[Region, None] = {}
         rest = [self.points.home(one) for one in list(self.points.homes)]
-        rest += [of.region for _, of in self.points.values.values() if isinstance(of, Pointer)]
+        rest += [of.region for of in self.points.values.values() if isinstance(of, Pointer)]
         while rest:
             one = rest.pop(0).root()
             if one not in found:

@@ -6,8 +6,6 @@ import subprocess
 import tempfile
 from typing import Any, Iterator
 
-from pycparser import c_generator
-
 from . import kinds
 from .heap import heap_call
 from .kinds import Array, Int, Path, Struct, Type
@@ -16,6 +14,7 @@ from .declarators import Function, Variable
 from .reading import compiler, is_system
 from .refusals import Stop
 from .models import model_of
+from .parsing import printed
 from .output import FELL, unmarked
 from .units import Units
 
@@ -61,7 +60,7 @@ __attribute__((constructor)) static void adapt_poison_{0}_{1}(void) {{
   __asan_poison_memory_region(adapt_const_{0}_{1}, 4096);
 }}
 """
-QUIET = "max_malloc_fill_size=65536:malloc_fill_byte=0:detect_leaks=0:abort_on_error=0:exitcode=70"
+QUIET = "max_malloc_fill_size=65536:malloc_fill_byte=0:detect_leaks=0:abort_on_error=0:exitcode=70:detect_stack_use_after_return=1"
 ENDED, FAILED, FELL_OFF = 0, -6, 77  # a run to its end, one whose assert failed, one off the end of a function
 TELLING = [0, 1, -1, 2, 3, 4, 5, 7, 8, 10, 16, 31, 64, 100, 127, 128, 200, 255, 256, -128, 32767, 65535]
 TELLING += [2**31 - 1, -(2**31), 2**32 - 1, 2**63 - 1]
@@ -107,7 +106,7 @@ def answering(writer: Units, function: Function, answer: str) -> str:
     node: Any = function.declaration
     result = f"return ({kinds.c_words(function.result)}) {answer};" if isinstance(function.result, Int) else ""
     node.storage, node.funcspec = [], []
-    return f"{c_generator.CGenerator().visit(node)} {{ {result} }}\n"
+    return f"{printed(node)} {{ {result} }}\n"
 
 
 class Comparison:

@@ -3,9 +3,7 @@
 import re
 from typing import Any, Callable, Optional
 
-from pycparser import c_ast
-
-from . import kinds, unions
+from . import kinds, tree, unions
 from .kinds import Array, Int, Struct, Type, fit
 from .refusals import Refused
 
@@ -81,7 +79,7 @@ def number(node: Any) -> tuple[int, Int]:
 
 def is_offset(node: Any) -> bool:
     """Whether a call is `offsetof`."""
-    return isinstance(node, c_ast.FuncCall) and isinstance(node.name, c_ast.ID) and node.name.name == "offsetof"
+    return isinstance(node, tree.FuncCall) and isinstance(node.name, tree.ID) and node.name.name == "offsetof"
 
 
 class Constants:
@@ -93,34 +91,34 @@ class Constants:
 
     def simple_place(self, node: Any) -> Type:
         """The type of a name, an element or a member."""
-        if isinstance(node, c_ast.ID):
-            meaning = self.names.meaning.get(id(node))
+        if isinstance(node, tree.ID):
+            meaning = self.names.meaning.get(node)
             return meaning.type if hasattr(meaning, "type") else kinds.VOID
-        if isinstance(node, c_ast.StructRef):
+        if isinstance(node, tree.StructRef):
             of = self.type_of(node.name)
             of = getattr(of, "to", getattr(of, "of", of)) if node.type == "->" else of
             path = unions.found(of, node.field.name)
             for name in path or []:
                 of = dict(of.members or [])[name]  # type: ignore[union-attr]
             return of if path else kinds.VOID
-        of = self.type_of(node.name if isinstance(node, c_ast.ArrayRef) else node.expr)
-        if isinstance(node, c_ast.ArrayRef) and isinstance(of, Int):
+        of = self.type_of(node.name if isinstance(node, tree.ArrayRef) else node.expr)
+        if isinstance(node, tree.ArrayRef) and isinstance(of, Int):
             of = self.type_of(node.subscript)
         return getattr(of, "to", getattr(of, "of", kinds.VOID))
 
     def type_of(self, node: Any) -> Type:
         """The type of an expression before any conversion of arrays."""
-        if isinstance(node, c_ast.Constant):
+        if isinstance(node, tree.Constant):
             return (
                 Array(character(node.value), len(codes(node.value)) + 1) if node.type == "string" else number(node)[1]
             )
-        if isinstance(node, c_ast.ID) and hasattr(self.names.meaning.get(id(node)), "value"):
+        if isinstance(node, tree.ID) and hasattr(self.names.meaning.get(node), "value"):
             return kinds.INT
-        if isinstance(node, (c_ast.ID, c_ast.StructRef, c_ast.ArrayRef)):
+        if isinstance(node, (tree.ID, tree.StructRef, tree.ArrayRef)):
             return self.place_type(node)
-        if isinstance(node, c_ast.UnaryOp):
+        if isinstance(node, tree.UnaryOp):
             return self.type_of_unary(node)
-        if isinstance(node, c_ast.BinaryOp):
+        if isinstance(node, tree.BinaryOp):
             if node.op in COMPARED or node.op in LOGICAL:
                 return kinds.INT
             left, right = self.type_of(node.left), self.type_of(node.right)
@@ -129,26 +127,28 @@ class Constants:
             if not isinstance(left, Int) or not isinstance(right, Int):
                 return left if not isinstance(left, Int) else right
             return kinds.promoted(left) if node.op in SHIFTS else kinds.common(left, right)
-        if isinstance(node, c_ast.TernaryOp):
+        if isinstance(node, tree.TernaryOp):
             left, right = self.type_of(node.iftrue), self.type_of(node.iffalse)
             if self.value(node.iftrue) == 0 and not isinstance(right, Int):
                 return kinds.adjusted(right)
             left = kinds.adjusted(left)
             return kinds.common(left, right) if isinstance(left, Int) and isinstance(right, Int) else left
-        if isinstance(node, c_ast.Assignment):
+        if isinstance(node, tree.Assignment):
             return self.type_of(node.lvalue)
-        if isinstance(node, c_ast.ExprList):
+        if isinstance(node, tree.ExprList):
             return self.type_of(node.exprs[-1])
-        if isinstance(node, (c_ast.Cast, c_ast.CompoundLiteral)):
-            to: Type = self.names.types.get(id(node.to_type if isinstance(node, c_ast.Cast) else node.type), kinds.VOID)
+        if isinstance(node, tree.StatementExpr):
+            return kinds.VOID if node.last is None else kinds.adjusted(self.type_of(node.last))
+        if isinstance(node, (tree.Cast, tree.CompoundLiteral)):
+            to: Type = self.names.types.get((node.to_type if isinstance(node, tree.Cast) else node.type), kinds.VOID)
             return to
         if is_offset(node):
             return kinds.SIZE
-        return self.called(node).result if isinstance(node, c_ast.FuncCall) else kinds.VOID
+        return self.called(node).result if isinstance(node, tree.FuncCall) else kinds.VOID
 
     def called(self, node: Any) -> Any:
         """The function, or the type of one, that a call calls."""
-        known = self.names.meaning.get(id(node))
+        known = self.names.meaning.get(node)
         if known is not None:
             return known
         of = self.type_of(node.name)
@@ -170,10 +170,10 @@ class Constants:
 
     def size_of(self, node: Any) -> int:
         """What `sizeof` gives of a type or an expression."""
-        meaning = self.names.meaning.get(id(node)) if isinstance(node, c_ast.ID) else None
+        meaning = self.names.meaning.get(node) if isinstance(node, tree.ID) else None
         if getattr(meaning, "home", "") == "parameter" and not isinstance(meaning.type, (Int, Struct)):
             return 8
-        of = self.names.types.get(id(node)) if isinstance(node, c_ast.Typename) else self.type_of(node)
+        of = self.names.types.get(node) if isinstance(node, tree.Typename) else self.type_of(node)
         known = kinds.size(of) if of is not None else None
         if known is None:
             raise Refused(node.coord, "the size isn't known", "write its number")
@@ -182,31 +182,31 @@ class Constants:
     def offset(self, node: Any, of: Type) -> tuple[int, Type]:
         """Where a member lies in a struct, and its type (7.19p3)."""
         at, inner = 0, of
-        if isinstance(node, c_ast.StructRef):
+        if isinstance(node, tree.StructRef):
             at, inner = self.offset(node.name, of)
             node = node.field
-        elif isinstance(node, c_ast.ArrayRef):
+        elif isinstance(node, tree.ArrayRef):
             at, inner = self.offset(node.name, of)
             known, size = self.value(node.subscript), kinds.size(getattr(inner, "of", inner))
             if known is not None and size is not None and isinstance(inner, Array):
                 return at + known * size, inner.of
         own = kinds.offsets(inner) if isinstance(inner, Struct) else {}
-        if not isinstance(node, c_ast.ID) or node.name not in own:
+        if not isinstance(node, tree.ID) or node.name not in own:
             raise Refused(node.coord, "an offset that isn't known", "write its number")
         return at + own[node.name], dict(getattr(inner, "members", None) or [])[node.name]
 
     def length_of(self, init: Any, of: Type) -> int:
         """The length of an array that has none of its own, by its initialiser (6.7.9p22)."""
-        if isinstance(init, c_ast.Constant):
+        if isinstance(init, tree.Constant):
             return len(codes(init.value)) + 1
         at, most = 0, 0
-        braced = all(isinstance(one, (c_ast.InitList, c_ast.NamedInitializer)) for one in init.exprs or [])
+        braced = all(isinstance(one, (tree.InitList, tree.NamedInitializer)) for one in init.exprs or [])
         if not braced and not isinstance(of, (Int, kinds.Pointer)):
             raise Refused(
                 init.coord, "an array without a length whose values have no braces of their own", "give its length"
             )
         for one in init.exprs or []:
-            if isinstance(one, c_ast.NamedInitializer):
+            if isinstance(one, tree.NamedInitializer):
                 at = self.value(one.name[0]) or 0
             at += 1
             most = max(most, at)
@@ -218,23 +218,23 @@ class Constants:
         return None if known is None else known[0]
 
     def known(self, node: Any) -> Optional[tuple[int, Int]]:
-        if isinstance(node, c_ast.Constant) and node.type != "string":
+        if isinstance(node, tree.Constant) and node.type != "string":
             return number(node)
-        if isinstance(node, c_ast.ID):
-            value = getattr(self.names.meaning.get(id(node)), "value", None)
+        if isinstance(node, tree.ID):
+            value = getattr(self.names.meaning.get(node), "value", None)
             return None if value is None else (value, kinds.INT)
-        if isinstance(node, c_ast.Cast):
-            to, one = self.names.types.get(id(node.to_type)), self.known(node.expr)
+        if isinstance(node, tree.Cast):
+            to, one = self.names.types.get(node.to_type), self.known(node.expr)
             return (fit(one[0], to), to) if one and isinstance(to, Int) else None
-        if isinstance(node, c_ast.UnaryOp):
+        if isinstance(node, tree.UnaryOp):
             return self.known_unary(node)
         if is_offset(node):
-            return self.offset(node.args.exprs[1], self.names.types[id(node.args.exprs[0])])[0], kinds.SIZE
-        if isinstance(node, c_ast.TernaryOp):
+            return self.offset(node.args.exprs[1], self.names.types[node.args.exprs[0]])[0], kinds.SIZE
+        if isinstance(node, tree.TernaryOp):
             test, of = self.known(node.cond), self.type_of(node)
             one = self.known(node.iftrue if test[0] else node.iffalse) if test else None
             return (fit(one[0], of), of) if one and isinstance(of, Int) else None
-        return self.known_binary(node) if isinstance(node, c_ast.BinaryOp) else None
+        return self.known_binary(node) if isinstance(node, tree.BinaryOp) else None
 
     def known_unary(self, node: Any) -> Optional[tuple[int, Int]]:
         if node.op == "sizeof":

@@ -4,9 +4,7 @@ from collections import ChainMap
 from dataclasses import dataclass, field
 from typing import Any, Optional
 
-from pycparser import c_ast
-
-from . import kinds
+from . import kinds, tree
 from .constants import Constants
 from .kinds import Array, Int, Other, Pointer, Signature, Struct, Type
 from .reading import Unit
@@ -91,13 +89,13 @@ def bit_field(declared: Int, width: int) -> Int:
 
 
 class Declarators:
-    """The names that are known so far. `meaning` is by the id of an ID or Decl node, `types` by that of a Typename."""
+    """The names that are known so far. `meaning` has what names, declarations and calls stand for, `types` what types' names give."""
 
     def __init__(self, refusals: Refusals) -> None:
         self.refusals = refusals
         self.linked: dict[Any, Any] = {}
-        self.meaning: dict[int, Any] = {}
-        self.types: dict[int, Type] = {}
+        self.meaning: dict[tree.Node, Any] = {}
+        self.types: dict[tree.Node, Type] = {}
         self.functions: list[Function] = []
         self.variables: list[Variable] = []
         self.enumerators: dict[str, Any] = {}
@@ -116,11 +114,13 @@ class Declarators:
 
     def type_of(self, node: Any) -> Type:
         """The type that a declarator or a Typename gives."""
-        if isinstance(node, (c_ast.Typename, c_ast.TypeDecl)):
+        if isinstance(node, (tree.Typename, tree.TypeDecl)):
             return self.type_of(node.type)
-        if isinstance(node, c_ast.IdentifierType):
+        if isinstance(node, tree.IdentifierType):
             return self.named(node)
-        if isinstance(node, c_ast.ArrayDecl):
+        if isinstance(node, tree.Typeof):
+            return self.type_of_typeof(node)
+        if isinstance(node, tree.ArrayDecl):
             of = self.type_of(node.type)
             if node.dim is None:
                 return Array(of, None)
@@ -129,23 +129,31 @@ class Declarators:
             if length is None or length < 1:
                 raise Refused(node.coord, "an array whose length is no positive constant", "give it a constant length")
             return Array(of, length)
-        if isinstance(node, c_ast.PtrDecl):
+        if isinstance(node, tree.PtrDecl):
             to = node.type
             return Pointer(self.type_of(to))
-        if isinstance(node, (c_ast.Struct, c_ast.Union)):
+        if isinstance(node, (tree.Struct, tree.Union)):
             return self.struct(node)
-        if isinstance(node, c_ast.Enum):
+        if isinstance(node, tree.Enum):
             return self.enum(node)
-        if isinstance(node, c_ast.FuncDecl):
+        if isinstance(node, tree.FuncDecl):
             return self.signature(node)
         raise Refused(node.coord, f"a type ({type(node).__name__})", "use an integer, an array or a struct")
+
+    def type_of_typeof(self, node: tree.Typeof) -> Type:
+        """What typeof gives, as gcc has it; its pointers have regions of their own."""
+        if isinstance(node.of, tree.Typename):
+            return self.type_of(node.of.type)
+        if not node.known:
+            self.expression(node.of)
+        return kinds.renewed(self.constants.type_of(node.of))
 
     def signature(self, node: Any) -> Signature:
         """The type of a function (6.7.6.3); its parameters are what they are adjusted to."""
         listed = list(node.args.params) if node.args else []
-        own = [self.usable(one.type) for one in listed if isinstance(one, (c_ast.Decl, c_ast.Typename))]
+        own = [self.usable(one.type) for one in listed if isinstance(one, (tree.Decl, tree.Typename))]
         taken = [kinds.adjusted(one) for one in own if one != kinds.VOID]
-        return Signature(self.usable(node.type), taken, any(isinstance(one, c_ast.EllipsisParam) for one in listed))
+        return Signature(self.usable(node.type), taken, any(isinstance(one, tree.EllipsisParam) for one in listed))
 
     def usable(self, node: Any) -> Type:
         """The type, or one that is refused where it is used."""
@@ -168,7 +176,7 @@ class Declarators:
         tag = node.name or f"at line {node.coord.line}"
         made = self.tags.get(tag) if node.name else None
         if made is None or (node.decls is not None and node.name and tag not in self.tags.maps[0]):
-            made = Struct(tag, union=isinstance(node, c_ast.Union))
+            made = Struct(tag, union=isinstance(node, tree.Union))
             self.structs.append(made)
             if node.name:
                 self.tags[tag] = made
@@ -176,12 +184,12 @@ class Declarators:
             return made
         members = []
         for one in node.decls:
-            if isinstance(one, c_ast.Decl) and one.bitsize is not None:
+            if isinstance(one, tree.Decl) and one.bitsize is not None:
                 members += self.bit_field(made, one)
                 continue
-            if isinstance(one, c_ast.Decl) and one.name is None and isinstance(one.type, (c_ast.Struct, c_ast.Union)):
+            if isinstance(one, tree.Decl) and one.name is None and isinstance(one.type, (tree.Struct, tree.Union)):
                 one.name = f"?{len(members)}"
-            if not isinstance(one, c_ast.Decl) or one.name is None:
+            if not isinstance(one, tree.Decl) or one.name is None:
                 cause = (one.coord or node.coord, "a member without a name", "use a member of its own")
                 made.fault = made.fault or cause
                 continue
@@ -229,7 +237,7 @@ class Declarators:
             )
             self.scope[one.name] = Enumerator(one.name, last, str(last) if taken else one.name)
             self.enumerators.setdefault(one.name, one.coord)
-            self.meaning[id(one)] = self.scope[one.name]
+            self.meaning[one] = self.scope[one.name]
         kind = kinds.INT if least < 0 else kinds.UINT
         if node.name:
             self.tags[node.name] = kind

@@ -3,8 +3,7 @@
 from dataclasses import dataclass, field
 from typing import Any, Optional
 
-from pycparser import c_ast
-
+from . import tree
 from .changed import changed
 from .constants import is_offset
 from .kinds import Array, Int, Pointer, Struct, leaves
@@ -64,9 +63,7 @@ class Effected:
     def __init__(self, names: Names, places: Places, inputs: set[str]) -> None:
         self.names, self.places, self.inputs = names, places, inputs
         self.of_function: dict[Function, Effects] = {function: Effects() for function in names.functions}
-        self.kept: dict[
-            int, tuple[Any, Effects]
-        ] = {}  # by a node's id, with the node, so that no other one gets its id
+        self.kept: dict[tree.Node, Effects] = {}
         defined = [function for function in names.functions if function.definition is not None]
         changed = True
         while changed:
@@ -120,29 +117,29 @@ class Effected:
 
     def of(self, node: Any) -> Effects:
         """The effects of an expression or a statement."""
-        if id(node) not in self.kept:
-            self.kept[id(node)] = node, self.made(node)
-        return self.kept[id(node)][1]
+        if node not in self.kept:
+            self.kept[node] = self.made(node)
+        return self.kept[node]
 
     def made(self, node: Any) -> Effects:
         found = Effects()
-        if isinstance(node, c_ast.UnaryOp) and node.op == "sizeof" or is_offset(node):
+        if isinstance(node, tree.UnaryOp) and node.op == "sizeof" or is_offset(node):
             return found
-        if isinstance(node, c_ast.Assignment):
+        if isinstance(node, tree.Assignment):
             self.named(node.lvalue, found, True, node.op != "=")
             found.add(self.of(node.rvalue))
-        elif isinstance(node, c_ast.UnaryOp) and node.op in STEPS:
+        elif isinstance(node, tree.UnaryOp) and node.op in STEPS:
             self.named(node.expr, found, True, True)
-        elif isinstance(node, c_ast.FuncCall):
+        elif isinstance(node, tree.FuncCall):
             self.called(node, found)
-        elif isinstance(node, (c_ast.ID, c_ast.StructRef, c_ast.ArrayRef)) or (
-            isinstance(node, c_ast.UnaryOp) and node.op == "*"
+        elif isinstance(node, (tree.ID, tree.StructRef, tree.ArrayRef)) or (
+            isinstance(node, tree.UnaryOp) and node.op == "*"
         ):
             self.named(node, found, False, True)
         else:
             for _, child in node.children():
                 found.add(self.of(child))
-            variable = self.names.meaning.get(id(node)) if isinstance(node, c_ast.Decl) else None
+            variable = self.names.meaning.get(node) if isinstance(node, tree.Decl) else None
             if isinstance(variable, Variable) and node.init is not None and variable.home == "local":
                 found.add(Effects({}, {one: False for one in objects(Place(variable, (), (), variable.type))}))
         return found

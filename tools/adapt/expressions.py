@@ -2,9 +2,7 @@
 
 from typing import Any, Callable, Optional
 
-from pycparser import c_ast
-
-from . import kinds
+from . import kinds, statement_exprs, tree
 from .assignments import Assignments
 from .constants import COMPARED, LOGICAL, SHIFTS, number
 from .effects import STEPS
@@ -48,28 +46,30 @@ class Expressions(Assignments):
                     node.coord, "an effect in a list of pointers", "assign the pointer in a statement of its own"
                 )
             return self.pointer(node.pointer)[node.part]
-        if isinstance(node, c_ast.Constant):
+        if isinstance(node, tree.Constant):
             return self.constant(node)
-        if isinstance(node, c_ast.ID):
+        if isinstance(node, tree.ID):
             return self.named(node)
-        if isinstance(node, (c_ast.StructRef, c_ast.ArrayRef)):
+        if isinstance(node, (tree.StructRef, tree.ArrayRef)):
             return self.read(node)
-        if isinstance(node, c_ast.UnaryOp):
+        if isinstance(node, tree.UnaryOp):
             return self.unary(node)
-        if isinstance(node, c_ast.BinaryOp):
+        if isinstance(node, tree.BinaryOp):
             return self.binary(node)
-        if isinstance(node, c_ast.TernaryOp):
+        if isinstance(node, tree.TernaryOp):
             return self.chosen(node)
-        if isinstance(node, c_ast.Assignment):
+        if isinstance(node, tree.Assignment):
             return self.assigned(node)
-        if isinstance(node, c_ast.ExprList):
+        if isinstance(node, tree.ExprList):
             for one in node.exprs[:-1]:
                 self.effect(one)
             return self.value(node.exprs[-1])
-        if isinstance(node, c_ast.Cast):
+        if isinstance(node, tree.Cast):
             return self.cast(node)
-        if isinstance(node, c_ast.FuncCall):
+        if isinstance(node, tree.FuncCall):
             return self.call_value(node)
+        if isinstance(node, tree.StatementExpr):
+            return statement_exprs.value(self, node)
         raise Refused(node.coord, f"an expression ({type(node).__name__})", "write it with the operators of integers")
 
     def constant(self, node: Any) -> Value:
@@ -87,7 +87,7 @@ class Expressions(Assignments):
         return Value(self.at(node) + text, kind, UNARY if text.startswith("-") else PRIMARY, truth=text in ("0", "1"))
 
     def named(self, node: Any) -> Value:
-        meaning = self.names.meaning.get(id(node))
+        meaning = self.names.meaning.get(node)
         if isinstance(meaning, Enumerator):
             text = meaning.out
             return Value(self.at(node) + text, kinds.INT, UNARY if text.startswith("-") else PRIMARY)
@@ -147,7 +147,7 @@ class Expressions(Assignments):
 
     def null(self, node: Any) -> Optional[str]:
         """What a test for a null pointer gives of a parameter to which each call hands an object."""
-        meaning = self.names.meaning.get(id(node)) if isinstance(node, c_ast.ID) else None
+        meaning = self.names.meaning.get(node) if isinstance(node, tree.ID) else None
         if not isinstance(meaning, Variable) or not (isinstance(meaning.type, Pointer) or meaning.binding == "lent"):
             return None
         if not meaning.is_bound:
@@ -188,11 +188,12 @@ class Expressions(Assignments):
 
     @staticmethod
     def is_size(node: Any) -> bool:
-        return isinstance(node, c_ast.UnaryOp) and node.op == "sizeof"
+        return isinstance(node, tree.UnaryOp) and node.op == "sizeof"
 
     def logical(self, node: Any) -> Value:
-        if not self.needs_statements(node.right):
-            left, right = self.test(node.left), self.test(node.right)
+        right = self.inline(node.right, lambda: self.test(node.right))
+        if right is not None:
+            left = self.test(node.left)
             level = LEVELS[node.op]
             text = f"{left.within(level)} {node.op} {right.within(level + 1)}"
             return Value(text, kinds.INT, level, truth=True, calls=left.calls or right.calls)
@@ -204,14 +205,14 @@ class Expressions(Assignments):
 
     def when(self, node: Any, then: Callable[[], None]) -> None:
         """Writes that something is done where a condition holds."""
-        if isinstance(node, c_ast.BinaryOp) and node.op == "&&" and self.needs_statements(node.right):
+        if isinstance(node, tree.BinaryOp) and node.op == "&&" and self.needs_statements(node.right):
             self.when(node.left, lambda: self.when(node.right, then))
             return
         self.braced(f"if ({self.test(node).text})", then)
 
     def unless(self, node: Any, then: Callable[[], None]) -> None:
         """Writes that something is done where a condition doesn't hold."""
-        if isinstance(node, c_ast.BinaryOp) and node.op == "||" and self.needs_statements(node.right):
+        if isinstance(node, tree.BinaryOp) and node.op == "||" and self.needs_statements(node.right):
             self.unless(node.left, lambda: self.unless(node.right, then))
             return
         self.braced(f"if (!{self.test(node).within(UNARY)})", then)
@@ -225,8 +226,10 @@ class Expressions(Assignments):
         kind = self.constants.type_of(node)
         if not isinstance(kind, Int):
             raise Refused(node.coord, "a choice between what are no integers", "use if")
-        if not (self.needs_statements(node.iftrue) or self.needs_statements(node.iffalse)):
-            test, yes, no = self.test(node.cond), self.value(node.iftrue), self.value(node.iffalse)
+        yes = self.inline(node.iftrue, lambda: self.value(node.iftrue))
+        no = self.inline(node.iffalse, lambda: self.value(node.iffalse))
+        if yes is not None and no is not None:
+            test = self.test(node.cond)
             text = f"{test.within(1)} ? {yes.text} : {no.within(0)}"
             return Value(text, kind, 0, truth=yes.truth and no.truth, calls=test.calls or yes.calls or no.calls)
         made = self.temporary(kind, "0")
@@ -252,7 +255,7 @@ class Expressions(Assignments):
         return Value(f"({to.text}) ({index.within(7)} == {NIL} ? 0 : {base} + {at})", to, UNARY)
 
     def cast(self, node: Any) -> Value:
-        to = self.names.types.get(id(node.to_type))
+        to = self.names.types.get(node.to_type)
         if not isinstance(to, Int):
             raise Refused(node.coord, "a conversion to what is no integer", "convert to an integer type")
         if self.is_pointer(node.expr) and not to.boolean:

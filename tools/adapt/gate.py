@@ -6,8 +6,8 @@ import tempfile
 
 from tools import program
 
+from . import tree
 from .output import FELL
-from .reading import Coord
 from .refusals import Refusals, Stop
 
 
@@ -39,6 +39,6 @@ def check(texts: dict[str, str], refusals: Refusals) -> None:
     if not found:
         raise Stop(f"the program ended with status {ended.status}: {(told or '?').splitlines()[0]}")
     code, word, name, line, more = found.groups()
-    at = Coord(names[name], int(line)) if name else Coord(next(iter(names.values())), 1)
+    at = tree.Coord(names[name], int(line)) if name else tree.Coord(next(iter(names.values())), 1)
     cause = f"the profile doesn't take what this would become: code {code} {word}{more}"
     refusals.add(at, cause, f"split it, or see bin/fshell --explain {code}")

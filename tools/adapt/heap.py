@@ -109,7 +109,7 @@ class Heap:
         if region.fault:
             raise Refused(node.coord, region.fault[1], region.fault[2])
         writer.unsequenced(node, arguments(node))
-        pool = self.columns.points.pools[id(node)]
+        pool = self.columns.points.pools[node]
         given = arguments(node)
         old = [writer.pointer(given[0])[INDEX].text] if called == "realloc" else []
         values = []
@@ -140,11 +140,11 @@ class Heap:
 
     def function(self, called: str, pool: Pool, region: Region) -> str:
         """The function that a call becomes."""
-        key = (called, id(pool.node))
+        key = (called, pool.node)
         name = self.name(key, called)
         if key in self.texts:
             return name
-        fails, sizes, used = self.fails(), self.sizes(region), self.name(("used", id(pool.node)), f"{name}_used")
+        fails, sizes, used = self.fails(), self.sizes(region), self.name(("used", pool.node), f"{name}_used")
         size, begin = kinds.size(region.elem) or 1, self.columns.begins[(region, pool.variable)]
         heads = {"malloc": "size_t n", "calloc": "size_t k, size_t n", "realloc": "int p, size_t n"}[called]
         wide, whole = ("k > 65535 | n > 65535 | ", "k * n") if called == "calloc" else ("", "n")

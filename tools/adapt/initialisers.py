@@ -1,11 +1,9 @@
 """Which expression gives each integer of an object its first value (6.7.9)."""
 
 from dataclasses import dataclass, field
-from typing import Any, Callable, Iterator
+from typing import Any, Callable, Optional
 
-from pycparser import c_ast
-
-from . import unions
+from . import tree, unions
 from .constants import Constants, codes
 from .kinds import Array, Int, Leaf, Other, Path, Pointer, Struct, Type
 from .refusals import Refused
@@ -15,20 +13,18 @@ Spot = tuple[Path, tuple[int, ...]]
 PARTS = (INDEX, END, BEGIN)
 
 
-class Part(c_ast.Node):  # type: ignore[misc]
+@dataclass(eq=False)
+class Part(tree.Node):
     """One of the integers of a pointer's value."""
 
-    __slots__ = ("pointer", "part", "coord", "__weakref__")
-    attr_names = ()
+    SLOTS = ("pointer",)
+    pointer: tree.Node
+    part: str
 
-    def __init__(self, pointer: Any, part: str) -> None:
-        self.pointer, self.part, self.coord = pointer, part, pointer.coord
-
-    def children(self) -> tuple[tuple[str, Any], ...]:
-        return (("pointer", self.pointer),)
-
-    def __iter__(self) -> Iterator[Any]:
-        yield self.pointer
+    @property
+    def coord(self) -> Optional[tree.Coord]:  # type: ignore[override]
+        """The pointer's place."""
+        return self.pointer.coord
 
 
 def none_of(leaf: Leaf) -> str:
@@ -66,19 +62,19 @@ class Filled:
     def fill(self, of: Type, spot: Spot, init: Any) -> None:
         if isinstance(of, Other):
             return  # (what has no integers gets no value)
-        if isinstance(of, Struct) and of.union and of.is_parts() and isinstance(init, c_ast.InitList):
+        if isinstance(of, Struct) and of.union and of.is_parts() and isinstance(init, tree.InitList):
             self.fill_parts(of, spot, init)
             return
-        if isinstance(init, c_ast.InitList) and isinstance(of, (Int, Pointer)):
+        if isinstance(init, tree.InitList) and isinstance(of, (Int, Pointer)):
             if len(init.exprs or []) != 1:
                 raise Refused(init.coord, "a list of values for an integer or a pointer", "give one value")
             self.fill(of, spot, init.exprs[0])
-        elif isinstance(init, c_ast.InitList):
+        elif isinstance(init, tree.InitList):
             self.listed(of, spot, init.exprs or [])
-        elif isinstance(init, c_ast.Constant) and init.type == "string" and isinstance(of, Array):
+        elif isinstance(init, tree.Constant) and init.type == "string" and isinstance(of, Array):
             found = (codes(init.value) + [0])[: of.length]
             for at, code in enumerate(found):
-                self.given[(spot[0], spot[1] + (at,))] = c_ast.Constant("int", str(code), init.coord)
+                self.given[(spot[0], spot[1] + (at,))] = tree.Constant("int", str(code), init.coord)
         elif isinstance(of, (Int, Pointer)):
             self.given[spot] = init
         else:
@@ -86,12 +82,13 @@ class Filled:
 
     def fill_parts(self, of: Struct, spot: Spot, init: Any) -> None:
         """The first value of a union that is one integer: that of its first or of a named member."""
-        items, member, carrier = init.exprs or [], (of.members or [])[0][1], of.type_of(of.path_of(""))
-        if items and isinstance(items[0], c_ast.NamedInitializer):
-            member, items = of.type_of(items[0].name[0].name), [items[0].expr]
+        items: list[Any] = list(init.exprs or [])
+        member, carrier = (of.members or [])[0][1], of.type_of(of.path_of(""))
+        if items and isinstance(items[0], tree.NamedInitializer):
+            member, items = of.type_of(getattr(items[0].name[0], "name")), [items[0].expr]
         own = Filled(self.constants)
         if isinstance(member, Array):
-            own.fill(member, ((), ()), items[0] if len(items) == 1 and isinstance(items[0], c_ast.InitList) else init)
+            own.fill(member, ((), ()), items[0] if len(items) == 1 and isinstance(items[0], tree.InitList) else init)
         elif items:
             own.fill(member, ((), ()), items[0])
         place = (spot[0] + (of.path_of(""),), spot[1])
@@ -105,7 +102,7 @@ class Filled:
             if known is None:
                 raise Refused(init.coord, "a first value of a part of a union that is no constant", "assign it")
             word |= known % (1 << inner.bits) << (inner.bits * (at[0] if at else 0))
-        self.given[place] = c_ast.Constant("int", f"{word}u" if word < 1 << 32 else f"{word}ul", init.coord)
+        self.given[place] = tree.Constant("int", f"{word}u" if word < 1 << 32 else f"{word}ul", init.coord)
 
     def part(self, of: Type, spot: Spot, at: int, init: Any) -> tuple[Type, Spot]:
         """The element or member of a number."""
@@ -132,7 +129,7 @@ class Filled:
         at = taken = 0
         while taken < len(items):
             item = items[taken]
-            if isinstance(item, c_ast.NamedInitializer):
+            if isinstance(item, tree.NamedInitializer):
                 at = self.number(of, item.name[0])
                 part, place = self.part(of, spot, at, item)
                 for designator in item.name[1:]:
@@ -147,15 +144,15 @@ class Filled:
     def next(self, part: Type, spot: Spot, items: list[Any], taken: int) -> int:
         """Fills a part by the next items, of which it takes several where it has no braces of its own."""
         item = items[taken]
-        string = isinstance(item, c_ast.Constant) and item.type == "string"
-        one = string or isinstance(part, (Int, Other, Pointer)) or isinstance(item, c_ast.InitList)
+        string = isinstance(item, tree.Constant) and item.type == "string"
+        one = string or isinstance(part, (Int, Other, Pointer)) or isinstance(item, tree.InitList)
         if one or isinstance(self.constants.type_of(item), Struct):
             self.fill(part, spot, item)
             return taken + 1
         members = (1 if part.union else len(part.members or [])) if isinstance(part, Struct) else 0
         count = (part.length or 0) if isinstance(part, Array) else members
         for at in range(count):
-            if taken >= len(items) or isinstance(items[taken], c_ast.NamedInitializer):
+            if taken >= len(items) or isinstance(items[taken], tree.NamedInitializer):
                 break
             inner, place = self.part(part, spot, at, item)
             taken = self.next(inner, place, items, taken)

@@ -4,15 +4,16 @@ they are. One with pointers is put there anew for each call."""
 import copy
 import os
 from functools import cache
-from typing import Any, NamedTuple
+from typing import Any
 
-from pycparser import c_ast, c_parser
-
-from .jumps import walk
+from . import tree
+from .tree import walk
+from .parsing import parsed
 from .reading import Unit
+from .sorting import SORTING, Sorted, written_for
 
 FOLDER = os.path.join(os.path.dirname(os.path.abspath(__file__)), "models")
-FILES = ("ctype.c", "stdlib.c", "builtin.c")
+FILES = ("ctype.c", "stdlib.c", "builtin.c", "sort.c")
 OUTPUT = set(
     "printf fprintf vprintf vfprintf puts fputs putchar putc fputc fflush perror setbuf setvbuf syslog".split()
 )
@@ -26,12 +27,8 @@ char *strncpy(char *, const char *, unsigned long); char *strcat(char *, const c
 int strncmp(const char *, const char *, unsigned long); char *strchr(const char *, int); char *strrchr(const char *, int);"""
 
 
-class Spot(NamedTuple):
+class Spot(tree.Coord):
     """The place of what stands in a model."""
-
-    file: str
-    line: int
-    column: int
 
 
 def without_comments(text: str) -> str:
@@ -47,18 +44,18 @@ def models() -> dict[str, Any]:
     found = {}
     for name in FILES:
         with open(os.path.join(FOLDER, name), encoding="utf-8") as file:
-            tree = c_parser.CParser().parse(without_comments(file.read()), name)
-        found.update({item.decl.name: item for item in tree.ext if isinstance(item, c_ast.FuncDef)})
+            unit = parsed(without_comments(file.read()), name)
+        found.update({str(item.decl.name): item for item in unit.ext if isinstance(item, tree.FuncDef)})
     return found
 
 
 @cache
 def known() -> dict[str, Any]:
-    return {item.name: item for item in c_parser.CParser().parse(KNOWN).ext}
+    return {str(item.name): item for item in parsed(KNOWN).ext if isinstance(item, tree.Decl)}
 
 
 def has_pointers(model: Any) -> bool:
-    return any(isinstance(one, c_ast.PtrDecl) for one in walk(model.decl.type))
+    return any(isinstance(one, tree.PtrDecl) for one in walk(model.decl.type))
 
 
 class Library:
@@ -67,14 +64,17 @@ class Library:
     def __init__(self, units: list[Unit], taken: set[str]) -> None:
         self.units, self.taken, self.count = units, taken, 0
         trees = [unit.tree for unit in units]
-        self.declared = {item.name for tree in trees for item in tree.ext if isinstance(item, c_ast.Decl) and item.name}
-        nodes = [node for tree in trees for node in walk(tree)]
-        own = {node.decl.name for node in nodes if isinstance(node, c_ast.FuncDef)}
-        own |= {node.name for node in nodes if isinstance(node, c_ast.Decl) and not self.is_function(node)}
+        self.declared = {item.name for one in trees for item in one.ext if isinstance(item, tree.Decl) and item.name}
+        nodes = [node for one in trees for node in walk(one)]
+        own = {node.decl.name for node in nodes if isinstance(node, tree.FuncDef)}
+        own |= {node.name for node in nodes if isinstance(node, tree.Decl) and not self.is_function(node)}
         self.missing, self.names = set(models()) - own, own | self.declared
         self.added: list[Any] = []
         self.wanted: dict[str, Any] = {}
-        self.expand(nodes)
+        self.sorted: list[Sorted] = []
+        for unit in units:
+            self.unit = unit
+            self.expand(walk(unit.tree))
         if "errno" in self.declared and not self.is_defined("errno"):
             self.add("errno", known()["errno"])
         front = units[0].files[0] if units else ""
@@ -90,37 +90,63 @@ class Library:
 
     @staticmethod
     def is_function(node: Any) -> bool:
-        return isinstance(node.type, c_ast.FuncDecl)
+        return isinstance(node.type, tree.FuncDecl)
 
     def is_defined(self, name: str) -> bool:
         items = [
-            item for unit in self.units for item in unit.tree.ext if isinstance(item, c_ast.Decl) and item.name == name
+            item for unit in self.units for item in unit.tree.ext if isinstance(item, tree.Decl) and item.name == name
         ]
         return any("extern" not in item.storage for item in items)
 
     def expand(self, nodes: list[Any]) -> None:
         """Finds the uses of models in a tree's nodes, and adds these."""
-        called = {id(node.name) for node in nodes if isinstance(node, c_ast.FuncCall)}
+        called = {node.name: node for node in nodes if isinstance(node, tree.FuncCall)}
         for node in nodes:
-            if (
-                isinstance(node, c_ast.ID)
+            if isinstance(node, tree.ID) and node.name in SORTING:
+                if node in called and node.name in self.missing:
+                    self.sort(called[node])
+            elif (
+                isinstance(node, tree.ID)
                 and node.name in self.missing
-                and (node.name in self.declared or id(node) in called)
+                and (node.name in self.declared or node in called)
             ):
                 model = models()[node.name]
-                if id(node) in called and has_pointers(model):
+                if node in called and has_pointers(model):
                     self.anew(node, model)
                 elif node.name not in self.wanted:
                     self.wanted[node.name] = model
                     self.add(node.name, model)
-            elif (
-                id(node) in called
-                and isinstance(node, c_ast.ID)
-                and node.name in known()
-                and node.name not in self.names
-            ):
+            elif node in called and isinstance(node, tree.ID) and node.name in known() and node.name not in self.names:
                 self.names.add(node.name)
                 self.added.insert(0, copy.deepcopy(known()[node.name]))
+
+    def declare(self, nodes: list[Any]) -> None:
+        """Declares what a model uses."""
+        for one in nodes:
+            if isinstance(one, tree.ID) and one.name in known() and one.name not in self.wanted:
+                self.wanted[one.name] = None
+                self.added.insert(0, copy.deepcopy(known()[one.name]))
+
+    def sort(self, call: Any) -> None:
+        """Puts the model of a call of qsort or bsearch behind its unit, and declares it in front."""
+        number, name = 1, f"{call.name.name}_1"
+        while name in self.taken:
+            number += 1
+            name = f"{call.name.name}_{number}"
+        self.taken.add(name)
+        items, path = self.unit.tree.ext, self.unit.path
+        functions = {str(one.decl.name) for one in items if isinstance(one, tree.FuncDef)}
+        functions |= {str(one.name) for one in items if isinstance(one, tree.Decl) and self.is_function(one)}
+        made = written_for(call, models()[call.name.name], name, functions)
+        lines = [one.coord.line for one in items if one.coord and str(one.coord.file) == path] or [1]
+        for item, at in ((made.prototype, min(lines)), (made.definition, max(lines))):
+            for node in walk(item):
+                self.count += 1
+                node.coord = Spot(path, at, self.count)
+        self.declare(walk(made.definition))
+        items[0:0] = [made.prototype]
+        items.append(made.definition)
+        self.sorted.append(made)
 
     def anew(self, node: Any, model: Any) -> None:
         """Adds a model for one call."""
@@ -135,16 +161,9 @@ class Library:
 
     def add(self, name: str, model: Any) -> None:
         made = copy.deepcopy(model)
-        if isinstance(made, c_ast.FuncDef):
-            made.decl.name = name
-            of = made.decl.type
-            while not isinstance(of, c_ast.TypeDecl):
-                of = of.type
-            of.declname = name
+        if isinstance(made, tree.FuncDef):
+            tree.rename(made.decl, name)
             inner = walk(made)
-            for one in inner:
-                if isinstance(one, c_ast.ID) and one.name in known() and one.name not in self.wanted:
-                    self.wanted[one.name] = None
-                    self.added.insert(0, copy.deepcopy(known()[one.name]))
+            self.declare(inner)
             self.expand(inner)
         self.added.append(made)

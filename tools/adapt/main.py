@@ -3,12 +3,16 @@
 import argparse
 import os
 import sys
-from typing import Any, Optional
+from typing import Optional
 
 from tools import program, source_map, usage
 
+from . import harness, mapping, needed
+from .compare import compared
 from .output import FELL
+from .pipeline import adapt, flags_of
 from .refusals import Refusals, Stop
+from .units import Units
 
 FIRST = "adapt is no part of what is proved: read and compare what it writes"
 
@@ -50,6 +54,8 @@ def parser_of_words() -> usage.Parser:
     parser.add_argument(
         "--check", action="store_true", help="each index of an array in an array is tested by an assert"
     )
+    about = "print which turns, frames and answers the entries need by what was written"
+    parser.add_argument("--bounds", action="store_true", help=about)
     overflow = "each signed operation that can overflow is a call of a function of DIR/overflow.h, with an assert"
     parser.add_argument("--check-overflow", action="store_true", help=overflow)
     narrowing = "so is each implicit conversion that may lose a value"
@@ -78,92 +84,6 @@ def pool(word: str) -> tuple[int, int]:
     return int(slots), int(elements or 16)
 
 
-def flags_of(given: argparse.Namespace) -> list[str]:
-    return [f"-I{one}" for one in given.folders] + [f"-D{one}" for one in given.macros]
-
-
-def adapt(given: argparse.Namespace, refusals: Refusals) -> tuple[dict[str, str], Any]:
-    """The text of each file that is written, by its original, and who wrote it. Parameters that can't stand for objects in
-    what is written, since these have a second name there, are pointers as any other in what is written next."""
-    apart: set[Any] = set()
-    while True:
-        tried = Refusals()
-        texts, writer = written(given, tried, apart)
-        if not tried.apart - apart:
-            copies = {one for one in apart if one[0] in ("copied", "direct")}
-            if tried.found and copies:  # (told in the words of the sources)
-                tried = Refusals()
-                written(given, tried, apart - copies)
-            refusals.found |= tried.found
-            return texts, writer
-        apart |= tried.apart
-
-
-def written(given: argparse.Namespace, refusals: Refusals, apart: set[Any]) -> tuple[dict[str, str], Any]:
-    from .bindings import Bindings
-    from .cases import Cases
-    from .choosers import Choosers
-    from .clones import Clones
-    from .columns import Columns
-    from .effects import Effected
-    from .gate import check
-    from .jumps import Jumps, walk
-    from .library import OUTPUT, Library
-    from .names import Names
-    from .output import File
-    from .overflow import writer_of
-    from .places import Places
-    from .reading import read
-    from .spelling import Spelling
-    from .unions import settle
-    from pycparser import c_ast
-
-    units = [read(path, flags_of(given), refusals) for path in given.sources]
-    if any(unit.tree is None for unit in units):
-        return {}, None
-    taken = {word for unit in units for word in unit.words}
-    numbers = iter(range(1, 1000000))
-
-    def flag(stem: str) -> str:
-        return next(name for name in (f"{stem}_{n}" for n in numbers) if name not in taken)
-
-    Clones(units, apart, flag)
-    Library(units, taken)
-    names = Names(refusals)
-    names.pool = given.pool
-    for unit in units:
-        for item in unit.tree.ext:
-            if isinstance(item, c_ast.FuncDef):
-                Cases(flag).function(item.body)
-                listed = item.decl.type.args.params if item.decl.type.args else []
-                Jumps(flag, refusals).function(item.body, {getattr(one, "name", "") or "" for one in listed})
-        taken.update(node.name for node in walk(unit.tree) if isinstance(node, c_ast.ID))
-        names.unit(unit)
-    settle(names.structs, names.named_members, names.initialised)
-    places = Places(names)
-    Bindings(places, apart).bind()
-    places.columns = Columns(names, apart)
-    places.choosers = Choosers(names, places.columns)
-    inputs = set(given.inputs) | OUTPUT
-    effected = Effected(names, places, inputs)
-    writer = writer_of(given)(names, places, effected, Spelling(names, taken), given.check)
-    writer.inputs = inputs
-    files = writer.write()
-    for path in given.sources:
-        files.setdefault(path, File(path))  # (which has no code)
-    order = dict.fromkeys(path for unit in units for path in unit.files)
-    kept = [path for path in order if path in files and (files[path].pieces or path in given.sources)]
-    texts = writer.finished({path: files[path].text(lines_of(path)) for path in kept})
-    if not refusals.found:
-        check(texts, refusals)
-    return texts, writer
-
-
-def lines_of(path: str) -> list[str]:
-    with open(path, encoding="utf-8", errors="surrogateescape") as file:
-        return file.read().split("\n")
-
-
 def put(folder: str, texts: dict[str, str]) -> list[str]:
     """Writes the files into the folder, each whole or not at all; their paths."""
     paths = []
@@ -182,36 +102,30 @@ def put(folder: str, texts: dict[str, str]) -> list[str]:
     return paths
 
 
-def put_map(folder: str, texts: dict[str, str], writer: Any) -> None:
+def put_map(folder: str, texts: dict[str, str], writer: Units) -> None:
     """Writes the map beside the files, by which tools show what the user wrote."""
-    from .mapping import text_of
-
     units = list({unit.path: unit for unit, _ in writer.names.items}.values())
     mapped = {path: text for path, text in texts.items() if path in writer.files}
     try:
-        program.write_whole(os.path.join(folder, source_map.NAME), text_of(writer, units, mapped, folder))
+        program.write_whole(os.path.join(folder, source_map.NAME), mapping.text_of(writer, units, mapped, folder))
     except program.Failure as failure:
         raise Stop(str(failure)) from None
 
 
-def write_harness(asked: argparse.Namespace, writer: Any, paths: list[str]) -> None:
+def write_harness(asked: argparse.Namespace, writer: Units, paths: list[str]) -> None:
     """Writes the tests of the original beside what was written."""
-    from .harness import how_to_compile, text_of
-
     entry, given = asked.harness
     try:
-        text, home = text_of(writer, paths, entry, given, asked.out)
+        text, home = harness.text_of(writer, paths, entry, given, asked.out)
     except program.Failure as failure:
         raise Stop(str(failure)) from failure
     name = os.path.join(asked.out, "tests.c")
     program.give(text, name)
-    print(f"wrote {name}: compile it with {how_to_compile(writer, asked.sources, home, flags_of(asked))}")
+    print(f"wrote {name}: compile it with {harness.how_to_compile(writer, asked.sources, home, flags_of(asked))}")
 
 
-def compare(asked: argparse.Namespace, writer: Any, texts: dict[str, str]) -> int:
+def compare(asked: argparse.Namespace, writer: Units, texts: dict[str, str]) -> int:
     """Says how many runs agree; the status."""
-    from .compare import compared
-
     differences, ended = compared(writer, asked.sources, texts, flags_of(asked), asked.compare)
     apart = f", of {ended} C gives the end no meaning" if ended else ""
     print("\n".join([*differences, f"compared {asked.compare} runs, {len(differences)} differ{apart}"]))
@@ -227,20 +141,21 @@ def main(given: Optional[list[str]] = None) -> int:
         if asked.compare and (asked.check_overflow or asked.check_conversions):
             raise Stop("--compare compares what is written without --check-overflow and --check-conversions")
         print(FIRST, flush=True)
-        texts, writer = adapt(asked, refusals)
-        if refusals.found:
+        made = adapt(asked, refusals)
+        if made is None or refusals.found:
             lines = refusals.lines()
             print("\n".join([*lines, f"{len(lines)} refused, nothing is written"]), file=sys.stderr)
             return 3
+        texts, writer = made
         paths = put(asked.out, texts)
         writer.put_table(asked.out)
         put_map(asked.out, texts, writer)
         print("wrote " + " ".join(paths))
+        if asked.bounds:
+            print(needed.text_of(texts, set(asked.sources)))
         if asked.harness:
             write_harness(asked, writer, paths)
         return compare(asked, writer, texts) if asked.compare else 0
-    except ModuleNotFoundError as missing:
-        print(f"adapt: {missing.name} isn't there (Debian's package python3-pycparser)", file=sys.stderr)
     except RecursionError:
         print("adapt: a source is nested too deep", file=sys.stderr)
     except Stop as stop:

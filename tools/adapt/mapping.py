@@ -10,13 +10,12 @@ import os
 from collections.abc import Iterator, Sequence
 from typing import Any, Optional
 
-from pycparser import c_ast
-
 from tools import program, source_map
 from tools.sources import CLOSING, OPENING, Source, plain
 
+from . import tree
 from .declarators import Variable
-from .jumps import walk
+from .tree import walk
 from .kinds import Pointer
 from .output import FELL, File
 from .reading import Unit
@@ -137,7 +136,7 @@ class Original:
             return None
         first, last = min(span[0] for span in spans), max(span[1] for span in spans)
         first, last = self._balanced(first, last)
-        if isinstance(node, c_ast.UnaryOp):  # (whose place is that of its operand)
+        if isinstance(node, tree.UnaryOp):  # (whose place is that of its operand)
             mark = node.op.removeprefix("p")
             first -= self.source.tokens[first - 1].text == mark and first > 0 and node.op == mark
             last += node.op != mark and self.source.tokens[last + 1].text == mark

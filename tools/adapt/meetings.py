@@ -2,9 +2,7 @@
 
 from typing import Any
 
-from pycparser import c_ast
-
-from . import kinds
+from . import kinds, tree
 from .bindings import key
 from .constants import is_offset
 from .declarators import Function, Variable
@@ -17,28 +15,26 @@ from .refusals import Refused
 
 def visit(points: Any, node: Any) -> None:
     try:
-        if isinstance(node, c_ast.Decl) and node.init is not None:
-            variable = points.names.meaning.get(id(node))
-            if isinstance(variable, Variable) and not isinstance(node.init, c_ast.InitList):
+        if isinstance(node, tree.Decl) and node.init is not None:
+            variable = points.names.meaning.get(node)
+            if isinstance(variable, Variable) and not isinstance(node.init, tree.InitList):
                 points.flow(node.init, variable.type)
-        elif isinstance(node, c_ast.Assignment):
+        elif isinstance(node, tree.Assignment):
             assigned(points, node)
-        elif isinstance(node, c_ast.FuncCall):
+        elif isinstance(node, tree.FuncCall):
             called(points, node)
-        elif isinstance(node, c_ast.Return) and node.expr is not None and points.function is not None:
+        elif isinstance(node, tree.Return) and node.expr is not None and points.function is not None:
             points.flow(node.expr, points.function.result)
-        elif isinstance(node, c_ast.UnaryOp) and node.op in ("++", "--", "p++", "p--"):
+        elif isinstance(node, tree.UnaryOp) and node.op in ("++", "--", "p++", "p--"):
             of = points.value(node.expr)
             if isinstance(of, Pointer):
                 root = of.region.root()
                 root.moved, root.down = True, root.down or "--" in node.op
-        elif isinstance(node, c_ast.BinaryOp):
+        elif isinstance(node, tree.BinaryOp):
             compared(points, node)
-        elif isinstance(node, (c_ast.ArrayRef, c_ast.StructRef)) or (
-            isinstance(node, c_ast.UnaryOp) and node.op == "*"
-        ):
+        elif isinstance(node, (tree.ArrayRef, tree.StructRef)) or (isinstance(node, tree.UnaryOp) and node.op == "*"):
             points.place(node)
-        elif isinstance(node, (c_ast.Cast, c_ast.TernaryOp)):
+        elif isinstance(node, (tree.Cast, tree.TernaryOp)):
             points.value(node)
     except Refused:
         pass  # (told where it is written)
@@ -64,7 +60,7 @@ def compared(points: Any, node: Any) -> None:
 
 
 def called(points: Any, node: Any) -> None:
-    function = points.names.meaning.get(id(node))
+    function = points.names.meaning.get(node)
     if is_offset(node):
         return
     if points.of_heap(node):
@@ -99,12 +95,12 @@ def called_by_pointer(points: Any, node: Any) -> None:
             pass  # (told where it is written)
 
 
-def handed_by_pointer(points: Any, done: set[int]) -> None:
+def handed_by_pointer(points: Any, done: set[tree.Node]) -> None:
     """What calls by pointers hand over reaches parameters where the pointer meets a function."""
     for _, node in points.pointer_calls:
         of = points.value(node.name)
-        if id(node) not in done and of.region.root().targets:
-            done.add(id(node))
+        if node not in done and of.region.root().targets:
+            done.add(node)
             for argument, to in zip(arguments(node), of.to.parameters):
                 points.tried(argument, to)
 
@@ -115,7 +111,7 @@ def of_model(points: Any, node: Any) -> None:
     regions = [of.region.root() for of in found if isinstance(of, Pointer)]
     for region in regions:
         region.pointed = region.moved = True
-    model = model_of(points.names.meaning.get(id(node)))
+    model = model_of(points.names.meaning.get(node))
     if model is not None and len(arguments(node)) == len(model.parameters):
         points.modelled.append((node, model))
     if len(regions) == 2 and all(region.root().elem is not None for region in regions):

@@ -6,9 +6,7 @@ import re
 from functools import cache
 from typing import Any, NamedTuple, Optional
 
-from pycparser import c_ast
-
-from . import kinds
+from . import kinds, tree
 from .declarators import Function
 from .initialisers import none_of
 from .kinds import Int, Pointer, Struct
@@ -70,9 +68,9 @@ def element_count(constants: Any, node: Any, size: int) -> Any:
     known = constants.value(node)
     if known is not None and known % size == 0:
         return known // size
-    while isinstance(node, c_ast.Cast):
+    while isinstance(node, tree.Cast):
         node = node.expr
-    if isinstance(node, c_ast.BinaryOp) and node.op == "*":
+    if isinstance(node, tree.BinaryOp) and node.op == "*":
         for one, other in ((node.left, node.right), (node.right, node.left)):
             if constants.value(other) == size:
                 return one

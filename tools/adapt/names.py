@@ -3,13 +3,12 @@
 from collections import ChainMap
 from typing import Any
 
-from pycparser import c_ast, c_generator
 
-
-from . import kinds
+from . import kinds, tree
 from .constants import is_offset
 from .declarators import Declarators, Function, Variable
 from .kinds import Array, Other
+from .parsing import printed
 from .reading import Unit, is_system
 from .refusals import Refused
 
@@ -28,11 +27,11 @@ class Names(Declarators):
     # ---- declarations
 
     def item(self, item: Any) -> None:
-        if isinstance(item, c_ast.Typedef):
+        if isinstance(item, tree.Typedef):
             self.typedef(item)
-        elif isinstance(item, c_ast.Decl):
+        elif isinstance(item, tree.Decl):
             self.declaration(item)
-        elif isinstance(item, c_ast.FuncDef):
+        elif isinstance(item, tree.FuncDef):
             self.definition(item)
 
     def typedef(self, node: Any) -> None:
@@ -40,12 +39,12 @@ class Names(Declarators):
         self.scope[node.name] = fixed or self.usable(node.type)
 
     def declaration(self, node: Any) -> None:
-        if isinstance(node.type, (c_ast.Struct, c_ast.Enum, c_ast.Union)) and node.name is None:
+        if isinstance(node.type, (tree.Struct, tree.Enum, tree.Union)) and node.name is None:
             self.type_of(node.type)
-        elif isinstance(node.type, c_ast.FuncDecl):
-            self.meaning[id(node)] = self.declared_function(node)
+        elif isinstance(node.type, tree.FuncDecl):
+            self.meaning[node] = self.declared_function(node)
         else:
-            self.meaning[id(node)] = self.variable(node)
+            self.meaning[node] = self.variable(node)
 
     def key(self, node: Any, static: bool) -> Any:
         """What links declarations of the file: the name, and of static ones the file, which for a header is its own."""
@@ -88,7 +87,7 @@ class Names(Declarators):
         made.volatile = made.volatile or "volatile" in (node.quals or []) or "volatile" in self.quals(node.type)
         made.defined = made.defined or "extern" not in node.storage or node.init is not None
         self.scope[node.name] = made
-        if isinstance(node.init, c_ast.InitList):
+        if isinstance(node.init, tree.InitList):
             self.initialised.append(of)
         if node.init is not None:
             made.init = node.init
@@ -98,19 +97,19 @@ class Names(Declarators):
     @staticmethod
     def quals(node: Any) -> list[str]:
         """The qualifiers of what an array has, or of the object itself."""
-        while isinstance(node, c_ast.ArrayDecl):
+        while isinstance(node, tree.ArrayDecl):
             node = node.type
         return list(getattr(node, "quals", None) or [])
 
     def initialiser(self, node: Any) -> None:
-        if isinstance(node, c_ast.InitList):
+        if isinstance(node, tree.InitList):
             for one in node.exprs or []:
                 self.initialiser(one)
-        elif isinstance(node, c_ast.NamedInitializer):
+        elif isinstance(node, tree.NamedInitializer):
             for one in node.name:
-                if isinstance(one, c_ast.ID):  # (a member's name, or a constant)
+                if isinstance(one, tree.ID):  # (a member's name, or a constant)
                     self.named_members.add(one.name)
-                    self.meaning[id(one)] = self.scope.get(one.name)
+                    self.meaning[one] = self.scope.get(one.name)
                 else:
                     self.expression(one)
             self.initialiser(node.expr)
@@ -130,7 +129,7 @@ class Names(Declarators):
             self.functions.append(made)
         elif made.definition is None and (parameters or not made.parameters):
             made.parameters = parameters
-        made.variadic = made.variadic or any(isinstance(one, c_ast.EllipsisParam) for one in self.written(node))
+        made.variadic = made.variadic or any(isinstance(one, tree.EllipsisParam) for one in self.written(node))
         self.scope.maps[-1][node.name] = self.scope[node.name] = made
         return made
 
@@ -141,21 +140,21 @@ class Names(Declarators):
     def parameters(self, node: Any) -> list[Variable]:
         made = []
         for one in self.written(node):
-            if isinstance(one, c_ast.EllipsisParam):
+            if isinstance(one, tree.EllipsisParam):
                 continue
             of = self.usable(one.type)
             if of == kinds.VOID:
                 continue
             of = kinds.Pointer(of) if isinstance(of, kinds.Signature) else of
             variable = Variable(one.name or "", of, one.coord or node.coord, "parameter")
-            self.meaning[id(one)] = variable
+            self.meaning[one] = variable
             made.append(variable)
         return made
 
     def definition(self, node: Any) -> None:
         self.prototyped(node)
         made = self.declared_function(node.decl)
-        self.meaning[id(node)] = made
+        self.meaning[node] = made
         if made.definition is not None:
             self.same_again(made, node)
             return
@@ -178,9 +177,9 @@ class Names(Declarators):
         if node.decl.type.args is None:
             return
         for at, one in enumerate(node.decl.type.args.params):
-            if isinstance(one, c_ast.ID):
-                word = c_ast.TypeDecl(one.name, [], None, c_ast.IdentifierType(["int"], one.coord), one.coord)
-                made = c_ast.Decl(one.name, [], [], [], [], word, None, None, one.coord)
+            if isinstance(one, tree.ID):
+                word = tree.TypeDecl(one.name, [], None, tree.IdentifierType(["int"], one.coord), one.coord)
+                made = tree.Decl(one.name, [], [], [], [], word, None, None, one.coord)
                 node.decl.type.args.params[at] = own.get(one.name, made)
         node.param_decls = None
 
@@ -190,7 +189,7 @@ class Names(Declarators):
             raise Refused(
                 node.decl.coord, f"{made.name} has another static object in each source", "define it in one source"
             )
-        texts = [c_generator.CGenerator().visit(one) for one in (made.definition, node)]
+        texts = [printed(one) for one in (made.definition, node)]
         if made.definition.decl.coord.file != node.decl.coord.file or texts[0] != texts[1]:
             raise Refused(
                 node.decl.coord, f"{made.name} is defined again, or otherwise in another source", "define it once"
@@ -201,12 +200,12 @@ class Names(Declarators):
     def statement(self, node: Any) -> None:
         self.refusals.go(node.coord)
         with self.refusals.gathered():
-            if isinstance(node, c_ast.DeclList):
+            if isinstance(node, tree.DeclList):
                 for one in node.decls:
                     self.statement(one)
-            elif isinstance(node, (c_ast.Decl, c_ast.Typedef)):
+            elif isinstance(node, (tree.Decl, tree.Typedef)):
                 self.item(node)
-            elif isinstance(node, (c_ast.Compound, c_ast.For, c_ast.While, c_ast.DoWhile, c_ast.If, c_ast.Switch)):
+            elif isinstance(node, (tree.Compound, tree.For, tree.While, tree.DoWhile, tree.If, tree.Switch)):
                 self.scope, self.tags = self.scope.new_child(), self.tags.new_child()
                 self.children(node)
                 self.scope, self.tags = self.scope.parents, self.tags.parents
@@ -218,28 +217,30 @@ class Names(Declarators):
             self.statement(child)
 
     def expression(self, node: Any) -> None:
-        if isinstance(node, c_ast.ID):
-            self.meaning[id(node)] = self.scope.get(node.name)
-            if isinstance(self.meaning[id(node)], Function):
-                self.meaning[id(node)].taken = True
-        elif isinstance(node, c_ast.FuncCall):
+        if isinstance(node, tree.ID):
+            self.meaning[node] = self.scope.get(node.name)
+            if isinstance(self.meaning[node], Function):
+                self.meaning[node].taken = True
+        elif isinstance(node, tree.FuncCall):
             self.call(node)
-        elif isinstance(node, c_ast.StructRef):
+        elif isinstance(node, tree.StructRef):
             self.named_members.add(node.field.name)
             self.expression(node.name)
-        elif isinstance(node, c_ast.ArrayRef) and isinstance(node.name, c_ast.Constant) and node.name.type == "string":
+        elif isinstance(node, tree.ArrayRef) and isinstance(node.name, tree.Constant) and node.name.type == "string":
             of = self.constants.type_of(node.name)
             text = Variable("text", of, node.coord, "static", node.name, self.function, True, True)
             self.variables.append(text)
-            self.meaning[id(node.name)] = text
+            self.meaning[node.name] = text
             self.expression(node.subscript)
-        elif isinstance(node, c_ast.Typename):
-            self.types[id(node)] = self.type_of(node.type)
-        elif isinstance(node, c_ast.InitList):
+        elif isinstance(node, tree.StatementExpr):
+            self.statement(node.body)
+        elif isinstance(node, tree.Typename):
+            self.types[node] = self.type_of(node.type)
+        elif isinstance(node, tree.InitList):
             self.initialiser(node)
-        elif isinstance(node, c_ast.CompoundLiteral):
+        elif isinstance(node, tree.CompoundLiteral):
             self.children(node)
-            self.initialised.append(self.types[id(node.type)])
+            self.initialised.append(self.types[node.type])
         else:
             self.children(node)
 
@@ -247,9 +248,9 @@ class Names(Declarators):
         if is_offset(node):
             self.expression(node.args.exprs[0])
             return
-        called = self.scope.get(node.name.name) if isinstance(node.name, c_ast.ID) else None
+        called = self.scope.get(node.name.name) if isinstance(node.name, tree.ID) else None
         if isinstance(called, Function):
-            self.meaning[id(node)] = called
+            self.meaning[node] = called
             called.calls.append((self.function, node))
         else:
             self.expression(node.name)

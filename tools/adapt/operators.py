@@ -4,7 +4,7 @@ import re
 from bisect import bisect_left
 from typing import Any, Optional
 
-from pycparser import c_ast
+from . import tree
 
 TOKEN = re.compile(
     r'//[^\n]*|/\*.*?\*/|"(?:\\.|[^"\\\n])*"|\'(?:\\.|[^\'\\\n])*\'|[A-Za-z_]\w*|\.?\d(?:[eEpP][+-]|[\w.])*'
@@ -66,47 +66,52 @@ def leftmost(node: Any, op: str) -> tuple[Any, int]:
     """The name or constant with which an expression begins, and how often the operator stands before it as a prefix."""
     count = 0
     while True:
-        if isinstance(node, c_ast.UnaryOp):
+        if isinstance(node, tree.UnaryOp):
             count += node.op == op
             node = node.expr
-        elif isinstance(node, c_ast.BinaryOp):
+        elif isinstance(node, tree.BinaryOp):
             node = node.left
-        elif isinstance(node, c_ast.TernaryOp):
+        elif isinstance(node, tree.TernaryOp):
             node = node.cond
-        elif isinstance(node, c_ast.Assignment):
+        elif isinstance(node, tree.Assignment):
             node = node.lvalue
-        elif isinstance(node, c_ast.Cast):
+        elif isinstance(node, tree.Cast):
             node = node.expr
-        elif isinstance(node, (c_ast.ArrayRef, c_ast.StructRef, c_ast.FuncCall)):
+        elif isinstance(node, (tree.ArrayRef, tree.StructRef, tree.FuncCall)):
             node = node.name
-        elif isinstance(node, c_ast.ExprList) and node.exprs:
+        elif isinstance(node, tree.ExprList) and node.exprs:
             node = node.exprs[0]
         else:
             return node, count
 
 
 def word_of(node: Any) -> str:
-    return str(node.name if isinstance(node, c_ast.ID) else getattr(node, "value", ""))
+    return str(node.name if isinstance(node, tree.ID) else getattr(node, "value", ""))
 
 
 def spot(original: Original, node: Any) -> Spot:
     """The place of the operator of an expression, or of its name or constant; within a macro that of the line's first token."""
     if (
-        not isinstance(node, (c_ast.BinaryOp, c_ast.UnaryOp, c_ast.Assignment))
+        not isinstance(node, (tree.BinaryOp, tree.UnaryOp, tree.Assignment))
         or node.op in ("*", "&")
         and not hasattr(node, "right")
     ):
         leaf, _ = leftmost(node, "")
         number = original.at(leaf.coord) if leaf.coord is not None else None
         is_there = number is not None and original.words[number] == word_of(leaf)
-        return original.spots[number] if number is not None and is_there else original.first_of(node.coord.line)
-    is_postfix = isinstance(node, c_ast.UnaryOp) and node.op in ("p++", "p--")
-    forward = is_postfix or isinstance(node, c_ast.Assignment)
+        return (
+            original.spots[number]
+            if number is not None and is_there
+            else original.first_of(node.coord.line if node.coord else 1)
+        )
+    is_postfix = isinstance(node, tree.UnaryOp) and node.op in ("p++", "p--")
+    forward = is_postfix or isinstance(node, tree.Assignment)
     op = node.op[1:] if is_postfix else node.op
-    operand = node.lvalue if isinstance(node, c_ast.Assignment) else getattr(node, "right", None) or node.expr
+    right = node.right if isinstance(node, tree.BinaryOp) else node.expr if isinstance(node, tree.UnaryOp) else None
+    operand = node.lvalue if isinstance(node, tree.Assignment) else right
     leaf, count = leftmost(operand, op)
-    found = None
+    found, line = None, node.coord.line if node.coord else 1
     number = original.at(leaf.coord) if leaf.coord is not None else None
     if number is not None and original.words[number] == word_of(leaf):
         found = original.behind(number, op) if forward else original.before(number, op, count)
-    return found or original.first_of(node.coord.line)
+    return found or original.first_of(line)

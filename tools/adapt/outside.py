@@ -2,8 +2,7 @@
 
 from typing import Any
 
-from pycparser import c_ast
-
+from . import tree
 from .changed import handed, takes_const
 from .declarators import Function
 from .kinds import Array, Int, Pointer
@@ -29,7 +28,7 @@ class OutsideCalls(PointerEffects):
                         f"an object is handed to {function.name}, which no source defines",
                         "give the source that defines it, or declare that it takes a pointer to const",
                     )
-                if not isinstance(argument, c_ast.Constant):
+                if not isinstance(argument, tree.Constant):
                     self.effect(argument)
         else:
             self.check_outer(function, node.coord)
@@ -57,8 +56,8 @@ class OutsideCalls(PointerEffects):
         """Whether a function that no source defines may change an object of these sources by an argument."""
         if not isinstance(self.constants.type_of(argument), (Pointer, Array)) or self.is_null(argument):
             return False
-        if isinstance(argument, c_ast.Constant) or self.stands(argument):
-            return not isinstance(argument, c_ast.Constant)
+        if isinstance(argument, tree.Constant) or self.stands(argument):
+            return not isinstance(argument, tree.Constant)
         region = self.places.columns.pointer(argument).region.root()
         ours = bool(region.objects) or region in self.places.columns.inner
         return ours and not takes_const(function, number)

@@ -12,13 +12,12 @@ import re
 from dataclasses import dataclass
 from typing import Any, Optional
 
-from pycparser import c_generator
-
 from tools import program
 
 from . import kinds, overflow_texts
 from .kinds import Int
 from .operators import Original, spot
+from .parsing import printed
 from .output import FELL, unmarked
 from .units import Units
 from .values import LEVELS, PRIMARY, UNARY, Value, number
@@ -33,6 +32,9 @@ def span_of(kind: Int) -> Span:
     """The least and the greatest number of a kind."""
     if kind.boolean:
         return 0, 1
+    if kind.width:  # (a bit-field)
+        half = 1 << (kind.width - 1)
+        return (-half, half - 1) if kind.below_zero else (0, 2 * half - 1)
     return (-(1 << (kind.bits - 1)), (1 << (kind.bits - 1)) - 1) if kind.signed else (0, (1 << kind.bits) - 1)
 
 
@@ -137,7 +139,7 @@ class Checked(Units):
         """The text of a call, with the mark of its site."""
         file = str(node.coord.file)
         line, column = spot(self.original_of(file), node)
-        text = " ".join(c_generator.CGenerator(reduce_parentheses=True).visit(node).split())
+        text = " ".join(printed(node, True).split())
         self.sites.append(Site(name, what, file, line, column, text))
         return f"{name}\x04{len(self.sites) - 1}\x05({', '.join(words)})"
 
@@ -215,7 +217,9 @@ class Checked(Units):
 
     def operated(self, node: Any, op: str, own: Value, given: Value) -> Value:
         made = self.checked(node, op, own, given) if op in CHECKED else None
-        return super().operated(node, op, own, given) if made is None else made
+        made = self.unchecked(op, own, given) if made is None else made
+        self.last = node, made
+        return made
 
     def step(self, node: Any, stable: bool = False) -> tuple[str, Int]:
         return super().step(node, True)
@@ -239,7 +243,7 @@ class Checked(Units):
         if node is None or node.coord is None or self.function is None or not self.narrows(value, kind):
             return super().converted(value, kind)
         function = self.helper(
-            ("to", value.kind.bits == 64 and not value.kind.signed, kind.bits, kind.signed),
+            ("to", value.kind.bits == 64 and not value.kind.signed, kind.bits, kind.signed, span_of(kind)),
             overflow_texts.conversion_stem(value.kind, kind),
             lambda called: overflow_texts.conversion(called, value.kind, kind),
         )

@@ -40,6 +40,8 @@ def operation(name: str, op: str, bits: int) -> str:
 
 
 def word(kind: Int) -> str:
+    if kind.width:
+        return f"{'' if kind.below_zero else 'u'}int{kind.width}"
     return f"{'' if kind.signed else 'u'}int{kind.bits}"
 
 
@@ -50,8 +52,13 @@ def conversion_stem(source: Int, target: Int) -> str:
 
 def conversion(name: str, source: Int, target: Int) -> str:
     """The function of a conversion to a kind that may not have the value: from `long`, which has those of all kinds but one."""
-    of = word(target) + "_t"
-    if source.signed or source.bits < 64:
+    of = target.text if target.width else word(target) + "_t"
+    if target.width:
+        half = 1 << (target.width - 1)
+        low, high = (-half, half - 1) if target.below_zero else (0, 2 * half - 1)
+        wide = not source.signed and source.bits == 64
+        given, asserted = "unsigned long" if wide else "long", f"a <= {high}" + ("" if wide else f" & a >= {low}")
+    elif source.signed or source.bits < 64:
         given, asserted = "long", "a >= 0" if target.bits == 64 else f"({of}) a == a"
     else:
         given, asserted = "unsigned long", f"a <= {(1 << (target.bits - target.signed)) - 1}"

@@ -2,11 +2,9 @@
 indexes into columns (columns.py)."""
 
 from dataclasses import dataclass, field, replace
-from typing import Any, Iterator, NamedTuple, Optional
+from typing import Any, NamedTuple, Optional
 
-from pycparser import c_ast
-
-from . import kinds, unions
+from . import kinds, tree, unions
 from .kinds import Array, Int, Other, Path, Pointer, Struct, Type, fault_of
 from .declarators import Variable
 from .names import Names
@@ -16,24 +14,19 @@ from .regions import Region
 USE = "name the object itself, or hand its address over as a parameter that is only dereferenced"
 
 
-class At(c_ast.Node):  # type: ignore[misc]
-    """The number of the element that a pointer points to, or of one at an index from it; each step is of `stride` elements."""
+@dataclass(eq=False)
+class At(tree.Node):
+    """The number of the element that a pointer points to, or of one at an index from it; each step is of `stride` elements.
+    Where it points to bytes, `tests` are what makes the index bad, and `ends` where its object ends and begins."""
 
-    __slots__ = ("pointer", "index", "stride", "coord", "raw", "tests", "ends", "__weakref__")
-    attr_names = ()
-
-    def __init__(self, pointer: Any, index: Any, stride: int, coord: Any, raw: bool = False) -> None:
-        self.pointer, self.index, self.stride, self.coord, self.raw = pointer, index, stride, coord, raw
-        self.tests: Any = (
-            None  # where it points to bytes, what makes the index bad, and where its object ends and begins
-        )
-        self.ends: Any = None
-
-    def children(self) -> tuple[tuple[str, Any], ...]:
-        return tuple((name, one) for name, one in (("pointer", self.pointer), ("index", self.index)) if one is not None)
-
-    def __iter__(self) -> Iterator[Any]:
-        yield from (one for _, one in self.children())
+    SLOTS = ("pointer", "index")
+    pointer: tree.Node
+    index: Optional[tree.Node]
+    stride: int
+    coord: Optional[tree.Coord] = None
+    raw: bool = False
+    tests: Any = None
+    ends: Any = None
 
 
 class View(NamedTuple):
@@ -66,7 +59,7 @@ class Place:
 
     def shifted(self) -> tuple[tuple[Any, int], ...]:
         """The indexes with what is added behind them."""
-        return self.indexes + (((c_ast.Constant("int", str(self.shift)), 1),) if self.shift else ())
+        return self.indexes + (((tree.Constant("int", str(self.shift)), 1),) if self.shift else ())
 
 
 class Places:
@@ -75,7 +68,7 @@ class Places:
         self.columns: Any = None  # set once regions have columns
         self.choosers: Any = None
         names.constants.place_type = self.type_at
-        self.zero = c_ast.Constant("int", "0")
+        self.zero = tree.Constant("int", "0")
 
     def type_at(self, node: Any) -> Type:
         try:
@@ -164,8 +157,8 @@ class Places:
         return replace(base, indexes=base.indexes + ((index, length),), type=base.type.of, around=around, row=False)
 
     def place(self, node: Any) -> Place:
-        if isinstance(node, c_ast.ID):
-            meaning = self.names.meaning.get(id(node))
+        if isinstance(node, tree.ID):
+            meaning = self.names.meaning.get(node)
             if not isinstance(meaning, Variable):
                 raise Refused(node.coord, f"{node.name} is no object here", "use a variable")
             if isinstance(meaning.type, Pointer) and meaning.is_bound:
@@ -175,26 +168,26 @@ class Places:
             if fault:
                 raise Refused(node.coord, f"{node.name}: {fault[0]}", fault[1])
             return made
-        if isinstance(node, c_ast.StructRef):
+        if isinstance(node, tree.StructRef):
             base = self.pointed(node.name) if node.type == "->" else self.place(node.name)
             return self.member(base, node.field.name, node)
-        if isinstance(node, c_ast.ArrayRef):
+        if isinstance(node, tree.ArrayRef):
             if isinstance(self.names.constants.type_of(node.name), Int):  # (6.5.2.1p2: both orders are the same)
                 return self.pointed(node.subscript, node.name)
             return self.pointed(node.name, node.subscript)
-        if isinstance(node, c_ast.UnaryOp) and node.op == "*":
+        if isinstance(node, tree.UnaryOp) and node.op == "*":
             return self.pointed(node.expr)
         raise Refused(node.coord, "what is no named object", "use a variable")
 
     def pointed(self, node: Any, index: Any = None) -> Place:
         """The object at a pointer, or at an index from it."""
-        if isinstance(node, c_ast.BinaryOp) and node.op == "+" and index is None:
+        if isinstance(node, tree.BinaryOp) and node.op == "+" and index is None:
             if not isinstance(self.names.constants.type_of(node.left), Int):
                 return self.pointed(node.left, node.right)
         first = index is None or self.names.constants.value(index) == 0
-        if isinstance(node, c_ast.UnaryOp) and node.op == "&" and first:
+        if isinstance(node, tree.UnaryOp) and node.op == "&" and first:
             return self.place(node.expr)
-        meaning = self.names.meaning.get(id(node)) if isinstance(node, (c_ast.ID, c_ast.Constant)) else None
+        meaning = self.names.meaning.get(node) if isinstance(node, (tree.ID, tree.Constant)) else None
         if isinstance(meaning, Variable) and isinstance(meaning.type, Pointer) and first:
             if isinstance(meaning.binding, Place):
                 made = self.of_variable(meaning.binding.variable)
@@ -207,12 +200,12 @@ class Places:
                     raise Refused(node.coord, f"{meaning.name} points to {fault[0]}", fault[1])
                 region = self.columns.home(meaning) if self.columns else None
                 return Place(meaning, (), (), meaning.type.to, 0, region)
-        if isinstance(meaning, Variable) and isinstance(node, c_ast.Constant) and isinstance(meaning.type, Array):
+        if isinstance(meaning, Variable) and isinstance(node, tree.Constant) and isinstance(meaning.type, Array):
             return self.element(self.of_variable(meaning), index or self.zero)
         of = self.names.constants.type_of(node)
         if self.columns and not isinstance(of, (Array, Other)):
             return self.at_pointer(node, index)
-        if not isinstance(node, (c_ast.ID, c_ast.StructRef, c_ast.ArrayRef, c_ast.UnaryOp)):
+        if not isinstance(node, (tree.ID, tree.StructRef, tree.ArrayRef, tree.UnaryOp)):
             raise Refused(node.coord, "arithmetic with a pointer", "use an index")
         return self.element(self.place(node), index or self.zero)
 
@@ -237,7 +230,7 @@ class Places:
     # ---- arguments
 
     def whole_array(self, node: Any) -> Place:
-        if not isinstance(node, (c_ast.ID, c_ast.StructRef, c_ast.ArrayRef)):
+        if not isinstance(node, (tree.ID, tree.StructRef, tree.ArrayRef)):
             raise Refused(
                 node.coord,
                 "a part of an array is handed over, or no array",
@@ -249,7 +242,7 @@ class Places:
         """The object whose address an argument is."""
         if self.names.constants.value(node) is not None:
             raise Refused(node.coord, "a null pointer is handed over", "hand over the address of a named object")
-        if isinstance(node, c_ast.Cast):
+        if isinstance(node, tree.Cast):
             raise Refused(node.coord, "a pointer is converted", USE)
         return self.pointed(node)
 

@@ -3,9 +3,7 @@
 from dataclasses import replace
 from typing import Any, Optional
 
-from pycparser import c_ast
-
-from . import kinds
+from . import kinds, tree
 from .declarators import Function, Variable
 from .effects import objects
 from .kinds import Array, Pointer
@@ -19,6 +17,9 @@ from .values import PRIMARY, UNARY, Known, Value, plus, times
 
 class PointerEffects(Pointers):
     def hand_back(self) -> None:
+        raise NotImplementedError
+
+    def hands_back(self) -> bool:
         raise NotImplementedError
 
     def compared(self, node: Any) -> Value:
@@ -44,7 +45,7 @@ class PointerEffects(Pointers):
             return
         if node.op != "=":
             raise Refused(node.coord, "arithmetic with a pointer", "use + and -")
-        self.unsequenced(node, [c_ast.ExprList([one for one, _ in place.indexes]), node.rvalue])
+        self.unsequenced(node, [tree.ExprList([one for one, _ in place.indexes]), node.rvalue])
         self.not_twice(node, place, node.rvalue)
         target = self.parts_at(place, self.index(place, True))
         parts = self.pointer(node.rvalue)
@@ -82,7 +83,7 @@ class PointerEffects(Pointers):
     def stepped_into(self, place: Place, names: list[str], numbers: list[int]) -> Place:
         while names or numbers:
             if isinstance(place.type, Array) and numbers:
-                place = self.places.element(place, c_ast.Constant("int", str(numbers.pop(0))))
+                place = self.places.element(place, tree.Constant("int", str(numbers.pop(0))))
             elif names and isinstance(place.type, kinds.Struct) and self.places.is_raw(place) and place.type.is_parts():
                 place = replace(place, type=place.type.type_of(names.pop(0)))
             elif names and names[0].startswith("@"):
@@ -132,7 +133,7 @@ class PointerEffects(Pointers):
         """Writes the return of a pointer: its index, and what else it has in objects of the file."""
         parts = self.pointer(expr)
         text = parts[INDEX].text
-        if parts[INDEX].calls and (self.outs(function) or len(of.region.parts()) > 1):
+        if parts[INDEX].calls and len(of.region.parts()) > 1 or self.hands_back():
             text = self.temporary(kinds.INT, text)
         for part in of.region.parts()[1 if function.calls else 0 :]:  # (what nothing calls gives no number)
             self.emit(f"{self.result_part(function, part)} = {parts[part].text};")

@@ -3,9 +3,7 @@ its object. An access outside of the object becomes the index -1, which ends a r
 
 from typing import Any, Optional
 
-from pycparser import c_ast
-
-from . import kinds
+from . import first_members, kinds, statement_exprs, tree
 from .declarators import Function, Variable
 from .effects import STEPS
 from .heap import heap_call
@@ -49,14 +47,14 @@ class Pointers(Writer):
         raise NotImplementedError
 
     def is_null(self, node: Any) -> bool:
-        while isinstance(node, c_ast.Cast):
+        while isinstance(node, tree.Cast):
             node = node.expr
         return self.constants.value(node) == 0
 
     def is_pointer(self, node: Any) -> bool:
         """Whether an expression is a pointer or an array that is one, but for parameters that stand for objects."""
         of = self.constants.type_of(node)
-        meaning = self.names.meaning.get(id(node)) if isinstance(node, c_ast.ID) else None
+        meaning = self.names.meaning.get(node) if isinstance(node, tree.ID) else None
         return isinstance(of, (Pointer, Array, Signature)) and not (isinstance(meaning, Variable) and meaning.is_bound)
 
     # ---- values
@@ -78,40 +76,43 @@ class Pointers(Writer):
             raise Refused(node.coord, fault[1], fault[2])
         if isinstance(self.constants.type_of(node), Signature):
             return self.code(node, of)
-        if isinstance(node, c_ast.Cast):
-            return self.pointer(node.expr)
-        if isinstance(node, c_ast.UnaryOp) and node.op == "&":
+        if isinstance(node, tree.Cast):
+            first = self.places.columns.points.firsts.get(node)
+            return first_members.cast(self, node, first) if first else self.pointer(node.expr)
+        if isinstance(node, tree.UnaryOp) and node.op == "&":
             return self.address(node)
-        if isinstance(node, c_ast.UnaryOp) and node.op in STEPS:
+        if isinstance(node, tree.UnaryOp) and node.op in STEPS:
             return self.stepped_pointer(node)
-        if isinstance(node, c_ast.BinaryOp):
+        if isinstance(node, tree.BinaryOp):
             left = self.is_pointer(node.left)
             return self.moved(node, node.left if left else node.right, node.right if left else node.left, node.op)
-        if isinstance(node, c_ast.Assignment):
+        if isinstance(node, tree.Assignment):
             self.effect(node)
             return self.loaded(node.lvalue)
-        if isinstance(node, c_ast.TernaryOp):
+        if isinstance(node, tree.TernaryOp):
             return self.chosen_pointer(node, of)
-        if isinstance(node, c_ast.ExprList):
+        if isinstance(node, tree.ExprList):
             for one in node.exprs[:-1]:
                 self.effect(one)
             return self.pointer(node.exprs[-1])
-        if isinstance(node, c_ast.FuncCall):
+        if isinstance(node, tree.FuncCall):
             return self.given_back(node, of)
+        if isinstance(node, tree.StatementExpr):
+            return statement_exprs.pointer(self, node, of.region.parts())
         if isinstance(self.constants.type_of(node), Array):
             return self.pointing_at_first(self.array(node))
         return self.loaded(node)
 
     def code(self, node: Any, of: Pointer) -> Parts:
         """A function's name, or what a pointer to one leads to, as a pointer."""
-        meaning = self.names.meaning.get(id(node)) if isinstance(node, c_ast.ID) else None
+        meaning = self.names.meaning.get(node) if isinstance(node, tree.ID) else None
         if not isinstance(meaning, Function):
             return self.pointer(node.expr)
         return {INDEX: Value(str(self.places.choosers.number(of.region, meaning)), kinds.INT, PRIMARY)}
 
     def array(self, node: Any) -> Place:
-        if isinstance(node, c_ast.Constant):
-            return self.places.of_variable(self.places.columns.points.texts[id(node)][1])
+        if isinstance(node, tree.Constant):
+            return self.places.of_variable(self.places.columns.points.texts[node])
         return self.places.place(node)
 
     def loaded(self, node: Any) -> Parts:
@@ -155,9 +156,9 @@ class Pointers(Writer):
         inner = node.expr
         if isinstance(self.constants.type_of(inner), Signature):
             return self.pointer(inner)
-        if isinstance(inner, c_ast.UnaryOp) and inner.op == "*" and self.is_pointer(inner.expr):
+        if isinstance(inner, tree.UnaryOp) and inner.op == "*" and self.is_pointer(inner.expr):
             return self.pointer(inner.expr)
-        if isinstance(inner, c_ast.ArrayRef) and isinstance(self.constants.type_of(inner.name), Pointer):
+        if isinstance(inner, tree.ArrayRef) and isinstance(self.constants.type_of(inner.name), Pointer):
             if self.is_pointer(inner.name):
                 return self.moved(node, inner.name, inner.subscript, "+")
         place = self.places.place(inner)
@@ -185,9 +186,6 @@ class Pointers(Writer):
         of = self.places.columns.pointer(node)
         return (kinds.size(of.to) or 1) if of.region.root().raw else kinds.elements(of.to)
 
-    def steady_value(self, value: Value) -> Value:
-        return Value(self.temporary(value.kind, value.text), value.kind, PRIMARY) if value.calls else value
-
     def moved(self, node: Any, base: Any, by: Any, op: str) -> Parts:
         """A pointer moved by a number of elements."""
         self.unsequenced(node, [base, by])
@@ -207,7 +205,7 @@ class Pointers(Writer):
         parts = self.parts_at(place, self.index(place, True))
         target = parts[INDEX].text
         step, before = self.step_text(node, target), not node.op.startswith("p")
-        if before or id(node) in self.behind:
+        if before or node in self.behind:
             self.emit(step) if before else self.after.append(step)
             return parts
         old = self.temporary(kinds.INT, target)
@@ -220,8 +218,10 @@ class Pointers(Writer):
 
     def chosen_pointer(self, node: Any, of: Pointer) -> Parts:
         names = of.region.parts()
-        if not (self.needs_statements(node.iftrue) or self.needs_statements(node.iffalse)):
-            test, yes, no = self.test(node.cond), self.pointer(node.iftrue), self.pointer(node.iffalse)
+        yes = self.inline(node.iftrue, lambda: self.pointer(node.iftrue))
+        no = self.inline(node.iffalse, lambda: self.pointer(node.iffalse))
+        if yes is not None and no is not None:
+            test = self.test(node.cond)
             if not any(one.calls for one in [test, *yes.values(), *no.values()]) or len(names) == 1:
                 texts = {name: f"{test.within(1)} ? {yes[name].text} : {no[name].within(0)}" for name in names}
                 return {name: Value(text, kinds.INT, 0, calls=test.calls) for name, text in texts.items()}

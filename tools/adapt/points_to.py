@@ -2,11 +2,10 @@
 
 from typing import Any, Optional
 
-from pycparser import c_ast
-
-from . import kinds, unions
-from .bindings import with_parents
+from . import kinds, tree, unions
+from .tree import with_parents
 from .declarators import Function, Variable
+from .first_members import FirstMember, related
 from .heap import GIVES, Pool, heap_call, known_call
 from .initialisers import filled
 from .kinds import Array, Int, Pointer, Signature, Struct, Type
@@ -23,12 +22,13 @@ from .unification import Unification
 class PointsTo(Unification):
     def __init__(self, names: Names, learned: set[Any]) -> None:
         self.names, self.constants, self.learned = names, names.constants, learned
-        self.pools: dict[int, Pool] = {}
+        self.pools: dict[tree.Node, Pool] = {}
+        self.firsts: dict[tree.Node, FirstMember] = {}
         self.parts: list[tuple[Region, Region, Any]] = []
         self.modelled: list[tuple[Any, Model]] = []
         super().__init__()
-        self.texts: dict[int, tuple[Any, Variable]] = {}
-        self.values: dict[int, tuple[Any, Type]] = {}
+        self.texts: dict[tree.Node, Variable] = {}
+        self.values: dict[tree.Node, Type] = {}
         self.function: Optional[Function] = None
         self.pointer_calls: list[tuple[Optional[Function], Any]] = []
         self.codes: dict[Function, Pointer] = {}
@@ -48,10 +48,10 @@ class PointsTo(Unification):
 
     def place(self, node: Any) -> tuple[Type, Region]:
         """The type of what an expression names, and the region in which it lies."""
-        meaning = self.names.meaning.get(id(node)) if isinstance(node, c_ast.ID) else None
+        meaning = self.names.meaning.get(node) if isinstance(node, tree.ID) else None
         if isinstance(meaning, Variable):
             return meaning.type, self.home(meaning)
-        if isinstance(node, c_ast.StructRef):
+        if isinstance(node, tree.StructRef):
             of, region = self.pointee(node.name) if node.type == "->" else self.place(node.name)
             path = unions.found(of, node.field.name)
             if path is None:
@@ -59,7 +59,7 @@ class PointsTo(Unification):
             for name in path:
                 of, region = self.member(of, region, name, node)
             return of, region
-        if isinstance(node, c_ast.ArrayRef):
+        if isinstance(node, tree.ArrayRef):
             base, index = node.name, node.subscript
             if isinstance(self.constants.type_of(base), Int):
                 base, index = index, base
@@ -67,16 +67,16 @@ class PointsTo(Unification):
             if not isinstance(self.constants.type_of(base), Array):
                 self.moves(region, index)
             return of, region
-        if isinstance(node, c_ast.UnaryOp) and node.op == "*":
+        if isinstance(node, tree.UnaryOp) and node.op == "*":
             return self.pointee(node.expr)
-        if isinstance(node, c_ast.FuncCall):
+        if isinstance(node, (tree.FuncCall, tree.StatementExpr)):
             of = self.constants.type_of(node)
             return of, Region(of)
-        if isinstance(node, (c_ast.ExprList, c_ast.Assignment, c_ast.TernaryOp)):
+        if isinstance(node, (tree.ExprList, tree.Assignment, tree.TernaryOp)):
             parts = (
                 [node.iftrue]
-                if isinstance(node, c_ast.TernaryOp)
-                else [node.exprs[-1] if isinstance(node, c_ast.ExprList) else node.lvalue]
+                if isinstance(node, tree.TernaryOp)
+                else [node.exprs[-1] if isinstance(node, tree.ExprList) else node.lvalue]
             )
             return self.place(parts[0])
         raise Refused(node.coord, "what is no named object", "use a variable")
@@ -98,15 +98,15 @@ class PointsTo(Unification):
 
     def pointee(self, node: Any) -> tuple[Type, Region]:
         """What a pointer, or an array, leads to."""
-        meaning = self.names.meaning.get(id(node)) if isinstance(node, c_ast.ID) else None
+        meaning = self.names.meaning.get(node) if isinstance(node, tree.ID) else None
         if isinstance(meaning, Variable) and meaning.is_bound and not isinstance(meaning.type, (Int, Struct)):
             return self.bound(meaning)
-        if isinstance(node, c_ast.UnaryOp) and node.op == "&":
+        if isinstance(node, tree.UnaryOp) and node.op == "&":
             return self.place(node.expr)
-        if isinstance(node, c_ast.Constant) and isinstance(self.names.meaning.get(id(node)), Variable):
-            text = self.names.meaning[id(node)]
+        if isinstance(node, tree.Constant) and isinstance(self.names.meaning.get(node), Variable):
+            text = self.names.meaning[node]
             return kinds.element(text.type), self.home(text)
-        if isinstance(node, (c_ast.ID, c_ast.StructRef, c_ast.ArrayRef, c_ast.UnaryOp)):
+        if isinstance(node, (tree.ID, tree.StructRef, tree.ArrayRef, tree.UnaryOp)):
             if isinstance(self.constants.type_of(node), Array):
                 of, region = self.place(node)
                 return (of.of if isinstance(of, Array) else of), region
@@ -129,48 +129,52 @@ class PointsTo(Unification):
 
     def value(self, node: Any) -> Type:
         """The type of a value; of a pointer with its region."""
-        if id(node) not in self.values:
-            self.values[id(node)] = node, self.made(node)
-        return self.values[id(node)][1]
+        if node not in self.values:
+            self.values[node] = self.made(node)
+        return self.values[node]
 
     def made(self, node: Any) -> Type:
-        if isinstance(node, c_ast.Constant) and node.type == "string":
+        if isinstance(node, tree.Constant) and node.type == "string":
             return self.text(node)
         if isinstance(self.constants.type_of(node), Signature):
             return self.code(node)
-        if isinstance(node, c_ast.UnaryOp) and node.op == "&":
+        if isinstance(node, tree.UnaryOp) and node.op == "&":
             return self.address(node)
-        if isinstance(node, c_ast.UnaryOp) and node.op in ("++", "--", "p++", "p--"):
+        if isinstance(node, tree.UnaryOp) and node.op in ("++", "--", "p++", "p--"):
             return self.value(node.expr)
-        if isinstance(node, c_ast.BinaryOp) and node.op in ("+", "-"):
+        if isinstance(node, tree.BinaryOp) and node.op in ("+", "-"):
             return self.sum(node)
-        if isinstance(node, c_ast.TernaryOp):
+        if isinstance(node, tree.TernaryOp):
             one, other = self.value(node.iftrue), self.value(node.iffalse)
             if isinstance(one, Pointer) and isinstance(other, Pointer):
                 self.unify(one.region, other.region, node.coord)
             if self.is_null(node.iftrue) and isinstance(other, Pointer):
                 return other
             return one
-        if isinstance(node, c_ast.ExprList):
+        if isinstance(node, tree.ExprList):
             return self.value(node.exprs[-1])
-        if isinstance(node, c_ast.Assignment):
+        if isinstance(node, tree.StatementExpr):
+            return kinds.VOID if node.last is None else self.value(node.last)
+        if isinstance(node, tree.Assignment):
             return self.value(node.lvalue)
-        if isinstance(node, c_ast.FuncCall) and self.of_heap(node) in GIVES:
+        if isinstance(node, tree.FuncCall) and self.of_heap(node) in GIVES:
             return self.allocated(node)
-        model = model_of(self.names.meaning.get(id(node))) if isinstance(node, c_ast.FuncCall) else None
+        model = model_of(self.names.meaning.get(node)) if isinstance(node, tree.FuncCall) else None
         if model is not None and model.gives_pointer and arguments(node):
             return self.value(arguments(node)[0])
-        if isinstance(node, c_ast.Cast):
-            to = self.names.types.get(id(node.to_type), kinds.VOID)
-            self.flow(node.expr, to)
-            return to
-        if isinstance(node, (c_ast.ID, c_ast.StructRef, c_ast.ArrayRef, c_ast.UnaryOp)):
+        if isinstance(node, tree.Cast):
+            to: Type = self.names.types.get(node.to_type, kinds.VOID)
+            first = related(self, node, to)
+            if first is None:
+                self.flow(node.expr, to)
+            return first or to
+        if isinstance(node, (tree.ID, tree.StructRef, tree.ArrayRef, tree.UnaryOp)):
             return self.decayed(node)
         return self.constants.type_of(node)
 
     def code(self, node: Any) -> Type:
         """The pointer that a function's name, or what a pointer to one leads to, is (6.3.2.1p4)."""
-        meaning = self.names.meaning.get(id(node)) if isinstance(node, c_ast.ID) else None
+        meaning = self.names.meaning.get(node) if isinstance(node, tree.ID) else None
         if not isinstance(meaning, Function):
             return self.value(node.expr)
         if meaning not in self.codes:
@@ -194,20 +198,20 @@ class PointsTo(Unification):
         of, region = self.place(node.expr)
         region.root().pointed = True
         inner = node.expr
-        while isinstance(inner, c_ast.ArrayRef):
+        while isinstance(inner, tree.ArrayRef):
             self.moves(region, inner.subscript)
             inner = inner.name
         return Pointer(of, region)
 
     def of_heap(self, node: Any) -> str:
         """The function of the heap that a call calls, if it does."""
-        return heap_call(self.names.meaning.get(id(node))) or known_call(node, self.learned)
+        return heap_call(self.names.meaning.get(node)) or known_call(node, self.learned)
 
     def allocated(self, node: Any) -> Type:
         """Memory that a call gives: an object of its own."""
         name = self.of_heap(node)
         variable = Variable("heap", kinds.VOID, node.coord, "pool", function=self.function, defined=True)
-        self.pools[id(node)] = Pool(node, name, variable, self.names.pool[0])
+        self.pools[node] = Pool(node, name, variable, self.names.pool[0])
         made = Pointer(kinds.VOID)
         made.region.objects.append(variable)
         made.region.pointed = True
@@ -218,11 +222,11 @@ class PointsTo(Unification):
 
     def text(self, node: Any) -> Type:
         """A string is an object of its own."""
-        if id(node) not in self.texts:
+        if node not in self.texts:
             of = self.constants.type_of(node)
             made = Variable("text", of, node.coord, "text", node, self.function, True, True)
-            self.texts[id(node)] = node, made
-        made = self.texts[id(node)][1]
+            self.texts[node] = made
+        made = self.texts[node]
         region = self.home(made)
         region.pointed = True
         return Pointer(kinds.element(made.type), region)
@@ -250,7 +254,7 @@ class PointsTo(Unification):
             root.moved, root.down = True, root.down or (known < 0) != back
 
     def is_null(self, node: Any) -> bool:
-        while isinstance(node, c_ast.Cast):
+        while isinstance(node, tree.Cast):
             node = node.expr
         return self.constants.value(node) == 0
 
@@ -258,7 +262,7 @@ class PointsTo(Unification):
 
     def flow(self, node: Any, to: Type) -> None:
         """A value becomes one of a type."""
-        if isinstance(node, c_ast.InitList):
+        if isinstance(node, tree.InitList):
             self.first_values(to, node)
             return
         of = self.value(node)

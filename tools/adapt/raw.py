@@ -68,7 +68,7 @@ class Raw:
         for node, length in place.shifted():
             one = writer.value(node)
             if not isinstance(node, At):
-                one = self.narrow(one, tests)
+                one = self.narrow(writer.steady_value(one), tests)
             base = plus(times(base, length), one)
         if at is not None and at.tests is not None:
             tests += at.tests

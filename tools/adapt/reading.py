@@ -5,8 +5,9 @@ import re
 import shutil
 import subprocess
 from dataclasses import dataclass, field
-from typing import Any, NamedTuple, Optional
+from typing import Any, Optional
 
+from . import gnu, parsing, tree
 from .refusals import JUDGED, Refusals, Stop
 
 HEADERS = os.path.join(os.path.dirname(os.path.abspath(__file__)), "headers")
@@ -25,7 +26,6 @@ FOREIGN = {
     "_Alignas": "an alignment; leave it out",
     "_Thread_local": "an object of a thread; use a plain one",
     "__int128": "an integer of 128 bits; use two of 64",
-    "__typeof__": "typeof; write the type",
 }
 # words of GNU C that say what C's own ones do, or nothing
 PLAIN = {
@@ -61,8 +61,6 @@ HEADERS_LEFT_OUT = {
     "unistd.h": "declare what is used of it; a function without parameters that gives an integer is an input",
 }
 ATTRIBUTE = re.compile(r"\b__attribute(?:__)?\b\s*\(((?:[^()]|\((?:[^()]|\((?:[^()]|\([^()]*\))*\))*\))*)\)")
-RANGE = re.compile(r"\bcase\s+(-?\w+|'[^'\\]')\s*\.\.\.\s*(-?\w+|'[^'\\]')\s*:")
-MOST_CASES = 300
 # builtin functions of the compiler, by what they say in C; the others that have a model stand in models/
 BUILTINS = [
     "__builtin_expect(e, c)=(e)",
@@ -76,15 +74,10 @@ BUILTINS += [
     for name in "abort abs labs llabs memcpy memmove memset memcmp memchr strlen strcpy strncpy strcat strncat strcmp strncmp strchr "
     "strrchr strstr strspn strcspn strpbrk malloc calloc realloc free printf puts putchar isdigit isalpha tolower toupper stpcpy".split()
 ]
-SAME_WORD = {"__asm__": "asm", "__asm": "asm", "typeof": "__typeof__"}
+SAME_WORD = {"__asm__": "asm", "__asm": "asm"}
 WORDS = re.compile(r'"(?:\\.|[^"\\])*"|\'(?:\\.|[^\'\\])*\'|[A-Za-z_]\w*|[{}]|[^\sA-Za-z_"\'{}]+')
 QUOTED = re.compile(r'"(?:\\.|[^"\\])*"|\'(?:\\.|[^\'\\])*\'')
 MARKER = re.compile(r'#\s*(?:line\s+)?(\d+)\s+"((?:\\.|[^"\\])*)"([ \d]*)')
-
-
-class Coord(NamedTuple):
-    file: str
-    line: int
 
 
 @dataclass
@@ -126,7 +119,7 @@ def told_errors(path: str, told: str, refusals: Refusals) -> None:
             header = "correct it"
             if "No such file" in found.group(3):
                 header = HEADERS_LEFT_OUT.get(found.group(3).split(":")[0], "leave it out, or name its folder (-I)")
-            refusals.add(Coord(found.group(1), int(found.group(2))), f"{JUDGED}: {found.group(3)}", header)
+            refusals.add(tree.Coord(found.group(1), int(found.group(2))), f"{JUDGED}: {found.group(3)}", header)
     if not refusals.found:
         first = told.splitlines()[:1]
         raise Stop(f"{path} can't be read: {first[0] if first else 'the compiler failed'}")
@@ -143,21 +136,6 @@ def decoration(inner: str, refusals: Refusals, at: Any) -> str:
     return " "
 
 
-def listed(found: "re.Match[str]") -> str:
-    """The cases of a range of them."""
-    ends = [ord(one[1]) if one[0] == "'" else number_of(one) for one in found.groups()]
-    if ends[0] is None or ends[1] is None or not 0 <= ends[1] - ends[0] < MOST_CASES:
-        return found.group()
-    return " ".join(f"case {one}:" for one in range(ends[0], ends[1] + 1))
-
-
-def number_of(text: str) -> Optional[int]:
-    try:
-        return int(text, 0)
-    except ValueError:
-        return None
-
-
 def without_foreign(text: str, refusals: Refusals, at: Any) -> str:
     """A line without assembly and attributes, so that the parser can go on behind them."""
     for word in re.findall(r"[A-Za-z_]\w*", text):
@@ -167,7 +145,6 @@ def without_foreign(text: str, refusals: Refusals, at: Any) -> str:
             refusals.add(at, cause, advice)
     text = re.sub(r"\b(?:__\w+|_Noreturn)\b", lambda found: PLAIN.get(found.group(), found.group()), text)
     text = ATTRIBUTE.sub(lambda found: decoration(found.group(1), refusals, at), text)
-    text = RANGE.sub(listed, text)
     return re.sub(
         r"\b(__asm__|__asm|asm)\b\s*(volatile|__volatile__|goto)?\s*\((?:[^()]|\((?:[^()]|\([^()]*\))*\))*\)",
         " ",
@@ -235,8 +212,8 @@ def scanned(unit: Unit, text: str, refusals: Refusals) -> str:
         file, line = places.file, places.line
         if not is_system(file):
             if "$" in QUOTED.sub("", row):
-                refusals.add(Coord(file, line), "a name with $", "write it with letters, digits and _")
-            row = without_foreign(row, refusals, Coord(file, line))
+                refusals.add(tree.Coord(file, line), "a name with $", "write it with letters, digits and _")
+            row = without_foreign(row, refusals, tree.Coord(file, line))
             unit.words.update(re.findall(r"[A-Za-z_]\w*", row))
         for found in WORDS.finditer(row):
             if found.group() == "{":
@@ -244,7 +221,9 @@ def scanned(unit: Unit, text: str, refusals: Refusals) -> str:
             elif found.group() == "}" and opened:
                 unit.closings.setdefault(opened.pop(), []).append(line)
         if re.match(r"\s*#\s*pragma\s+pack", row) and not is_system(file):
-            refusals.add(Coord(file, line), "structs are packed", "leave the pragma out, and write sizes as numbers")
+            refusals.add(
+                tree.Coord(file, line), "structs are packed", "leave the pragma out, and write sizes as numbers"
+            )
         made.append("" if row.startswith("#") else row)
         if made[-1].strip():
             unit.rows.setdefault((file, line), []).append(made[-1])
@@ -255,8 +234,6 @@ def scanned(unit: Unit, text: str, refusals: Refusals) -> str:
 
 def read(path: str, flags: list[str], refusals: Refusals) -> Unit:
     """The unit of a source. What is no C, and what pycparser can't read, is refused."""
-    from pycparser import c_parser
-
     if not os.path.isfile(path):
         raise Stop(f"{path} can't be read")
     unit = Unit(path, None)
@@ -271,14 +248,15 @@ def read(path: str, flags: list[str], refusals: Refusals) -> Unit:
     told = run_compiler(path, flags, ["-E", "-dM"]).stdout
     unit.macros = {name: bool(mark) for name, mark in re.findall(r"^#define (\w+)(\(?)", told, re.MULTILINE)}
     try:
-        unit.tree = c_parser.CParser().parse(text, path)
-    except c_parser.ParseError as fault:
+        unit.tree = parsing.parsed(gnu.lifted(text), path)
+        gnu.Settled(refusals).unit(unit.tree)
+    except parsing.Unread as fault:
         found = re.match(r"(.*):(\d+):\d+: (.*)", str(fault))
-        at = Coord(found.group(1), int(found.group(2))) if found else Coord(path, 0)
+        at = tree.Coord(found.group(1), int(found.group(2))) if found else tree.Coord(path, 0)
         refusals.add(at, f"pycparser can't read it ({found.group(3) if found else fault})", "write it in plain C11")
     except RecursionError:
-        refusals.add(Coord(path, 0), "it is nested too deep", "split its expressions")
+        refusals.add(tree.Coord(path, 0), "it is nested too deep", "split its expressions")
     except AssertionError:  # (by a brace too many, which the compiler tells)
         if not judged.returncode:
-            refusals.add(Coord(path, 0), "pycparser can't read it", "write it in plain C11")
+            refusals.add(tree.Coord(path, 0), "pycparser can't read it", "write it in plain C11")
     return unit

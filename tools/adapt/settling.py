@@ -3,7 +3,8 @@ members have no common form, and memory that is copied, set or compared by bytes
 
 from typing import Any
 
-from . import kinds
+from . import kinds, tree
+from .first_members import join
 from .kinds import Int, Pointer
 from .meetings import differ, handed_by_pointer
 from .models import WHOLE, Model, element_count
@@ -17,10 +18,11 @@ def settle(points: Any) -> None:
     for variable in points.names.variables:
         if kinds.is_mixed(variable.type):
             points.home(variable)
-    before, done = -1, set[int]()
-    while before != raws(points) + len(done):
-        before = raws(points) + len(done)
+    before, done, joined = -1, set[tree.Node](), 0
+    while before != raws(points) + len(done) + joined:
+        before = raws(points) + len(done) + joined
         handed_by_pointer(points, done)
+        joined += join(points)
         for made, region, at in points.parts:
             if made.root().pointed and made.root() is not region.root():
                 made.root().fault = None
@@ -43,7 +45,7 @@ def raws(points: Any) -> int:
 
 
 def pointers(points: Any) -> list[Pointer]:
-    return [of for _, of in points.values.values() if isinstance(of, Pointer)]
+    return [of for of in points.values.values() if isinstance(of, Pointer)]
 
 
 def by_bytes(points: Any, node: Any, model: Model) -> None:

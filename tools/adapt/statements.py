@@ -3,23 +3,21 @@
 from bisect import bisect_left
 from typing import Any, Optional
 
-from pycparser import c_ast
-
-from . import kinds
+from . import kinds, tree
 from .expressions import Expressions
+from .statement_exprs import ranged
 from .wholes import MOST_COPIED
 from .initialisers import filled, none_of
 from .kinds import Int, Pointer, Struct
-from .jumps import LOOPS
+from .tree import LOOPS
 from .declarators import Variable
-from .outlives import check_outlives
 from .places import Place
 from .refusals import Refused
 
 
 def continues(node: Any) -> bool:
     """Whether a `continue` in it belongs to a loop around it."""
-    if isinstance(node, c_ast.Continue):
+    if isinstance(node, tree.Continue):
         return True
     return not isinstance(node, LOOPS) and any(continues(child) for _, child in node.children())
 
@@ -43,7 +41,7 @@ class Statements(Expressions):
 
     def go_to_end(self, node: Any) -> None:
         """What is written next stands on the line of the brace that closes a block."""
-        if not isinstance(node, c_ast.Compound) or not node.coord or str(node.coord.file) != self.original:
+        if not isinstance(node, tree.Compound) or not node.coord or str(node.coord.file) != self.original:
             return
         lines = self.closings.get((self.original, node.coord.line), [])
         at = bisect_left(lines, self.line)
@@ -79,7 +77,7 @@ class Statements(Expressions):
             self.statement(one)
 
     def write_Decl(self, node: Any) -> None:
-        variable = self.names.meaning.get(id(node))
+        variable = self.names.meaning.get(node)
         if not isinstance(variable, Variable) or variable.home != "local":
             return
         fault = None if self.places.columns.in_column(variable) else kinds.fault_of(variable.type)
@@ -89,10 +87,10 @@ class Statements(Expressions):
             self.check_lengths(variable)
         if node.init is None:
             self.declared(variable)
-        elif isinstance(variable.type, Struct) and not isinstance(node.init, c_ast.InitList):
+        elif isinstance(variable.type, Struct) and not isinstance(node.init, tree.InitList):
             self.declared(variable)
             self.assign_whole(self.places.of_variable(variable), node.init, node)
-        elif isinstance(variable.type, Pointer) and not isinstance(node.init, c_ast.InitList):
+        elif isinstance(variable.type, Pointer) and not isinstance(node.init, tree.InitList):
             self.pointer_begun(variable, node)
         elif self.places.columns.in_column(variable) or self.lies_apart(variable):
             self.initialised_apart(variable, node.init)
@@ -125,7 +123,7 @@ class Statements(Expressions):
             self.emit(f"{leaf.kind.text} {self.spelling.leaf(variable, leaf.path)}{value};")
         for (path, spot), of, source in made.wholes:
             indexes = tuple(
-                (c_ast.Constant("int", str(one)), length)
+                (tree.Constant("int", str(one)), length)
                 for one, length in zip(spot, next(kinds.leaves(variable.type)).dims)
             )
             self.assign_whole(Place(variable, path, indexes, of), source, source)
@@ -139,7 +137,7 @@ class Statements(Expressions):
         self.emit(f"if ({self.test(node.cond).text}) {{")
         self.body(node.iftrue)
         other = node.iffalse
-        if isinstance(other, c_ast.If) and not self.needs_statements(other.cond):
+        if isinstance(other, tree.If) and self.inline_test(other.cond) is not None:
             self.go(other)
             self.emit("else")
             self.write_If(other)
@@ -147,23 +145,32 @@ class Statements(Expressions):
             self.emit("else {")
             self.body(other)
 
+    def inline_test(self, node: Any) -> Optional[str]:
+        """The text of a condition that is a value alone."""
+        made = self.inline(node, lambda: self.test(node))
+        return None if made is None else made.text
+
     def inner(self, node: Any) -> None:
         """Writes a statement's own statements, where braces stand around it already."""
-        for one in (node.block_items or []) if isinstance(node, c_ast.Compound) else [node]:
+        for one in (node.block_items or []) if isinstance(node, tree.Compound) else [node]:
             self.statement(one)
 
     def write_Switch(self, node: Any) -> None:
         self.emit(f"switch ({self.value(node.cond).text}) {{")
-        items = (node.stmt.block_items or []) if isinstance(node.stmt, c_ast.Compound) else [node.stmt]
+        items = (node.stmt.block_items or []) if isinstance(node.stmt, tree.Compound) else [node.stmt]
         for one in items:
-            if not isinstance(one, (c_ast.Case, c_ast.Default)):
+            if not isinstance(one, (tree.Case, tree.Default)):
                 raise Refused(one.coord, "a statement of a switch before its first case", "put it before the switch")
             self.group(one, one is items[-1])
         self.close(node.stmt)
 
     def group(self, node: Any, last: bool) -> None:
         self.go(node)
-        self.emit("default:" if isinstance(node, c_ast.Default) else f"case {self.value(node.expr).text}:")
+        if isinstance(getattr(node, "expr", None), tree.CaseRange):
+            for text in ranged(self.constants, node.expr):
+                self.emit(text)
+        else:
+            self.emit("default:" if isinstance(node, tree.Default) else f"case {self.value(node.expr).text}:")
         for one in node.stmts or []:
             self.statement(one)
         if last and not node.stmts:
@@ -182,25 +189,27 @@ class Statements(Expressions):
 
     def leave(self, node: Any) -> None:
         """Writes that a loop is left where its condition doesn't hold."""
-        if isinstance(node, c_ast.BinaryOp) and node.op == "&&" and self.needs_statements(node):
+        if isinstance(node, tree.BinaryOp) and node.op == "&&" and self.needs_statements(node):
             self.leave(node.left)
             self.leave(node.right)
         elif node is not None:
             self.unless(node, lambda: self.emit("break;"))
 
     def write_While(self, node: Any) -> None:
-        if not self.needs_statements(node.cond):
-            self.emit(f"while ({self.test(node.cond).text}) {{")
+        test = self.inline_test(node.cond)
+        if test is not None:
+            self.emit(f"while ({test}) {{")
         else:
             self.emit("for (;;) {")
             self.leave(node.cond)
         self.body(node.stmt)
 
     def write_DoWhile(self, node: Any) -> None:
-        if not self.needs_statements(node.cond):
+        test = self.inline_test(node.cond)
+        if test is not None:
             self.emit("do {")
             self.body(node.stmt)
-            self.emit(f"while ({self.test(node.cond).text});")
+            self.emit(f"while ({test});")
             return
         if continues(node.stmt):
             raise Refused(
@@ -216,20 +225,20 @@ class Statements(Expressions):
 
     def write_For(self, node: Any) -> None:
         init = self.head(node.init)
-        local = isinstance(node.init, c_ast.DeclList) and init is None
+        local = isinstance(node.init, tree.DeclList) and init is None
         if local:
             self.emit("{")
         if init is None and node.init is not None:
             self.inner(node.init)
         step = self.head(node.next)
+        test = "" if node.cond is None else self.inline_test(node.cond)
         if step is None and node.next is not None:
             self.stepwise(node, init or "")
-        elif self.needs_statements(node.cond):
+        elif test is None:
             self.emit(f"for ({init or ''}; ; {step or ''}) {{")
             self.leave(node.cond)
             self.body(node.stmt)
         else:
-            test = "" if node.cond is None else self.test(node.cond).text
             self.emit(f"for ({init or ''}; {test}; {step or ''}) {{")
             self.body(node.stmt)
         if local:
@@ -237,11 +246,11 @@ class Statements(Expressions):
 
     def head(self, node: Any) -> Optional[str]:
         """A part of a `for` as the one statement that it is in the profile; None where it isn't one."""
-        if node is None or isinstance(node, c_ast.ExprList):
+        if node is None or isinstance(node, tree.ExprList):
             return None
         pieces, self.file.pieces = self.file.pieces, []
         with self.names.refusals.gathered():
-            (self.write_DeclList if isinstance(node, c_ast.DeclList) else self.effect)(node)
+            (self.write_DeclList if isinstance(node, tree.DeclList) else self.effect)(node)
         made, self.file.pieces = self.file.pieces, pieces
         return made[0][1].rstrip(";") if len(made) == 1 else None
 
@@ -274,7 +283,6 @@ class Statements(Expressions):
         if node.expr is not None and function.result == kinds.VOID:
             self.effect(node.expr)
         if node.expr is not None and isinstance(function.result, Pointer):
-            check_outlives(self, node.expr)
             self.return_pointer(function, function.result, node.expr)
             return
         if node.expr is None or not isinstance(function.result, Int):
@@ -283,7 +291,7 @@ class Statements(Expressions):
             return
         one = self.converted(self.value(node.expr), function.result)
         text = one.text
-        if self.outs(function) and one.calls:
+        if (self.outs(function) and one.calls) or function in self.lifetimes.ended:
             text = self.temporary(function.result, text)
         self.hand_back()
         self.emit(f"return {text};")
@@ -294,3 +302,10 @@ class Statements(Expressions):
         for parameter, leaf in self.outs(self.function):
             own = self.spelling.special(self.function, parameter.name, parameter.type.to, self.special)  # type: ignore[union-attr]
             self.emit(f"{self.spelling.leaf(own, leaf.path)} = {self.spelling.leaf(parameter, leaf.path)};")
+        for text in self.lifetimes.texts(self, self.function):
+            self.emit(text)
+
+    def hands_back(self) -> bool:
+        """Whether something is written before a return."""
+        assert self.function is not None
+        return bool(self.outs(self.function)) or self.function in self.lifetimes.ended

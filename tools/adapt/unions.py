@@ -63,10 +63,10 @@ def unions_in(of: Type) -> list[Struct]:
 
 def settle(structs: list[Struct], named: set[str], initialised: list[Type]) -> None:
     """Settles unions, and which members are left out. Those with first values have them for their first member (6.7.9p17)."""
-    first = {id(one) for of in initialised for one in unions_in(of)}
+    first = {one for of in initialised for one in unions_in(of)}
     for one in structs:
         if one.union and one.members and not one.fault:
-            carried(one, named | ({one.members[0][0]} if id(one) in first else set()))
+            carried(one, named | ({one.members[0][0]} if one in first else set()))
     for one in structs:
         if not one.union:
             for name, member in one.members or []:

@@ -2,13 +2,11 @@
 
 from typing import Any
 
-from pycparser import c_ast
-
-from . import kinds
+from . import kinds, tree
 from .effects import pointee
 from .initialisers import Part, filled, none_of
 from .heap import heap_call
-from .jumps import walk
+from .tree import walk
 from .kinds import Int, Pointer, Struct
 from .declarators import Function, Variable
 from .models import model_of
@@ -70,9 +68,9 @@ class Units(Checks):
         return new
 
     def item(self, item: Any, number: int) -> None:
-        self.enumerations(item.decl if isinstance(item, c_ast.FuncDef) else item)
-        meaning = self.names.meaning.get(id(item))
-        if isinstance(item, c_ast.FuncDef) and isinstance(meaning, Function):
+        self.enumerations(item.decl if isinstance(item, tree.FuncDef) else item)
+        meaning = self.names.meaning.get(item)
+        if isinstance(item, tree.FuncDef) and isinstance(meaning, Function):
             if meaning.definition is item:
                 self.whole_function(meaning)
         elif isinstance(meaning, Function):
@@ -92,21 +90,17 @@ class Units(Checks):
     def defined_at(self, variable: Variable) -> int:
         """The number of the item that defines a variable; of several the first."""
         for number, (_, item) in enumerate(self.names.items):
-            if self.names.meaning.get(id(item)) is variable and ("extern" not in item.storage or item.init is not None):
+            if self.names.meaning.get(item) is variable and ("extern" not in item.storage or item.init is not None):
                 return number
         return -1
 
     def enumerations(self, item: Any) -> None:
         for node in walk(item):
-            if (
-                isinstance(node, c_ast.Enum)
-                and node.values is not None
-                and self.once((str(node.coord.file), node.coord.line, node.coord.column))
-            ):
+            if isinstance(node, tree.Enum) and node.values is not None and self.once(node.coord):
                 listed = [
-                    (self.at(one), self.names.meaning[id(one)])
+                    (self.at(one), self.names.meaning[one])
                     for one in node.values.enumerators
-                    if id(one) in self.names.meaning
+                    if one in self.names.meaning
                 ]
                 texts = [f"{at}{one.name} = {one.value}" for at, one in listed if one.out == one.name]
                 if texts:
@@ -236,7 +230,7 @@ class Units(Checks):
     def declared_within(self, function: Function) -> None:
         """Writes before a function what blocks of it declare: functions, and objects of the file that are defined later."""
         for node in walk(function.definition.body):
-            meaning = self.names.meaning.get(id(node)) if isinstance(node, c_ast.Decl) else None
+            meaning = self.names.meaning.get(node) if isinstance(node, tree.Decl) else None
             with self.names.refusals.gathered():
                 if isinstance(meaning, Function) and (meaning.definition is None or meaning.number > function.number):
                     self.prototype(meaning, node)
@@ -271,7 +265,7 @@ class Units(Checks):
         for one in items:
             self.statement(one)
         self.go_to_end(node.body)
-        if self.outs(function) and not (items and isinstance(items[-1], c_ast.Return)):
+        if self.hands_back() and not (items and isinstance(items[-1], tree.Return)):
             self.hand_back()
         self.emit("}" if function.result == kinds.VOID else FELL + "}")
         self.function = None

@@ -2,11 +2,10 @@
 
 from typing import Any
 
-from pycparser import c_ast
-
+from . import tree
 from .declarators import Function, Variable
 from .heap import heap_call
-from .jumps import walk
+from .tree import walk
 from .kinds import Int
 from .library import OUTPUT
 from .models import model_of
@@ -18,12 +17,12 @@ def first_uses(writer: Any) -> dict[Variable, int]:
     """For each variable the number of the first function that names it."""
     found: dict[Variable, int] = {}
     for number, (_, item) in enumerate(writer.names.items):
-        nodes = walk(item) if isinstance(item, c_ast.FuncDef) else []
-        handed = {id(one) for node in nodes for one in only_handed(writer, node)}
+        nodes = walk(item) if isinstance(item, tree.FuncDef) else []
+        handed = {one for node in nodes for one in only_handed(writer, node)}
         for node in nodes:
-            if id(node) in handed:
+            if node in handed:
                 continue
-            meaning = writer.names.meaning.get(id(node))
+            meaning = writer.names.meaning.get(node)
             if isinstance(meaning, Variable):
                 found.setdefault(meaning, number)
     for function in writer.names.functions:
@@ -36,10 +35,10 @@ def first_uses(writer: Any) -> dict[Variable, int]:
 
 def only_handed(writer: Any, node: Any) -> list[Any]:
     """What stands alone as an argument of a function that gives an input and whose arguments don't matter."""
-    called = writer.names.meaning.get(id(node)) if isinstance(node, c_ast.FuncCall) else None
+    called = writer.names.meaning.get(node) if isinstance(node, tree.FuncCall) else None
     if not isinstance(called, Function) or called.definition is not None or called.name not in writer.inputs:
         return []
-    return [one for one in arguments(node) if isinstance(one, c_ast.ID)]
+    return [one for one in arguments(node) if isinstance(one, tree.ID)]
 
 
 def is_outer(writer: Any, function: Function) -> bool:

@@ -2,11 +2,9 @@
 
 import re
 from dataclasses import dataclass
-from typing import Any, Optional
+from typing import Optional
 
-from pycparser import c_ast
-
-from . import kinds
+from . import kinds, tree
 from .kinds import Int
 from .output import unmarked
 
@@ -81,14 +79,9 @@ def times(one: Value, factor: int) -> Value:
     return Value(f"{one.within(10)} * {factor}", kinds.promoted(one.kind), 10, calls=one.calls)
 
 
-class Known(c_ast.Node):  # type: ignore[misc]
+@dataclass(eq=False)
+class Known(tree.Node):
     """An expression whose value is known as a text."""
 
-    __slots__ = ("value", "coord", "__weakref__")
-    attr_names = ()
-
-    def __init__(self, value: Value, coord: Any) -> None:
-        self.value, self.coord = value, coord
-
-    def children(self) -> tuple[tuple[str, Any], ...]:
-        return ()
+    value: Value
+    coord: Optional[tree.Coord] = None

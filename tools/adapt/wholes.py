@@ -2,9 +2,7 @@
 
 from typing import Any, Optional
 
-from pycparser import c_ast
-
-from . import kinds
+from . import kinds, statement_exprs, tree
 from .effects import Effects, objects
 from .initialisers import filled
 from .kinds import Leaf
@@ -38,45 +36,51 @@ class Wholes(ModelCalls, OutsideCalls):
 
     def assign_whole(self, target: Place, source: Any, node: Any) -> None:
         """Writes the assignment of a struct, member by member."""
-        if isinstance(source, c_ast.TernaryOp):
+        if isinstance(source, tree.TernaryOp):
             self.either(source, lambda one: self.assign_whole(target, one, node))
             return
-        if isinstance(source, c_ast.ExprList):
+        if isinstance(source, tree.StatementExpr):
+            statement_exprs.whole(self, target, source, node)
+            return
+        if isinstance(source, tree.ExprList):
             for one in source.exprs[:-1]:
                 self.effect(one)
             self.assign_whole(target, source.exprs[-1], node)
             return
         if sum(leaf.count for leaf in kinds.leaves(target.type)) > MOST_COPIED:
             raise Refused(node.coord, f"a struct of more than {MOST_COPIED} integers is copied", "copy what is needed")
-        self.unsequenced(node, [c_ast.ExprList([one for one, _ in target.indexes]), source])
+        self.unsequenced(node, [tree.ExprList([one for one, _ in target.indexes]), source])
         index = self.index(target, True)
-        if isinstance(source, c_ast.CompoundLiteral):
+        if isinstance(source, tree.CompoundLiteral):
             values = self.literal(target, source)
         else:
             values = self.integers(*self.whole(source, target))
         for (_, to), (_, of) in zip(self.integers(target, index), values):
-            for one, value in zip(to, of):
-                self.emit(f"{one} = {value};")
+            for text, value in zip(to, of):
+                self.emit(f"{text} = {value};")
 
     def kept_whole(self, node: Any) -> Any:
         """A member of a struct that is no object (6.5.2.3p3), as one of an object that is written before and has it."""
-        if isinstance(node, (c_ast.StructRef, c_ast.ArrayRef)):
+        if isinstance(node, (tree.StructRef, tree.ArrayRef)):
             base = self.kept_whole(node.name)
-            if isinstance(node, c_ast.ArrayRef):
-                return c_ast.ArrayRef(base, node.subscript, node.coord)
-            return c_ast.StructRef(base, ".", node.field, node.coord)
+            if isinstance(node, tree.ArrayRef):
+                return tree.ArrayRef(base, node.subscript, node.coord)
+            return tree.StructRef(base, ".", node.field, node.coord)
         of = self.constants.type_of(node)
         local = Variable("whole", of, node.coord, "local", out=self.spelling.fresh("whole"))
         self.declared(local)
         self.assign_whole(Place(local, (), (), of), node, node)
-        made = c_ast.ID(local.out, node.coord)
-        self.names.meaning[id(made)] = local
-        self.kept_nodes.append(made)
+        return self.named_as(local, node)
+
+    def named_as(self, local: Variable, node: Any) -> Any:
+        """A name for a local that is written without one of the sources."""
+        made = tree.ID(local.out, node.coord)
+        self.names.meaning[made] = local
         return made
 
     def whole(self, source: Any, target: Place) -> tuple[Place, Optional[Value]]:
         """The object in which a struct's value stands."""
-        if isinstance(source, c_ast.FuncCall):
+        if isinstance(source, tree.FuncCall):
             function = self.called(source)
             text, after = self.call(source)
             if function.definition is None:
@@ -89,11 +93,11 @@ class Wholes(ModelCalls, OutsideCalls):
                 self.emit(one)
             own = self.spelling.special(function, "result", function.result, self.special)
             return Place(own, (), (), function.result), None
-        if isinstance(source, c_ast.Assignment) and source.op == "=":
+        if isinstance(source, tree.Assignment) and source.op == "=":
             self.assign_whole(self.places.place(source.lvalue), source.rvalue, source)
             source = source.lvalue
         place = self.places.place(source)
-        reads = self.effected.of(c_ast.ExprList([one for one, _ in place.indexes])).reads
+        reads = self.effected.of(tree.ExprList([one for one, _ in place.indexes])).reads
         return place, self.index(place, True, any(one in reads for one in objects(target)))
 
     def literal(self, target: Place, source: Any) -> list[tuple[Leaf, list[str]]]:

@@ -1,13 +1,11 @@
 """What the writing of a function's expressions, calls and statements stands on: its names, pieces and checks of order."""
 
 from itertools import combinations
-from typing import Any, Optional
+from typing import Any, Callable, Optional, TypeVar
 
-from pycparser import c_ast
-
-from . import kinds
+from . import kinds, tree
 from .effects import STEPS, Effected
-from .jumps import walk
+from .tree import walk
 from .heap import Heap, heap_call
 from .kinds import Int, Leaf, Struct
 from .large import LargeArrays
@@ -21,17 +19,19 @@ from .refusals import Refused
 from .spelling import Spelling
 from .values import PRIMARY, UNARY, Value, number, plus, times
 
+Made = TypeVar("Made")
 ORDER = "C leaves open whether {} is read or written first; use two statements"
 
 
 def is_no_object(node: Any) -> bool:
     """Whether an expression is a member of a struct that a call, a comma, a choice or an assignment gives."""
-    if not isinstance(node, (c_ast.ArrayRef, c_ast.StructRef)):
+    if not isinstance(node, (tree.ArrayRef, tree.StructRef)):
         return False
     member = False
-    while (isinstance(node, c_ast.StructRef) and node.type == ".") or isinstance(node, c_ast.ArrayRef):
-        member, node = member or isinstance(node, c_ast.StructRef), node.name
-    return member and isinstance(node, (c_ast.FuncCall, c_ast.ExprList, c_ast.TernaryOp, c_ast.Assignment))
+    while (isinstance(node, tree.StructRef) and node.type == ".") or isinstance(node, tree.ArrayRef):
+        member, node = member or isinstance(node, tree.StructRef), node.name
+    gives = (tree.FuncCall, tree.ExprList, tree.TernaryOp, tree.Assignment, tree.StatementExpr)
+    return member and isinstance(node, gives)
 
 
 class Writer:
@@ -44,17 +44,17 @@ class Writer:
         self.asked: list[Any] = []  # the expressions that are written now, the innermost last
         self.stands_for: dict[str, Any] = {}  # the expression for which each temporary stands
         self.function: Optional[Function] = None
-        self.behind: set[int] = set()
+        self.behind: set[tree.Node] = set()
         self.after: list[str] = []
         self.within = 0
         self.written_models: dict[Any, tuple[str, str]] = {}
         self.model_words: dict[str, str] = {}
-        self.needing: dict[int, tuple[Any, bool]] = {}
+        self.needing: dict[Optional[tree.Node], bool] = {}
         self.heap = Heap(self)
-        self.kept_nodes: list[Any] = []  # (so that no other node gets their ids)
         self.large = LargeArrays(spelling.fresh)
         self.raw = Raw(self)
         self.inputs: set[str] = set()
+        self.lifetimes: Any = None
         self.outer_values: dict[
             tuple[Function, str], str
         ] = {}  # the inputs that objects get by functions that no source defines
@@ -100,22 +100,34 @@ class Writer:
 
     def needs_statements(self, node: Any) -> bool:
         """Whether an expression can't be written without statements before it."""
-        if id(node) not in self.needing:
+        if node not in self.needing:
             nodes = [] if node is None else walk(node)
             skipped = {
-                id(inner)
-                for one in nodes
-                if isinstance(one, c_ast.UnaryOp) and one.op == "sizeof"
-                for inner in walk(one)
+                inner for one in nodes if isinstance(one, tree.UnaryOp) and one.op == "sizeof" for inner in walk(one)
             }
-            listed = {id(one.args) for one in nodes if isinstance(one, c_ast.FuncCall)}
-            self.needing[id(node)] = node, any(self.needs(one) for one in nodes if id(one) not in skipped | listed)
-        return self.needing[id(node)][1]
+            listed = {one.args for one in nodes if isinstance(one, tree.FuncCall)}
+            self.needing[node] = any(self.needs(one) for one in nodes if one not in skipped | listed)
+        return self.needing[node]
+
+    def inline(self, node: Any, write: Callable[[], Made]) -> Optional[Made]:
+        """What is written of an expression as a value alone; nothing where it takes statements before it, which stand apart where
+        the expression is evaluated again, or not at all."""
+        if self.needs_statements(node):
+            return None
+        pieces, self.file.pieces = self.file.pieces, []
+        try:
+            made = write()
+        finally:
+            own, self.file.pieces = self.file.pieces, pieces
+        if own:
+            self.needing[node] = True
+            return None
+        return made
 
     def needs(self, node: Any) -> bool:
-        if isinstance(node, c_ast.ArrayRef) and self.check:
-            return isinstance(node.name, c_ast.ArrayRef)
-        if isinstance(node, c_ast.FuncCall):
+        if isinstance(node, tree.ArrayRef) and self.check:
+            return isinstance(node.name, tree.ArrayRef)
+        if isinstance(node, tree.FuncCall):
             called = self.places.choosers.called(node)
             if not isinstance(called, Function):
                 return False
@@ -125,8 +137,8 @@ class Writer:
             return several or bool(self.outs(called)) or isinstance(called.result, Struct)
         if is_no_object(node):
             return True
-        stepped = isinstance(node, c_ast.UnaryOp) and node.op in STEPS
-        return stepped or isinstance(node, (c_ast.Assignment, c_ast.ExprList, c_ast.CompoundLiteral))
+        stepped = isinstance(node, tree.UnaryOp) and node.op in STEPS
+        return stepped or isinstance(node, (tree.Assignment, tree.ExprList, tree.CompoundLiteral, tree.StatementExpr))
 
     def outs(self, function: Function) -> list[tuple[Variable, Leaf]]:
         """What a call gives back by copies: each integer of an object that the function writes, with its parameter."""
@@ -174,12 +186,16 @@ class Writer:
             )
         return Value(text, kinds.INT, 0, calls=value.calls)
 
+    def steady_value(self, value: Value) -> Value:
+        """A value that calls no function, so that it may be named twice."""
+        return Value(self.temporary(value.kind, value.text), value.kind, PRIMARY) if value.calls else value
+
     def steady(self, node: Any, value: Value) -> Value:
         """An index that stays the same when it is read again."""
         loads = any(
-            isinstance(one, (c_ast.ArrayRef, c_ast.FuncCall))
-            or (isinstance(one, c_ast.UnaryOp) and one.op == "*")
-            or (isinstance(one, c_ast.StructRef) and one.type == "->" and not self.stands(one.name))
+            isinstance(one, (tree.ArrayRef, tree.FuncCall))
+            or (isinstance(one, tree.UnaryOp) and one.op == "*")
+            or (isinstance(one, tree.StructRef) and one.type == "->" and not self.stands(one.name))
             for one in walk(node)
         )
         if not value.calls and not loads:
@@ -188,7 +204,7 @@ class Writer:
 
     def stands(self, node: Any) -> bool:
         """Whether an expression is a parameter that stands for an object."""
-        meaning = self.names.meaning.get(id(node)) if isinstance(node, c_ast.ID) else None
+        meaning = self.names.meaning.get(node) if isinstance(node, tree.ID) else None
         return isinstance(meaning, Variable) and meaning.is_bound
 
     def index(self, place: Place, stable: bool, kept: bool = False) -> Optional[Value]:
@@ -206,6 +222,7 @@ class Writer:
             known = self.constants.value(node)
             inner = length > 1 and (whole is not None and (number(whole) != 0 or not self.alone(place, length)))
             if inner and not self.check and not self.below(node, one, length):
+                one = self.steady_value(one)
                 wide = "unsigned long" if one.kind.bits == 64 else "unsigned int"
                 text = one.within(UNARY) if not one.kind.signed else f"({wide}) {one.within(UNARY)}"
                 tests.append(unmarked(f"{text} >= {length}"))
@@ -240,7 +257,7 @@ class Writer:
             return 0 <= known < length
         if not value.kind.signed and not value.kind.boolean and 1 << value.kind.bits <= length:
             return True
-        if isinstance(node, c_ast.BinaryOp) and node.op in "&%":
+        if isinstance(node, tree.BinaryOp) and node.op in "&%":
             ends = [self.constants.value(one) for one in (node.left, node.right)]
             if node.op == "&":
                 return any(one is not None and 0 <= one < length for one in ends)

@@ -15,6 +15,8 @@ int atoi(const char *);
 long atol(const char *);
 long long atoll(const char *);
 int rand(void);
+void qsort(void *, size_t, size_t, int (*)(const void *, const void *));
+void *bsearch(const void *, const void *, size_t, size_t, int (*)(const void *, const void *));
 void abort(void);
 void exit(int);
 #endif

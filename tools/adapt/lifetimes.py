@@ -1,0 +1,316 @@
+"""Which pointers may still have the address of a local when its function ends (6.2.4p2): the address flows through assignments,
+arguments and results (inclusion, as Andersen has it; a pointer object is told by the region in which it lies). Where only objects of
+the file or of the heap have it then, they become -1 at the end of the function, which ends a run that uses them; else it is refused."""
+
+from typing import Any, Iterator, Optional
+
+from . import kinds, tree
+from .tree import with_parents
+from .declarators import Function, Variable
+from .initialisers import filled
+from .kinds import Array, Pointer, Struct
+from .models import model_of
+from .places import Place, arguments
+from .refusals import Refused
+from .regions import INDEX, Region
+
+MOST_ENDED = 16  # so many pointers may become -1 where a function ends
+Node = tuple[Any, ...]  # the pointers in a region, what a function gives, or a local
+
+
+def pointer_paths(of: Any) -> list[tuple[str, ...]]:
+    """The members that lead to pointers in an object of a type."""
+    return [leaf.path[:-1] for leaf in kinds.leaves(kinds.element(of)) if leaf.path and leaf.path[-1] == INDEX]
+
+
+def inner_region(region: Region, of: Any, path: tuple[str, ...]) -> tuple[Any, Region]:
+    """The type and the region of what members lead to."""
+    of = kinds.element(of)
+    for name in path:
+        of = kinds.element(of.type_of(name))
+        region = region.root().member(name, of)
+    return of, region.root()
+
+
+class Lifetimes:
+    """The flow of addresses. `ended` has for each function its locals with the regions whose pointers become -1 behind it."""
+
+    def __init__(self, names: Any, columns: Any) -> None:
+        self.names, self.columns, self.points = names, columns, columns.points
+        self.flows: list[tuple[list[Node], Node, Any]] = []
+        self.function: Optional[Function] = None
+        self.ended: dict[Function, list[tuple[Variable, Region]]] = {}
+        locals_of = [one for one in names.variables if one.home == "local"]
+        locals_of += [one for function in names.functions for one in function.parameters]
+        kept = [one for one in locals_of if not one.is_bound and one.function and self.columns.in_column(one)]
+        kept = [one for one in kept if one.function and one.function.calls]
+        if kept:
+            self.gather()
+            self.solve()
+            self.owned = self.owners()
+            for one in kept:
+                self.check(one)
+
+    # ---- what flows
+
+    def gather(self) -> None:
+        for variable in self.names.variables:
+            if isinstance(variable.init, tree.InitList):
+                self.listed(variable)
+        for function in self.names.functions:
+            self.function = function
+            for node, _ in with_parents(function.definition.body) if function.definition is not None else []:
+                try:
+                    self.visit(node)
+                except Refused:
+                    pass  # (told where it is written)
+
+    def visit(self, node: Any) -> None:
+        if isinstance(node, tree.Decl) and node.init is not None and not isinstance(node.init, tree.InitList):
+            variable = self.names.meaning.get(node)
+            if isinstance(variable, Variable):
+                self.put(variable.type, self.points.home(variable), node.init, node.coord)
+        elif isinstance(node, tree.Assignment) and node.op == "=":
+            of, region = self.points.place(node.lvalue)
+            self.put(of, region, node.rvalue, node.coord)
+        elif isinstance(node, tree.Return) and node.expr is not None and self.function is not None:
+            of = self.function.result
+            for path in pointer_paths(of):
+                found = self.sources(node.expr) if isinstance(of, Pointer) else self.of_member(node.expr, path)
+                self.flows.append((found, ("result", self.function, path), node.coord))
+        elif isinstance(node, tree.FuncCall):
+            self.called(node)
+
+    def put(self, of: Any, region: Region, source: Any, at: Any) -> None:
+        """A value goes into an object of a type that lies in a region."""
+        for path in pointer_paths(of) if isinstance(of, (Pointer, Struct)) else []:
+            found = self.sources(source) if isinstance(of, Pointer) else self.of_member(source, path)
+            self.flows.append((found, ("in", inner_region(region, of, path)[1]), at))
+
+    def listed(self, variable: Variable) -> None:
+        try:
+            given = filled(self.names.constants, variable.type, variable.init).given
+        except Refused:
+            return
+        for (path, _), source in given.items():
+            of, region = inner_region(self.points.home(variable), variable.type, path)
+            self.put(of, region, source, variable.coord)
+
+    def called(self, node: Any) -> None:
+        model = model_of(self.names.meaning.get(node))
+        given = arguments(node)
+        if model is not None and len(given) > 1:
+            regions = [of.region for of in map(self.points.value, given[:2]) if isinstance(of, Pointer)]
+            if len(regions) == 2:
+                self.same(regions[0], regions[0].root().elem, regions[1], node.coord)
+        for function in self.targets(node):
+            for argument, one in zip(given, function.parameters):
+                if one.is_bound and not isinstance(one.type, (kinds.Int, Struct)):
+                    of, region = self.points.bound(one)
+                    self.same(region, of, self.points.pointee(argument)[1], node.coord)
+                else:
+                    self.put(one.type, self.points.home(one), argument, node.coord)
+
+    def same(self, one: Region, of: Any, other: Region, at: Any) -> None:
+        """Pointers in two objects may be each other's."""
+        for path in pointer_paths(of) if of is not None and one.root() is not other.root() else []:
+            nodes: list[Node] = [("in", inner_region(region, of, path)[1]) for region in (one, other)]
+            self.flows += [(nodes[:1], nodes[1], at), (nodes[1:], nodes[0], at)]
+
+    def targets(self, node: Any) -> list[Function]:
+        known = self.names.meaning.get(node)
+        if isinstance(known, Function):
+            return [known] if known.definition is not None else []
+        of = self.points.value(node.name)
+        return [one for one in of.region.root().targets if one.definition is not None] if hasattr(of, "region") else []
+
+    # ---- where values come from
+
+    def sources(self, node: Any) -> list[Node]:
+        """Where a pointer's value comes from."""
+        if isinstance(node, tree.Cast):
+            return self.sources(node.expr)
+        if isinstance(node, tree.TernaryOp):
+            return self.sources(node.iftrue) + self.sources(node.iffalse)
+        if isinstance(node, tree.ExprList):
+            return self.sources(node.exprs[-1])
+        if isinstance(node, tree.StatementExpr):
+            return self.sources(node.last) if node.last is not None else []
+        if isinstance(node, tree.Assignment):
+            return self.sources(node.lvalue)
+        if isinstance(node, tree.BinaryOp):
+            return self.sources(node.left) + self.sources(node.right) if node.op in "+-" else []
+        if isinstance(node, tree.UnaryOp) and node.op == "&":
+            return self.base(node.expr)
+        if isinstance(node, tree.UnaryOp) and node.op != "*":
+            return self.sources(node.expr) if node.op in ("++", "--", "p++", "p--") else []
+        if isinstance(node, tree.FuncCall):
+            return self.given(node)
+        if isinstance(node, (tree.ID, tree.StructRef, tree.ArrayRef, tree.UnaryOp)):
+            of = self.names.constants.type_of(node)
+            if isinstance(of, Array):
+                return self.base(node)
+            return [("in", self.points.place(node)[1].root())] if isinstance(of, Pointer) else []
+        return []
+
+    def given(self, node: Any) -> list[Node]:
+        """What a call gives; a function of the library that gives a pointer gives its first argument's."""
+        model = model_of(self.names.meaning.get(node))
+        if model is not None:
+            return self.sources(arguments(node)[0]) if model.gives_pointer and arguments(node) else []
+        return [("result", one, ()) for one in self.targets(node)]
+
+    def base(self, node: Any) -> list[Node]:
+        """The object in which something lies."""
+        if isinstance(node, tree.ID):
+            meaning = self.names.meaning.get(node)
+            local = isinstance(meaning, Variable) and meaning.home in ("local", "parameter") and not meaning.is_bound
+            return [("local", meaning)] if local else []
+        if isinstance(node, tree.StructRef):
+            return self.base(node.name) if node.type == "." else self.sources(node.name)
+        if isinstance(node, tree.ArrayRef):
+            is_array = isinstance(self.names.constants.type_of(node.name), Array)
+            return self.base(node.name) if is_array else self.sources(node.name) + self.sources(node.subscript)
+        return self.sources(node.expr) if isinstance(node, tree.UnaryOp) and node.op == "*" else []
+
+    def of_member(self, node: Any, path: tuple[str, ...]) -> list[Node]:
+        """Where a pointer in a struct's value comes from."""
+        if isinstance(node, tree.TernaryOp):
+            return self.of_member(node.iftrue, path) + self.of_member(node.iffalse, path)
+        if isinstance(node, tree.ExprList):
+            return self.of_member(node.exprs[-1], path)
+        if isinstance(node, tree.StatementExpr):
+            return self.of_member(node.last, path) if node.last is not None else []
+        if isinstance(node, tree.Assignment):
+            return self.of_member(node.lvalue, path)
+        if isinstance(node, tree.FuncCall):
+            return [("result", one, path) for one in self.targets(node)]
+        if isinstance(node, tree.CompoundLiteral):
+            of = self.names.types.get(node.type, kinds.VOID)
+            given = filled(self.names.constants, of, node.init).given
+            return [one for (own, _), source in given.items() if own == path for one in self.sources(source)]
+        of, region = self.points.place(node)
+        return [("in", inner_region(region, of, path)[1])]
+
+    # ---- what has which
+
+    def solve(self) -> None:
+        """The locals whose address each node may have."""
+        self.has: dict[Node, set[Variable]] = {}
+        self.behind: dict[Node, list[Node]] = {}
+        rest: list[Node] = []
+        for sources, target, _ in self.flows:
+            for one in sources:
+                if one[0] == "local":
+                    self.has.setdefault(target, set()).add(one[1])
+                    rest.append(target)
+                else:
+                    self.behind.setdefault(one, []).append(target)
+        while rest:
+            here = rest.pop()
+            for target in self.behind.get(here, []):
+                own = self.has.setdefault(target, set())
+                if not self.has[here] <= own:
+                    own |= self.has[here]
+                    rest.append(target)
+
+    def owners(self) -> dict[Region, list[Variable]]:
+        """The variables that have pointers in a region."""
+        found: dict[Region, list[Variable]] = {}
+        for variable, region in list(self.points.homes.items()):
+            if variable.home != "column":
+                for one in self.within(region.root(), set()):
+                    found.setdefault(one, []).append(variable)
+        return found
+
+    def within(self, region: Region, seen: set[Region]) -> Iterator[Region]:
+        if region not in seen:
+            seen.add(region)
+            yield region
+            for inner in region.members.values():
+                yield from self.within(inner.root(), seen)
+
+    def check(self, local: Variable) -> None:
+        """What may have the address of a local behind its function."""
+        assert local.function is not None
+        nodes = [node for node, has in self.has.items() if local in has]
+        for node in [one for one in nodes if one[0] == "result" and one[1] is local.function]:
+            cause = f"the address of the local {local.name} as a result"
+            self.names.refusals.add(self.place(local, node), cause, "make it static")
+            return
+        for node in [one for one in nodes if one[0] == "in"]:
+            outliving = [one for one in self.owned.get(node[1], []) if self.outlives(one, local.function)]
+            if any(one.home in ("local", "parameter") for one in outliving):
+                self.refuse(local, node)
+            elif outliving:
+                self.ended.setdefault(local.function, []).append((local, node[1]))
+
+    def outlives(self, holder: Variable, function: Function) -> bool:
+        if holder.home in ("local", "parameter"):
+            return (
+                holder.function is not None
+                and holder.function is not function
+                and self.calls(holder.function, function)
+            )
+        return holder.home != "text" and not holder.const
+
+    def calls(self, one: Function, other: Function) -> bool:
+        """Whether a function may call another one, in the end."""
+        seen, rest = {other}, [other]
+        while rest:
+            for caller, _ in rest.pop().calls:
+                if caller is one:
+                    return True
+                if caller is not None and caller not in seen:
+                    seen.add(caller)
+                    rest.append(caller)
+        return False
+
+    def refuse(self, local: Variable, node: Node) -> None:
+        function = local.function.name if local.function else ""
+        cause = f"the address of the local {local.name} may be kept where it outlives {function}"
+        self.names.refusals.add(self.place(local, node), cause, "make it static")
+
+    def place(self, local: Variable, node: Node) -> Any:
+        """Where an address is taken that gets into what has it too long."""
+        for sources, target, at in self.flows:
+            if ("local", local) in sources and self.leads(target, node):
+                return at
+        return local.coord
+
+    def leads(self, one: Node, other: Node) -> bool:
+        seen, rest = {one}, [one]
+        while rest and other not in seen:
+            for target in self.behind.get(rest.pop(), []):
+                if target not in seen:
+                    seen.add(target)
+                    rest.append(target)
+        return other in seen
+
+    # ---- what is written
+
+    def texts(self, writer: Any, function: Function) -> list[str]:
+        """The statements by which pointers that a function leaves behind become -1."""
+        made = []
+        for local, region in self.ended.get(function, []):
+            own = self.points.home(local).root()
+            begin, count = self.columns.begins[(own, local)], self.points.count(local.type, own)
+            holders = dict.fromkeys(text for one in self.owned[region] for text in self.holders(writer, one, region))
+            if len(holders) > MOST_ENDED:
+                self.refuse(local, ("in", region))
+                continue
+            for text in holders:
+                bad = f"(unsigned int) ({text} - {begin})" if begin else f"(unsigned int) {text}"
+                made.append(f"{text} = {text} | -({bad} <= {count});")
+        return made
+
+    def holders(self, writer: Any, variable: Variable, region: Region) -> Iterator[str]:
+        """The pointers of a variable that lie in a region."""
+        if not self.outlives(variable, None):  # type: ignore[arg-type]
+            return
+        place: Place = writer.places.of_variable(variable)
+        index = writer.index(place, True) if place.shifted() else None
+        for leaf, texts in writer.each_integer(place, index):
+            if leaf.path and leaf.path[-1] == INDEX:
+                if inner_region(self.points.home(variable), variable.type, leaf.path[:-1])[1] is region:
+                    yield from texts

@@ -1,0 +1,139 @@
+"""The way of C sources through bin/adapt, stage by stage. Each stage is a module or a few, and knows those before it alone.
+
+    read      the text of each source, by the machine's preprocessor and compiler, as a tree          reading, gnu, parsing
+    expand    copies of functions, models of the library, switches and jumps: trees as they were      clones, library, cases, jumps
+    names     what each name stands for, and the types of declarations and expressions                names, declarators, constants
+    bind      which parameters stand for objects                                                      bindings
+    points-to which objects each pointer may meet                                                     points_to, meetings, settling
+    layout    where these objects lie in arrays, the columns                                          columns, places, choosers
+    effects   what expressions and calls read and write                                               effects
+    write     each statement in the profile, on its line                                              units and what it stands on
+    judge     the program reads what would be written                                                 gate
+
+What a later stage learns, that parameters can't stand for objects or that functions need copies, begins the whole anew.
+"""
+
+from argparse import Namespace
+from collections.abc import Callable
+from typing import Any, NamedTuple, Optional
+
+from . import tree
+from .bindings import Bindings
+from .cases import Cases
+from .choosers import Choosers
+from .clones import Clones
+from .columns import Columns
+from .effects import Effected
+from .gate import check
+from .jumps import Jumps
+from .library import OUTPUT, Library
+from .lifetimes import Lifetimes
+from .names import Names
+from .output import File
+from .overflow import writer_of
+from .places import Places
+from .reading import Unit, read
+from .refusals import Refusals
+from .sorting import check_sizes
+from .spelling import Spelling
+from .unions import settle
+from .units import Units
+
+
+class Adapted(NamedTuple):
+    """The text of each file that is written, by its original, and who wrote it."""
+
+    texts: dict[str, str]
+    writer: Units
+
+
+def adapt(given: Namespace, refusals: Refusals) -> Optional[Adapted]:
+    """What is written of the sources; nothing where one of them is no C. What is refused is gathered in `refusals`.
+
+    Parameters that can't stand for objects in what is written, since these have a second name there, are pointers as any other
+    in what is written next. Raises Stop where a source can't be opened, or a program of the machine isn't there."""
+    apart: set[Any] = set()
+    while True:
+        tried = Refusals()
+        made = written(given, tried, apart)
+        if not tried.apart - apart:
+            copies = {one for one in apart if one[0] in ("copied", "direct")}
+            if tried.found and copies:  # (told in the words of the sources)
+                tried = Refusals()
+                written(given, tried, apart - copies)
+            refusals.found |= tried.found
+            return made
+        apart |= tried.apart
+
+
+def written(given: Namespace, refusals: Refusals, apart: set[Any]) -> Optional[Adapted]:
+    """One way through all stages, with what was learned before."""
+    units = [read(path, flags_of(given), refusals) for path in given.sources]
+    if any(unit.tree is None for unit in units):
+        return None
+    taken = {word for unit in units for word in unit.words}
+    library = expanded(units, taken, apart, refusals)
+    names = named(units, library, given, refusals, taken)
+    places = Places(names)
+    Bindings(places, apart).bind()
+    places.columns = Columns(names, apart)
+    places.choosers = Choosers(names, places.columns)
+    lifetimes = Lifetimes(names, places.columns)
+    inputs = set(given.inputs) | OUTPUT
+    effected = Effected(names, places, inputs)
+    writer = writer_of(given)(names, places, effected, Spelling(names, taken), given.check)
+    writer.inputs, writer.lifetimes = inputs, lifetimes
+    files = writer.write()
+    texts = writer.finished(laid_out(files, units, given.sources))
+    if not refusals.found:
+        check(texts, refusals)
+    return Adapted(texts, writer)
+
+
+def flags_of(given: Namespace) -> list[str]:
+    """The compiler's words for headers and macros."""
+    return [f"-I{one}" for one in given.folders] + [f"-D{one}" for one in given.macros]
+
+
+def free_names(taken: set[str]) -> Callable[[str], str]:
+    """What gives a name that nothing else has: a stem with a number that no other one has."""
+    numbers = iter(range(1, 1000000))
+    return lambda stem: next(name for name in (f"{stem}_{n}" for n in numbers) if name not in taken)
+
+
+def expanded(units: list[Unit], taken: set[str], apart: set[Any], refusals: Refusals) -> Library:
+    """Changes the trees: what is left has no jumps, and switches whose cases stand directly in them; the models in front."""
+    fresh = free_names(taken)
+    Clones(units, apart, fresh)
+    library = Library(units, taken)
+    for item in [item for unit in units for item in unit.tree.ext if isinstance(item, tree.FuncDef)]:
+        Cases(fresh).function(item.body)
+        Jumps(fresh, refusals).function(item)
+    return library
+
+
+def named(units: list[Unit], library: Library, given: Namespace, refusals: Refusals, taken: set[str]) -> Names:
+    """What the names stand for. The names that jumps got become taken."""
+    names = Names(refusals)
+    names.pool = given.pool
+    for unit in units:
+        taken.update(node.name for node in tree.walk(unit.tree) if isinstance(node, tree.ID))
+        names.unit(unit)
+    check_sizes(names, library.sorted)
+    settle(names.structs, names.named_members, names.initialised)
+    return names
+
+
+def laid_out(files: dict[str, File], units: list[Unit], sources: list[str]) -> dict[str, str]:
+    """The texts of the files, in the order in which the sources include them, each beside the lines of its original."""
+    for path in sources:
+        files.setdefault(path, File(path))  # (which has no code)
+    order = dict.fromkeys(path for unit in units for path in unit.files)
+    kept = [path for path in order if path in files and (files[path].pieces or path in sources)]
+    return {path: files[path].text(lines_of(path)) for path in kept}
+
+
+def lines_of(path: str) -> list[str]:
+    """The lines of a file."""
+    with open(path, encoding="utf-8", errors="surrogateescape") as file:
+        return file.read().split("\n")

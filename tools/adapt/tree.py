@@ -1,0 +1,624 @@
+"""The tree that all stages but the first pass on: C's grammar (C11, 6.5 to 6.9) and what GNU C adds, each construct a class of its own.
+
+The parser's nodes become these at once (parsing.py). A node is equal to itself alone, so that tables of later stages have nodes as
+their keys: what a name stands for, the type of an expression, what a pointer may meet. `children()` gives a node's parts with the slots
+in which they stand, in the order in which all stages go through them.
+"""
+
+from collections.abc import Iterator
+from dataclasses import dataclass, field
+from typing import Any, ClassVar, Optional
+
+
+@dataclass(frozen=True)
+class Coord:
+    """A place of a source: its file, its line from 1, and its column from 1 where one is known."""
+
+    file: str
+    line: int
+    column: Optional[int] = None
+
+
+class Node:
+    """A construct. `SLOTS` names the fields that are nodes or lists of nodes."""
+
+    SLOTS: ClassVar[tuple[str, ...]] = ()
+    coord: Optional[Coord]
+
+    def children(self) -> list[tuple[str, "Node"]]:
+        """The parts with the slots in which they stand: `name`, or `name[3]` for one of a list."""
+        found: list[tuple[str, Node]] = []
+        for slot in self.SLOTS:
+            part = getattr(self, slot)
+            if isinstance(part, list):
+                found += [(f"{slot}[{number}]", one) for number, one in enumerate(part)]
+            elif part is not None:
+                found.append((slot, part))
+        return found
+
+    def put(self, slot: str, made: "Node") -> None:
+        """Puts a node into a slot, as `children()` names it."""
+        name, _, rest = slot.partition("[")
+        if rest:
+            getattr(self, name)[int(rest[:-1])] = made
+        else:
+            setattr(self, name, made)
+
+    def put_all(self, slot: str, made: list["Node"]) -> None:
+        """Puts nodes into a slot: side by side where it is one of a list, else in a block if they are several."""
+        name, _, rest = slot.partition("[")
+        if rest:
+            getattr(self, name)[int(rest[:-1]) : int(rest[:-1]) + 1] = made
+        else:
+            setattr(self, name, made[0] if len(made) == 1 else Compound(made, made[0].coord))
+
+
+# ---- expressions (6.5)
+
+
+@dataclass(eq=False)
+class ID(Node):
+    """A name."""
+
+    name: str
+    coord: Optional[Coord] = None
+
+
+@dataclass(eq=False)
+class Constant(Node):
+    """A constant or a string (6.4.4, 6.4.5) by its text; `type` is the parser's word for its kind."""
+
+    type: str
+    value: str
+    coord: Optional[Coord] = None
+
+
+@dataclass(eq=False)
+class ArrayRef(Node):
+    """`name[subscript]` (6.5.2.1)."""
+
+    SLOTS = ("name", "subscript")
+    name: Node
+    subscript: Node
+    coord: Optional[Coord] = None
+
+
+@dataclass(eq=False)
+class StructRef(Node):
+    """A member by `.` or `->`, which `type` says (6.5.2.3)."""
+
+    SLOTS = ("name", "field")
+    name: Node
+    type: str
+    field: ID
+    coord: Optional[Coord] = None
+
+
+@dataclass(eq=False)
+class ExprList(Node):
+    """Expressions with commas between (6.5.17), or the arguments of a call."""
+
+    SLOTS = ("exprs",)
+    exprs: list[Node]
+    coord: Optional[Coord] = None
+
+
+@dataclass(eq=False)
+class FuncCall(Node):
+    """A call (6.5.2.2); `args` is None where there are no arguments."""
+
+    SLOTS = ("name", "args")
+    name: Node
+    args: Optional[ExprList]
+    coord: Optional[Coord] = None
+
+
+@dataclass(eq=False)
+class UnaryOp(Node):
+    """`op` before its operand, with `p++` and `p--` for those behind it, and `sizeof` (6.5.2.4, 6.5.3)."""
+
+    SLOTS = ("expr",)
+    op: str
+    expr: Node
+    coord: Optional[Coord] = None
+
+
+@dataclass(eq=False)
+class BinaryOp(Node):
+    """An operator between two operands (6.5.5 to 6.5.14)."""
+
+    SLOTS = ("left", "right")
+    op: str
+    left: Node
+    right: Node
+    coord: Optional[Coord] = None
+
+
+@dataclass(eq=False)
+class TernaryOp(Node):
+    """`cond ? iftrue : iffalse` (6.5.15)."""
+
+    SLOTS = ("cond", "iftrue", "iffalse")
+    cond: Node
+    iftrue: Node
+    iffalse: Node
+    coord: Optional[Coord] = None
+
+
+@dataclass(eq=False)
+class Assignment(Node):
+    """`lvalue op rvalue`, where `op` is `=` or one that ends with it (6.5.16)."""
+
+    SLOTS = ("lvalue", "rvalue")
+    op: str
+    lvalue: Node
+    rvalue: Node
+    coord: Optional[Coord] = None
+
+
+@dataclass(eq=False)
+class Cast(Node):
+    """A conversion (6.5.4)."""
+
+    SLOTS = ("to_type", "expr")
+    to_type: "Typename"
+    expr: Node
+    coord: Optional[Coord] = None
+
+
+@dataclass(eq=False)
+class CompoundLiteral(Node):
+    """`(type) { values }` (6.5.2.5)."""
+
+    SLOTS = ("type", "init")
+    type: "Typename"
+    init: "InitList"
+    coord: Optional[Coord] = None
+
+
+@dataclass(eq=False)
+class StatementExpr(Node):
+    """`({ .. })` of GNU C: the block, whose last statement may be the expression that gives the value."""
+
+    SLOTS = ("body",)
+    body: "Compound"
+    coord: Optional[Coord] = None
+
+    @property
+    def items(self) -> list[Node]:
+        """The statements whose effect alone counts."""
+        return self.body.block_items[:-1] if self.last is not None else list(self.body.block_items)
+
+    @property
+    def last(self) -> Optional[Node]:
+        """The expression that gives the value, if there is one."""
+        found = self.body.block_items
+        return found[-1] if found and is_expression(found[-1]) else None
+
+
+@dataclass(eq=False)
+class InitList(Node):
+    """A list of first values between braces (6.7.9)."""
+
+    SLOTS = ("exprs",)
+    exprs: list[Node]
+    coord: Optional[Coord] = None
+
+
+@dataclass(eq=False)
+class NamedInitializer(Node):
+    """A first value with its designators, members as names and indexes as expressions (6.7.9p6)."""
+
+    SLOTS = ("expr", "name")
+    name: list[Node]
+    expr: Node
+    coord: Optional[Coord] = None
+
+
+# ---- types and declarations (6.7)
+
+
+@dataclass(eq=False)
+class IdentifierType(Node):
+    """The words of a type, or the name of a typedef (6.7.2, 6.7.8)."""
+
+    names: list[str]
+    coord: Optional[Coord] = None
+
+
+@dataclass(eq=False)
+class Typeof(Node):
+    """typeof of GNU C: the type of an expression, or of a type's name. Of one that is `known` the names have their meanings
+    already. It isn't evaluated, so it has no parts."""
+
+    of: Node
+    coord: Optional[Coord] = None
+    known: bool = False
+
+
+@dataclass(eq=False)
+class Struct(Node):
+    """A struct (6.7.2.1); `decls` is None where its members aren't given."""
+
+    SLOTS = ("decls",)
+    name: Optional[str]
+    decls: Optional[list[Node]]
+    coord: Optional[Coord] = None
+
+
+@dataclass(eq=False)
+class Union(Node):
+    """A union (6.7.2.1); `decls` is None where its members aren't given."""
+
+    SLOTS = ("decls",)
+    name: Optional[str]
+    decls: Optional[list[Node]]
+    coord: Optional[Coord] = None
+
+
+@dataclass(eq=False)
+class Enumerator(Node):
+    """A constant of an enum, with its value where one is given."""
+
+    SLOTS = ("value",)
+    name: str
+    value: Optional[Node]
+    coord: Optional[Coord] = None
+
+
+@dataclass(eq=False)
+class EnumeratorList(Node):
+    """The constants of an enum."""
+
+    SLOTS = ("enumerators",)
+    enumerators: list[Enumerator]
+    coord: Optional[Coord] = None
+
+
+@dataclass(eq=False)
+class Enum(Node):
+    """An enum (6.7.2.2); `values` is None where its constants aren't given."""
+
+    SLOTS = ("values",)
+    name: Optional[str]
+    values: Optional[EnumeratorList]
+    coord: Optional[Coord] = None
+
+
+@dataclass(eq=False)
+class TypeDecl(Node):
+    """What a declarator is at its end: the name and the type that stands before all declarators."""
+
+    SLOTS = ("type",)
+    declname: Optional[str]
+    quals: list[str]
+    align: Any
+    type: Node
+    coord: Optional[Coord] = None
+
+
+@dataclass(eq=False)
+class PtrDecl(Node):
+    """A pointer (6.7.6.1)."""
+
+    SLOTS = ("type",)
+    quals: list[str]
+    type: Node
+    coord: Optional[Coord] = None
+
+
+@dataclass(eq=False)
+class ArrayDecl(Node):
+    """An array (6.7.6.2); `dim` is None where it has no length of its own."""
+
+    SLOTS = ("type", "dim")
+    type: Node
+    dim: Optional[Node]
+    dim_quals: list[str] = field(default_factory=list)
+    coord: Optional[Coord] = None
+
+
+@dataclass(eq=False)
+class ParamList(Node):
+    """The parameters of a function."""
+
+    SLOTS = ("params",)
+    params: list[Node]
+    coord: Optional[Coord] = None
+
+
+@dataclass(eq=False)
+class EllipsisParam(Node):
+    """`...` behind the parameters."""
+
+    coord: Optional[Coord] = None
+
+
+@dataclass(eq=False)
+class FuncDecl(Node):
+    """A function (6.7.6.3); `args` is None where nothing stands between the parentheses."""
+
+    SLOTS = ("args", "type")
+    args: Optional[ParamList]
+    type: Node
+    coord: Optional[Coord] = None
+
+
+@dataclass(eq=False)
+class Typename(Node):
+    """A type's name (6.7.7), or a parameter without a name."""
+
+    SLOTS = ("type",)
+    name: Optional[str]
+    quals: list[str]
+    align: Any
+    type: Node
+    coord: Optional[Coord] = None
+
+
+@dataclass(eq=False)
+class Decl(Node):
+    """A declaration of one name, of a member, or of a type alone (6.7)."""
+
+    SLOTS = ("type", "init", "bitsize")
+    name: Optional[str]
+    quals: list[str]
+    align: Any
+    storage: list[str]
+    funcspec: list[str]
+    type: Node
+    init: Optional[Node]
+    bitsize: Optional[Node]
+    coord: Optional[Coord] = None
+
+
+@dataclass(eq=False)
+class DeclList(Node):
+    """The declarations before a loop's condition."""
+
+    SLOTS = ("decls",)
+    decls: list[Node]
+    coord: Optional[Coord] = None
+
+
+@dataclass(eq=False)
+class Typedef(Node):
+    """A typedef (6.7.8)."""
+
+    SLOTS = ("type",)
+    name: str
+    quals: list[str]
+    storage: list[str]
+    type: Node
+    coord: Optional[Coord] = None
+
+
+@dataclass(eq=False)
+class Alignas(Node):
+    """An alignment (6.7.5), which is refused where it is read."""
+
+    SLOTS = ("alignment",)
+    alignment: Node
+    coord: Optional[Coord] = None
+
+
+# ---- statements (6.8)
+
+
+@dataclass(eq=False)
+class Compound(Node):
+    """A block (6.8.2)."""
+
+    SLOTS = ("block_items",)
+    block_items: list[Node]
+    coord: Optional[Coord] = None
+
+
+@dataclass(eq=False)
+class EmptyStatement(Node):
+    """`;` alone."""
+
+    coord: Optional[Coord] = None
+
+
+@dataclass(eq=False)
+class If(Node):
+    """A branch (6.8.4.1)."""
+
+    SLOTS = ("cond", "iftrue", "iffalse")
+    cond: Node
+    iftrue: Node
+    iffalse: Optional[Node]
+    coord: Optional[Coord] = None
+
+
+@dataclass(eq=False)
+class Switch(Node):
+    """A choice by a value (6.8.4.2)."""
+
+    SLOTS = ("cond", "stmt")
+    cond: Node
+    stmt: Node
+    coord: Optional[Coord] = None
+
+
+@dataclass(eq=False)
+class CaseRange(Node):
+    """The ends of a range of cases of GNU C."""
+
+    SLOTS = ("low", "high")
+    low: Node
+    high: Node
+    coord: Optional[Coord] = None
+
+
+@dataclass(eq=False)
+class Case(Node):
+    """A case with the statements up to the next one."""
+
+    SLOTS = ("expr", "stmts")
+    expr: Node
+    stmts: list[Node]
+    coord: Optional[Coord] = None
+
+
+@dataclass(eq=False)
+class Default(Node):
+    """`default:` with the statements up to the next case."""
+
+    SLOTS = ("stmts",)
+    stmts: list[Node]
+    coord: Optional[Coord] = None
+
+
+@dataclass(eq=False)
+class While(Node):
+    """A loop whose condition stands before it (6.8.5.1)."""
+
+    SLOTS = ("cond", "stmt")
+    cond: Node
+    stmt: Node
+    coord: Optional[Coord] = None
+
+
+@dataclass(eq=False)
+class DoWhile(Node):
+    """A loop whose condition stands behind it (6.8.5.2)."""
+
+    SLOTS = ("cond", "stmt")
+    cond: Node
+    stmt: Node
+    coord: Optional[Coord] = None
+
+
+@dataclass(eq=False)
+class For(Node):
+    """A loop with what stands before it, its condition and its step, each if there is one (6.8.5.3)."""
+
+    SLOTS = ("init", "cond", "next", "stmt")
+    init: Optional[Node]
+    cond: Optional[Node]
+    next: Optional[Node]
+    stmt: Node
+    coord: Optional[Coord] = None
+
+
+@dataclass(eq=False)
+class Label(Node):
+    """A statement with a label (6.8.1)."""
+
+    SLOTS = ("stmt",)
+    name: str
+    stmt: Node
+    coord: Optional[Coord] = None
+
+
+@dataclass(eq=False)
+class Goto(Node):
+    """A jump to a label (6.8.6.1)."""
+
+    name: str
+    coord: Optional[Coord] = None
+
+
+@dataclass(eq=False)
+class Break(Node):
+    """`break` (6.8.6.3)."""
+
+    coord: Optional[Coord] = None
+
+
+@dataclass(eq=False)
+class Continue(Node):
+    """`continue` (6.8.6.2)."""
+
+    coord: Optional[Coord] = None
+
+
+@dataclass(eq=False)
+class Return(Node):
+    """`return` (6.8.6.4)."""
+
+    SLOTS = ("expr",)
+    expr: Optional[Node]
+    coord: Optional[Coord] = None
+
+
+@dataclass(eq=False)
+class Pragma(Node):
+    """A pragma, which is left out."""
+
+    string: str
+    coord: Optional[Coord] = None
+
+
+@dataclass(eq=False)
+class StaticAssert(Node):
+    """`_Static_assert`, which the compiler has judged."""
+
+    SLOTS = ("cond", "message")
+    cond: Node
+    message: Optional[Node]
+    coord: Optional[Coord] = None
+
+
+# ---- units (6.9)
+
+
+@dataclass(eq=False)
+class FuncDef(Node):
+    """A function with its body; `param_decls` are the parameters of a head without types (6.9.1)."""
+
+    SLOTS = ("decl", "body", "param_decls")
+    decl: Decl
+    param_decls: Optional[list[Decl]]
+    body: Compound
+    coord: Optional[Coord] = None
+
+
+@dataclass(eq=False)
+class FileAST(Node):
+    """All items of a source with what it includes."""
+
+    SLOTS = ("ext",)
+    ext: list[Node]
+    coord: Optional[Coord] = None
+
+
+def rename(decl: Decl, name: str) -> None:
+    """Gives what is declared another name, also at the end of its declarator."""
+    decl.name = name
+    of = decl.type
+    while not isinstance(of, TypeDecl):
+        assert isinstance(of, (PtrDecl, ArrayDecl, FuncDecl))
+        of = of.type
+    of.declname = name
+
+
+EXPRESSIONS = (ID, Constant, UnaryOp, BinaryOp, TernaryOp, Assignment, ExprList)
+EXPRESSIONS += (Cast, CompoundLiteral, FuncCall, ArrayRef, StructRef, StatementExpr)  # type: ignore[assignment]
+LOOPS = (For, While, DoWhile)
+LEFT_BY_BREAK = (*LOOPS, Switch)
+
+
+def is_expression(node: Node) -> bool:
+    """Whether a statement is an expression."""
+    return isinstance(node, EXPRESSIONS)
+
+
+def walk(node: Node) -> list[Node]:
+    """A tree's nodes, outer ones first."""
+    found, rest = list[Node](), [node]
+    while rest:
+        one = rest.pop()
+        found.append(one)
+        rest.extend(child for _, child in reversed(one.children()))
+    return found
+
+
+def with_parents(node: Node, parents: tuple[Node, ...] = ()) -> Iterator[tuple[Node, tuple[Node, ...]]]:
+    """A tree's nodes, each with those around it, the nearest last; without what `sizeof` doesn't evaluate (6.5.3.4p2)."""
+    yield node, parents
+    if not (isinstance(node, UnaryOp) and node.op == "sizeof"):
+        for _, child in node.children():
+            yield from with_parents(child, parents + (node,))
