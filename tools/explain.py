@@ -5,19 +5,23 @@ input. SOURCE.. are the sources that the report is about. Each goal is told with
 FILE:LINE:COLUMN, the function, the condition with its outcome or what else is done, and the statement; of a covered goal also
 its input. A report of `measure` or `trees` has no inputs and no paths of runs in it: with --entry and --inputs they are told too.
 With --entry, `bounds` is asked of a report with refuted goals, so that they are told as unreachable, or which bound is left.
+WHAT may be the code 80 or 81, or a file with its refusal: with --entry and the bounds it says which loops and calls multiply the pairs
+of node and context, the largest first.
 """
 
 import argparse
 import json
+import os
 import re
 import sys
 from collections.abc import Iterator
+from functools import cache
 
 from tools import graph as graphs
-from tools import inputs, leaving, program, usage, verdicts
+from tools import inputs, leaving, multiplied, program, usage, verdicts
 from tools.graph import Graph, Letter, Node
 from tools.program import Failure
-from tools.reports import Goal, Input, Report, Run, report_of_json, report_of_text
+from tools.reports import BOUNDS, Goal, Input, Report, Run, report_of_json, report_of_text
 from tools.sources import Faces
 from tools.verdicts import Limits, Verdict
 
@@ -33,12 +37,28 @@ def report_of(word: str) -> Report:
     """The report in a file or on standard input; one that isn't read is a failure. Raises Failure; a ValueError of
     what reads it is told so."""
     try:
-        text = (sys.stdin.buffer.read() if word == "-" else program.read(word)).decode()
+        text = text_of(word)
         if text.startswith("fshell traces 1"):
             raise ValueError(of_traces(text))
         return report_of_json(json.loads(text)) if text.startswith("{") else report_of_text(text)
     except (ValueError, KeyError, TypeError, RecursionError) as fault:
         raise Failure(f"{word}: it is no report: {str(fault)[:110]}") from None
+
+
+@cache
+def text_of(word: str) -> str:
+    """What is in a file, or on standard input. Raises Failure, and a ValueError where it is no text."""
+    return (sys.stdin.buffer.read() if word == "-" else program.read(word)).decode()
+
+
+def refused_code(word: str) -> str:
+    """The code 80 or 81 that a word is, or that the refusal in a file has; nothing of any other one."""
+    if is_query(word) or (word in multiplied.LIMITS and not os.path.exists(word)):
+        return "" if is_query(word) else word
+    try:
+        return multiplied.code_of(text_of(word))
+    except ValueError:
+        return ""  # (told where it is read as a report)
 
 
 def of_traces(text: str) -> str:
@@ -168,6 +188,9 @@ def parser_of_words() -> usage.Parser:
         help="goals of this verdict alone; of refuted ones those that aren't unreachable",
     )
     parser.add_argument("--steps", type=program.in_range("steps"), metavar="N", help="as for runs")
+    for name, least in (("turns", 4), ("frames", 8), ("answers", 16)):
+        about = f"with a code: as for the command that was refused ({least})"
+        parser.add_argument(f"--{name}", type=program.in_range(name), default=least, metavar="N", help=about)
     return parser
 
 
@@ -181,9 +204,18 @@ def words() -> argparse.Namespace:
 
 
 def main() -> int:
-    """Explains a report or a query and answers the exit status, as the module says."""
+    """Explains a report or a query and answers the exit status, as the module says. Raises Failure where the program refuses the
+    sources, or where a code has no entry."""
     given = words()
+    code = refused_code(given.what)
+    if code and not given.entry:
+        raise Failure(f"code {code} is of an entry; --entry names it")
     automaton: Graph = graphs.of_sources(given.sources)
+    if code:
+        bounds = {name: int(getattr(given, name)) for name in BOUNDS}
+        told = multiplied.Told(Faces(automaton, given.sources), given.entry, bounds)
+        print("".join(line + "\n" for line in told.lines(code)), end="")
+        return program.DONE
     report = graphs.goals_of(automaton, given.what, given.sources) if is_query(given.what) else report_of(given.what)
     read: list[Input] = []
     runs = report.runs if report.command == "runs" else []

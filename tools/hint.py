@@ -218,6 +218,14 @@ def at_line(found: Words, place: str) -> Iterator[str]:
             return
 
 
+def multiplying(found: Words, code: int, words: Sequence[str]) -> str:
+    """Which command says what multiplies."""
+    options = " ".join(re.findall(r"--(?:turns|frames|answers)[ =]\d+", " ".join(words)))
+    sources, entry_of = " ".join(found.named("SOURCE...")), (found.named("ENTRY") or [""])[0]
+    asked = f"bin/explain {code} {sources} --entry {entry_of} {options}".strip()
+    return f"`{asked}` says which loops and calls multiply"
+
+
 def hints(line: str, words: Sequence[str]) -> Iterator[str]:
     """What is said of a refusal, in parts."""
     refused = re.fullmatch(r"error (\d+) \w+ ?(.*)", line)
@@ -241,6 +249,8 @@ def hints(line: str, words: Sequence[str]) -> Iterator[str]:
             yield from brackets(found)
         elif code == 65:
             yield from predicates(found)
+        elif code in (80, 81):
+            yield multiplying(found, code, words)
         elif 60 <= code <= 79:
             yield from at_column(found, place)
         else:

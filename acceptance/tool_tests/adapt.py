@@ -110,6 +110,52 @@ def many_blocks_on_a_line(folder):
     yield times[1] < 14 * times[0]
 
 
+NEEDED = """#include <string.h>
+#include <stdlib.h>
+int next(void); unsigned char rx(void);
+enum { SIZE = 6 };
+static unsigned char buf[SIZE], out[16];
+static int fact(int n) { return n < 2 ? 1 : n * fact(n - 1); }
+static int sum(const unsigned char *p, int n) { int s = 0; while (n--) s += *p++; return s; }
+int f(int n) {
+  for (int i = 0; i < SIZE; i++) { buf[i] = rx(); }
+  if (n > 3) { buf[0] = next(); } else { buf[1] = next(); buf[2] = next(); }
+  memcpy(out, buf, sizeof buf);
+  memset(out, 0, 16);
+  int k = 10;
+  while (k > 0) { n ^= k; k -= 2; }
+  return buf[0] + out[1] + n;
+}
+int g(int n) { return fact(n) + sum(buf, n & 3); }
+int h(int n) { int *p = malloc(4), *q = malloc(4); if (!p || !q) return 0; *p = n; *q = 3; return *p + *q; }
+"""
+# by hand: 16 turns of memset's loop, f above it; six answers of the loop and two of the longer branch; malloc, what it asks whether it fails
+NEEDS_OF = """bounds of f: --turns 16 --frames 2 --answers 8
+  bounds = { turns = 16, frames = 2, answers = 8 }
+  turns 16: the loop at a.c:3
+  answers 8: rx 6, next 2
+bounds of g: --frames 2 --answers 0
+  bounds = { frames = 2, answers = 0 }
+  loops without a constant count: a.c:7
+  functions that call themselves: fact
+bounds of h: --frames 3 --answers 1
+  bounds = { frames = 3, answers = 1 }
+  answers 1: malloc_fails 1
+"""
+
+
+def bounds_are_those_that_suffice(folder):
+    """What --bounds prints, and by the program that these bounds suffice and that none is too great."""
+    put(folder, {"a.c": NEEDED})
+    yield run(folder, ["adapt", "a.c", "-o", "new", "--bounds"]).stdout == FIRST + "wrote new/a.c\n" + NEEDS_OF
+    for entry, turns, frames, answers, end in (
+        ("f", 16, 2, 8, "suffice"), ("f", 15, 2, 8, "left"), ("f", 16, 1, 8, "left"), ("f", 16, 2, 7, "left"),
+        ("h", 0, 3, 1, "suffice"), ("h", 0, 2, 1, "left"), ("h", 0, 3, 0, "left"),
+    ):  # fmt: skip
+        words = ["fshell", "bounds", entry, "new/a.c", "--turns", turns, "--frames", frames, "--answers", answers]
+        yield run(folder, [str(word) for word in words]).stdout.startswith(f"bounds {end}")
+
+
 # ---- the tables
 
 
@@ -274,5 +320,6 @@ def a_changed_original_fails(folder):
     yield compiled.returncode == 0 and tests.returncode == 1 and "\nnot ok" in tests.stdout
 
 
-TRIED = [(NEEDS, without_gcc), (NEEDS, many_blocks_on_a_line), (NEEDS, nothing_is_left_half_written), ((), without_pycparser), *((NEEDS, of_table(path)) for path in TABLES),
+TRIED = [(NEEDS, without_gcc), (NEEDS, many_blocks_on_a_line), (NEEDS, bounds_are_those_that_suffice),
+         (NEEDS, nothing_is_left_half_written), ((), without_pycparser), *((NEEDS, of_table(path)) for path in TABLES),
          *((NEEDS, of_module(given)) for given in WAYS), (NEEDS, a_changed_original_fails), (NEEDS, stubs_with_arguments_answer_the_original)]  # fmt: skip

@@ -104,6 +104,32 @@ goal 6:
 {RETURN}  {{x}} doesn't hold
 6 goals
 """
+# by hand: with turns 2 each loop has counters 0 to 2; g has 3 nodes in its loop and 3 without, f 4 in its own and 5 without, and g is
+# entered from f's loop with each of its counters and once behind it. With K turns and m = K + 1 there are 3mm + 10m + 8 pairs.
+MULTIPLIED = """int in(void);
+int g(int v) {
+  while (v) {
+    v--;
+  }
+  return v;
+}
+int f(int n) {
+  for (; n; ) {
+    n = g(n);
+  }
+  return g(in());
+}
+"""
+PAIRS = """code 80, more than 50,000 pairs of node and context: walks from f reach 65 pairs within turns 2 frames 8 answers 16
+  36 in g, the loop at w.c:3
+  12 in f, the loop at w.c:9
+  12 in g, no loop
+  5 in f, no loop
+  g is entered in 4 contexts: 3 by the call at w.c:10:5 in f within 1 loop; 1 by the call at w.c:12:3 in f
+  --turns 2: each loop tells up to 3 contexts apart
+  --answers 16: up to 2 numbers of answers tell contexts apart
+"""
+REFUSED = "error 81 UnwindingTooLarge limit 4194304\n"
 
 
 def goals(faces):
@@ -126,6 +152,13 @@ TRAPS = "int f(int x) {\n  if (x > 10 && x < 5) {\n    return 1;\n  }\n  return 
 
 TREES = "input 1 returned 5\ninput 2 returned 9\ninput 3 trapped assert\n"
 CASES = [
+    Case("explain: what multiplies", ["explain", "80", "w.c", "--entry", "f", "--turns", "2"], {"w.c": MULTIPLIED}, stdout=PAIRS, needs=GRAPH),
+    Case("explain: what multiplies, by the refusal", ["explain", "told", "w.c", "--entry", "g", "--turns", "0"],
+         {"w.c": MULTIPLIED, "told": REFUSED}, needs=GRAPH,
+         stdout="code 81, a size sum above 4,194,304: walks from g reach 6 pairs within turns 0 frames 8 answers 16\n"
+                "  3 in g, no loop\n  3 in g, the loop at w.c:3\n"),
+    Case("explain: a code without an entry", ["explain", "81", "w.c"], {"w.c": MULTIPLIED}, 2,
+         stderr="explain: code 81 is of an entry; --entry names it\n", needs=GRAPH),
     Case("explain: the parts of a condition", ["explain", "cover @CONDITIONEDGE", "never.c"], {"never.c": NEVER},
          stdout=goals(CONDITIONS), needs=GRAPH),
     Case("explain: each operation, in two sources", ["explain", "cover ID", "one.c", "two.c"], {"one.c": ONE, "two.c": TWO},
@@ -226,4 +259,14 @@ def a_bound_that_is_left_is_told(folder):
     yield said[4].startswith("bounds to try next: --turns ")
 
 
-TRIED = [(GRAPH, conditions_are_cut_out), (GRAPH, a_bound_that_is_left_is_told)]
+def pairs_are_counted_as_the_program_does(folder):
+    """By the formula above 49,665 pairs with 126 turns, 50,440 with 127, and the program refuses these alone for their number."""
+    put(folder, {"w.c": MULTIPLIED})
+    for turns, pairs in ((126, 3 * 127 * 127 + 10 * 127 + 8), (127, 3 * 128 * 128 + 10 * 128 + 8)):
+        told = run(folder, ["explain", "80", "w.c", "--entry", "f", "--turns", str(turns)]).stdout
+        yield f"walks from f reach {pairs} pairs within" in told
+        refused = run(folder, ["fshell", "bounds", "f", "w.c", "--turns", str(turns), "--budget", "1"]).stderr.startswith("error 80 ")
+        yield refused == (pairs > 50_000)
+
+
+TRIED = [(GRAPH, pairs_are_counted_as_the_program_does), (GRAPH, conditions_are_cut_out), (GRAPH, a_bound_that_is_left_is_told)]

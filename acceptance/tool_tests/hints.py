@@ -9,6 +9,7 @@ from tool_tests import example, put, run
 
 FEE = example("criteria/fee.c")
 SUM = "int sum(int v[2], int n) {\n  return v[0] + n;\n}\nint one(int x) {\n  return x;\n}\n"
+LOOPS = "int g(int v) {\n  while (v) {\n    v--;\n  }\n  return v;\n}\nint f(int n) {\n  for (; n; ) {\n    n = g(n);\n  }\n  return g(1);\n}\n"
 SIGNATURE = "int fee(int grams, int days, int express)"
 # the words, the program's own line, and what the line behind it has at its begin and in it
 ROWS = [
@@ -30,6 +31,8 @@ ROWS = [
     (["goals", "cover (@LINE(3)", "fee.c"], "error 61 QuerySyntax query", "61 QuerySyntax: ", ["`(` stands 1 time too often"]),
     (["goals", 'cover "ID*', "fee.c"], "error 61 QuerySyntax query", "61 QuerySyntax: ", ["a quotation mark isn't closed"]),
     (["goals", "@LINE(3)", "fee.c"], "error 61 QuerySyntax query", "61 QuerySyntax: ", ["begins with `cover`"]),
+    (["bounds", "f", "w.c", "--turns", "127"], "error 80 TooManyInstances limit 50000", "80 TooManyInstances: ",
+     ["`bin/explain 80 w.c --entry f --turns 127` says which loops and calls multiply"]),
     (["measure", "fee", "cover {days ==}", "in", "fee.c"], "error 65 PredicateSyntax query", "65 PredicateSyntax: ", ["the query has `{days ==}`"]),
 ]
 
@@ -50,7 +53,7 @@ def on_a_terminal(folder, words):
 
 
 def a_terminal_has_a_line_more(folder):
-    put(folder, {"fee.c": FEE, "sum.c": SUM, "in": "1\n", "in.json": '[{"args": [1, 2, 3]}, {"args": [1, 2, 3, 4]}]\n', "float.c": "int x;\nfloat y;\n"})
+    put(folder, {"fee.c": FEE, "sum.c": SUM, "in": "1\n", "in.json": '[{"args": [1, 2, 3]}, {"args": [1, 2, 3, 4]}]\n', "float.c": "int x;\nfloat y;\n", "w.c": LOOPS})
     for words, line, begin, parts in ROWS:
         ended = run(folder, ["fshell", *words])
         yield (ended.stdout, ended.stderr) == ("", line + "\n")

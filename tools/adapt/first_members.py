@@ -67,7 +67,7 @@ def related(points: Any, node: Any, to: Type) -> Optional[Type]:
 def regions(points: Any) -> list[Region]:
     """The regions of structs."""
     found: dict[Region, None] = {}
-    rest = [*points.homes.values(), *(of.region for _, of in points.values.values() if isinstance(of, Pointer))]
+    rest = [*points.homes.values(), *(of.region for of in points.values.values() if isinstance(of, Pointer))]
     while rest:
         one = rest.pop().root()
         if one not in found:

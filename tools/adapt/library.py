@@ -134,23 +134,18 @@ class Library:
             number += 1
             name = f"{call.name.name}_{number}"
         self.taken.add(name)
-        tree = self.unit.tree
-        functions = {one.decl.name for one in tree.ext if isinstance(one, tree.FuncDef)}
-        functions |= {one.name for one in tree.ext if isinstance(one, tree.Decl) and self.is_function(one)}
+        items, path = self.unit.tree.ext, self.unit.path
+        functions = {str(one.decl.name) for one in items if isinstance(one, tree.FuncDef)}
+        functions |= {str(one.name) for one in items if isinstance(one, tree.Decl) and self.is_function(one)}
         made = written_for(call, models()[call.name.name], name, functions)
-        line = max(
-            (one.coord.line for one in tree.ext if one.coord and str(one.coord.file) == self.unit.path), default=1
-        )
-        first = min(
-            (one.coord.line for one in tree.ext if one.coord and str(one.coord.file) == self.unit.path), default=1
-        )
-        for item, at in ((made.prototype, first), (made.definition, line)):
+        lines = [one.coord.line for one in items if one.coord and str(one.coord.file) == path] or [1]
+        for item, at in ((made.prototype, min(lines)), (made.definition, max(lines))):
             for node in walk(item):
                 self.count += 1
-                node.coord = Spot(self.unit.path, at, self.count)
+                node.coord = Spot(path, at, self.count)
         self.declare(walk(made.definition))
-        tree.ext[0:0] = [made.prototype]
-        tree.ext.append(made.definition)
+        items[0:0] = [made.prototype]
+        items.append(made.definition)
         self.sorted.append(made)
 
     def anew(self, node: Any, model: Any) -> None:

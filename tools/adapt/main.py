@@ -7,7 +7,7 @@ from typing import Optional
 
 from tools import program, source_map, usage
 
-from . import harness, mapping
+from . import harness, mapping, needed
 from .compare import compared
 from .output import FELL
 from .pipeline import adapt, flags_of
@@ -54,6 +54,8 @@ def parser_of_words() -> usage.Parser:
     parser.add_argument(
         "--check", action="store_true", help="each index of an array in an array is tested by an assert"
     )
+    about = "print which turns, frames and answers the entries need by what was written"
+    parser.add_argument("--bounds", action="store_true", help=about)
     overflow = "each signed operation that can overflow is a call of a function of DIR/overflow.h, with an assert"
     parser.add_argument("--check-overflow", action="store_true", help=overflow)
     narrowing = "so is each implicit conversion that may lose a value"
@@ -149,6 +151,8 @@ def main(given: Optional[list[str]] = None) -> int:
         writer.put_table(asked.out)
         put_map(asked.out, texts, writer)
         print("wrote " + " ".join(paths))
+        if asked.bounds:
+            print(needed.text_of(texts, set(asked.sources)))
         if asked.harness:
             write_harness(asked, writer, paths)
         return compare(asked, writer, texts) if asked.compare else 0
