@@ -95,6 +95,7 @@ class Unit:
 
 
 def compiler() -> str:
+    """The path of gcc, or of clang. Raises Stop where neither is there."""
     found = shutil.which("gcc") or shutil.which("clang")
     if not found:
         raise Stop("neither gcc nor clang is there, whose preprocessor reads the sources (Debian's package gcc)")
@@ -102,17 +103,19 @@ def compiler() -> str:
 
 
 def is_system(file: str) -> bool:
+    """Whether a file is one of adapt's own headers."""
     return file.startswith((HEADERS, "<"))
 
 
 def run_compiler(path: str, flags: list[str], more: list[str]) -> subprocess.CompletedProcess[str]:
+    """Runs the compiler on a source with our headers alone."""
     words = [compiler(), "-std=gnu11", "-nostdinc", *more, *flags, "-isystem", HEADERS, "-x", "c", path]
     plain = {**os.environ, "LC_ALL": "C"}
     return subprocess.run(words, capture_output=True, text=True, errors="replace", check=False, env=plain)
 
 
 def told_errors(path: str, told: str, refusals: Refusals) -> None:
-    """The compiler's errors as refusals."""
+    """The compiler's errors as refusals. Raises Stop where it told none."""
     for line in told.splitlines():
         found = re.match(r"(.*?):(\d+):(?:\d+:)? (?:fatal )?error: (.*)", line)
         if found:
@@ -233,7 +236,8 @@ def scanned(unit: Unit, text: str, refusals: Refusals) -> str:
 
 
 def read(path: str, flags: list[str], refusals: Refusals) -> Unit:
-    """The unit of a source. What is no C, and what pycparser can't read, is refused."""
+    """The unit of a source. What is no C, and what pycparser can't read, is refused. Raises Stop where it can't be
+    opened."""
     if not os.path.isfile(path):
         raise Stop(f"{path} can't be read")
     unit = Unit(path, None)
