@@ -93,7 +93,7 @@ class Written:
 
     def __init__(self, model: Model, name: str, regions: dict[str, Region], own: Any, count: str) -> None:
         self.model, self.name, self.regions, self.count = model, name, regions, count
-        self.leaf, self.names = own.models.model_leaf, own.models.model_word
+        self.leaf, self.names = own.model_leaf, own.model_word
 
     def text(self) -> str:
         """The function's text."""
