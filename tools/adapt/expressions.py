@@ -258,6 +258,8 @@ class Expressions(Assignments):
         to = self.names.types.get(node.to_type)
         if not isinstance(to, Int):
             raise Refused(node.coord, "a conversion to what is no integer", "convert to an integer type")
+        if self.constants.is_null_offset(node.expr):
+            return Value(f"{self.at(node)}({to.text}) {self.constants.value(node)}", to, UNARY)
         if self.is_pointer(node.expr) and not to.boolean:
             return self.as_number(node.expr, to)
         one = self.value(node.expr)
