@@ -7,10 +7,10 @@ from typing import Any, Optional
 
 from . import tree
 from .declarators import Function, Variable
-from .tree import walk, with_parents
 from .kinds import VOID, Array, Pointer, Signature, Type
 from .places import Place, Places, arguments
 from .refusals import Refused
+from .tree import walk, with_parents
 
 Key = tuple[str, int, int, str]  # a parameter by its place and name, over several readings
 SOMEWHERE = Variable("", VOID, None, "local")  # an object of which no more is known

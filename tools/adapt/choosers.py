@@ -70,7 +70,7 @@ def definition(writer: Any, chooser: Function, targets: list[Function]) -> str:
     for number, one in enumerate(targets):
         outer = one.definition is None
         if outer:
-            writer.check_outer(one, chooser.coord)
+            writer.outside.check_outer(one, chooser.coord)
         text = f"{one.out}({'' if outer else given})"
         if isinstance(chooser.result, kinds.Int):
             cases.append(f"case {number}: return {text};")
@@ -88,7 +88,7 @@ def definition(writer: Any, chooser: Function, targets: list[Function]) -> str:
 
 def heading(writer: Any, chooser: Function) -> str:
     """The head of a function that chooses: a function's, with the number in front."""
-    before, after = writer.heading(chooser).split("(", 1)
+    before, after = writer.units.heading(chooser).split("(", 1)
     return f"{before}(int chosen{', ' + after if after != 'void)' else ')'}"
 
 

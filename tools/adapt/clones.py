@@ -6,10 +6,10 @@ from typing import Any, Callable
 
 from . import kinds, tree
 from .declarators import Function
-from .tree import walk
 from .kinds import Pointer
 from .names import Names
 from .reading import Unit
+from .tree import walk
 
 MOST_COPIES, MOST_NODES = 8, 400
 

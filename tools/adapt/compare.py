@@ -7,16 +7,16 @@ import tempfile
 from typing import Any, Iterator
 
 from . import kinds
+from .declarators import Function, Variable
 from .heap import heap_call
 from .kinds import Array, Int, Path, Struct, Type
 from .library import OUTPUT, Spot
-from .declarators import Function, Variable
+from .models import model_of
+from .output import FELL, unmarked
+from .parsing import printed
 from .reading import compiler, is_system
 from .refusals import Stop
-from .models import model_of
-from .parsing import printed
-from .output import FELL, unmarked
-from .units import Units
+from .writer import Writer
 
 CALLS, ANSWERS, SECONDS = 6, 40, 5
 TIME_IS_UP = 14  # (SIGALRM)
@@ -88,7 +88,7 @@ def plain(function: Function) -> bool:
     )
 
 
-def undefined(writer: Units) -> list[Function]:
+def undefined(writer: Writer) -> list[Function]:
     """The functions that are called and that no source defines."""
     known = ("assert", "assume", "__assert_fail")
     found = [one for one in writer.names.functions if one.definition is None and one.calls and one.name not in known]
@@ -101,7 +101,7 @@ def is_in_library(function: Function) -> bool:
     return is_system(str(function.coord.file))
 
 
-def answering(writer: Units, function: Function, answer: str) -> str:
+def answering(writer: Writer, function: Function, answer: str) -> str:
     """The definition of an input function, as the original declares it."""
     node: Any = function.declaration
     result = f"return ({kinds.c_words(function.result)}) {answer};" if isinstance(function.result, Int) else ""
@@ -112,7 +112,7 @@ def answering(writer: Units, function: Function, answer: str) -> str:
 class Comparison:
     """The two programs of what was adapted, in a folder."""
 
-    def __init__(self, writer: Units, sources: list[str], made: dict[str, str], flags: list[str], folder: str) -> None:
+    def __init__(self, writer: Writer, sources: list[str], made: dict[str, str], flags: list[str], folder: str) -> None:
         self.writer, self.folder = writer, folder
         functions = [one for one in writer.names.functions if one.definition is not None and not one.static]
         functions = [one for one in functions if not isinstance(one.coord, Spot)]
@@ -160,7 +160,7 @@ class Comparison:
         lines = []
         for variable in variables:
             for text, path, index, kind in parts(variable.type):
-                own = unmarked(self.writer.leaf(self.writer.placed(variable, path, index))[0])
+                own = unmarked(self.writer.elements.leaf(self.writer.pointer_effects.placed(variable, path, index))[0])
                 own = self.writer.large.rewritten(own)
                 lines.append(
                     f"  adapt_tell((long long) {f'({kinds.c_words(kind)}) {own}' if ours else variable.name + text});"
@@ -283,7 +283,7 @@ class Comparison:
 
 
 def compared(
-    writer: Units, sources: list[str], made: dict[str, str], flags: list[str], count: int
+    writer: Writer, sources: list[str], made: dict[str, str], flags: list[str], count: int
 ) -> tuple[list[str], int]:
     """The differences of some runs on random inputs, and how many runs have no meaning from some call on."""
     with tempfile.TemporaryDirectory(prefix="adapt-") as folder:

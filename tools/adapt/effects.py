@@ -6,8 +6,8 @@ from typing import Any, Optional
 from . import tree
 from .changed import changed
 from .constants import is_offset
-from .kinds import Array, Int, Pointer, Struct, leaves
 from .declarators import Function, Variable
+from .kinds import Array, Int, Pointer, Struct, leaves
 from .models import Model, model_of
 from .names import Names
 from .places import Place, Places, arguments

@@ -110,7 +110,7 @@ def cast(writer: Any, node: Any, first: FirstMember) -> dict[str, Value]:
     """The integers of the pointer that a cast gives. A pointer that isn't to a first member becomes -1, which ends a run where it is
     used; null, and what leads nowhere, stay as they are."""
     outer, columns = first.outer.root(), writer.places.columns
-    parts = writer.pointer(node.expr)
+    parts = writer.pointers.pointer(node.expr)
     inner, begin = outer, 0
     for name in first.path:
         own = inner.members[name].root()
@@ -121,7 +121,7 @@ def cast(writer: Any, node: Any, first: FirstMember) -> dict[str, Value]:
         raise Refused(node.coord, fault[1], fault[2])
     if outer.raw or inner.raw or outer.column is None or inner.column is None:
         raise Refused(node.coord, "a cast to a first member that stands as its bytes", "name the member")
-    index = writer.steady_value(parts[INDEX])
+    index = writer.elements.steady_value(parts[INDEX])
     if first.inwards:
         return inwards(index, begin)
     if END in outer.parts():

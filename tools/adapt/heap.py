@@ -108,14 +108,14 @@ class Heap:
         region = self.columns.pointer(node).region.root()
         if region.fault:
             raise Refused(node.coord, region.fault[1], region.fault[2])
-        writer.unsequenced(node, arguments(node))
+        writer.order.unsequenced(node, arguments(node))
         pool = self.columns.points.pools[node]
         given = arguments(node)
-        old = [writer.pointer(given[0])[INDEX].text] if called == "realloc" else []
+        old = [writer.pointers.pointer(given[0])[INDEX].text] if called == "realloc" else []
         values = []
         for one in given[len(old) :]:
             known = writer.constants.value(one)
-            value = writer.value(one) if known is None else Value(str(known), kinds.SIZE, PRIMARY)
+            value = writer.expressions.value(one) if known is None else Value(str(known), kinds.SIZE, PRIMARY)
             values.append(
                 value
                 if number(value) is not None
@@ -178,12 +178,12 @@ class Heap:
     def freed(self, node: Any) -> str:
         """The text of a call of free."""
         writer, given = self.writer, arguments(node)[0]
-        if writer.is_null(given):
+        if writer.pointers.is_null(given):
             return ""
         region = self.columns.pointer(given).region.root()
         if region.fault:
             raise Refused(node.coord, region.fault[1], region.fault[2])
-        index, sizes = writer.pointer(given)[INDEX], self.sizes(region)
+        index, sizes = writer.pointers.pointer(given)[INDEX], self.sizes(region)
         if not sizes:
             if index.calls:
                 writer.temporary(kinds.INT, index.text)

@@ -7,10 +7,10 @@ from functools import cache
 from typing import Any
 
 from . import tree
-from .tree import walk
 from .parsing import parsed
 from .reading import Unit
 from .sorting import SORTING, Sorted, written_for
+from .tree import walk
 
 FOLDER = os.path.join(os.path.dirname(os.path.abspath(__file__)), "models")
 FILES = ("ctype.c", "stdlib.c", "builtin.c", "sort.c")

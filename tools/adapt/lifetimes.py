@@ -5,7 +5,6 @@ the file or of the heap have it then, they become -1 at the end of the function,
 from typing import Any, Iterator, Optional
 
 from . import kinds, tree
-from .tree import with_parents
 from .declarators import Function, Variable
 from .initialisers import filled
 from .kinds import Array, Pointer, Struct
@@ -13,6 +12,7 @@ from .models import model_of
 from .places import Place, arguments
 from .refusals import Refused
 from .regions import INDEX, Region
+from .tree import with_parents
 
 MOST_ENDED = 16  # so many pointers may become -1 where a function ends
 Node = tuple[Any, ...]  # the pointers in a region, what a function gives, or a local
@@ -309,8 +309,8 @@ class Lifetimes:
         if not self.outlives(variable, None):  # type: ignore[arg-type]
             return
         place: Place = writer.places.of_variable(variable)
-        index = writer.index(place, True) if place.shifted() else None
-        for leaf, texts in writer.each_integer(place, index):
+        index = writer.elements.index(place, True) if place.shifted() else None
+        for leaf, texts in writer.pointer_effects.each_integer(place, index):
             if leaf.path and leaf.path[-1] == INDEX:
                 if inner_region(self.points.home(variable), variable.type, leaf.path[:-1])[1] is region:
                     yield from texts

@@ -12,7 +12,7 @@ from .compare import compared
 from .output import FELL
 from .pipeline import adapt, flags_of
 from .refusals import Refusals, Stop
-from .units import Units
+from .writer import Writer
 
 FIRST = "adapt is no part of what is proved: read and compare what it writes"
 
@@ -102,7 +102,7 @@ def put(folder: str, texts: dict[str, str]) -> list[str]:
     return paths
 
 
-def put_map(folder: str, texts: dict[str, str], writer: Units) -> None:
+def put_map(folder: str, texts: dict[str, str], writer: Writer) -> None:
     """Writes the map beside the files, by which tools show what the user wrote."""
     units = list({unit.path: unit for unit, _ in writer.names.items}.values())
     mapped = {path: text for path, text in texts.items() if path in writer.files}
@@ -112,7 +112,7 @@ def put_map(folder: str, texts: dict[str, str], writer: Units) -> None:
         raise Stop(str(failure)) from None
 
 
-def write_harness(asked: argparse.Namespace, writer: Units, paths: list[str]) -> None:
+def write_harness(asked: argparse.Namespace, writer: Writer, paths: list[str]) -> None:
     """Writes the tests of the original beside what was written."""
     entry, given = asked.harness
     try:
@@ -124,7 +124,7 @@ def write_harness(asked: argparse.Namespace, writer: Units, paths: list[str]) ->
     print(f"wrote {name}: compile it with {harness.how_to_compile(writer, asked.sources, home, flags_of(asked))}")
 
 
-def compare(asked: argparse.Namespace, writer: Units, texts: dict[str, str]) -> int:
+def compare(asked: argparse.Namespace, writer: Writer, texts: dict[str, str]) -> int:
     """Says how many runs agree; the status."""
     differences, ended = compared(writer, asked.sources, texts, flags_of(asked), asked.compare)
     apart = f", of {ended} C gives the end no meaning" if ended else ""

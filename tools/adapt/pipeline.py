@@ -7,7 +7,7 @@
     points-to which objects each pointer may meet                                                     points_to, meetings, settling
     layout    where these objects lie in arrays, the columns                                          columns, places, choosers
     effects   what expressions and calls read and write                                               effects
-    write     each statement in the profile, on its line                                              units and what it stands on
+    write     each statement in the profile, on its line                                              writer and its parts
     judge     the program reads what would be written                                                 gate
 
 What a later stage learns, that parameters can't stand for objects or that functions need copies, begins the whole anew.
@@ -30,21 +30,20 @@ from .library import OUTPUT, Library
 from .lifetimes import Lifetimes
 from .names import Names
 from .output import File
-from .overflow import writer_of
 from .places import Places
 from .reading import Unit, read
 from .refusals import Refusals
 from .sorting import check_sizes
 from .spelling import Spelling
 from .unions import settle
-from .units import Units
+from .writer import Analysis, Checking, Writer
 
 
 class Adapted(NamedTuple):
     """The text of each file that is written, by its original, and who wrote it."""
 
     texts: dict[str, str]
-    writer: Units
+    writer: Writer
 
 
 def adapt(given: Namespace, refusals: Refusals) -> Optional[Adapted]:
@@ -81,10 +80,9 @@ def written(given: Namespace, refusals: Refusals, apart: set[Any]) -> Optional[A
     lifetimes = Lifetimes(names, places.columns)
     inputs = set(given.inputs) | OUTPUT
     effected = Effected(names, places, inputs)
-    writer = writer_of(given)(names, places, effected, Spelling(names, taken), given.check)
-    writer.inputs, writer.lifetimes = inputs, lifetimes
-    files = writer.write()
-    texts = writer.finished(laid_out(files, units, given.sources))
+    known = Analysis(names, places, effected, lifetimes, inputs)
+    writer = Writer(known, Spelling(names, taken), Checking(given.check, given.check_overflow, given.check_conversions))
+    texts = writer.finished(laid_out(writer.units.write(), units, given.sources))
     if not refusals.found:
         check(texts, refusals)
     return Adapted(texts, writer)

@@ -5,8 +5,8 @@ from dataclasses import dataclass, field, replace
 from typing import Any, NamedTuple, Optional
 
 from . import kinds, tree, unions
-from .kinds import Array, Int, Other, Path, Pointer, Struct, Type, fault_of
 from .declarators import Variable
+from .kinds import Array, Int, Other, Path, Pointer, Struct, Type, fault_of
 from .names import Names
 from .refusals import Refused
 from .regions import Region

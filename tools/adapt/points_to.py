@@ -3,7 +3,6 @@
 from typing import Any, Optional
 
 from . import kinds, tree, unions
-from .tree import with_parents
 from .declarators import Function, Variable
 from .first_members import FirstMember, related
 from .heap import GIVES, Pool, heap_call, known_call
@@ -16,6 +15,7 @@ from .places import Place, arguments
 from .refusals import Refused
 from .regions import Region
 from .settling import settle
+from .tree import with_parents
 from .unification import Unification
 
 

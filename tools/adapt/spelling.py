@@ -3,9 +3,9 @@
 import os
 from typing import Any
 
+from .declarators import Function, Variable
 from .kinds import Path
 from .names import Names
-from .declarators import Function, Variable
 from .regions import INDEX
 
 KEPT = {"assert", "assume"}

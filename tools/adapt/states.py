@@ -4,10 +4,10 @@ one loop over a state, in which a jump sets the state and goes on (6.8.6.1)."""
 from typing import Any, Callable
 
 from . import tree
-from .parsing import snippet
-from .tree import LEFT_BY_BREAK, LOOPS, walk
 from .lists import listed
+from .parsing import snippet
 from .refusals import Refused
+from .tree import LEFT_BY_BREAK, LOOPS, walk
 
 
 def holds(node: Any, names: set[str]) -> bool:
