@@ -17,8 +17,11 @@ from .values import LEVELS, PRIMARY, UNARY, Value
 
 
 class Assignments(Component):
+    """The assignments, steps and effects of one function (6.5.16, 6.5.2.4, 6.5.3.1)."""
+
     def assigned(self, node: Any) -> Value:
-        """An assignment as a value: it is written, and the target read again (6.5.16p3)."""
+        """An assignment as a value: it is written, and the target read again (6.5.16p3). Raises Refused for a struct
+        that is assigned within an expression."""
         if not isinstance(self.writer.constants.type_of(node.lvalue), Int):
             raise Refused(
                 node.coord, "a struct is assigned within an expression", "assign it in a statement of its own"
@@ -29,7 +32,8 @@ class Assignments(Component):
         return Value(text, kind, PRIMARY, truth=kind.boolean)
 
     def assign(self, node: Any, stable: bool = False) -> tuple[str, Int]:
-        """Writes an assignment to an integer; the target's text and type."""
+        """Writes an assignment to an integer; the target's text and type. Raises Refused where the target is an
+        array, or where C leaves an order open that matters."""
         place = self.writer.places.place(node.lvalue)
         if not isinstance(place.type, Int):
             raise Refused(node.coord, "an assignment to an array", "assign its elements")
@@ -120,7 +124,8 @@ class Assignments(Component):
         return Value(f"{own.within(level)} {op} {given.within(level + 1)}", kinds.common(own.kind, given.kind), level)
 
     def not_twice(self, node: Any, place: Place, value: Any) -> None:
-        """An object that isn't an element may not be assigned once more by the value."""
+        """An object that isn't an element may not be assigned once more by the value. Raises Refused where it is
+        (6.5p2)."""
         one = (place.variable, place.path, bool(place.indexes))
         writes = self.writer.effected.of(value).writes
         if not one[2] and one in writes and not writes[one]:
@@ -131,7 +136,7 @@ class Assignments(Component):
             )
 
     def step(self, node: Any, stable: bool = False) -> tuple[str, Int]:
-        """The text and the type of what `++` or `--` steps."""
+        """The text and the type of what `++` or `--` steps. Raises Refused for what is no integer, or is bool."""
         place = self.writer.places.place(node.expr)
         if not isinstance(place.type, Int) or place.type.boolean:
             raise Refused(node.coord, "a step of what is no integer", "assign its value")
@@ -160,7 +165,7 @@ class Assignments(Component):
         return Value(old, kind, PRIMARY)
 
     def effect(self, node: Any) -> None:
-        """Writes an expression for its effect alone."""
+        """Writes an expression for its effect alone. Raises Refused for a step of a register."""
         if isinstance(node, tree.ExprList):
             for one in node.exprs:
                 self.effect(one)
@@ -208,15 +213,18 @@ class Assignments(Component):
                 self.writer.temporary(left.kind, left.text)
 
     def step_part(self, node: Any, place: Place) -> None:
+        """Writes a step of a part of an integer."""
         assert isinstance(place.type, Int)
         one = Value("1", kinds.INT, PRIMARY)
         self.assign_part(place, lambda own: self.operated(node, node.op[-1], own, one), place.type)
 
     def kind_has_width(self, node: Any) -> bool:
+        """Whether an expression is a bit-field."""
         of = self.writer.constants.type_of(node)
         return isinstance(of, Int) and of.width > 0
 
     def has_calls(self, node: Any) -> bool:
+        """Whether an expression has a call in it."""
         return any(isinstance(one, tree.FuncCall) for one in walk(node))
 
     def plain_effect(self, node: Any, write: Callable[[], Any]) -> None:

@@ -24,7 +24,10 @@ MOST_ELEMENTS = 1024
 
 
 class Calls(Component):
+    """The calls of one function (6.5.2.2)."""
+
     def called(self, node: Any) -> Function:
+        """The function that a call calls. Raises Refused where it calls what is no function."""
         function = self.writer.places.choosers.called(node)
         if not isinstance(function, Function):
             self.writer.pointers.pointer(node.name)
@@ -32,7 +35,8 @@ class Calls(Component):
         return function
 
     def call(self, node: Any) -> tuple[str, list[str]]:
-        """A call's text, and the statements that must follow it."""
+        """A call's text, and the statements that must follow it. Raises Refused for a wrong number of arguments, and
+        for two names of one object."""
         function = self.called(node)
         model = model_of(function)
         if model is not None and self.takes_model(node, model):
@@ -83,6 +87,8 @@ class Calls(Component):
             raise
 
     def takes_model(self, node: Any, model: Model) -> bool:
+        """Whether a call is one of a library's function by its model. Raises Refused where it is declared otherwise
+        than in the library."""
         if len(arguments(node)) != len(model.parameters):
             raise Refused(
                 node.coord, f"{model.name} is declared otherwise than in the library", "declare it as string.h does"
@@ -121,7 +127,8 @@ class Calls(Component):
                     after.append(f"{elements[0]} = {self.writer.spelling.leaf(own, leaf.path)};")
 
     def handed(self, place: Place, argument: Any, index: Optional[Value]) -> list[str]:
-        """An object's integers as arguments, its arrays lent whole."""
+        """An object's integers as arguments, its arrays lent whole. Raises Refused for an array within an element of
+        an array."""
         texts = []
         for leaf, elements in self.writer.elements.integers(place, index):
             if leaf.dims and index is not None:
@@ -136,7 +143,7 @@ class Calls(Component):
         return texts
 
     def apart(self, node: Any, function: Function) -> None:
-        """Refuses a call in which a copied object has a second name, and one of both is written."""
+        """Refuses a call in which a copied object has a second name, and one of both is written. Raises Refused then."""
         summary = self.writer.effected.summary_of(function)
         seen: list[tuple[Object, bool, bool]] = []
         for argument, parameter in zip(arguments(node), function.parameters):
@@ -177,6 +184,8 @@ class Calls(Component):
                 )
 
     def call_value(self, node: Any) -> Value:
+        """The value of a call; what follows the call is written before it is used. Raises Refused for one that gives
+        no integer."""
         if is_offset(node):
             return Value(self.writer.at(node) + f"{self.writer.constants.value(node)}ul", kinds.SIZE, PRIMARY)
         function = self.called(node)
@@ -194,6 +203,7 @@ class Calls(Component):
         return self.writer.conversions.truth(made) if function.result.boolean else made
 
     def call_effect(self, node: Any) -> None:
+        """Writes a call as a statement; calls that record nothing are left out, but not what their arguments do."""
         function = self.called(node)
         if function.name in ("assert", "assume") and function.definition is None:
             self.writer.emit(
@@ -217,7 +227,7 @@ class Calls(Component):
 
     @staticmethod
     def check_lengths(variable: Variable) -> None:
-        """Refuses arrays that are longer than the profile's."""
+        """Refuses arrays that are longer than the profile's. Raises Refused then."""
         for leaf in kinds.leaves(variable.type):
             if leaf.count > MOST_ELEMENTS:
                 raise Refused(

@@ -24,6 +24,7 @@ class CheckedExpressions(Expressions):
         self.overflow = overflow
 
     def inner_value(self, node: Any) -> Value:
+        """The value, with the numbers between which a constant lies."""
         made = super().inner_value(node)
         known = None if isinstance(made, Ranged) or made.kind.boolean else self.writer.constants.value(node)
         if known is not None:
@@ -32,6 +33,7 @@ class CheckedExpressions(Expressions):
         return made
 
     def binary(self, node: Any) -> Value:
+        """An operation that can overflow becomes a call; within no function, as in first values, all stays."""
         is_size = self.is_size(node.left) and self.is_size(node.right)
         both = (node.left, node.right) if node.op in CHECKED + KNOWN and not is_size else ()
         if not both or self.writer.function is None or any(self.writer.pointers.is_pointer(one) for one in both):
@@ -42,6 +44,7 @@ class CheckedExpressions(Expressions):
         return made or self.overflow.unchecked(node.op, left, right)
 
     def unary(self, node: Any) -> Value:
+        """A negation that can overflow becomes a call (6.5.3.3p3)."""
         if node.op != "-" or self.writer.function is None:
             return super().unary(node)
         one = self.value(node.expr)
@@ -61,9 +64,11 @@ class CheckedAssignments(Assignments):
         self.overflow = overflow
 
     def assign(self, node: Any, stable: bool = False) -> tuple[str, Int]:
+        """An assignment whose target stays the same, since it is written twice."""
         return super().assign(node, stable or node.op != "=")
 
     def assignment(self, node: Any, target: str, kind: Int, given: Value, other: bool) -> str:
+        """A compound assignment as a plain one of the checked operation (6.5.16.2p3)."""
         op = node.op[:-1]
         if not op or kind.boolean and not self.overflow.overflows:
             return super().assignment(node, target, kind, given, other)
@@ -76,15 +81,18 @@ class CheckedAssignments(Assignments):
         return f"{target} = {self.writer.conversions.converted(whole, kind).text};"
 
     def operated(self, node: Any, op: str, own: Value, given: Value) -> Value:
+        """The checked operation on a part of an integer."""
         made = self.overflow.checked(node, op, own, given) if op in CHECKED else None
         made = self.overflow.unchecked(op, own, given) if made is None else made
         self.overflow.last = node, made
         return made
 
     def step(self, node: Any, stable: bool = False) -> tuple[str, Int]:
+        """The target of a step, which stays the same, since it is written twice."""
         return super().step(node, True)
 
     def stepping(self, node: Any, target: str, kind: Int) -> str:
+        """A step as an assignment of the checked sum or difference (6.5.2.4p2)."""
         one = Value("1", kinds.INT, PRIMARY)
         own, op = Value(target, kind, PRIMARY), node.op[-1]
         whole = self.overflow.checked(node, op, own, one)
@@ -103,6 +111,7 @@ class CheckedConversions(Conversions):
         self.overflow = overflow
 
     def converted(self, value: Value, kind: Int) -> Value:
+        """The value by a call that asserts that the kind has it (6.3.1.3p3)."""
         node = self.overflow.last[0] if self.overflow.last[1] is value else None
         if node is None or node.coord is None or self.writer.function is None or not self.overflow.narrows(value, kind):
             return super().converted(value, kind)

@@ -20,8 +20,11 @@ def within(of: Type, part: Type) -> bool:
 
 
 class Checks(Component):
+    """The checks of names, before a function is written."""
+
     def check_names(self, function: Function) -> None:
-        """Refuses what would make two names of one object, or one name of two."""
+        """Refuses what would make two names of one object, or one name of two. Raises Refused for a parameter whose
+        object has the name of another one there."""
         locals_of = {
             variable.name
             for variable in self.writer.names.variables
@@ -40,7 +43,8 @@ class Checks(Component):
             self.check_uncalled(function)
 
     def check_uncalled(self, function: Function) -> None:
-        """Refuses a function that nothing calls, where two of its names may be those of one object."""
+        """Refuses a function that nothing calls, where two of its names may be those of one object. Raises Refused
+        then, and lets the parameters be pointers in the next reading."""
         summary = self.writer.effected.of_function[function]
         copies = [one for one in function.parameters if one.binding == "copy" and isinstance(one.type, Pointer)]
         for at, one in enumerate(copies):

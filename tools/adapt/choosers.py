@@ -45,6 +45,7 @@ class Choosers:
 
     @staticmethod
     def made(of: Signature, node: Any) -> Function:
+        """A function that chooses, for pointers to a type."""
         listed = []
         for at, one in enumerate(of.parameters, 1):
             listed.append(Variable(f"a{at}", one, node.coord, "parameter"))

@@ -19,6 +19,7 @@ from .regions import Region
 
 
 def product(lengths: tuple[int, ...]) -> int:
+    """How many elements arrays of these lengths have."""
     made = 1
     for one in lengths:
         made *= one
@@ -26,6 +27,8 @@ def product(lengths: tuple[int, ...]) -> int:
 
 
 class ColumnItems(Component):
+    """What stands of columns in front of all else, and at the begin of functions."""
+
     def write_columns(self) -> None:
         """Writes the columns, before all else; those that have the name of a file's object with its own words."""
         columns = self.writer.places.columns
@@ -47,6 +50,8 @@ class ColumnItems(Component):
         self.writer.begin = (path, self.writer.line, len(self.writer.file.pieces))
 
     def write_column(self, region: Region, given: dict[tuple[Variable, Path], dict[int, str]]) -> None:
+        """Writes one column, an array for each integer of its elements. Raises Refused where its objects can't lie in
+        one, or are too many."""
         column = region.column
         if region.fault:
             raise Refused(*region.fault)
@@ -104,7 +109,7 @@ class ColumnItems(Component):
         return found
 
     def first_number(self, node: Any, kind: Int) -> str:
-        """A first value as a number."""
+        """A first value as a number. Raises Refused where it is no constant."""
         if isinstance(node, Part):
             text = unmarked(self.writer.expressions.value(node).text)
             if not re.fullmatch(r"-?\d+", text):
@@ -116,7 +121,8 @@ class ColumnItems(Component):
         return str(kinds.fit(known, kind))
 
     def into_columns(self, function: Function) -> None:
-        """Writes that what parameters have goes into the columns in which they lie."""
+        """Writes that what parameters have goes into the columns in which they lie. Raises Refused for the address of
+        what a copied parameter stands for."""
         for one in function.parameters:
             if isinstance(one.binding, Place) or one.binding == "lent":
                 continue

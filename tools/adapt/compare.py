@@ -143,6 +143,7 @@ class Comparison:
         self.adapted(made, outer)
 
     def text(self, path: str) -> str:
+        """The directives that include a source, whose main gets another name."""
         return f'#define main adapt_own_main\n#include "{os.path.abspath(path)}"\n#undef main\n'
 
     def copied(self, made: dict[str, str]) -> str:
@@ -168,6 +169,7 @@ class Comparison:
         return "\n".join(lines)
 
     def calls(self) -> str:
+        """The cases that call each entry with arguments of the command line."""
         lines = []
         for number, one in enumerate(self.entries):
             words = "".join(f" long long adapt_{at} = adapt_word();" for at in range(len(one.parameters)))
@@ -178,11 +180,13 @@ class Comparison:
         return "\n".join(lines)
 
     def declared(self, function: Function) -> str:
+        """A declaration of an entry, for the file that calls it."""
         types = [function.result, *(one.type for one in function.parameters)]
         words = ["_Bool" if isinstance(of, Int) and of.boolean else getattr(of, "text", "void") for of in types]
         return f"{words[0]} {function.out}({', '.join(words[1:]) or 'void'});"
 
     def original(self, sources: list[str], flags: list[str], outer: list[Function]) -> None:
+        """Compiles the original under sanitizers, with guards around its objects."""
         texts, dumps = [], ""
         for number, path in enumerate(sources):
             own = [one for one in self.shared if one.unit.path == path]
@@ -198,6 +202,7 @@ class Comparison:
         self.compile("original", [*texts, head + DRIVER % (self.calls(), dumps)], flags + WATCHED)
 
     def adapted(self, made: dict[str, str], outer: list[Function]) -> None:
+        """Compiles what was written."""
         own = [
             one.out for one in self.writer.names.functions if isinstance(one.coord, Spot) and one.definition is not None
         ]
@@ -214,10 +219,12 @@ class Comparison:
         self.compile("adapted", [text + DRIVER % (self.calls(), self.dump(self.in_order(), True))], [])
 
     def in_order(self) -> list[Variable]:
+        """The compared objects in the order of their sources."""
         units = list(dict.fromkeys(unit.path for unit, _ in self.writer.names.items))
         return sorted(self.shared, key=lambda one: units.index(one.unit.path))
 
     def compile(self, name: str, texts: list[str], flags: list[str]) -> None:
+        """Compiles texts to one program. Raises Stop where the compiler refuses them."""
         paths = []
         for number, text in enumerate(texts):
             paths.append(os.path.join(self.folder, f"{name}_{number}.c"))
@@ -234,6 +241,7 @@ class Comparison:
             raise Stop(f"the {name} can't be compiled: {(told or ended.stderr.splitlines() or ['?'])[0]}")
 
     def run(self, name: str, words: list[str]) -> tuple[int, list[str]]:
+        """The status and the lines of a run; -14 where its time is up."""
         try:
             ended = subprocess.run(
                 [os.path.join(self.folder, name), *words],

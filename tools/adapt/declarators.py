@@ -38,6 +38,7 @@ class Variable:
 
     @property
     def shared(self) -> bool:
+        """Whether several functions may name it."""
         return self.home in ("file", "static", "column")
 
     @property
@@ -48,6 +49,9 @@ class Variable:
 
 @dataclass(eq=False)
 class Function:
+    """A function of the sources, declared or defined. `calls` are its calls with who calls, `taken` says that its
+    address is taken."""
+
     name: str
     result: Type
     parameters: list[Variable]
@@ -113,7 +117,8 @@ class Declarators:
         raise NotImplementedError
 
     def type_of(self, node: Any) -> Type:
-        """The type that a declarator or a Typename gives."""
+        """The type that a declarator or a Typename gives. Raises Refused for a type that no object of the profile
+        has."""
         if isinstance(node, (tree.Typename, tree.TypeDecl)):
             return self.type_of(node.type)
         if isinstance(node, tree.IdentifierType):
@@ -163,6 +168,7 @@ class Declarators:
             return Other(refused.cause, refused.advice)
 
     def named(self, node: Any) -> Type:
+        """The type that words or a typedef's name give (6.7.2p2, 6.7.8); pointers in it get regions of their own."""
         found = self.scope.get(node.names[0]) if len(node.names) == 1 else None
         if isinstance(found, (Int, Array, Struct, Pointer, Signature, Other)):
             return kinds.renewed(found)
@@ -173,6 +179,7 @@ class Declarators:
         )
 
     def struct(self, node: Any) -> Struct:
+        """The struct or union of a tag, or one without a tag (6.7.2.3); a member that can't be written is its fault."""
         tag = node.name or f"at line {node.coord.line}"
         made = self.tags.get(tag) if node.name else None
         if made is None or (node.decls is not None and node.name and tag not in self.tags.maps[0]):
@@ -215,6 +222,8 @@ class Declarators:
         return [(node.name, of if width == of.bits else bit_field(of, width))]
 
     def enum(self, node: Any) -> Type:
+        """The type of an enum, whose constants come into scope (6.7.2.2, gcc's choice of the type). Raises Refused
+        for one that is no int."""
         if node.values is None:
             return self.tags.get(node.name, kinds.UINT)
         last, least = -1, 0

@@ -120,6 +120,7 @@ class Elements(Component):
 
     @staticmethod
     def plain(text: str) -> str:
+        """The text without the marks of places."""
         return unmarked(text)
 
     def leaf(self, place: Place, stable: bool = False) -> tuple[str, bool]:

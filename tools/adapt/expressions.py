@@ -35,6 +35,8 @@ class Expressions(Component):
             self.writer.asked.pop()
 
     def inner_value(self, node: Any) -> Value:
+        """The value of an expression by its form. Raises Refused for one that gives no integer, and for an effect in
+        a list of pointers."""
         if isinstance(node, Known):
             return node.value
         if isinstance(node, At):
@@ -74,6 +76,7 @@ class Expressions(Component):
         raise Refused(node.coord, f"an expression ({type(node).__name__})", "write it with the operators of integers")
 
     def constant(self, node: Any) -> Value:
+        """An integer constant as the profile takes it (6.4.4). Raises Refused for a string."""
         if node.type == "string":
             raise Refused(node.coord, "a string", "name it as an array of char, and use its elements")
         value, kind = number(node)
@@ -90,6 +93,7 @@ class Expressions(Component):
         )
 
     def named(self, node: Any) -> Value:
+        """The value of a name: a constant of an enum, or an object. Raises Refused for a function."""
         meaning = self.writer.names.meaning.get(node)
         if isinstance(meaning, Enumerator):
             text = meaning.out
@@ -101,6 +105,7 @@ class Expressions(Component):
         return self.read(node)
 
     def read(self, node: Any) -> Value:
+        """The value of an object (6.3.2.1p2). Raises Refused for one that is no integer."""
         if is_no_object(node):
             node = self.writer.wholes.kept_whole(node)
         place = self.writer.places.place(node)
@@ -117,6 +122,7 @@ class Expressions(Component):
         return Value(self.writer.at(node) + text, place.type, PRIMARY, truth=place.type.boolean, calls=calls)
 
     def unary(self, node: Any) -> Value:
+        """A unary expression (6.5.3). Raises Refused for an address where an integer is needed."""
         if node.op == "sizeof":
             return Value(self.writer.at(node) + f"{self.writer.constants.size_of(node.expr)}ul", kinds.SIZE, PRIMARY)
         if node.op == "*":
@@ -151,7 +157,8 @@ class Expressions(Component):
         return Value("0", kinds.INT, PRIMARY)
 
     def null(self, node: Any) -> Optional[str]:
-        """What a test for a null pointer gives of a parameter to which each call hands an object."""
+        """What a test for a null pointer gives of a parameter to which each call hands an object. Raises Refused
+        where no call hands one over."""
         meaning = self.writer.names.meaning.get(node) if isinstance(node, tree.ID) else None
         if not isinstance(meaning, Variable) or not (isinstance(meaning.type, Pointer) or meaning.binding == "lent"):
             return None
@@ -166,6 +173,7 @@ class Expressions(Component):
         return "0"
 
     def binary(self, node: Any) -> Value:
+        """A binary expression (6.5.5 to 6.5.14), whose operands C evaluates in any order."""
         if node.op in LOGICAL:
             return self.logical(node)
         if node.op in ("==", "!="):
@@ -203,9 +211,11 @@ class Expressions(Component):
 
     @staticmethod
     def is_size(node: Any) -> bool:
+        """Whether an expression is a sizeof."""
         return isinstance(node, tree.UnaryOp) and node.op == "sizeof"
 
     def logical(self, node: Any) -> Value:
+        """&& and ||; where the right operand takes statements, by a branch (6.5.13p4, 6.5.14p4)."""
         right = self.writer.order.inline(node.right, lambda: self.test(node.right))
         if right is not None:
             left = self.test(node.left)
@@ -233,11 +243,14 @@ class Expressions(Component):
         self.braced(f"if (!{self.test(node).within(UNARY)})", then)
 
     def braced(self, head: str, then: Callable[[], None]) -> None:
+        """Writes a head, and what is done between braces behind it."""
         self.writer.emit(head + " {")
         then()
         self.writer.emit("}")
 
     def chosen(self, node: Any) -> Value:
+        """?: as a value; where a part takes statements, by a branch (6.5.15p4). Raises Refused where both are no
+        integers."""
         kind = self.writer.constants.type_of(node)
         if not isinstance(kind, Int):
             raise Refused(node.coord, "a choice between what are no integers", "use if")
@@ -270,6 +283,7 @@ class Expressions(Component):
         return Value(f"({to.text}) ({index.within(7)} == {NIL} ? 0 : {base} + {at})", to, UNARY)
 
     def cast(self, node: Any) -> Value:
+        """A conversion to an integer type (6.5.4). Raises Refused for another one."""
         to = self.writer.names.types.get(node.to_type)
         if not isinstance(to, Int):
             raise Refused(node.coord, "a conversion to what is no integer", "convert to an integer type")

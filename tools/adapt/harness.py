@@ -56,7 +56,8 @@ def own_main(writer: Writer, home: str) -> bool:
 
 
 def text_of(writer: Writer, made: list[str], entry: str, given: str, folder: str) -> tuple[str, str]:
-    """The file's text, for inputs of a file, and the source that it includes."""
+    """The file's text, for inputs of a file, and the source that it includes. Raises Stop for an entry that can't be
+    called, and for inputs that the original hasn't."""
     function = next((one for one in writer.names.functions if one.name == entry and one.definition is not None), None)
     if function is None or not plain(function):
         raise Stop(f"{entry} is no function of the sources that takes integers alone and gives one or nothing")

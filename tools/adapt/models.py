@@ -32,6 +32,8 @@ MOST_LEAVES = 64
 
 
 class Model(NamedTuple):
+    """A library's function by its model: the words of its result, its name, its parameters and its body."""
+
     result: str
     name: str
     parameters: list[str]
@@ -39,6 +41,7 @@ class Model(NamedTuple):
 
     @property
     def gives_pointer(self) -> bool:
+        """Whether it gives a pointer."""
         return "*" in self.result
 
 
@@ -62,11 +65,13 @@ def model_of(function: Any) -> Optional[Model]:
 
 
 def letter(parameter: str) -> str:
+    """The name of a parameter."""
     return parameter.split()[-1].lstrip("*")
 
 
 def element_count(constants: Any, node: Any, size: int) -> Any:
-    """A number of bytes as one of elements: a number, or the expression that it is."""
+    """A number of bytes as one of elements: a number, or the expression that it is. Raises Refused where they may be
+    no whole number of elements."""
     if size == 1:
         return node
     known = constants.value(node)
@@ -88,9 +93,10 @@ class Written:
 
     def __init__(self, model: Model, name: str, regions: dict[str, Region], own: Any, count: str) -> None:
         self.model, self.name, self.regions, self.count = model, name, regions, count
-        self.leaf, self.names = own.models.model_leaf, own.models.model_word
+        self.leaf, self.names = own.model_leaf, own.model_word
 
     def text(self) -> str:
+        """The function's text."""
         heads = []
         for one in self.model.parameters:
             at = letter(one)
@@ -107,6 +113,7 @@ class Written:
         return named
 
     def access(self, at: str, index: str, path: tuple[str, ...], element: int = 0) -> str:
+        """The text of an element, which is -1's where it lies outside of its object."""
         whole, parts = f"${at} + {index}", self.regions[at].parts()
         tests = [f" | -({whole} >= ${at}_e)"] * (END in parts) + [f" | -({whole} < ${at}_b)"] * (BEGIN in parts)
         name, factor, add = self.leaf(self.regions[at], path)
@@ -116,6 +123,7 @@ class Written:
         return f"{name}{OPEN}{checked}]"
 
     def set_elements(self, found: "re.Match[str]") -> str:
+        """The text that sets an element, integer by integer."""
         to, index, of, other, value = found.groups()
         elem, made = self.regions[to].elem, []
         if isinstance(elem, Int):
@@ -160,6 +168,8 @@ class ModelCalls(Component):
         return {**first, INDEX: Value(text, kinds.INT, PRIMARY, calls=True)}
 
     def number_argument(self, node: Any, at: str, region: Region, model: Model, count: str) -> tuple[str, str]:
+        """An argument that is no pointer, with the type of the number of elements. Raises Refused for bytes of what
+        has none."""
         if at != "n":
             narrow = isinstance(region.elem, Int) and region.elem.bits == 8
             if model.name == "memset" and not narrow and self.writer.constants.value(node) != 0:
@@ -180,6 +190,7 @@ class ModelCalls(Component):
         return value.text, "unsigned int" if value.kind.bits <= 32 else "size_t"
 
     def model_region(self, node: Any) -> Region:
+        """The region of a pointer that a model gets. Raises Refused where its objects aren't known, or are large."""
         of = self.writer.places.columns.pointer(node)
         region: Region = of.region.root()
         fault = region.fault
@@ -191,6 +202,8 @@ class ModelCalls(Component):
         return region
 
     def model_leaf(self, region: Region, path: tuple[str, ...]) -> tuple[str, int, int]:
+        """Where an integer of a region's elements lies: its array, the factor of an element's number, and what is
+        added."""
         variable, inside, factor, add = self.writer.places.columns.leaf_at(region, path)
         return self.writer.spelling.leaf(variable, inside), factor, add
 
@@ -202,6 +215,7 @@ class ModelCalls(Component):
         return found
 
     def model_name(self, node: Any, model: Model, regions: dict[str, Region], count: str) -> str:
+        """The name of a model for some regions, which is written with its first call."""
         key = (model.name, *regions.values(), count)
         if key not in self.written_models:
             name = self.writer.spelling.fresh(model.name)

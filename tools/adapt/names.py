@@ -17,6 +17,7 @@ class Names(Declarators):
     """Reads the units, and ties each name to what it stands for."""
 
     def unit(self, unit: Unit) -> None:
+        """Reads one source; what is refused in an item is gathered."""
         self.scope, self.tags, self.current = ChainMap(), ChainMap(), unit
         for item in unit.tree.ext:
             self.refusals.go(item.coord)
@@ -27,6 +28,7 @@ class Names(Declarators):
     # ---- declarations
 
     def item(self, item: Any) -> None:
+        """A declaration or a definition of the file or of a block."""
         if isinstance(item, tree.Typedef):
             self.typedef(item)
         elif isinstance(item, tree.Decl):
@@ -35,10 +37,12 @@ class Names(Declarators):
             self.definition(item)
 
     def typedef(self, node: Any) -> None:
+        """The name of a type; the library's own of known widths are kept as they are."""
         fixed = kinds.FIXED.get(node.name) if is_system(str(node.coord.file)) else None
         self.scope[node.name] = fixed or self.usable(node.type)
 
     def declaration(self, node: Any) -> None:
+        """A declaration of a type alone, of a function, or of an object."""
         if isinstance(node.type, (tree.Struct, tree.Enum, tree.Union)) and node.name is None:
             self.type_of(node.type)
         elif isinstance(node.type, tree.FuncDecl):
@@ -51,6 +55,8 @@ class Names(Declarators):
         return (node.name, node.coord.file) if static else node.name
 
     def variable(self, node: Any) -> Variable:
+        """The object that a declaration declares, which may be known already (6.2.2). Raises Refused for static ones
+        that differ from source to source."""
         of = self.usable(node.type)
         if isinstance(of, Array) and of.length is None and node.init is not None:
             self.initialiser(node.init)
@@ -102,6 +108,7 @@ class Names(Declarators):
         return list(getattr(node, "quals", None) or [])
 
     def initialiser(self, node: Any) -> None:
+        """Ties the names in a first value."""
         if isinstance(node, tree.InitList):
             for one in node.exprs or []:
                 self.initialiser(one)
@@ -117,6 +124,7 @@ class Names(Declarators):
             self.expression(node)
 
     def declared_function(self, node: Any) -> Function:
+        """The function that a declaration declares, which may be known already (6.2.2p5)."""
         result = node.type.type
         old = self.scope.maps[-1].get(node.name)
         static = "static" in node.storage or (isinstance(old, Function) and old.static)
@@ -135,9 +143,11 @@ class Names(Declarators):
 
     @staticmethod
     def written(node: Any) -> list[Any]:
+        """The parameters as they are written."""
         return list(node.type.args.params) if node.type.args else []
 
     def parameters(self, node: Any) -> list[Variable]:
+        """The parameters as objects; an ellipsis and void are none."""
         made = []
         for one in self.written(node):
             if isinstance(one, tree.EllipsisParam):
@@ -152,6 +162,7 @@ class Names(Declarators):
         return made
 
     def definition(self, node: Any) -> None:
+        """The definition of a function, with the scopes of its body."""
         self.prototyped(node)
         made = self.declared_function(node.decl)
         self.meaning[node] = made
@@ -184,7 +195,7 @@ class Names(Declarators):
         node.param_decls = None
 
     def same_again(self, made: Function, node: Any) -> None:
-        """A second definition must be that of a header, read anew."""
+        """A second definition must be that of a header, read anew. Raises Refused where it is another one."""
         if any(one.function is made and one.home == "static" and not one.const for one in self.variables):
             raise Refused(
                 node.decl.coord, f"{made.name} has another static object in each source", "define it in one source"
@@ -198,6 +209,7 @@ class Names(Declarators):
     # ---- statements and expressions
 
     def statement(self, node: Any) -> None:
+        """Ties the names of a statement; a block has a scope of its own (6.2.1p4)."""
         self.refusals.go(node.coord)
         with self.refusals.gathered():
             if isinstance(node, tree.DeclList):
@@ -213,10 +225,12 @@ class Names(Declarators):
                 self.expression(node)
 
     def children(self, node: Any) -> None:
+        """Ties the names of all parts of a node."""
         for _, child in node.children():
             self.statement(child)
 
     def expression(self, node: Any) -> None:
+        """Ties the names of an expression, and gives types' names their types."""
         if isinstance(node, tree.ID):
             self.meaning[node] = self.scope.get(node.name)
             if isinstance(self.meaning[node], Function):
@@ -245,6 +259,7 @@ class Names(Declarators):
             self.children(node)
 
     def call(self, node: Any) -> None:
+        """Ties a call to its function where it is called by its name."""
         if is_offset(node):
             self.expression(node.args.exprs[0])
             return

@@ -39,7 +39,7 @@ class Order(Component):
         self.needing: dict[Optional[tree.Node], bool] = {}
 
     def unsequenced(self, node: Any, parts: list[Any]) -> None:
-        """Refuses parts that C evaluates in any order, where that matters."""
+        """Refuses parts that C evaluates in any order, where that matters. Raises Refused then (6.5p2)."""
         for one, other in combinations([self.writer.effected.of(part) for part in parts], 2):
             found = one.clash(other)
             if found:
@@ -74,6 +74,7 @@ class Order(Component):
         return made
 
     def needs(self, node: Any) -> bool:
+        """Whether a node itself takes statements before."""
         if isinstance(node, tree.ArrayRef) and self.writer.check:
             return isinstance(node.name, tree.ArrayRef)
         if isinstance(node, tree.FuncCall):

@@ -14,9 +14,11 @@ from .values import PRIMARY, Value
 
 
 class OutsideCalls(Component):
+    """The calls of functions that no source defines."""
+
     def outer_call(self, node: Any, function: Function) -> tuple[str, list[str]]:
-        """A call of a function that no source defines: an input function, or one that was named as such. Behind it stand the
-        values that objects get by it."""
+        """A call of a function that no source defines: an input function, or one that was named as such. Behind it
+        stand the values that objects get by it. Raises Refused where an object is handed over that it may change."""
         after: list[str] = []
         if function.name in self.writer.inputs:
             for number, argument in enumerate(arguments(node)):
@@ -49,7 +51,7 @@ class OutsideCalls(Component):
         return found
 
     def check_outer(self, function: Function, coord: Any) -> None:
-        """Refuses a function that no source defines and that is no input function."""
+        """Refuses a function that no source defines and that is no input function. Raises Refused then."""
         named = function.name in self.writer.inputs
         if (function.parameters or function.variadic) and not named or not isinstance(function.result, Int):
             advice = f"give the source that defines it, or name it (--input {function.name}) where its arguments don't matter and it changes no object"

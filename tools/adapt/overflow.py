@@ -42,6 +42,7 @@ def span_of(kind: Int) -> Span:
 
 
 def within(span: Span, kind: Int) -> bool:
+    """Whether a kind has all numbers between two."""
     low, high = span_of(kind)
     return low <= span[0] and span[1] <= high
 
@@ -133,6 +134,7 @@ class Overflow(Component):
         return self.helpers[key][0]
 
     def original_of(self, file: str) -> Original:
+        """The tokens of a file, which is read once."""
         if file not in self.originals:
             with open(file, encoding="utf-8", errors="surrogateescape") as opened:
                 self.originals[file] = Original(opened.read())

@@ -17,6 +17,8 @@ from .values import PRIMARY, UNARY, Known, Value, plus, times
 
 
 class PointerEffects(Component):
+    """What is done with pointers, and with objects part by part."""
+
     def compared(self, node: Any) -> Value:
         """A comparison of pointers."""
         self.writer.order.unsequenced(node, [node.left, node.right])
@@ -26,6 +28,7 @@ class PointerEffects(Component):
         return Value(text, kinds.INT, level, truth=True, calls=left.calls or right.calls)
 
     def difference(self, node: Any) -> Value:
+        """The difference of two pointers in elements (6.5.6p9)."""
         self.writer.order.unsequenced(node, [node.left, node.right])
         left, right = self.writer.pointers.pointer(node.left)[INDEX], self.writer.pointers.pointer(node.right)[INDEX]
         stride = self.writer.pointers.stride(node.left)
@@ -34,6 +37,7 @@ class PointerEffects(Component):
         return Value(f"(long) {text}", kinds.LONG, UNARY, calls=left.calls or right.calls)
 
     def assign_pointer(self, node: Any) -> None:
+        """Writes an assignment to a pointer (6.5.16.1). Raises Refused for an operator that pointers haven't."""
         place = self.writer.places.place(node.lvalue)
         if node.op in ("+=", "-="):
             parts = self.moved_in_place(node, place)
@@ -47,6 +51,7 @@ class PointerEffects(Component):
         self.set_parts(target, parts, self.reads(node.rvalue, place))
 
     def moved_in_place(self, node: Any, place: Place) -> Parts:
+        """Writes that a pointer moves by `+=` or `-=`; its integers."""
         self.writer.order.unsequenced(node, [node.lvalue, node.rvalue])
         target = self.writer.pointers.parts_at(place, self.writer.elements.index(place, True))
         step = times(
@@ -76,6 +81,7 @@ class PointerEffects(Component):
         return self.stepped_into(place, names, numbers)
 
     def stepped_into(self, place: Place, names: list[str], numbers: list[int]) -> Place:
+        """The place of a part of a place."""
         while names or numbers:
             if isinstance(place.type, Array) and numbers:
                 place = self.writer.places.element(place, tree.Constant("int", str(numbers.pop(0))))
@@ -117,6 +123,7 @@ class PointerEffects(Component):
         return found
 
     def lies_apart(self, variable: Variable) -> bool:
+        """Whether a part of a variable lies in a column of its own."""
         return bool(self.writer.places.columns.any_apart(self.writer.places.columns.home(variable), variable.type))
 
     def pointer_begun(self, variable: Variable, node: Any) -> None:

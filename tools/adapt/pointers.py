@@ -27,7 +27,10 @@ Parts = dict[str, Value]
 
 
 class Pointers(Component):
+    """The values of pointers."""
+
     def is_null(self, node: Any) -> bool:
+        """Whether an expression is a null pointer constant (6.3.2.3p3)."""
         while isinstance(node, tree.Cast):
             node = node.expr
         return self.writer.constants.value(node) == 0
@@ -49,6 +52,8 @@ class Pointers(Component):
             self.writer.within -= 1
 
     def parts_of(self, node: Any) -> Parts:
+        """The integers of a pointer's value by its form. Raises Refused where the pointer may meet objects that can't
+        lie in one column."""
         if self.is_null(node):
             return NONE
         of = self.writer.places.columns.pointer(node)
@@ -92,6 +97,7 @@ class Pointers(Component):
         return {INDEX: Value(str(self.writer.places.choosers.number(of.region, meaning)), kinds.INT, PRIMARY)}
 
     def array(self, node: Any) -> Place:
+        """The place of an array or of a string."""
         if isinstance(node, tree.Constant):
             return self.writer.places.of_variable(self.writer.places.columns.points.texts[node])
         return self.writer.places.place(node)
@@ -102,6 +108,7 @@ class Pointers(Component):
         return self.parts_at(place, self.writer.elements.index(place, True))
 
     def parts_at(self, place: Place, index: Optional[Value]) -> Parts:
+        """The integers of a pointer that lies at a place."""
         found = {}
         for part in place.type.region.parts():  # type: ignore[union-attr]
             name = self.writer.spelling.leaf(place.variable, place.path + (part,))
@@ -114,12 +121,13 @@ class Pointers(Component):
         return self.pointing(self.first_element(place), place.around or place)
 
     def first_element(self, place: Place) -> Place:
+        """The place of an array's first element, through all its lengths."""
         while isinstance(place.type, Array):
             place = self.writer.places.element(place, self.writer.places.zero)
         return place
 
     def pointing(self, place: Place, around: Place) -> Parts:
-        """A pointer to a place within an object."""
+        """A pointer to a place within an object. Raises Refused for an object that lies in no column."""
         if place.variable.home != "column" or place.path:
             raise Refused(None, f"the address of {place.variable.name}", "name the object itself")
         raw = self.writer.places.is_raw(place)
@@ -138,6 +146,7 @@ class Pointers(Component):
         return {INDEX: index, END: end, BEGIN: begin}
 
     def address(self, node: Any) -> Parts:
+        """The address of an object or a function (6.5.3.2p3)."""
         inner = node.expr
         if isinstance(self.writer.constants.type_of(inner), Signature):
             return self.pointer(inner)
@@ -168,6 +177,7 @@ class Pointers(Component):
         )
 
     def stride(self, node: Any) -> int:
+        """By how many elements of its column, or bytes, a pointer moves: the number of those in what it points to."""
         of = self.writer.places.columns.pointer(node)
         return (kinds.size(of.to) or 1) if of.region.root().raw else kinds.elements(of.to)
 
@@ -198,10 +208,12 @@ class Pointers(Component):
         return {**parts, INDEX: Value(old, kinds.INT, PRIMARY)}
 
     def step_text(self, node: Any, target: str) -> str:
+        """The statement of a step of a pointer."""
         stride = self.stride(node.expr)
         return f"{target}{node.op[-2:]};" if stride == 1 else f"{target} {node.op[-1]}= {stride};"
 
     def chosen_pointer(self, node: Any, of: Pointer) -> Parts:
+        """?: of pointers, each integer by itself, or by a branch."""
         names = of.region.parts()
         yes = self.writer.order.inline(node.iftrue, lambda: self.pointer(node.iftrue))
         no = self.writer.order.inline(node.iffalse, lambda: self.pointer(node.iffalse))
@@ -221,7 +233,7 @@ class Pointers(Component):
         return {name: Value(text, kinds.INT, PRIMARY) for name, text in made.items()}
 
     def given_back(self, node: Any, of: Pointer) -> Parts:
-        """What a call gives."""
+        """What a call gives. Raises Refused where no source defines the function."""
         function = self.writer.calls.called(node)
         if heap_call(function):
             return self.writer.heap.allocated(node, function.name)
@@ -250,6 +262,7 @@ class Pointers(Component):
         return found
 
     def result_part(self, function: Function, part: str) -> str:
+        """The name of the object in which a function hands a part of its pointer back."""
         own = self.writer.spelling.special(function, "result", function.result, self.writer.special)
         return self.writer.spelling.leaf(own, (part,))
 

@@ -42,6 +42,7 @@ class Raw:
 
     @staticmethod
     def functions(column: str, kind: Int, reads: str, sets: str, const: bool) -> str:
+        """The functions that read and set an integer of several bytes."""
         count = kind.bits // 8
 
         word = {32: "unsigned int", 64: "unsigned long"}.get(kind.bits, "unsigned int")
@@ -55,6 +56,7 @@ class Raw:
         return f"{text} static void {sets}(long i, {kind.text} v) {{ {' '.join(steps)} }}"
 
     def front(self) -> list[str]:
+        """What stands in front of all else."""
         return list(self.texts.values())
 
     # ---- indexes

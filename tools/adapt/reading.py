@@ -97,6 +97,7 @@ class Unit:
 
 
 def compiler() -> str:
+    """The path of gcc, or of clang. Raises Stop where neither is there."""
     found = shutil.which("gcc") or shutil.which("clang")
     if not found:
         raise Stop("neither gcc nor clang is there, whose preprocessor reads the sources (Debian's package gcc)")
@@ -104,10 +105,12 @@ def compiler() -> str:
 
 
 def is_system(file: str) -> bool:
+    """Whether a file is one of adapt's own headers."""
     return file.startswith((HEADERS, "<"))
 
 
 def run_compiler(path: str, flags: list[str], more: list[str]) -> subprocess.CompletedProcess[str]:
+    """Runs the compiler on a source with our headers alone."""
     words = [compiler(), "-std=gnu11", "-nostdinc", *more, *flags, "-isystem", HEADERS, "-x", "c", path]
     plain = {**os.environ, "LC_ALL": "C"}
     return subprocess.run(words, capture_output=True, text=True, errors="replace", check=False, env=plain)
@@ -130,7 +133,7 @@ def is_known(told: str) -> bool:
 
 
 def told_errors(path: str, told: str, refusals: Refusals) -> None:
-    """The compiler's errors as refusals."""
+    """The compiler's errors as refusals, but for functions of the library that have models. Raises Stop where it told none."""
     errors = [re.match(r"(.*?):(\d+):(?:\d+:)? (?:fatal )?error: (.*)", line) for line in told.splitlines()]
     if any(errors) and all(is_known(found.group(3)) for found in errors if found):
         return
@@ -253,7 +256,8 @@ def scanned(unit: Unit, text: str, refusals: Refusals) -> str:
 
 
 def read(path: str, flags: list[str], refusals: Refusals) -> Unit:
-    """The unit of a source. What is no C, and what pycparser can't read, is refused."""
+    """The unit of a source. What is no C, and what pycparser can't read, is refused. Raises Stop where it can't be
+    opened."""
     if not os.path.isfile(path):
         raise Stop(f"{path} can't be read")
     unit = Unit(path, None)

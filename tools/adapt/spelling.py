@@ -12,6 +12,8 @@ KEPT = {"assert", "assume"}
 
 
 class Spelling:
+    """The names of all that is written; `taken` are those that nothing else may have."""
+
     def __init__(self, names: Names, words: set[str]) -> None:
         self.taken = set(words) | KEPT
         self.leaves: dict[tuple[str, Path], str] = {}

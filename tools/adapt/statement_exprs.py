@@ -29,7 +29,7 @@ def block(writer: Any, node: tree.StatementExpr, do: Callable[[Any], object]) ->
 
 
 def value(writer: Any, node: tree.StatementExpr) -> Value:
-    """The value of an integer."""
+    """The value of an integer. Raises Refused where they give none."""
     of = writer.constants.type_of(node)
     if not isinstance(of, Int):
         raise Refused(node.coord, "statements within an expression that give no integer", "end them with an integer")
@@ -66,7 +66,8 @@ def whole(writer: Any, target: Place, node: tree.StatementExpr, at: Any) -> None
 
 
 def ranged(constants: Any, node: tree.CaseRange) -> list[str]:
-    """The cases of a range (gcc: none where it is empty)."""
+    """The cases of a range (gcc: none where it is empty). Raises Refused where it is empty, isn't constant, or has
+    too many."""
     low, high = constants.value(node.low), constants.value(node.high)
     if low is None or high is None or high < low or high - low >= MOST_CASES:
         cause = f"a range of cases that is empty, isn't constant, or has more than {MOST_CASES}"

@@ -24,6 +24,8 @@ def continues(node: Any) -> bool:
 
 
 class Statements(Component):
+    """The statements of one function (6.8)."""
+
     def statement(self, node: Any) -> None:
         """Writes one statement; what is refused in it is gathered."""
         self.writer.go(node)
@@ -58,10 +60,12 @@ class Statements(Component):
         self.close(node)
 
     def write_Compound(self, node: Any) -> None:
+        """A block."""
         self.writer.emit("{")
         self.body(node)
 
     def write_EmptyStatement(self, node: Any) -> None:
+        """An empty statement."""
         self.writer.emit(";")
 
     def write_Typedef(self, node: Any) -> None:
@@ -72,10 +76,12 @@ class Statements(Component):
     # ---- declarations
 
     def write_DeclList(self, node: Any) -> None:
+        """The declarations in a loop's head."""
         for one in node.decls:
             self.statement(one)
 
     def write_Decl(self, node: Any) -> None:
+        """A local with its first value (6.7.9). Raises Refused for a type that no local has."""
         variable = self.writer.names.meaning.get(node)
         if not isinstance(variable, Variable) or variable.home != "local":
             return
@@ -97,7 +103,8 @@ class Statements(Component):
             self.initialised(variable, node.init)
 
     def initialised_apart(self, variable: Variable, init: Any) -> None:
-        """Writes the first values of a local of which parts lie in columns, one by one; what has none is 0 or null."""
+        """Writes the first values of a local of which parts lie in columns, one by one; what has none is 0 or null.
+        Raises Refused for more than 256 of them."""
         self.writer.calls.declared(variable)
         made = filled(self.writer.constants, variable.type, init)
         self.writer.order.unsequenced(init, list(made.given.values()))
@@ -136,6 +143,7 @@ class Statements(Component):
     # ---- branches
 
     def write_If(self, node: Any) -> None:
+        """A branch, without jumps where its condition is a value."""
         if node.iffalse is None and self.writer.order.needs_statements(node.cond):
             self.writer.expressions.when(node.cond, lambda: self.inner(node.iftrue))
             return
@@ -161,6 +169,7 @@ class Statements(Component):
             self.statement(one)
 
     def write_Switch(self, node: Any) -> None:
+        """A switch whose cases stand directly in it. Raises Refused for a statement before them."""
         self.writer.emit(f"switch ({self.writer.expressions.value(node.cond).text}) {{")
         items = (node.stmt.block_items or []) if isinstance(node.stmt, tree.Compound) else [node.stmt]
         for one in items:
@@ -170,6 +179,7 @@ class Statements(Component):
         self.close(node.stmt)
 
     def group(self, node: Any, last: bool) -> None:
+        """A case with its statements."""
         self.writer.go(node)
         if isinstance(getattr(node, "expr", None), tree.CaseRange):
             for text in ranged(self.writer.constants, node.expr):
@@ -186,11 +196,13 @@ class Statements(Component):
             self.writer.emit(";")
 
     def write_Case(self, node: Any) -> None:
+        """Raises Refused: a case within a statement of its switch."""
         raise Refused(node.coord, "a case within a statement of its switch", "put it directly into the switch")
 
     write_Default = write_Case
 
     def write_Label(self, node: Any) -> None:
+        """A label, with an empty statement of its own."""
         self.writer.emit(f"{node.name}: ;")
         self.statement(node.stmt)
 
@@ -205,6 +217,7 @@ class Statements(Component):
             self.writer.expressions.unless(node, lambda: self.writer.emit("break;"))
 
     def write_While(self, node: Any) -> None:
+        """A loop; one whose condition takes statements is left within (6.8.5p4)."""
         test = self.inline_test(node.cond)
         if test is not None:
             self.writer.emit(f"while ({test}) {{")
@@ -214,6 +227,7 @@ class Statements(Component):
         self.body(node.stmt)
 
     def write_DoWhile(self, node: Any) -> None:
+        """A loop whose condition comes behind. Raises Refused for a continue where that condition takes statements."""
         test = self.inline_test(node.cond)
         if test is not None:
             self.writer.emit("do {")
@@ -233,6 +247,7 @@ class Statements(Component):
         self.writer.emit("}")
 
     def write_For(self, node: Any) -> None:
+        """A loop with a head, whose parts stand in it where each is one statement (6.8.5.3)."""
         init = self.head(node.init)
         local = isinstance(node.init, tree.DeclList) and init is None
         if local:
@@ -275,12 +290,15 @@ class Statements(Component):
     # ---- jumps
 
     def write_Break(self, node: Any) -> None:
+        """A break."""
         self.writer.emit("break;")
 
     def write_Continue(self, node: Any) -> None:
+        """A continue."""
         self.writer.emit("continue;")
 
     def write_Return(self, node: Any) -> None:
+        """A return, behind what the function hands back by copies (6.8.6.4)."""
         function = self.writer.function
         assert function is not None
         if isinstance(function.result, Struct):

@@ -75,6 +75,7 @@ class Units(Component):
         return new
 
     def item(self, item: Any, number: int) -> None:
+        """One item of a unit: a declaration or a function. Raises Refused for an object that no source defines."""
         self.enumerations(item.decl if isinstance(item, tree.FuncDef) else item)
         meaning = self.writer.names.meaning.get(item)
         if isinstance(item, tree.FuncDef) and isinstance(meaning, Function):
@@ -104,6 +105,7 @@ class Units(Component):
         return -1
 
     def enumerations(self, item: Any) -> None:
+        """Writes the enums of an item whose constants keep their names."""
         for node in walk(item):
             if isinstance(node, tree.Enum) and node.values is not None and self.once(node.coord):
                 listed = [
@@ -119,12 +121,14 @@ class Units(Component):
 
     @staticmethod
     def check_type(variable: Variable) -> None:
+        """Raises Refused for a type that can't be written."""
         fault = kinds.fault_of(variable.type)
         if fault:
             raise Refused(variable.coord, f"{variable.name}: {fault[0]}", fault[1])
 
     def variable(self, variable: Variable, static: bool = False, here: bool = False) -> None:
-        """Writes an object of the file with its first values, on their lines where they stand here."""
+        """Writes an object of the file with its first values, on their lines where they stand here. Raises Refused
+        for a struct as the first value of a part."""
         if self.writer.places.columns.in_column(variable):
             return
         self.check_type(variable)
@@ -151,10 +155,11 @@ class Units(Component):
             self.writer.emit(f"{words}{leaf.kind.text} {name}{f'[{leaf.count}]' if leaf.dims else ''}{value};")
 
     def is_static(self, variable: Variable) -> bool:
+        """Whether an object of the file is one of its source alone (6.2.2p3)."""
         return variable.home == "static" or (variable.name, str(variable.coord.file)) in self.writer.names.linked
 
     def first(self, node: Any, kind: Int, marked: bool) -> str:
-        """A first value of an object of the file, which is a constant."""
+        """A first value of an object of the file, which is a constant. Raises Refused for one that isn't."""
         if isinstance(node, Part):
             return self.writer.column_items.first_number(node, kind)
         known = self.writer.constants.value(node)
@@ -168,6 +173,8 @@ class Units(Component):
     # ---- functions
 
     def parameters(self, function: Function) -> str:
+        """The parameters as they are written: integers, arrays, pointers' integers, and structs' integers one by one.
+        Raises Refused for other types."""
         texts = []
         for number, one in enumerate(function.parameters, 1):
             if not one.name:
@@ -193,6 +200,7 @@ class Units(Component):
         return ", ".join(texts) or "void"
 
     def heading(self, function: Function) -> str:
+        """The head of a function. Raises Refused for a result that isn't written, and for any number of arguments."""
         result = function.result
         if function.variadic and function.definition is not None:
             raise Refused(
@@ -225,6 +233,7 @@ class Units(Component):
                 self.writer.emit(f"static {leaf.kind.text} {self.writer.spelling.leaf(own, leaf.path)};")
 
     def prototype(self, function: Function, item: Any) -> None:
+        """Writes a declaration of a function that is called."""
         wanted = function.calls and (function.definition is not None or isinstance(function.result, Int))
         wanted = wanted and not (model_of(function) or heap_call(function))
         if (
@@ -249,7 +258,8 @@ class Units(Component):
                     self.outer(meaning, node, function.number)
 
     def outer(self, variable: Variable, node: Any, number: int) -> None:
-        """Writes an object that a block declares with extern, where it is defined behind the item of this number."""
+        """Writes an object that a block declares with extern, where it is defined behind the item of this number.
+        Raises Refused where no source defines it."""
         if not variable.defined and variable in self.uses:
             self.check_type(variable)
             raise Refused(node.coord, f"no source defines {variable.name}", "give the source that defines it")
@@ -257,6 +267,7 @@ class Units(Component):
             self.variable(variable)
 
     def whole_function(self, function: Function) -> None:
+        """Writes a function, with what stands before it."""
         node = function.definition
         self.writer.function = function
         self.declared_within(function)

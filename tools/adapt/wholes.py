@@ -18,8 +18,10 @@ MOST_COPIED = 256
 
 
 class Wholes(Component):
+    """Structs as wholes."""
+
     def assign_whole(self, target: Place, source: Any, node: Any) -> None:
-        """Writes the assignment of a struct, member by member."""
+        """Writes the assignment of a struct, member by member. Raises Refused for more than 256 integers."""
         if isinstance(source, tree.TernaryOp):
             self.writer.expressions.either(source, lambda one: self.assign_whole(target, one, node))
             return
@@ -63,7 +65,8 @@ class Wholes(Component):
         return made
 
     def whole(self, source: Any, target: Place) -> tuple[Place, Optional[Value]]:
-        """The object in which a struct's value stands."""
+        """The object in which a struct's value stands. Raises Refused where no source defines the function that gives
+        it."""
         if isinstance(source, tree.FuncCall):
             function = self.writer.calls.called(source)
             text, after = self.writer.calls.call(source)
@@ -85,7 +88,8 @@ class Wholes(Component):
         return place, self.writer.elements.index(place, True, any(one in reads for one in objects(target)))
 
     def literal(self, target: Place, source: Any) -> list[tuple[Leaf, list[str]]]:
-        """The values of a compound literal, kept where the target itself may be among what they read."""
+        """The values of a compound literal, kept where the target itself may be among what they read. Raises Refused
+        for a struct within it."""
         made = filled(self.writer.constants, target.type, source.init)
         if made.wholes:
             raise Refused(source.coord, "a struct within a compound literal", "give its members one by one")

@@ -125,10 +125,12 @@ class Writer:
             self.line, self.column = node.coord.line, node.coord.column or 0
 
     def at(self, node: Any) -> str:
+        """The mark of an expression's place, where it stands in the original."""
         here = node.coord is not None and str(node.coord.file) == self.original
         return mark(node.coord.line, node.coord.column or 0) if here else ""
 
     def temporary(self, kind: Int, text: str, stem: str = "value") -> str:
+        """Writes a local with a value; its name."""
         name = self.spelling.fresh(stem)
         self.stands_for |= {name: self.asked[-1]} if self.asked else {}
         self.emit(f"{kind.text} {name} = {unmarked(text)};")
