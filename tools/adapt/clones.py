@@ -6,19 +6,21 @@ from typing import Any, Callable
 
 from . import kinds, tree
 from .declarators import Function
-from .tree import walk
 from .kinds import Pointer
 from .names import Names
 from .reading import Unit
+from .tree import walk
 
 MOST_COPIES, MOST_NODES = 8, 400
 
 
 def copied_key(function: Function) -> tuple[str, str, str]:
+    """What names a function that is copied, over several readings."""
     return ("copied", str(function.coord.file), function.name)
 
 
 def direct_key(node: Any, name: str) -> tuple[str, ...]:
+    """What names a call by a pointer that meets one function alone, over several readings."""
     return ("direct", str(node.coord.file), str(node.coord.line), str(node.coord.column), name)
 
 
@@ -67,6 +69,7 @@ class Clones:
         )
 
     def copied(self, unit: Unit, item: Any) -> None:
+        """Copies a function for each call of it, with its first declaration."""
         name = item.decl.name
         calls: list[Any] = [
             node
@@ -90,6 +93,7 @@ class Clones:
 
     @staticmethod
     def renamed(item: Any, name: str) -> Any:
+        """A copy of a declaration or a function by another name, which is static."""
         made = copy.deepcopy(item)
         decl = made.decl if isinstance(made, tree.FuncDef) else made
         decl.storage = ["static"]

@@ -4,9 +4,10 @@ that their calls meet."""
 import os
 import re
 from functools import cache
-from typing import Any, NamedTuple, Optional
+from typing import TYPE_CHECKING, Any, NamedTuple, Optional
 
 from . import kinds, tree
+from .component import Component
 from .declarators import Function
 from .initialisers import none_of
 from .kinds import Int, Pointer, Struct
@@ -14,6 +15,9 @@ from .places import arguments
 from .refusals import Refused
 from .regions import BEGIN, END, INDEX, NIL, Region
 from .values import PRIMARY, UNARY, Value
+
+if TYPE_CHECKING:
+    from .writer import Writer
 
 FOLDER = os.path.join(os.path.dirname(os.path.abspath(__file__)), "models")
 HEAD = re.compile(r"^(\w+ \*?)(\w+)\(([^()]*)\) \{(.*)\}$")
@@ -28,6 +32,8 @@ MOST_LEAVES = 64
 
 
 class Model(NamedTuple):
+    """A library's function by its model: the words of its result, its name, its parameters and its body."""
+
     result: str
     name: str
     parameters: list[str]
@@ -35,6 +41,7 @@ class Model(NamedTuple):
 
     @property
     def gives_pointer(self) -> bool:
+        """Whether it gives a pointer."""
         return "*" in self.result
 
 
@@ -58,11 +65,13 @@ def model_of(function: Any) -> Optional[Model]:
 
 
 def letter(parameter: str) -> str:
+    """The name of a parameter."""
     return parameter.split()[-1].lstrip("*")
 
 
 def element_count(constants: Any, node: Any, size: int) -> Any:
-    """A number of bytes as one of elements: a number, or the expression that it is."""
+    """A number of bytes as one of elements: a number, or the expression that it is. Raises Refused where they may be
+    no whole number of elements."""
     if size == 1:
         return node
     known = constants.value(node)
@@ -87,6 +96,7 @@ class Written:
         self.leaf, self.names = own.model_leaf, own.model_word
 
     def text(self) -> str:
+        """The function's text."""
         heads = []
         for one in self.model.parameters:
             at = letter(one)
@@ -103,6 +113,7 @@ class Written:
         return named
 
     def access(self, at: str, index: str, path: tuple[str, ...], element: int = 0) -> str:
+        """The text of an element, which is -1's where it lies outside of its object."""
         whole, parts = f"${at} + {index}", self.regions[at].parts()
         tests = [f" | -({whole} >= ${at}_e)"] * (END in parts) + [f" | -({whole} < ${at}_b)"] * (BEGIN in parts)
         name, factor, add = self.leaf(self.regions[at], path)
@@ -112,6 +123,7 @@ class Written:
         return f"{name}{OPEN}{checked}]"
 
     def set_elements(self, found: "re.Match[str]") -> str:
+        """The text that sets an element, integer by integer."""
         to, index, of, other, value = found.groups()
         elem, made = self.regions[to].elem, []
         if isinstance(elem, Int):
@@ -124,24 +136,27 @@ class Written:
         return " ".join(made)
 
 
-class ModelCalls:
+class ModelCalls(Component):
     """What a writer does with calls of the library's functions. `written_models` has each by its name and columns."""
 
-    places: Any
-    spelling: Any
-    constants: Any
+    def __init__(self, writer: "Writer") -> None:
+        super().__init__(writer)
+        self.written_models: dict[Any, tuple[str, str]] = {}
+        self.model_words: dict[str, str] = {}
 
     def model_parts(self, node: Any, model: Model) -> dict[str, Value]:
         """The call of a model, with what else a pointer that it gives has: that of its first argument."""
-        own: Any = self
-        own.unsequenced(node, arguments(node))
+        self.writer.order.unsequenced(node, arguments(node))
         texts: list[str] = []
         first: dict[str, Value] = {}
         regions: dict[str, Region] = {}
         for argument, parameter in zip(arguments(node), model.parameters):
             if "*" in parameter:
                 regions[letter(parameter)] = region = self.model_region(argument)
-                parts = {name: own.steady_value(one) for name, one in own.pointer(argument).items()}
+                parts = {
+                    name: self.writer.elements.steady_value(one)
+                    for name, one in self.writer.pointers.pointer(argument).items()
+                }
                 texts += [parts[name].text for name in region.parts()]
                 first = first or parts
         count = "unsigned int"
@@ -149,32 +164,34 @@ class ModelCalls:
             if "*" not in parameter:
                 value, count = self.number_argument(argument, letter(parameter), regions["a"], model, count)
                 texts.append(value)
-        text = f"{own.at(node)}{self.model_name(node, model, regions, count)}({', '.join(texts)})"
+        text = f"{self.writer.at(node)}{self.model_name(node, model, regions, count)}({', '.join(texts)})"
         return {**first, INDEX: Value(text, kinds.INT, PRIMARY, calls=True)}
 
     def number_argument(self, node: Any, at: str, region: Region, model: Model, count: str) -> tuple[str, str]:
-        own: Any = self
+        """An argument that is no pointer, with the type of the number of elements. Raises Refused for bytes of what
+        has none."""
         if at != "n":
             narrow = isinstance(region.elem, Int) and region.elem.bits == 8
-            if model.name == "memset" and not narrow and self.constants.value(node) != 0:
+            if model.name == "memset" and not narrow and self.writer.constants.value(node) != 0:
                 raise Refused(node.coord, "memset of what is no array of bytes", "assign the elements")
-            return own.value(node).text, count
+            return self.writer.expressions.value(node).text, count
         size = kinds.size(region.elem)
         if size is None or (not isinstance(region.elem, Int) or region.elem.bits != 8) and model.name not in WHOLE:
             raise Refused(node.coord, f"{model.name} of what are no bytes", "use the elements")
         try:
-            whole = element_count(self.constants, node, size)
+            whole = element_count(self.writer.constants, node, size)
         except Refused:  # (a part of an element, which is no whole number of them, ends the run)
-            given = own.steady_value(own.value(node))
+            given = self.writer.elements.steady_value(self.writer.expressions.value(node))
             text = given.within(UNARY)
             return f"{text} / {size} | -({text} % {size} != 0)", "size_t"
         if isinstance(whole, int):
             return str(whole), count
-        value = own.value(whole)
+        value = self.writer.expressions.value(whole)
         return value.text, "unsigned int" if value.kind.bits <= 32 else "size_t"
 
     def model_region(self, node: Any) -> Region:
-        of = self.places.columns.pointer(node)
+        """The region of a pointer that a model gets. Raises Refused where its objects aren't known, or are large."""
+        of = self.writer.places.columns.pointer(node)
         region: Region = of.region.root()
         fault = region.fault
         if fault:
@@ -185,23 +202,24 @@ class ModelCalls:
         return region
 
     def model_leaf(self, region: Region, path: tuple[str, ...]) -> tuple[str, int, int]:
-        variable, inside, factor, add = self.places.columns.leaf_at(region, path)
-        return self.spelling.leaf(variable, inside), factor, add
+        """Where an integer of a region's elements lies: its array, the factor of an element's number, and what is
+        added."""
+        variable, inside, factor, add = self.writer.places.columns.leaf_at(region, path)
+        return self.writer.spelling.leaf(variable, inside), factor, add
 
     def model_word(self, word: str) -> str:
         """A name within models that nothing else has."""
-        own: Any = self
-        if word not in own.model_words:
-            own.model_words[word] = self.spelling.fresh(word)
-        found: str = own.model_words[word]
+        if word not in self.model_words:
+            self.model_words[word] = self.writer.spelling.fresh(word)
+        found: str = self.model_words[word]
         return found
 
     def model_name(self, node: Any, model: Model, regions: dict[str, Region], count: str) -> str:
-        own: Any = self
+        """The name of a model for some regions, which is written with its first call."""
         key = (model.name, *regions.values(), count)
-        if key not in own.written_models:
-            name = self.spelling.fresh(model.name)
+        if key not in self.written_models:
+            name = self.writer.spelling.fresh(model.name)
             made = Written(model, name, regions, self, count)
-            own.written_models[key] = (name, made.text())
-        found: str = own.written_models[key][0]
+            self.written_models[key] = (name, made.text())
+        found: str = self.written_models[key][0]
         return found

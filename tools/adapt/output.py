@@ -13,6 +13,7 @@ def mark(line: int, column: int = 0) -> str:
 
 
 def unmarked(text: str) -> str:
+    """A text without the marks of places."""
     return LINE.sub("", text)
 
 
@@ -26,6 +27,7 @@ class File:
     marks: list[tuple[int, int, int, int]] = field(default_factory=list)
 
     def emit(self, line: int, text: str) -> None:
+        """Adds a piece that begins on a line."""
         self.pieces.append((line, text))
 
     def text(self, original: list[str]) -> str:

@@ -40,6 +40,7 @@ def operation(name: str, op: str, bits: int) -> str:
 
 
 def word(kind: Int) -> str:
+    """A kind as a part of names."""
     if kind.width:
         return f"{'' if kind.below_zero else 'u'}int{kind.width}"
     return f"{'' if kind.signed else 'u'}int{kind.bits}"

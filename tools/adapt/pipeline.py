@@ -7,7 +7,7 @@
     points-to which objects each pointer may meet                                                     points_to, meetings, settling
     layout    where these objects lie in arrays, the columns                                          columns, places, choosers
     effects   what expressions and calls read and write                                               effects
-    write     each statement in the profile, on its line                                              units and what it stands on
+    write     each statement in the profile, on its line                                              writer and its parts
     judge     the program reads what would be written                                                 gate
 
 What a later stage learns, that parameters can't stand for objects or that functions need copies, begins the whole anew.
@@ -30,21 +30,20 @@ from .library import OUTPUT, Library
 from .lifetimes import Lifetimes
 from .names import Names
 from .output import File
-from .overflow import writer_of
 from .places import Places
 from .reading import Unit, read
 from .refusals import Refusals
 from .sorting import check_sizes
 from .spelling import Spelling
 from .unions import settle
-from .units import Units
+from .writer import Analysis, Checking, Writer
 
 
 class Adapted(NamedTuple):
     """The text of each file that is written, by its original, and who wrote it."""
 
     texts: dict[str, str]
-    writer: Units
+    writer: Writer
 
 
 def adapt(given: Namespace, refusals: Refusals) -> Optional[Adapted]:
@@ -74,17 +73,15 @@ def written(given: Namespace, refusals: Refusals, apart: set[Any]) -> Optional[A
     taken = {word for unit in units for word in unit.words}
     library = expanded(units, taken, apart, refusals)
     names = named(units, library, given, refusals, taken)
-    places = Places(names)
-    Bindings(places, apart).bind()
-    places.columns = Columns(names, apart)
-    places.choosers = Choosers(names, places.columns)
-    lifetimes = Lifetimes(names, places.columns)
+    Bindings(Places(names), apart).bind()
+    columns = Columns(names, apart)
+    places = Places(names, columns, Choosers(names, columns))
+    lifetimes = Lifetimes(names, columns)
     inputs = set(given.inputs) | OUTPUT
     effected = Effected(names, places, inputs)
-    writer = writer_of(given)(names, places, effected, Spelling(names, taken), given.check)
-    writer.inputs, writer.lifetimes = inputs, lifetimes
-    files = writer.write()
-    texts = writer.finished(laid_out(files, units, given.sources))
+    known = Analysis(names, places, effected, lifetimes, inputs)
+    writer = Writer(known, Spelling(names, taken), Checking(given.check, given.check_overflow, given.check_conversions))
+    texts = writer.finished(laid_out(writer.units.write(), units, given.sources))
     if not refusals.found:
         check(texts, refusals)
     return Adapted(texts, writer)
@@ -114,8 +111,7 @@ def expanded(units: list[Unit], taken: set[str], apart: set[Any], refusals: Refu
 
 def named(units: list[Unit], library: Library, given: Namespace, refusals: Refusals, taken: set[str]) -> Names:
     """What the names stand for. The names that jumps got become taken."""
-    names = Names(refusals)
-    names.pool = given.pool
+    names = Names(refusals, given.pool)
     for unit in units:
         taken.update(node.name for node in tree.walk(unit.tree) if isinstance(node, tree.ID))
         names.unit(unit)
