@@ -31,10 +31,9 @@ from collections.abc import Callable
 from typing import IO, Any
 
 import programs
-from command_cases import every
+from command_cases import Case, every
 
 STACK = 2**30
-Case = dict[str, Any]
 
 
 def at_number(template: str, number: int) -> str:

@@ -72,7 +72,7 @@ class Grammar:
         return make() if self.random.random() < 0.5 else ""
 
     def name(self) -> str:
-        """A name."""
+        """An identifier of one letter and perhaps a digit or `_q` (C11 6.4.2), so that some stand several times."""
         return self.one("abcxyz") + self.one(["", "1", "_q"])
 
     # ---- expressions
@@ -84,7 +84,7 @@ class Grammar:
         return self.level(0, depth)
 
     def level(self, level: int, depth: int) -> str:
-        """Operands with the operators of a level."""
+        """An expression of the operators that bind as strongly as those of a row of INFIX, from 0, or more strongly."""
         if level == len(INFIX):
             return self.unary(depth)
         parts = [self.level(level + 1, depth)]
@@ -125,7 +125,7 @@ class Grammar:
         return self.name() + length + first
 
     def declarators(self) -> str:
-        """Declarators up to the `;`."""
+        """One or more, with commas between, up to the `;`."""
         return ", ".join(self.some(self.declarator, 1)) + ";"
 
     def consts(self) -> str:
@@ -139,7 +139,7 @@ class Grammar:
     # ---- statements
 
     def place(self) -> str:
-        """A place that is assigned."""
+        """A variable, or an element of an array, to which a value is assigned."""
         return self.name() + self.perhaps(lambda: f"[{self.choice(1)}]")
 
     def simple(self) -> str:
@@ -163,15 +163,15 @@ class Grammar:
         return " ".join(self.some(part))
 
     def block(self, depth: int) -> str:
-        """A block."""
+        """A compound statement, whose statements have others within them, so deep at most."""
         return f"{{ {self.body(depth)} }}"
 
     def labels(self) -> str:
-        """Labels of a switch."""
+        """One or more `case` and `default` in a row, as they stand before a group of a `switch`."""
         return " ".join(self.some(lambda: self.one([f"case {self.choice(1)}:", "default:"]), 1))
 
     def groups(self, depth: int) -> str:
-        """Groups of a switch."""
+        """What stands in the braces of a `switch`: labels with statements behind them, and perhaps labels alone."""
         groups = self.some(lambda: f"{self.labels()} {self.statement(depth)} {self.body(depth)}")
         return " ".join(groups) + self.perhaps(lambda: " " + self.labels())
 
@@ -215,7 +215,7 @@ class Grammar:
     # ---- items
 
     def parameter(self) -> str:
-        """A parameter."""
+        """What declares a parameter, with or without a name, or an array."""
         named = self.perhaps(lambda: self.name() + self.perhaps(lambda: f"[{self.choice(1)}]"))
         return f"{self.consts()}{self.one(TYPES)} {named}"
 

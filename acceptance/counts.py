@@ -20,6 +20,7 @@ import documents
 import launcher
 import programs
 import replays
+import told_events
 import tool_tests
 import tree_ends
 from command_cases import every
@@ -44,6 +45,7 @@ def rows() -> Iterator[tuple[str, str]]:
     queries = sum(len(program.bounds) * len(program.queries) for program in all_inputs.TABLE)
     yield "all_inputs", f"{bounds} bounds and all goals of {queries} queries within bounds, of {len(all_inputs.TABLE)} programs"
     yield "tree_ends", f"{len(list(tree_ends.sources()))} sources"
+    yield "told_events", f"{len(list(told_events.sources()))} sources"
     yield "corpus", f"{corpus.COUNT + 1} sources"
     yield "launcher", f"{len(launcher.CASES)} cases"
     for name, module in TOOLS.items():

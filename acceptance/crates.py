@@ -86,7 +86,7 @@ def head(name: str) -> str:
 
 
 def layer_table(given: list[Crate]) -> str:
-    """The rows of the table of layers."""
+    """The rows of docs/ARCHITECTURE.md that say which crates are code and which laws, layer by layer."""
     rows: dict[str, tuple[list[str], list[str]]] = {}
     for crate in given:
         if not crate.is_of_tests and crate.layer != PROGRAMS:
@@ -95,7 +95,7 @@ def layer_table(given: list[Crate]) -> str:
 
 
 def crate_table(given: list[Crate], before: str) -> str:
-    """The rows of the table of crates; the third column is kept."""
+    """The rows of docs/ARCHITECTURE.md that say what each crate does; the third column is kept as it was before."""
     kept = {row[1]: row[2] for row in re.finditer(r"^\| (\w+) \|.*\| ?(.*?) ?\|$", before, re.MULTILINE)}
     rows = [(crate.name, head(crate.name), kept.get(crate.name, "")) for crate in given if not crate.is_of_tests]
     return "".join(f"| {name} | {does} | {contract} |\n".replace("|  |", "| |") for name, does, contract in rows)
@@ -131,7 +131,7 @@ def tried() -> tuple[int, list[str]]:
 
 
 def parts() -> list[Callable[[], tuple[int, list[str]]]]:
-    """One part, of all."""
+    """One part, which looks at all pages."""
     return [tried]
 
 

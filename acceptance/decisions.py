@@ -5,7 +5,7 @@
     acceptance/decisions.py --write    puts it there
 
 A decision is a heading `###` and, behind an empty line, four lines: `- Context (DAY): `, `- Choice: `, `- Reason: ` and
-`- Would change it: `. Read at 120 columns it has at most ten lines. Each part, a heading `##`, has the newest first, and no two
+`- Would change it: `. Read at 120 columns it has fewer than ten lines. Each part, a heading `##`, has the newest first, and no two
 decisions have one title. bin/test fails where the page is of another form or has another index.
 """
 
@@ -20,7 +20,7 @@ from pages import anchor, put, text_of
 HOME = os.path.join(programs.ROOT, "docs", "DECISIONS.md")
 INDEX = re.compile(r"(?<=^## The parts\n\n)(?: *- \[.*\n)*", re.MULTILINE)
 FORM = re.compile(r"\n- Context \((\d{4}-\d\d-\d\d)\): \S.*\n- Choice: \S.*\n- Reason: \S.*\n- Would change it: \S.*\n")
-MOST_LINES, COLUMNS = 10, 120
+MOST_LINES, COLUMNS = 9, 120
 
 
 def parts(text: str) -> list[tuple[str, list[tuple[str, str]]]]:
@@ -35,7 +35,7 @@ def parts(text: str) -> list[tuple[str, list[tuple[str, str]]]]:
 
 
 def index(text: str) -> str:
-    """The index of a page."""
+    """The lines that stand at the head of a page and lead to each decision, with those of its part behind the part."""
     lines = []
     for heading, decisions in parts(text):
         lines.append(f"- [{heading}](#{anchor(heading)})")

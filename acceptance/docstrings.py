@@ -1,8 +1,8 @@
 """Whether the Python of tools/ and acceptance/ says what it is for: pydocstyle's first rules, by the trees of the files alone.
 
-Each module, and each class, function and method without `_` before its name, has a docstring with a sentence. One that raises an
-error of its own names it, or says `failure` of a Failure; one that gives a number says of what, or in which unit. Cases of
-tests, which take a folder or a tree alone and yield what is right, have their names for that.
+Each module, and each class, function and method without `_` before its name, has a docstring with a sentence that says more than
+the name does. One that raises an error of its own names it, or says `failure` of a Failure; one that gives a number says of
+what, or in which unit. Cases of tests, which take a folder or a tree alone and yield what is right, have their names for that.
 """
 
 import ast
@@ -18,7 +18,11 @@ UNITS = re.compile(
     r"number|how many|count|status|seconds?|bytes?|percent|column|line|bit|width|moves|place|least|greatest|value",
     re.IGNORECASE,
 )
-LATER = re.compile(r"tools/(?:adapt|driver|page|project|rte)")  # whose docstrings aren't complete
+LITTLE = set(  # words that say nothing by themselves
+    "a an the of is it its that this what which one in on at by for to and or as with has have are all each there here be from"
+    " them those they such where whose".split()
+)
+LATER = re.compile(r"tools/adapt")  # whose docstrings are complete on another branch
 
 
 def is_case(node: ast.AST) -> bool:
@@ -40,6 +44,13 @@ def raised(node: ast.FunctionDef) -> set[str]:
     return {name for name in names if name[:1].isupper()}
 
 
+def repeats(name: str, said: str) -> bool:
+    """Whether a docstring has fewer than two words that aren't in the name: `An index of a page.` of `index_of_page`."""
+    own = {part.lower()[:5] for part in re.findall(r"[A-Z]?[a-z0-9]+", name)}
+    words = {word[:5] for word in re.findall(r"[a-z0-9']+", said.lower()) if word not in LITTLE}
+    return len(words - own) < 2
+
+
 def faults_of(node: ast.Module | ast.ClassDef | ast.FunctionDef, name: str) -> Iterator[str]:
     """A line for each fault of a definition and of those within it."""
     said = ast.get_docstring(node) or ""
@@ -47,6 +58,8 @@ def faults_of(node: ast.Module | ast.ClassDef | ast.FunctionDef, name: str) -> I
         yield f"{name} has no docstring"
     elif said and "." not in said:
         yield f"{name}: its docstring has no sentence"
+    elif said and repeats(name.split(":")[-1].split(".")[-1], said):
+        yield f"{name}: its docstring repeats its name"
     if isinstance(node, ast.FunctionDef):
         missing = {one for one in raised(node) if one not in said and not (one == "Failure" and "failure" in said)}
         yield from (f"{name}: its docstring doesn't name {one}" for one in sorted(missing) if not is_case(node))

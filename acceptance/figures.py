@@ -1,4 +1,5 @@
-"""The sums of the table of the gate's processor minutes in bench/RESULTS.md."""
+"""The sums of the table of the gate's processor minutes in bench/RESULTS.md; and that each figure of time or memory that a decision
+of docs/DECISIONS.md has stands on that page too, where its day is told."""
 
 import os
 import re
@@ -7,6 +8,9 @@ import programs
 from pages import text_of
 
 HOME = os.path.join(programs.ROOT, "bench", "RESULTS.md")
+DECISIONS = os.path.join(programs.ROOT, "docs", "DECISIONS.md")
+# a number, perhaps from another one on, with a unit
+FIGURE = re.compile(r"\b(?:\d[\d.,]* to )?(\d[\d.,]*) (s|ms|seconds|minutes|hours|KB|MB|GB)\b")
 PARTS = ("Libraries and programs", "Tests", "Both", "Of edits")
 
 
@@ -31,6 +35,20 @@ def faults(text: str) -> list[str]:
     return wrong
 
 
+def untold(decisions: str, results: str) -> list[str]:
+    """The figures of a page of decisions that a page of results hasn't: numbers with their unit, which may follow several numbers
+    (`2, 3 and 4 MB`)."""
+    found = []
+    for figure in FIGURE.finditer(decisions):
+        among = rf"(?<![\d.,]){re.escape(figure[1])}(?:[\d.,]| and | to )*(?<=[\d ]) ?{figure[2]}\b"
+        if not re.search(among, results) and figure[0] not in found:
+            found.append(figure[0])
+    return found
+
+
 def wrong() -> list[str]:
-    """A line for each fault of the page."""
-    return [f"bench/RESULTS.md: {fault}" for fault in faults(text_of(HOME))]
+    """A line for each fault of the page, and for each figure of a decision that it hasn't."""
+    results = text_of(HOME)
+    return [f"bench/RESULTS.md: {fault}" for fault in faults(results)] + [
+        f"docs/DECISIONS.md: bench/RESULTS.md hasn't the figure {one}" for one in untold(text_of(DECISIONS), results)
+    ]

@@ -11,7 +11,7 @@ from collections.abc import Callable, Iterator, Sequence
 
 import cases
 import programs
-from command_cases import every
+from command_cases import Case, every
 from side_by_side import Outcome
 
 LIMIT = 16 * 2**20
@@ -87,11 +87,8 @@ def of_json(report: str, counted: Sequence[str]) -> str:
 
 
 def run(words: list[str], folder: str) -> tuple[int, str, str]:
-    """How the launcher ends: its status and both texts."""
-    ended = subprocess.run(
-        [programs.LAUNCHER, *words], cwd=folder, stdin=subprocess.DEVNULL, capture_output=True, timeout=programs.SECONDS
-    )
-    return ended.returncode, ended.stdout.decode(), ended.stderr.decode()
+    """How the launcher ends in a folder: its status and both texts."""
+    return programs.ended([programs.LAUNCHER, *words], folder)
 
 
 def wrong(words: list[str], report: str, folder: str) -> str:
@@ -112,7 +109,7 @@ def wrong(words: list[str], report: str, folder: str) -> str:
     return "" if got == due else f"replay: {got!r}, not {due!r}"[:600]
 
 
-def measurements() -> Iterator[tuple[cases.Case, list[str], str]]:
+def measurements() -> Iterator[tuple[Case, list[str], str]]:
     """The cases that end with a report of `measure`, each with its words and its report."""
     for case in every.CASES:
         words = [cases.text(word).decode("utf-8", "replace") for word in case["words"]]
@@ -126,7 +123,7 @@ def measurements() -> Iterator[tuple[cases.Case, list[str], str]]:
             yield case, words, cases.text(case["stdout"]).decode()
 
 
-def replayed(case: cases.Case, words: list[str], report: str) -> Outcome:
+def replayed(case: Case, words: list[str], report: str) -> Outcome:
     """One measurement, and a line where it differs."""
     with tempfile.TemporaryDirectory() as folder:
         cases.make_files(folder, case["files"])
@@ -138,5 +135,5 @@ def replayed(case: cases.Case, words: list[str], report: str) -> Outcome:
 
 
 def parts() -> list[Callable[[], Outcome]]:
-    """The measurements, a part each."""
+    """A part for each measurement, whose traces are replayed."""
     return [functools.partial(replayed, *measurement) for measurement in measurements()]

@@ -42,7 +42,7 @@ class Asked:
         return ""
 
     def changed(self, other: "Asked") -> list[str]:
-        """The sources that have changed."""
+        """The names of the sources whose bytes aren't those of the other question."""
         return [name for name, one, two in zip(self.sources, self.sums, other.sums) if one != two]
 
     def has_the_goals_of(self, other: "Asked") -> bool:

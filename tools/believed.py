@@ -52,6 +52,7 @@ ROWS = {
     "`graph`": (*RUN, "command/Due:IsDueOfGraph"),
     "`runs`": (*RUN, "command/Due:IsDueOfRuns"),
     "`trees`": (*ENDS, "command/Stages:OfTrees", "command/Due:IsDueOfTrees"),
+    "`events`": (*ENDS, "command/Stages:OfTrees", "command/Due:IsDueOfEvents"),
     "`generate`": (*RUN, "command/Generate:IsDueOfGenerate"),
     "`prove`": (*RUN, "command/Prove:IsDueOfProve"),
     "`check`": (*RUN, "command/Check:IsDueOfCheck"),

@@ -146,7 +146,8 @@ def waited(process: "subprocess.Popen[bytes]") -> int | None:
 
 
 def sizes() -> Iterator[int]:
-    """The sizes of rounds."""
+    """How many goals each round takes, one round after the other, without an end: twice as many each time, up to a
+    limit."""
     size = FIRST_ROUND
     while True:
         yield size
@@ -161,15 +162,8 @@ def numbers(text: str) -> list[int]:
     return [int(word) for word in text.split(",")]
 
 
-def jobs(word: str) -> int:
-    """How many jobs there are: one at least. Raises argparse.ArgumentTypeError for another text."""
-    if not word.isdecimal() or int(word) < 1:
-        raise argparse.ArgumentTypeError(f"{word} is no number from 1 on")
-    return int(word)
-
-
 def parser_of_words() -> usage.Parser:
-    """What reads the words."""
+    """What reads the words of bin/campaign; a wrong word ends the tool with status 2."""
     done = "each goal is decided, and the gate of --at-least passes"
     parser = usage.parser("campaign", __doc__, done, "a goal is undecided, or the gate fails")
     parser.add_argument("words", nargs="*", metavar="ENTRY QUERY SOURCE..", help="none where a campaign goes on")
@@ -181,7 +175,7 @@ def parser_of_words() -> usage.Parser:
     parser.add_argument("--budget", type=program.in_range("budget"), metavar="N", help=budget)
     parser.add_argument("--inputs", metavar="FILE", help="inputs that are measured first")
     side_by_side = "goals that are decided side by side, on each machine (those of before, or the processors)"
-    parser.add_argument("--jobs", type=jobs, metavar="N", help=side_by_side)
+    parser.add_argument("--jobs", type=program.jobs, metavar="N", help=side_by_side)
     parser.add_argument("--sshloginfile", metavar="FILE", help="the machines, as GNU parallel reads them")
     gate = "the status is 1 where less than P percent are covered"
     parser.add_argument("--at-least", type=verdicts.percent, metavar="P", help=gate)
@@ -205,7 +199,8 @@ def words() -> argparse.Namespace:
 
 
 def asked_by(given: argparse.Namespace) -> Asked:
-    """What the words ask for."""
+    """The question of the words: entry, query, sources with their sums, bounds, ends and budget. Raises Failure where a
+    source can't be read or its name has a line feed."""
     entry, query, *sources = given.words
     place = os.getcwd()
     program.check_names(sources)
@@ -222,7 +217,8 @@ def with_meaning(asked: Asked) -> Asked:
 
 
 def given_inputs(given: argparse.Namespace, folder: Folder) -> list[Input]:
-    """The inputs that are given."""
+    """The inputs of the file that --inputs names, checked by the entry's parameters; none where it isn't given. Raises
+    Failure where the file isn't read."""
     if not given.inputs:
         return []
     if given.words:

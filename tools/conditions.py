@@ -45,7 +45,7 @@ class Found:
 
 
 class Text:
-    """The report as text."""
+    """Writes the report of bin/mcdc for people, line by line."""
 
     def __init__(self, found: Found) -> None:
         self.found, self.faces, self.given = found, found.faces, found.given
@@ -63,7 +63,8 @@ class Text:
         return f"  path {number + 1}: {row} is {'true' if path.outcome else 'false'}, {behind}"
 
     def condition(self, asked: Asked, number: int) -> str:
-        """The line of a condition."""
+        """What is known of a condition, by its place in the decision from 0: the pair of inputs and paths that shows
+        it, or why none does."""
         test = asked.decision.tests[number]
         found = shown(asked, test.node)
         text = f"  condition {number + 1}: {self.faces.condition(test.guards[0])}: "
@@ -77,7 +78,8 @@ class Text:
         return text + ("no two paths show it" if found.state == NONE else "undecided")
 
     def decision(self, asked: Asked) -> Iterator[str]:
-        """The lines of a decision."""
+        """What is known of a decision: a line for it, one for each path and each condition, and the query that asks for
+        paths that aren't reached."""
         one = asked.decision
         yield f"decision {one.number}: {self.faces.place(one.first)} {self.faces.name(one.function)}: {one.statement}"
         if asked.why:
@@ -112,7 +114,7 @@ class Text:
 
 
 def path_value(asked: Asked, number: int, path: Path) -> dict[str, object]:
-    """A path as JSON."""
+    """A path, by its number from 0, as the report's JSON has it: values, outcome, state, and its input or its goals."""
     values = [path.values().get(test.node) for test in asked.decision.tests]
     value: dict[str, object] = {"values": values, "outcome": path.outcome, "state": asked.state(number)}
     if number in asked.inputs:
@@ -132,7 +134,7 @@ def condition_value(found: Found, asked: Asked, test: Test) -> dict[str, object]
 
 
 def decision_value(found: Found, asked: Asked) -> dict[str, object]:
-    """A decision as JSON."""
+    """A decision as the report's JSON has it: place, function, query, conditions and paths."""
     one: Decision = asked.decision
     value: dict[str, object] = {"place": found.faces.place(one.first), "function": one.function, "query": asked.query}
     value |= {"why": asked.why} if asked.why else {}

@@ -64,7 +64,7 @@ class Decision:
         return self.tests[0].guards[0]
 
     def guards(self) -> set[int]:
-        """The numbers of its guards."""
+        """The numbers of the edges that its conditions' tests choose between."""
         return {guard.number for test in self.tests for guard in test.guards}
 
     def may_be(self, values: dict[int, bool], outcome: bool) -> bool:

@@ -21,7 +21,7 @@ def forms(text: str) -> tuple[str, str]:
 
 
 def parser_of_words() -> usage.Parser:
-    """What reads the words."""
+    """What reads the words of bin/drat; a wrong word ends the tool with status 2."""
     parser = usage.parser("drat", __doc__, "NAME.cnf and NAME.drat are written")
     parser.add_argument("certificate", metavar="CERTIFICATE", help="what prove or prove-bounds wrote")
     parser.add_argument("name", metavar="NAME", help="the path of what is written, without its ending")

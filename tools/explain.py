@@ -69,7 +69,8 @@ def of_traces(text: str) -> str:
 
 
 def letter_line(faces: Faces, letter: Letter) -> str:
-    """A letter of a goal in one line."""
+    """What one part of a goal asks for, in one line: an edge, a node, a predicate that holds or doesn't, or a row of
+    steps."""
     if letter.edge:
         return f"e{letter.edge.number} {faces.face(letter.edge)}"
     if letter.node:
@@ -81,7 +82,8 @@ def letter_line(faces: Faces, letter: Letter) -> str:
 
 
 def node_line(faces: Faces, node: Node) -> str:
-    """What a node is, in one line."""
+    """What a node is, in one line: its place, its function, and whether it is the entry, the exit, or before a
+    statement."""
     function = faces.graph.function(node.function)
     if node.number in (function.entry, function.exit):
         what = "the entry" if node.number == function.entry else "the exit"
@@ -102,7 +104,7 @@ def end_line(faces: Faces, run: Run, entry: str) -> str:
 
 
 class Explained:
-    """The lines of an explanation."""
+    """Writes what bin/explain says of goals and of where runs stood, line by line."""
 
     def __init__(
         self, faces: Faces, entry: str, report: Report, given: list[Input], runs: list[Run], limits: Limits
@@ -176,7 +178,7 @@ def is_of(goal: Goal, limits: Limits, mark: str) -> bool:
 
 
 def parser_of_words() -> usage.Parser:
-    """What reads the words."""
+    """What reads the words of bin/explain; a wrong word ends the tool with status 2."""
     parser = usage.parser("explain", __doc__, "the goals are told")
     parser.add_argument("what", metavar="WHAT", help="a query, a file with a report, or - for standard input")
     parser.add_argument("sources", nargs="+", metavar="SOURCE", help="the sources, in their order")

@@ -33,7 +33,7 @@ TOO_LARGE = ("error 80 ", "error 81 ", "error 82 ")
 
 
 class Folder:
-    """The folder of a campaign."""
+    """What a campaign keeps: its question, inputs, certificates and what is open, each fact a file of its own."""
 
     def __init__(self, path: str) -> None:
         self.path = path

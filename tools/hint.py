@@ -92,7 +92,7 @@ def words_of(words: Sequence[str]) -> Words:
 
 
 def wrong_value(option: str, value: str) -> str:
-    """What is wrong of an option's value."""
+    """Why the program refuses an option with a value, in words for the user, or nothing where it takes it."""
     if option in NUMBERS:
         least, greatest = program.RANGES[option[2:]]
         is_right = bool(re.fullmatch(r"[0-9]{1,10}", value)) and least <= int(value) <= greatest

@@ -174,7 +174,7 @@ def named_text(inputs: list[Input], entry: str, sources: list[str]) -> str:
 
 
 def parser_of_words() -> usage.Parser:
-    """What reads the words."""
+    """What reads the words of bin/inputs; a wrong word ends the tool with status 2."""
     parser = usage.parser("inputs", __doc__, "the inputs are written")
     parser.add_argument("files", nargs="+", metavar="FILE", help="a report, a trace file, or a file of inputs")
     parser.add_argument("-o", metavar="OUT", dest="out", help="the file that is written; else standard output")

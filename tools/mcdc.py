@@ -84,15 +84,14 @@ def certify(given: argparse.Namespace, all_asked: list[Asked]) -> int:
 
 
 def parser_of_words() -> usage.Parser:
-    """What reads the words."""
+    """What reads the words of bin/mcdc; a wrong word ends the tool with status 2."""
     parser = usage.parser(
         "mcdc",
         __doc__,
         "each condition is decided, and the gate of --at-least passes",
         "a condition is undecided, or the gate fails",
     )
-    parser.add_argument("entry", metavar="ENTRY", help="the function in which runs begin")
-    parser.add_argument("sources", nargs="+", metavar="SOURCE", help="the sources, in their order")
+    usage.takes_entry(parser)
     for name, value in BOUNDS.items():
         parser.add_argument(
             f"--{name}", type=program.in_range(name), default=value, metavar="N", help=f"as for generate ({value})"

@@ -67,7 +67,8 @@ def watched_by(query: str) -> set[str]:
 
 
 def classes(query: str | None = "", ends: str = "returned", watch: Iterable[str] = ()) -> tuple[str, ...]:
-    """The classes that are looked for."""
+    """Which kinds of open orders matter for a query, the ends of runs that count, and variables that are watched
+    (docs/ORDER.md); the query None stands for any."""
     return (
         ALWAYS
         + (("watched",) if watch or query is None or watched_by(query) else ())
@@ -138,12 +139,11 @@ def restriction(entry: str, sources: Sequence[str], query: str | None, ends: str
 
 
 def parser_of_words() -> usage.Parser:
-    """What reads the words."""
+    """What reads the words of bin/order; a wrong word ends the tool with status 2."""
     parser = usage.parser(
         "order", __doc__, "nothing is told: each order of evaluation gives the same", "places are told"
     )
-    parser.add_argument("entry", metavar="ENTRY", help="the function in which runs begin")
-    parser.add_argument("sources", nargs="+", metavar="SOURCE", help="the sources, in their order")
+    usage.takes_entry(parser)
     parser.add_argument("--ends", choices=ENDS, default="returned", help="as for generate: which runs count")
     parser.add_argument("--query", default="", help="a query, whose predicates watch the variables that they read")
     parser.add_argument("--watch", action="append", default=[], metavar="NAME", help="a variable that is watched")

@@ -91,7 +91,7 @@ class Items(Expressions):
         return found
 
     def block(self) -> Parts:
-        """The next block."""
+        """Reads a compound statement from its `{` on (C11 6.8.2). Raises ValueError where none begins there."""
         at = self.at
         self.need("{")
         found: list[Statement] = []
@@ -152,7 +152,7 @@ class Items(Expressions):
         return Parts(at, parts)
 
     def loop(self) -> Statement:
-        """The next loop."""
+        """Reads a `while`, `do` or `for` from its word on (C11 6.8.5). Raises ValueError where it isn't one of these."""
         at, word = self.at, self.word()
         if word == "while":
             test = self.in_brackets()

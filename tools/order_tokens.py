@@ -51,7 +51,8 @@ def _replaced(text: str, macros: dict[str, list[str]]) -> Iterator[str]:
 
 
 def of_source(name: str, data: bytes) -> list[Word]:
-    """The tokens of a source."""
+    """The tokens of a source in their order, macros replaced (C11 6.10.3), each at the place of the source where it, or
+    the macro's name, stands."""
     source = Source(name, data)
     macros: dict[str, list[str]] = {}
     found: list[Word] = []

@@ -26,7 +26,7 @@ INT = Kind(32, True)
 
 @dataclass
 class Number:
-    """A number at a token."""
+    """A constant, by the number of its token."""
 
     at: int
     value: int
@@ -51,7 +51,7 @@ class Element:
 
 @dataclass
 class Call:
-    """A call at a token."""
+    """A function's call, by the number of its name's token, with its arguments."""
 
     at: int
     name: str

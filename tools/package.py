@@ -175,7 +175,7 @@ def package(folder: str, version: str, maintainer: str) -> str:
 
 
 def parser_of_words() -> usage.Parser:
-    """What reads the words."""
+    """What reads the words of bin/package; a wrong word ends the tool with status 2."""
     parser = usage.parser("package", __doc__, "the package is written")
     parser.add_argument("-o", metavar="DIR", dest="folder", default=".", help="the folder of the package (.)")
     parser.add_argument(

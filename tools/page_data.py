@@ -22,7 +22,8 @@ WORST = (Verdict.MISSED, Verdict.UNDECIDED, Verdict.COVERED, Verdict.REFUTED, Ve
 
 
 def first_place(faces: Faces, letters: list[Letter]) -> tuple[str, int, int] | None:
-    """The place of the first letter that has one; a node has no column."""
+    """The place of the first letter that has one, as the file, the line and the column from 1 in the user's own source;
+    a node's column is 0, and None is where no letter has a place."""
     for letter in letters:
         if letter.edge:
             edge = faces.shown(letter.edge)
@@ -33,7 +34,8 @@ def first_place(faces: Faces, letters: list[Letter]) -> tuple[str, int, int] | N
 
 
 def kind_of(letters: list[Letter]) -> str:
-    """The kind of a goal: that of its statement where it is one edge."""
+    """The kind of a goal, by which boxes filter: its statement's kind where it is one edge, else node, predicate, path
+    (of edges alone) or several."""
     if len(letters) == 1:
         edge = letters[0].edge
         return edge.kind.lower() if edge else "node" if letters[0].node else "predicate"
@@ -41,7 +43,7 @@ def kind_of(letters: list[Letter]) -> str:
 
 
 def node_label(faces: Faces, node: Node) -> str:
-    """What a node is, in a few words."""
+    """What a node is, in a few words: the entry or the exit of its function, or what stands behind it."""
     function = faces.graph.function(node.function)
     if node.number in (function.entry, function.exit):
         return f"{'entry' if node.number == function.entry else 'exit'} of {node.function}"
@@ -62,7 +64,7 @@ def letter_label(faces: Faces, letter: Letter) -> str:
 
 
 def folded(name: str) -> str:
-    """A path as it is shown: of a long one its end, as many whole parts as fit."""
+    """A path as it is shown: one of more than 40 letters as … and its end, as many whole parts as fit."""
     if len(name) <= LONGEST_NAME:
         return name
     parts = name.split("/")
@@ -74,13 +76,14 @@ def folded(name: str) -> str:
 
 
 def worst(states: Iterable[Verdict]) -> Verdict:
-    """The verdict that is shown where several stand together."""
+    """The verdict that is shown where several stand together, at least one: the first of WORST that is there."""
     states = set(states)
     return next(one for one in WORST if one in states)
 
 
 class Page:
-    """The page's data: the goals of all reports, with their places."""
+    """The page's data: the goals of all reports, with their places, functions and labels, and how many goals of each
+    function have which verdict. Raises Failure where a goal isn't one of these sources."""
 
     def __init__(self, reports: list[Shown], graph: Graph, faces: Faces) -> None:
         self.reports, self.graph, self.faces = reports, graph, faces
@@ -94,7 +97,7 @@ class Page:
                 self.add(number, one, goal, verdict)
 
     def add(self, number: int, one: Shown, goal: Goal, verdict: Verdict) -> None:
-        """Adds a goal of a report."""
+        """Adds a goal of the report at place `number`, from 0. Raises Failure where it isn't one of these sources."""
         try:
             letters = graphs.letters(self.graph, goal.text)
         except (ValueError, IndexError):
@@ -118,11 +121,12 @@ class Page:
         self.goals.append(found)
 
     def owner(self, letter: Letter) -> str:
-        """The function of a letter, if it has a place."""
+        """The function of a letter, or nothing where it has no place."""
         return self.graph.owner(letter.edge) if letter.edge else letter.node.function if letter.node else ""
 
     def key(self, letter: Letter) -> str:
-        """A letter's name in the page's data, where its line and its label are kept once."""
+        """A letter's name in the page's data (e or n and its number, or a predicate's text), under which its line and
+        its label are kept once."""
         key = f"e{letter.edge.number}" if letter.edge else f"n{letter.node.number}" if letter.node else letter.text
         if key not in self.letters:
             self.letters[key] = letter_line(self.faces, letter)
@@ -130,18 +134,19 @@ class Page:
         return key
 
     def label(self, goal: dict[str, Any]) -> str:
-        """What a goal asks for, in a few words."""
+        """What a goal of the data asks for, in a few words: its letters' labels with arrows between."""
         return " → ".join(self.labels[key] for key in goal["l"])
 
     def tally(self, function: str) -> Tally:
+        """How many goals of a function have which verdict. KeyError where the function has no goal."""
         return Tally(self.functions[function])
 
     def percentage(self, tally: Tally) -> str:
-        """The percentage in words, or a dash where no goal is left that it could be of."""
+        """How much of a tally is covered, in percent of the goals that can be, or a dash where there are none."""
         return verdicts.percentage(tally.counts[Verdict.COVERED], tally.reachable) if tally.reachable else "–"
 
     def home(self, function: str) -> str:
-        """The name of a function's first line in the page, or nothing where it has none."""
+        """The name of a function's first line in links, or nothing where the automaton has no such function."""
         found = [one for one in self.graph.functions if one.name == function]
         node = self.graph.nodes[found[0].entry] if found else None
         return f"l{list(self.faces.sources).index(node.file)}:{self.faces.node_line(node)}" if node else ""
@@ -149,7 +154,9 @@ class Page:
     # ---- the data
 
     def named(self, one: Shown, taken: dict[int, list[int]]) -> list[list[list[Any]]]:
-        """The arguments and answers of each input as pairs of a name and a number; a name is empty where it isn't known."""
+        """The arguments and answers of each input of a report, as pairs of a name and a number; `taken` has of inputs,
+        by their numbers from 1, the edges of their runs, which say whose answers they are. An empty list where the
+        entry isn't known."""
         if not one.entry:
             return []
         try:
@@ -168,7 +175,7 @@ class Page:
         return found
 
     def data(self) -> str:
-        """The data as JSON that may stand within a script element."""
+        """The data as JSON that may stand within a script element of HTML."""
         taken = [paths(one) for one in self.reports]
         for edge in {edge for of_one in taken for path in of_one.values() for edge in path}:
             self.key(Letter(edge=self.graph.edges[edge]))
@@ -189,8 +196,8 @@ class Page:
     # ---- the sources
 
     def lines(self, name: str) -> Iterator[tuple[int, str, list[tuple[list[tuple[str, str]], list[dict[str, Any]]]]]]:
-        """Each line of a source: its number, the verdict that it shows if any, and its parts, each as pieces with their colours,
-        and with the goals that are marked before it."""
+        """Each line of a source: its number from 1, the mark of the verdict that it shows, if any, and its parts, each
+        as pieces with their colours, and with the goals that are marked before it."""
         source = self.faces.own(name)
         coloured = Coloured(source.text)
         columns: dict[int, dict[int, list[int]]] = {}
@@ -215,12 +222,13 @@ class Page:
 
 
 def decoded(text: str) -> str:
-    """A text of bytes as UTF-8 has it."""
+    """A text of bytes, one a letter, as UTF-8 has it; what isn't UTF-8 is shown as U+FFFD."""
     return text.encode("latin-1").decode("utf-8", "replace")
 
 
 def pairs(given: Input, parameters: list[str], asked: list[str]) -> list[list[Any]]:
-    """The numbers of an input, each with its name."""
+    """The numbers of an input, each with its name: a parameter's, where there are as many as arguments, `answer N of
+    NAME` for the answers that were `asked` in this order, and `answer N` for those that no run read."""
     known = (
         parameters if len(parameters) == len(given.args) else [f"argument {at + 1}" for at in range(len(given.args))]
     )

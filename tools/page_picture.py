@@ -26,12 +26,12 @@ CALL = 'style=dashed color="#0550ae" fontcolor="#0550ae" constraint=false'
 
 
 def quoted(text: str) -> str:
-    """A text within quotation marks."""
+    """A text within quotation marks, as graphviz reads it."""
     return '"' + text.replace("\\", "\\\\").replace('"', '\\"') + '"'
 
 
 def svg(text: str) -> str:
-    """The picture of a graph as SVG, or why there is none."""
+    """The picture of a graph, whose text graphviz reads, as SVG; or why there is none, as a paragraph of HTML."""
     if not shutil.which("dot"):
         return "<p>There is no picture, since graphviz isn't there (Debian: graphviz).</p>"
     drawn = subprocess.run(["dot", "-Tsvg"], input=text, capture_output=True, text=True, check=False)
@@ -40,7 +40,7 @@ def svg(text: str) -> str:
 
 
 class Drawn:
-    """The rows of a graph; edges that are goals have their verdict's colour."""
+    """The rows of a graph in graphviz's language; edges that are goals have their verdict's colour."""
 
     def __init__(self, page: Page) -> None:
         self.page = page
@@ -50,7 +50,7 @@ class Drawn:
         self.verdict = {goal["l"][0]: goal["t"] for goal in page.goals if len(goal["l"]) == 1}
 
     def edge(self, edge: Edge) -> str:
-        """The row of an edge within its function."""
+        """The row of an edge within its function, with a name for clicks where it is a goal."""
         faces = self.page.faces
         text = f"e{edge.number} {faces.deed(edge) or faces.statement(edge)}"[:60]
         known = self.verdict.get(f"e{edge.number}")
@@ -59,7 +59,7 @@ class Drawn:
         return f'{edge.source} -> {edge.target} [label={quoted(text)} color="{colour}" fontcolor="{colour}"{named}];'
 
     def function(self, name: str) -> Iterator[str]:
-        """The rows of a function: the edges within it."""
+        """The rows of a function: its edges, and of a call one dotted over it, to where the function goes on."""
         for edge in self.edges(name):
             if edge.operation == "return":
                 call = self.page.graph.edges[edge.number - 1]
@@ -69,10 +69,12 @@ class Drawn:
                 yield self.edge(edge)
 
     def edges(self, name: str) -> list[Edge]:
+        """The edges of a function, calls and returns among them, in the automaton's order; none of a name that isn't
+        there."""
         return self.of_function.get(name, [])
 
     def calls(self, names: list[str]) -> list[Edge]:
-        """The calls between some functions."""
+        """The edges of calls from one of these functions to one of them, in the automaton's order."""
         graph = self.page.graph
         return [
             edge for edge in graph.edges if edge.operation == "call" and {graph.owner(edge), edge.name} <= set(names)
@@ -103,7 +105,8 @@ class Drawn:
 
 
 def functions_of(page: Page) -> list[str]:
-    """The functions that are drawn: those with goals, and those that they call or that call them, in the sources' order."""
+    """The functions that are drawn: those with goals, and those that they call or that call them, in the sources'
+    order."""
     used = {name for name in page.functions if name != "(no place)"}
     graph = page.graph
     for edge in graph.edges:
@@ -113,7 +116,8 @@ def functions_of(page: Page) -> list[str]:
 
 
 def graphs_of(page: Page) -> dict[str, str]:
-    """The texts of the pictures, by their titles."""
+    """The texts of the pictures, by their titles: one of all functions, up to 400 edges; else that of the calls, up to
+    400 functions, and one of each of the 60 functions of which the least is covered."""
     drawn, names = Drawn(page), functions_of(page)
     if sum(len(drawn.edges(name)) for name in names) <= LARGEST:
         title = "the automaton" + (

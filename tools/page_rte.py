@@ -6,11 +6,12 @@ import shlex
 from dataclasses import dataclass, field
 from typing import Any
 
-from tools import leaving, program, rte_search, rte_sites, source_map
+from tools import html, leaving, program, rte_search, rte_sites, source_map
 from tools.program import Failure
 from tools.reports import BOUNDS
 from tools.rte_rows import Verdict
 
+TEMPLATE = os.path.join(os.path.dirname(os.path.realpath(__file__)), "page_rte.html")
 MARKS = {
     Verdict.FAILS: "fails",
     Verdict.OPEN: "open",
@@ -23,7 +24,8 @@ SIGNS = {"fails": "✗", "open": "?", "within": "⊘", "unreached": "∅", "neve
 
 @dataclass(frozen=True)
 class Shown:
-    """A row of the page; `at` is the line of the sources that it leads to."""
+    """A row of the page, at FILE:LINE:COLUMN, with its mark (a key of SIGNS), what gcc says of a failure, and the
+    commands that show it again; `at` is the name of the line that it leads to, or nothing."""
 
     number: int
     place: str
@@ -38,7 +40,7 @@ class Shown:
 
 @dataclass
 class Line:
-    """A line of a source, with the rows that stand there and the first of their marks that is to be looked at."""
+    """A line of a source, by its name in links, with the rows that stand there."""
 
     id: str
     text: str
@@ -46,18 +48,22 @@ class Line:
 
     @property
     def mark(self) -> str:
+        """The first mark of its rows that is to be looked at, in the order of SIGNS; nothing where it has no row."""
         found = {row.mark for row in self.rows}
         return next((mark for mark in SIGNS if mark in found), "")
 
 
 @dataclass
 class File:
+    """A source by its name, with its lines in their order."""
+
     name: str
     lines: list[Line]
 
 
 class Page:
-    """What the page shows of a folder."""
+    """What the page shows of a folder of bin/rte. Raises Failure where its rte.json isn't there or isn't whole, or a
+    source can't be read."""
 
     def __init__(self, folder: str) -> None:
         self.folder = folder
@@ -79,7 +85,8 @@ class Page:
         return [name for name in here if os.path.exists(os.path.join(self.asked["place"], name))]
 
     def files_of(self, names: list[str]) -> list[File]:
-        """The sources; of those that bin/adapt wrote the header of checked operations is left out."""
+        """The sources of these names; of those that bin/adapt wrote the header of checked operations is left out.
+        Raises Failure where one can't be read."""
         header = rte_sites.header_of(self.value["sources"])
         made = []
         for at, name in enumerate(names):
@@ -89,19 +96,19 @@ class Page:
         return [one for one in made if one.name != header]
 
     def is_written(self, file: File) -> bool:
-        """Whether bin/adapt wrote a file, and nothing stands there, since the originals are shown."""
+        """Whether bin/adapt wrote a file, and no row stands there, since the originals are shown."""
         beside = os.path.join(self.asked["place"], os.path.dirname(file.name), source_map.NAME)
         return os.path.exists(beside) and not any(line.rows for line in file.lines)
 
     def line_of(self, place: str) -> Line | None:
-        """The line of a place, if its file is shown."""
+        """The line of a place FILE:LINE:COLUMN, or None where its file isn't shown. ValueError where it is no place."""
         name, _, rest = place.partition(":")
         number = int(rest.split(":")[0])
         file = next((one for one in self.files if one.name == name), None)
         return file.lines[number - 1] if file and number <= len(file.lines) else None
 
     def row(self, number: int, value: dict[str, Any]) -> Shown:
-        """A row, which is put to its line too."""
+        """A row, by its number from 1 and its object in rte.json, which is put to its line too."""
         verdict = Verdict(value["verdict"])
         line = self.line_of(value["place"])
         texts = (
@@ -118,7 +125,8 @@ class Page:
         return made
 
     def commands(self, verdict: Verdict, value: dict[str, Any]) -> list[str]:
-        """How a failure is repeated, and how the certificates of what never fails are checked."""
+        """How a failure is repeated, and how the certificates of what never fails are checked, each as a line for a
+        shell; none of what is open."""
         folder = os.path.relpath(self.folder, self.asked["place"])
         if verdict is Verdict.FAILS:
             return (
@@ -147,35 +155,32 @@ class Page:
         return made
 
     def query_of(self, inner: str) -> str:
-        """The query of the goals of a row."""
+        """The query of the goals of a row, by the folder `inner` that has its certificates, or of all where it is
+        empty."""
         if not inner:
             return rte_search.ENDINGS
         query: str = json.loads(program.read(os.path.join(self.folder, inner, "campaign.json")))["query"]
         return query
 
     def count(self, mark: str) -> int:
+        """How many rows have a mark."""
         return sum(row.mark == mark for row in self.rows)
 
 
 def is_folder(name: str) -> bool:
-    """Whether a folder is one of bin/rte."""
+    """Whether a folder is one of bin/rte: it has a file rte.json."""
     return os.path.exists(os.path.join(name, "rte.json"))
 
 
 def text_of(page: Page) -> str:
-    """The page."""
-    try:
-        import jinja2
-    except ImportError:
-        raise Failure("jinja2 isn't there (Debian: apt-get install python3-jinja2)") from None
-    loader = jinja2.FileSystemLoader(os.path.dirname(os.path.realpath(__file__)))
-    made = jinja2.Environment(loader=loader, autoescape=True, trim_blocks=True, lstrip_blocks=True)
+    """The page as HTML. Raises Failure where jinja2 isn't there."""
     names = {mark: str(verdict) for verdict, mark in MARKS.items()}
-    return made.get_template("page_rte.html").render(page=page, signs=SIGNS, names=names)
+    return html.rendered(TEMPLATE, page=page, signs=SIGNS, names=names)
 
 
 def write(folder: str, out: str) -> int:
-    """Writes the page, and says what is on it."""
+    """Writes the page of a folder to a file, and says on standard output what is on it; the status: 0. Raises Failure
+    where it can't be read or written."""
     page = Page(folder)
     program.write_whole(out, text_of(page))
     counts = ", ".join(f"{page.count(mark)} {verdict}" for verdict, mark in MARKS.items())

@@ -20,7 +20,8 @@ REQUIREMENTS = ("requirements", "requirement", "req")
 
 @dataclass
 class Condition:
-    """A condition of a decision: its text, its verdict, the name of its goal in links, and the inputs that show it."""
+    """A condition of a decision: its text, its verdict, the name of its goal in links, and the numbers, from 1, of the
+    inputs that show it."""
 
     text: str
     verdict: Verdict
@@ -40,7 +41,7 @@ class Decision:
 
 @dataclass
 class Requirement:
-    """A requirement with its inputs, as they are told, and the goals that one of them covers first."""
+    """A requirement with its inputs, as they are told, and the names of the goals that one of them covers first."""
 
     name: str
     inputs: list[str] = field(default_factory=list)
@@ -49,7 +50,8 @@ class Requirement:
 
 @dataclass
 class Ended:
-    """A run that was trapped, blocked or too deep: the report, the input, its end and its place."""
+    """A run that was trapped, blocked or too deep: the report, the input's number from 1, the input, its end and its
+    place."""
 
     report: str
     number: int
@@ -59,18 +61,19 @@ class Ended:
 
 
 def link(page: Page, report: int, goal: int) -> str:
-    """A goal's name in links."""
+    """A goal's name in links; `report` counts from 0, and is named where there are several."""
     return f"goal-{report + 1}-{goal}" if len(page.reports) > 1 else f"goal-{goal}"
 
 
 def path_row(path: dict[str, Any]) -> tuple[list[str], str, str]:
-    """A path of a decision: the values of its conditions, its outcome, and by which input it is taken, or else its state."""
+    """A path of a decision: the values of its conditions (T, F, or - where it isn't evaluated), its outcome, and by
+    which input it is taken, or else its state."""
     state = f"input {path['input']}" if "input" in path else str(path["state"])
     return [VALUES[value] for value in path["values"]], "true" if path["outcome"] else "false", state
 
 
 def decisions(page: Page) -> list[Decision]:
-    """The tables of the reports of bin/mcdc."""
+    """The tables of the reports that bin/mcdc wrote as JSON, which were read before (tools/shown.py)."""
     found: list[Decision] = []
     for number, one in enumerate(page.reports):
         value = mcdc_value(one)
@@ -89,7 +92,7 @@ def decisions(page: Page) -> list[Decision]:
 
 
 def mcdc_value(one: Shown) -> dict[str, Any]:
-    """The JSON of a report of bin/mcdc; nothing of other reports."""
+    """The JSON of a report of bin/mcdc; an empty object of other reports, and where it can't be read."""
     if one.folder:
         return {}
     try:
@@ -100,7 +103,7 @@ def mcdc_value(one: Shown) -> dict[str, Any]:
 
 
 def named_requirements(own: str) -> Iterator[str]:
-    """The requirements that the own keys of an input name."""
+    """The requirements that the own keys of an input (the text of a JSON object, or nothing) name."""
     value = json.loads(own) if own else {}
     for key in REQUIREMENTS:
         words = value.get(key, [])
@@ -121,7 +124,8 @@ def requirements(page: Page) -> list[Requirement]:
 
 
 def errors(page: Page) -> list[Ended] | None:
-    """The runs of inputs that were trapped, blocked or too deep, with their places; None where no run is known."""
+    """The runs of inputs that were trapped, blocked or too deep, with their places; None where no run is known. Raises
+    Failure where the program refuses the inputs."""
     known = [one for one in page.reports if one.entry and one.given]
     found: list[Ended] = []
     for one in known:

@@ -23,7 +23,7 @@ import os
 from tools import graph as graphs
 from tools import inputs, leaving, program, rte_apart, rte_items, rte_order, rte_repeat, rte_sites, rte_told, usage
 from tools.asked import Asked, read_sums
-from tools.campaign import DEFAULTS, jobs, locked, measured
+from tools.campaign import DEFAULTS, locked, measured
 from tools.folder import Folder
 from tools.graph import Graph
 from tools.leaving import Left
@@ -36,12 +36,11 @@ from tools.verdicts import Limits
 
 
 def parser_of_words() -> usage.Parser:
-    """What reads the words."""
+    """What reads the words of bin/rte; a wrong word ends the tool with status 2."""
     parser = usage.parser(
         "rte", __doc__, "each row is `never`, and the bounds suffice", "a row is another, or the bounds don't suffice"
     )
-    parser.add_argument("entry", metavar="ENTRY", help="the function in which runs begin")
-    parser.add_argument("sources", nargs="+", metavar="SOURCE", help="the sources, in their order")
+    usage.takes_entry(parser)
     parser.add_argument("-o", metavar="DIR", dest="folder", required=True, help="the folder of what is found")
     for name, value in DEFAULTS.items():
         number = program.in_range(name)
@@ -53,16 +52,18 @@ def parser_of_words() -> usage.Parser:
     confirm = "compiles DIR/failures.c by gcc with its sanitizers, runs each failure, and tells what they say"
     parser.add_argument("--confirm", action="store_true", help=confirm)
     told = "how many searches at a time, which is kept (as many as there are processors)"
-    parser.add_argument("--jobs", type=jobs, metavar="N", help=told)
+    parser.add_argument("--jobs", type=program.jobs, metavar="N", help=told)
     return parser
 
 
 def words() -> argparse.Namespace:
+    """The words that the tool was called with; a wrong one ends it with status 2, --help with 0."""
     return parser_of_words().parse_intermixed_args()
 
 
 def asked_by(given: argparse.Namespace) -> Asked:
-    """What the words ask for."""
+    """What the words ask for, with the sums of the sources. Raises Failure where one can't be read, or its name has a
+    line feed."""
     sources, place = tuple(given.sources), os.getcwd()
     program.check_names(sources)
     bounds = {name: getattr(given, name) for name in DEFAULTS}
@@ -70,14 +71,17 @@ def asked_by(given: argparse.Namespace) -> Asked:
 
 
 def bounds_of(graph: Graph, folder: Folder, asked: Asked) -> Left:
-    """What is known of the bounds, by a certificate that is checked."""
+    """What is known of the bounds, by a certificate that `check-bounds` accepts, which is kept in the folder. Raises
+    Failure where the program refuses, or rejects its own certificate."""
     said = prove_bounds(folder, asked)
     words = (graph, asked.entry, asked.sources, asked.bounds, asked.place)
     return leaving.of_answer(said, *words, query=asked.query, ends=asked.ends)
 
 
 def rows_of(graph: Graph, folder: Folder, asked: Asked, limits: Limits, warned: list[Warned], jobs: int) -> list[Row]:
-    """The rows of all operations, in the order of the sources."""
+    """The rows of all operations, in the order of the sources, with the user's own places. `limits` is what is known of
+    the bounds, `warned` the statements in which C leaves an order open that matters there alone. Raises Failure where
+    the program refuses a query."""
     finder = rte_items.finder_of(graph, asked.sources)
     table = rte_sites.table_of(asked.sources, graph)
     hidden = {node.number for node in graph.nodes if node.function in table.functions}
@@ -102,13 +106,14 @@ def rows_of(graph: Graph, folder: Folder, asked: Asked, limits: Limits, warned: 
 
 
 def tokens_of(finder: Finder, row: Row) -> set[int]:
-    """The tokens of the marks of a row's operations."""
+    """The numbers of the tokens at the places of a row's operations."""
     return {token for one in row.operations for token in finder.at.get((one.file, one.line, one.column), [])}
 
 
 def repeated(folder: Folder, asked: Asked, rows: list[Row], is_confirmed: bool) -> list[Row]:
-    """The rows with the numbers of their inputs, which are written with a C file that repeats their runs, and with what gcc
-    says of these, where it is asked."""
+    """The rows with the numbers of their inputs, from 1, which are written with a C file that repeats their runs, and
+    with what gcc says of these, where it is asked (`is_confirmed`). Raises Failure where a file can't be written, or
+    gcc isn't there or doesn't compile it."""
     found = inputs.once([row.input for row in rows if row.input])
     program.write_whole(folder.at("inputs.json"), inputs.json_text(found))
     if not found:
@@ -126,7 +131,8 @@ def repeated(folder: Folder, asked: Asked, rows: list[Row], is_confirmed: bool) 
 
 
 def json_of(asked: Asked, left: Left, rows: list[Row]) -> str:
-    """The rows with what was asked."""
+    """The text of rte.json (docs/TOOLS.md): the rows with what was asked, what is known of the bounds, and whether all
+    is clean."""
     named = {name: getattr(asked, name) for name in ("entry", "sources", "sums", "bounds", "ends", "budget")}
     limits = dataclasses.asdict(left.limits) | {"next": left.options}
     if left.limits.left:
@@ -142,6 +148,8 @@ def json_of(asked: Asked, left: Left, rows: list[Row]) -> str:
 
 
 def main() -> int:
+    """Finds what it can, keeps it in the folder and tells it; the status: 0 where each row is `never`, 1 else. Raises
+    Failure, by which the tool ends with status 2."""
     given = words()
     asked = asked_by(given)
     graph = graphs.of_sources(asked.sources)

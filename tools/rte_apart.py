@@ -29,8 +29,8 @@ WORDS = {"int", "long", "short", "char", "unsigned", "signed"}
 
 @dataclass(frozen=True)
 class Apart:
-    """What is known of an operation apart from the others of its step: its goals, and the input with which it fails, or that it
-    never does."""
+    """What is known of an operation apart from the others of its step: its goals and the folder that has their
+    certificates, that it never fails, or the input with which it does."""
 
     goals: tuple[int, ...]
     folder: str
@@ -40,7 +40,8 @@ class Apart:
 
 
 def held_text(one: Operation) -> str:
-    """An expression that is evaluated exactly where an operation is, and holds where it doesn't fail; nothing where it isn't plain."""
+    """An expression that is evaluated exactly where an operation is, and holds where it doesn't fail; nothing where it
+    isn't plain: it has a call, && or ||, or marks that predicates haven't."""
     text = one.text
     if one.kind in ("assert", "assume"):
         text = text.partition("(")[2].rpartition(")")[0]
@@ -54,7 +55,7 @@ def held_text(one: Operation) -> str:
 
 
 def scope_text(one: Operation) -> str:
-    """What holds wherever all variables of an operation are in scope."""
+    """A predicate that holds wherever all variables of an operation are in scope: each equals itself."""
     names = dict.fromkeys(NAME.findall(one.text.partition("(")[2] if one.kind in ("assert", "assume") else one.text))
     kept = [name for name in names if name not in WORDS and not name.endswith("_t")]
     parts = [
@@ -64,18 +65,20 @@ def scope_text(one: Operation) -> str:
 
 
 def both(parts: Iterable[str]) -> str:
+    """The predicate that all parts hold; nothing of none. By &, which predicates have."""
     return " & ".join(f"({part})" for part in parts)
 
 
 class Steps:
-    """Asks about the operations of steps of which one fails."""
+    """Asks about the operations of steps of which one fails, at most 64 in all, in folders below `path`."""
 
     def __init__(self, graph: Graph, path: str, asked: Asked, operations: list[Operation], jobs: int) -> None:
         self.graph, self.path, self.asked, self.operations, self.jobs = graph, path, asked, operations, jobs
         self.count = 0
 
     def of_node(self, node: int) -> dict[Operation, Apart]:
-        """What is known of the operations at a node where a run ends; of those that are done nowhere else."""
+        """What is known of the operations at a node where a run ends, of those that are done nowhere else and are
+        plain; nothing where there is one alone."""
         there = [one for one in self.operations if node in one.nodes]
         if len(there) < 2:
             return {}
@@ -83,8 +86,8 @@ class Steps:
         return {one: apart for one, apart in found.items() if apart}
 
     def predicates(self, one: Operation, there: list[Operation]) -> list[str]:
-        """The predicates of an operation's goals: of the others that it has within it, of all others, and its own; none where it
-        isn't plain. One that has the operation within it fails with it, so it is none of the others."""
+        """The predicates of an operation's goals: of the others that it has within it, of all others, and its own; none
+        where it isn't plain. One that has the operation within it fails with it, so it is none of the others."""
         own = held_text(one)
         others = [other for other in there if other != one and not other.has(one)]
         texts = {other: held_text(other) for other in others}
@@ -95,7 +98,8 @@ class Steps:
         return [*([both(inner)] if inner else []), both([scope_text(one), *rest]), own]
 
     def of_operation(self, node: int, one: Operation, there: list[Operation]) -> Apart | None:
-        """What is known of an operation; nothing where it can't be asked for."""
+        """What is known of an operation; None where it can't be asked for: it isn't plain, 64 were asked for already,
+        the query has more than 4000 bytes, or the program refuses it."""
         texts = self.predicates(one, there)
         query = self.query(node, texts)
         if not texts or self.count >= MOST or len(query.encode()) > LONGEST:
@@ -124,6 +128,7 @@ class Steps:
         return Apart(tuple(sorted(goals)), name, set(goals) <= refuted, failed, is_together)
 
     def query(self, node: int, texts: list[str]) -> str:
+        """The query of all nodes on the line of a node's first edge, with each of these predicates and without it."""
         edge = self.graph.leaving[node][0] if self.graph.leaving[node] else None
         part = f"INTERSECT(@FUNC({self.graph.owner(edge)}),@LINE({edge.line}))" if edge else "ID"
         for text in texts:
@@ -131,8 +136,9 @@ class Steps:
         return f"cover NODES({part})$"
 
     def goals(self, asked: Asked, node: int, count: int) -> list[int]:
-        """The goals of a node at which an operation's own predicate doesn't hold, and all of the inner ones do: the first is the
-        one at which those of all others hold."""
+        """The numbers of the goals of a node at which an operation's own predicate doesn't hold, and all of the inner
+        ones do: the first is the one at which those of all others hold. `count` is the number of predicates. Raises
+        Failure where the program refuses the query."""
         found = {}
         for goal in measured(asked, []).goals:
             letters = graphs.letters(self.graph, goal.text)

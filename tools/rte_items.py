@@ -33,7 +33,8 @@ Place = tuple[str, int, int]
 
 @dataclass(frozen=True)
 class Form:
-    """A form of the grammar: its first token, its mark and its last token."""
+    """A form of the grammar by its name: the numbers, from 0, of its first token, of its mark (the token that a trap is
+    told at) and of its last token."""
 
     name: str
     first: int
@@ -41,12 +42,14 @@ class Form:
     last: int
 
     def has(self, at: int) -> bool:
+        """Whether a token, by its number, is one of the form."""
         return self.first <= at <= self.last
 
 
 @dataclass(frozen=True)
 class Operation:
-    """An operation, its place and text, and the nodes at which a run may stand that it ended."""
+    """An operation, its place (lines and columns from 1) and text, and the numbers of the nodes at which a run may
+    stand that it ended."""
 
     kind: str
     file: str
@@ -62,15 +65,17 @@ class Operation:
 
     @property
     def place(self) -> str:
+        """FILE:LINE:COLUMN of its mark."""
         return f"{self.file}:{self.line}:{self.column}"
 
     @property
     def told(self) -> str:
+        """Its kind and its text, as rows have them; of an assert or assume the text alone, which says it."""
         return f"{self.kind} {self.text}" if self.kind not in ("assert", "assume") else self.text
 
 
 class Reader(Items):
-    """Keeps all forms of a unit, and the span of each function."""
+    """Reads a unit as the program does (docs/C_PROFILE.md), and keeps all its forms, and the span of each function."""
 
     def __init__(self, words: Sequence[Word]) -> None:
         super().__init__(words)
@@ -78,9 +83,11 @@ class Reader(Items):
         self.bodies: dict[str, Form] = {}
 
     def note(self, form: str, first: int, mark: int) -> None:
+        """Keeps a form that was read up to the token before this one, by the numbers of its first token and its mark."""
         self.forms.append(Form(form, first, mark, self.at - 1))
 
     def read(self) -> None:
+        """Reads all items. Raises ValueError or IndexError where the program's grammar has no such text."""
         unit = Unit()
         while self.text:
             before, unit.functions = self.at, {}
@@ -98,11 +105,12 @@ class Places:
             self.found[form.first : form.last + 1] = [form] * (form.last + 1 - form.first)
 
     def at(self, token: int) -> Form | None:
+        """The innermost form around a token, by its number; None where none is."""
         return self.found[token]
 
 
 class Finder:
-    """Finds the operations of the functions that an entry reaches."""
+    """Finds the operations of the functions of a unit, and the nodes of its automaton at which each is done."""
 
     def __init__(self, graph: Graph, sources: Sequence[str], words: list[Word], reader: Reader) -> None:
         self.graph, self.words, self.forms, self.bodies = graph, words, reader.forms, reader.bodies
@@ -139,12 +147,13 @@ class Finder:
                 self.guards.setdefault(owner, set()).add(edge.source)
 
     def statement_place(self, token: int) -> Place:
+        """The place of the statement around a token, by which edges are told; of a token outside of any, its own."""
         form = self.statements.at(token)
         word = self.words[form.first if form else token]
         return word.file, word.line, word.column
 
     def around(self, token: int) -> set[int]:
-        """All nodes that edges of a token's statement leave, its conditions' guards among them."""
+        """All nodes that edges of a token's statement leave, its conditions' guards among them; none outside of any."""
         statement = self.statements.at(token)
         if not statement:
             return set()
@@ -155,13 +164,13 @@ class Finder:
         return nodes
 
     def of_call(self, call: Form) -> set[int]:
-        """The node of a call's edge, where it is known."""
+        """The node of a call's edge, where it is known; an empty set else."""
         edges = self.edges_of_call(call)
         return {edge.source for edge in edges} if len(edges) == 1 else set()
 
     def edges_of_call(self, call: Form) -> list[Edge]:
-        """The edge of a call: the calls of a statement and its edges of calls have one order. Where they haven't, those of
-        the same name."""
+        """The edge of a call: the calls of a statement and its edges of calls have one order. Where they haven't, those
+        of the same name."""
         place = self.statement_place(call.mark)
         made = [one for one in self.edges.get(place, []) if one.operation in ("call", "answer")]
         written = self.calls[place]
@@ -170,8 +179,8 @@ class Finder:
         return [made[written.index(call)]]
 
     def touching(self, form: Form, edges: list[Edge]) -> list[Edge]:
-        """Those of some edges that read or write all variables that a form names, if there are any. A form with parts that are
-        done before it may have their values in place of their names, so it has all edges."""
+        """Those of some edges that read or write all variables that a form names, if there are any. A form with parts
+        that are done before it may have their values in place of their names, so it has all edges."""
         span = self.words[form.first : form.last + 1]
         if any(word.text in ("&&", "||", "?", ":") for word in span) or self.calls_in(form):
             return edges
@@ -180,11 +189,12 @@ class Finder:
         return [edge for edge in edges if names <= {*edge.reads, *edge.writes}] or edges
 
     def calls_in(self, form: Form) -> bool:
+        """Whether a call stands within a form."""
         calls = self.calls.get(self.statement_place(form.mark), [])
         return any(form.first <= one.mark <= form.last for one in calls)
 
     def nodes(self, kind: str, form: Form) -> set[int]:
-        """The nodes at which an operation is done."""
+        """The numbers of the nodes at which an operation of a kind is done; too many rather than too few."""
         owner = form if form.name == "call" else self.owners.at(form.mark)
         found: set[int] = set()
         if kind in ("assert", "assume") or (owner and owner.name in ("branch", "statement")):
@@ -198,20 +208,22 @@ class Finder:
         return found or self.around(form.mark)
 
     def text(self, form: Form) -> str:
-        """The text of a form, in one line, without the mark at its end."""
+        """The text of a form as the source has it, in one line, without a semicolon at its end."""
         end = form.last - (self.words[form.last].text == ";")
         first, last = self.words[form.first], self.words[end]
         source = self.texts[first.file]
         return source.between(source.index(first.line, first.column), source.index(last.line, last.column))
 
     def kind(self, form: Form, any_end: bool) -> str:
-        """The kind of operation that a form is, or nothing."""
+        """The kind of operation that a form is, or nothing; an assume and a call are one only where runs that they end
+        count (`any_end`)."""
         word = self.words[form.first].text
         name = word if form.name == "statement" and word in ("assert", "assume") else form.name
         return (KINDS | (OF_ANY if any_end else {})).get(name, "")
 
     def operations(self, reached: set[str], any_end: bool) -> Iterator[Operation]:
-        """All of them, in the order of the sources."""
+        """The operations of the `reached` functions, in the order of the sources; those of constant expressions aren't
+        any (C11 6.6: they are no part of a run)."""
         bodies = [form for name, form in self.bodies.items() if name in reached]
         for form in sorted(self.forms, key=lambda one: (one.mark, one.last)):
             kind = self.kind(form, any_end)
@@ -223,20 +235,9 @@ class Finder:
             yield Operation(kind, word.file, word.line, word.column, self.text(form), frozenset(nodes), span)
 
 
-def reached_from(graph: Graph, entry: str) -> set[str]:
-    """The functions that an entry may call, itself among them."""
-    found, agenda = {entry}, [entry]
-    while agenda:
-        name = agenda.pop()
-        for edge in graph.edges:
-            if edge.operation == "call" and graph.owner(edge) == name and edge.name not in found:
-                found.add(edge.name)
-                agenda.append(edge.name)
-    return found
-
-
 def finder_of(graph: Graph, sources: Sequence[str]) -> Finder:
-    """Finds the operations of sources that the program accepts."""
+    """What finds the operations of sources that the program accepts. Raises Failure where a source can't be read, or
+    isn't read here as the program reads it."""
     words = order_tokens.of_sources(sources)
     order.deep()
     reader = Reader(words)
@@ -248,10 +249,12 @@ def finder_of(graph: Graph, sources: Sequence[str]) -> Finder:
 
 
 def of_sources(graph: Graph, entry: str, sources: Sequence[str], ends: str) -> list[Operation]:
-    """The operations of sources that the program accepts, as far as the entry may come to them."""
+    """The operations of sources that the program accepts, as far as the entry may come to them, in their order. Raises
+    Failure as `finder_of` does."""
     return of_finder(graph, finder_of(graph, sources), entry, ends)
 
 
 def of_finder(graph: Graph, finder: Finder, entry: str, ends: str) -> list[Operation]:
-    """The operations that are found, as far as the entry may come to them."""
-    return list(dict.fromkeys(finder.operations(reached_from(graph, entry), ends == "any")))
+    """The operations that are found, as far as the entry may come to them, each once, in the order of the sources;
+    `ends` is trapped, or any for those that end a run otherwise too."""
+    return list(dict.fromkeys(finder.operations(set(graph.reached(entry)), ends == "any")))

@@ -14,7 +14,7 @@ from tools.asked import Asked
 from tools.graph import Graph
 from tools.order import Warned
 from tools.program import Failure
-from tools.rte_items import Finder, reached_from
+from tools.rte_items import Finder
 from tools.rte_rows import Row, Verdict
 from tools.verdicts import Limits
 
@@ -22,11 +22,14 @@ BY_A_TRAP = "one part may end the run (trap), and another does something"
 
 
 def is_local(one: Warned) -> bool:
+    """Whether what is open of an order restricts the statement alone: one part may end the run by a trap, and no other
+    one ends it otherwise."""
     return one.kind == "strict" and one.why == BY_A_TRAP
 
 
 def limits_of(limits: Limits, asked: Asked) -> tuple[Limits, list[Warned]]:
-    """What restricts all rows, and what restricts those of a statement."""
+    """What restricts all rows, and the warnings that restrict those of a statement alone; none of these where all rows
+    are restricted."""
     if not limits.restriction:
         return limits, []
     try:
@@ -40,20 +43,22 @@ def limits_of(limits: Limits, asked: Asked) -> tuple[Limits, list[Warned]]:
 
 
 class Regions:
-    """The tokens of statements in which an order is open, and of all functions that they call."""
+    """The tokens of statements in which an order is open (C11 6.5, paragraphs 2 and 3), and of all functions that they
+    call."""
 
     def __init__(self, graph: Graph, finder: Finder, warned: Iterable[Warned], place: str) -> None:
         self.graph, self.finder, self.place = graph, finder, place
         self.found = [(one, self.region(one)) for one in warned]
 
     def region(self, one: Warned) -> set[int]:
+        """The numbers of the tokens of a warning's statement, and of the functions that it may call."""
         tokens: set[int] = set()
         for token in self.finder.at.get((one.file, one.line, one.column), []):
             form = self.finder.statements.at(token) or self.finder.bodies.get(one.function)
             tokens |= set(range(form.first, form.last + 1)) if form else {token}
         names = {self.finder.words[token].text for token in tokens}
         called = [name for name in self.finder.bodies if name in names]
-        for name in {inner for one in called for inner in reached_from(self.graph, one)}:
+        for name in {inner for one in called for inner in self.graph.reached(one)}:
             body = self.finder.bodies.get(name)
             tokens |= set(range(body.first, body.last + 1)) if body else set()
         return tokens

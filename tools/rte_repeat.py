@@ -12,6 +12,7 @@ from collections.abc import Iterator, Sequence
 
 from tools import items, program
 from tools.harness import source_text, word
+from tools.harness_text import ANSWER
 from tools.program import Failure
 from tools.reports import Input
 from tools.sources import Source
@@ -20,7 +21,8 @@ NAME = "failures"
 FLAGS = ("-w", "-fsanitize=undefined", "-fno-sanitize-recover=all")
 WRAPS = "-fwrapv"  # where overflows aren't asked about: then gcc reports none
 SECONDS = 10
-HEAD = """/* Written by FShell's bin/rte: runs of {entry} that end wrongly. Compile it with
+HEAD = (
+    """/* Written by FShell's bin/rte: runs of {entry} that end wrongly. Compile it with
    {command}
    and run it with the number of an input of inputs.json, from 1. */
 #include <stddef.h>
@@ -33,14 +35,9 @@ extern void _Exit(int);
 static const unsigned long long *fshell_answers;
 static int fshell_left;
 
-static unsigned long long fshell_answer(void) {{
-  if (fshell_left == 0) {{
-    return 0;
-  }}
-  fshell_left--;
-  return *fshell_answers++;
-}}
-
+"""
+    + ANSWER
+    + """
 static void fshell_failed(const char *file, int line, const char *what) {{
   printf("%s:%d: %s\\n", file, line, what);
   fflush(0);
@@ -52,6 +49,7 @@ static void fshell_failed(const char *file, int line, const char *what) {{
 #define assume(holds) ((holds) ? (void) 0 : fshell_failed(__FILE__, __LINE__, "an assume failed"))
 #define main fshell_main
 """
+)
 ASSERTS = '#undef assert\n#define assert(holds) ((holds) ? (void) 0 : fshell_failed(__FILE__, __LINE__, "an assert failed"))\n'
 NO_ASSERTS = "#undef assert\n#define assert(holds) ((void) 0)\n"
 MAIN = """#undef main
@@ -79,13 +77,15 @@ int main(int count, char **words) {{
 
 
 def command(folder: str, header: str) -> list[str]:
-    """The command that compiles the file; `header` is the source of checked operations, if there is one."""
+    """The command that compiles the file in `folder`; `header` is the source of checked operations, if there is one:
+    without it overflows wrap, as FShell's do."""
     path = os.path.join(folder, NAME)
     return ["gcc", *FLAGS, *([] if header else [WRAPS]), "-o", path, path + ".c"]
 
 
 def text_of(entry: str, given: Sequence[Input], names: Sequence[str], header: str, folder: str) -> str:
-    """The whole file; `header` is the source of checked operations, if there is one."""
+    """The whole file, which runs the input of a number on the sources of these `names`; `header` is the source of
+    checked operations, if there is one. Raises Failure where a source can't be read."""
     sources = [Source(name, program.read(name)) for name in names]
     heads = items.input_heads(sources)
     parts = [HEAD.format(entry=entry, command=" ".join(command(folder, header)))]
@@ -105,7 +105,8 @@ def text_of(entry: str, given: Sequence[Input], names: Sequence[str], header: st
 
 
 def compiled(folder: str, header: str) -> str:
-    """Has gcc compile the file; the program's path."""
+    """The path of the program that gcc makes of the file in `folder`. Raises Failure where gcc isn't there, or with its
+    first error."""
     if not shutil.which("gcc"):
         raise Failure("gcc isn't there (Debian: apt-get install gcc)")
     path = os.path.join(folder, NAME)
@@ -117,7 +118,8 @@ def compiled(folder: str, header: str) -> str:
 
 
 def confirmed(folder: str, header: str, count: int) -> Iterator[str]:
-    """What gcc's sanitizers, or an assert, say of each input."""
+    """What gcc's sanitizers, or an assert, say of each input from 1 to `count`, within ten seconds each. Raises Failure
+    as `compiled` does."""
     path = compiled(folder, header)
     for number in range(1, count + 1):
         try:

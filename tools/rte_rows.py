@@ -15,7 +15,7 @@ from tools.verdicts import Limits
 
 
 class Verdict(enum.StrEnum):
-    """What is said of an operation."""
+    """What is said of an operation, in the words of a row (docs/TOOLS.md)."""
 
     NEVER = "never"
     WITHIN = "never within the bounds"
@@ -26,7 +26,8 @@ class Verdict(enum.StrEnum):
 
 @dataclass(frozen=True)
 class Row:
-    """An operation, or several that can't be told apart, and what is said of them."""
+    """An operation, or several that can't be told apart, and what is said of them: the verdict, why it isn't a better
+    one, of a failure the input and the run's end, and the numbers of the goals."""
 
     place: str
     what: str
@@ -41,11 +42,12 @@ class Row:
     gcc: str = ""  # what gcc's sanitizers say of that run
 
     def line(self) -> str:
+        """The row as it is printed: PLACE: VERDICT: WHAT, and why."""
         why = f": {self.why}" if self.why else ""
         return f"{self.place}: {self.verdict}: {self.what}{why}"
 
     def lines(self, folder: str) -> Iterator[str]:
-        """The row's line, and of a failure how it is repeated, and what gcc says of it."""
+        """The row's line, and of a failure how it is repeated, and what gcc says of it; `folder` is that of bin/rte."""
         yield self.line()
         if self.number:
             yield f"  to repeat it: {os.path.join(folder, 'failures')} {self.number}"
@@ -53,7 +55,7 @@ class Row:
             yield f"  gcc: {self.gcc}"
 
     def value(self) -> dict[str, object]:
-        """As JSON."""
+        """The row as rte.json has it."""
         value: dict[str, object] = {"place": self.place, "what": self.what, "verdict": self.verdict}
         value["operations"] = [{"kind": one.kind, "place": one.place, "text": one.text} for one in self.operations]
         value["goals"] = list(self.goals)
@@ -68,7 +70,7 @@ class Row:
 
 
 def refuted(limits: Limits, is_unreached: bool) -> tuple[Verdict, str]:
-    """The verdict of an operation at which no run within the bounds ends, and why it isn't a better one."""
+    """The verdict of an operation at which no run within the bounds ends, and why it isn't a better one, or nothing."""
     if limits.restriction and limits.suffice:
         return Verdict.WITHIN, limits.restriction
     if not limits.make_unreachable:
@@ -77,7 +79,8 @@ def refuted(limits: Limits, is_unreached: bool) -> tuple[Verdict, str]:
 
 
 class Rows:
-    """Makes the rows of what is known. `unreached` are the nodes that no run comes to."""
+    """Makes the rows of what is known. `unreached` are the nodes that no run comes to, `apart` what is known of
+    operations of one step."""
 
     def __init__(self, graph: Graph, operations: list[Operation], known: Known, limits: Limits) -> None:
         self.graph, self.operations, self.known, self.limits = graph, operations, known, limits
@@ -85,6 +88,7 @@ class Rows:
         self.apart: dict[int, dict[Operation, Apart]] = {}
 
     def goals(self, nodes: frozenset[int]) -> tuple[int, ...]:
+        """The numbers of the goals of nodes, of those that have one."""
         return tuple(sorted(self.known.goals[node] for node in nodes if node in self.known.goals))
 
     def all_never(self) -> set[int]:
@@ -92,8 +96,8 @@ class Rows:
         return {node for one in self.operations if one.nodes <= self.known.refuted for node in one.nodes}
 
     def failing(self, node: int, failed: Failed) -> Iterator[Row]:
-        """The rows of a node where a run ends: the operations there that are known to fail by themselves, or those that can have
-        ended that run."""
+        """The rows of a node where a run ends: the operations there that are known to fail by themselves, or those that
+        can have ended that run."""
         there = [one for one in self.operations if node in one.nodes]
         apart = self.apart.get(node, {})
         alone = [one for one in there if one in apart and apart[one].failed]
@@ -105,7 +109,7 @@ class Rows:
             yield self.failed(node, those, failed)
 
     def failed(self, node: int, those: tuple[Operation, ...], failed: Failed) -> Row:
-        """The row of the operations of which one ended a run."""
+        """The row of the operations of which one ended a run; of none, a row of the node's place."""
         told = ", ".join(one.told if number == 0 else f"{one.told} ({one.place})" for number, one in enumerate(those))
         what = f"one of {told}" if len(those) > 1 else told or "a step without an operation that is known"
         why = f"{failed.end} by the input {failed.input.line()}"
@@ -113,7 +117,7 @@ class Rows:
         return Row(place, what, Verdict.FAILS, why, failed.input, failed.end, those, (self.known.goals[node],))
 
     def never_apart(self, one: Operation) -> Apart | None:
-        """What shows that an operation never fails though another one of its step does."""
+        """What shows that an operation never fails though another one of its step does; None where nothing does."""
         known = [self.apart[node][one] for node in one.nodes if one in self.apart.get(node, {})]
         return known[0] if known and known[0].is_never else None
 
@@ -127,7 +131,7 @@ class Rows:
         return Row(one.place, one.told, verdict, why, operations=(one,), goals=self.goals(one.nodes))
 
     def said(self, one: Operation) -> tuple[Verdict, str]:
-        """The verdict of an operation of which no failure is known, and why."""
+        """The verdict of an operation of which no failure is known, and why it isn't a better one."""
         failing = sorted(one.nodes & set(self.known.failed))
         if failing:
             known = [self.apart[node][one] for node in failing if one in self.apart.get(node, {})]
@@ -152,7 +156,7 @@ class Rows:
         ]  # fmt: skip
 
     def rows(self) -> list[Row]:
-        """All rows, in the order of the sources."""
+        """All rows, in the order of the sources, those of nodes last; each operation is in one of them."""
         failing = [row for node, failed in self.known.failed.items() for row in self.failing(node, failed)]
         told = {one for row in failing for one in row.operations}
         made = failing + [self.single(one) for one in self.operations if one not in told] + self.nameless()
@@ -161,12 +165,12 @@ class Rows:
 
 
 def tally(rows: list[Row]) -> str:
-    """How many rows have which verdict."""
+    """How many rows there are and how many have which verdict, in a line."""
     counts = Counter(row.verdict for row in rows)
     told = [f"{counts[one]} {one}" for one in Verdict if counts[one]]
     return f"rows {len(rows)}" + (f": {', '.join(told)}" if told else "")
 
 
 def is_clean(rows: list[Row], limits: Limits) -> bool:
-    """Whether it is shown that no run at all ends wrongly."""
+    """Whether it is shown that no run at all ends wrongly: each row is `never` and the bounds suffice."""
     return limits.make_unreachable and all(row.verdict is Verdict.NEVER for row in rows)

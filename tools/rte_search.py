@@ -25,7 +25,7 @@ CERTIFICATE = "fshell certificate 1\n"
 
 @dataclass(frozen=True)
 class Failed:
-    """An input whose run ends wrongly, and how."""
+    """An input whose run ends wrongly, and how it ends, in the program's words."""
 
     input: Input
     end: str
@@ -33,8 +33,8 @@ class Failed:
 
 @dataclass(frozen=True)
 class Known:
-    """Of each node that has a goal its number; the refuted nodes, those where runs were found that end there, and why others
-    are open."""
+    """Of each node that has a goal its number; the refuted nodes, those where runs were found that end there, and why
+    others are open."""
 
     goals: dict[int, int]
     refuted: set[int]
@@ -43,7 +43,7 @@ class Known:
 
 
 def node_of(graph: Graph, text: str) -> int:
-    """The node that a goal asks for."""
+    """The number of the node that a goal asks for. Raises Failure where its text asks for anything else."""
     try:
         (letter,) = graphs.letters(graph, text)
     except ValueError:
@@ -54,17 +54,19 @@ def node_of(graph: Graph, text: str) -> int:
 
 
 def goals_of(graph: Graph, asked: Asked) -> dict[int, int]:
-    """The goal of each node; what the program refuses is a failure."""
+    """The number of the goal of each node. Raises Failure where the program refuses the query."""
     return {node_of(graph, goal.text): goal.number for goal in measured(asked, []).goals}
 
 
 def side_by_side(jobs: int) -> ThreadPoolExecutor:
+    """Threads for `jobs` searches at a time. Raises Failure where there is no program to ask."""
     program.program()
     return ThreadPoolExecutor(jobs)
 
 
 def decide(folder: Folder, asked: Asked, wanted: Iterable[int], jobs: int) -> dict[int, Input]:
-    """Has goals decided, and gives the inputs of those that are hit. Certificates that are there are checked again."""
+    """Has goals decided, and gives the inputs of those that are hit, by the goals' numbers. Certificates that are there
+    are checked again. Raises Failure where the program refuses the query or a file can't be written."""
     folder.forget_checks()
     with side_by_side(jobs) as pool:
         list(pool.map(lambda goal: folder.is_checked(asked, goal), folder.numbers("certificates", ".cert")))
@@ -82,7 +84,7 @@ def decide(folder: Folder, asked: Asked, wanted: Iterable[int], jobs: int) -> di
 
 
 def runs_of(asked: Asked, found: list[Input]) -> list[Run]:
-    """The runs of inputs, with their edges."""
+    """The runs of inputs, with their edges. Raises Failure where the program refuses the inputs."""
     if not found:
         return []
     with program.as_file(inputs.json_text(found)) as path:
@@ -90,7 +92,8 @@ def runs_of(asked: Asked, found: list[Input]) -> list[Run]:
 
 
 def known(graph: Graph, folder: Folder, asked: Asked, left_out: set[int], jobs: int) -> Known:
-    """What is known of all ends but those at some nodes; an input is kept only where its run ends at its node."""
+    """What is known of all ends but those at some nodes; an input is kept only where its run ends at its node. Raises
+    Failure as `decide` does."""
     goals = {node: goal for node, goal in goals_of(graph, asked).items() if node not in left_out}
     found = decide(folder, asked, goals.values(), jobs)
     refuted = set(folder.refuted(asked))
@@ -108,7 +111,8 @@ def known(graph: Graph, folder: Folder, asked: Asked, left_out: set[int], jobs: 
 
 
 def not_reached(graph: Graph, path: str, asked: Asked, nodes: set[int], jobs: int) -> set[int]:
-    """Which of some nodes no run comes to within the bounds, by certificates in the folder `reached`."""
+    """Which of some nodes no run comes to within the bounds, by certificates in the folder `reached` below `path`.
+    Raises Failure as `decide` does."""
     ours = replace(asked, query=REACHED, ends="any")
     goals = {node: goal for node, goal in goals_of(graph, ours).items() if node in nodes}
     folder = Folder(os.path.join(path, "reached"))
@@ -123,14 +127,15 @@ def not_reached(graph: Graph, path: str, asked: Asked, nodes: set[int], jobs: in
 
 
 def check_bounds(asked: Asked, path: str) -> str:
-    """Why `check-bounds` rejects a certificate, or nothing."""
+    """Why `check-bounds` rejects the certificate at `path`, in its own words, or nothing."""
     options = leaving.options_of(asked.bounds)
     ended = program.run(["check-bounds", asked.entry, os.path.abspath(path), *asked.sources, *options], asked.place)
     return (ended.stderr.strip() or f"status {ended.status}") if ended.status else ""
 
 
 def prove_bounds(folder: Folder, asked: Asked) -> str:
-    """The line that `prove-bounds` writes, or that the bounds suffice, where `check-bounds` accepts the certificate."""
+    """The line that `prove-bounds` writes; `bounds suffice` only where `check-bounds` accepts the certificate, which is
+    kept in the folder. Raises Failure where the program refuses, or rejects its own certificate."""
     kept, path = folder.at("bounds.cert"), folder.at(f".new.bounds.{os.getpid()}")
     if os.path.exists(kept) and not check_bounds(asked, kept):
         return "bounds suffice"

@@ -18,7 +18,7 @@ from tools.folder import Folder
 from tools.graph import Edge, Graph
 from tools.program import Failure
 from tools.reports import Input, Run
-from tools.rte_items import Finder, Operation, reached_from
+from tools.rte_items import Finder, Operation
 from tools.rte_rows import Row, Verdict, refuted
 from tools.rte_search import Failed, decide, runs_of
 from tools.verdicts import Limits
@@ -28,20 +28,23 @@ HEADER, TABLE, FOLDER = "overflow.h", "overflow.json", "overflow"
 
 @dataclass(frozen=True)
 class Table:
-    """What overflow.json says: the header, its functions, and of the place of a call the operation that it is."""
+    """What overflow.json says: the header, its functions, and of the place of a call (file, line and column) the
+    operation that it is."""
 
     header: str = ""
     functions: tuple[str, ...] = ()
     calls: dict[tuple[str, int, int], tuple[str, str, str]] | None = None
 
     def operation(self, file: str, line: int, column: int) -> tuple[str, str, str]:
-        """What is done at a call, the place of the operation and its text; nothing where the table doesn't know the call."""
+        """What is done at a call, the place of the operation and its text; three empty texts where the table doesn't
+        know the call."""
         return (self.calls or {}).get((os.path.basename(file), line, column), ("", "", ""))
 
 
 @dataclass(frozen=True)
 class Site:
-    """A call: the operation that it is, and the edges by which its function is entered there."""
+    """A call: the operation that it is, the function, the edges by which that is entered there, and the call's own
+    place."""
 
     operation: Operation
     function: str
@@ -60,13 +63,14 @@ class Said:
 
 
 def header_of(sources: Sequence[str]) -> str:
-    """The header of checked operations, if one is among the sources."""
+    """The name of the header of checked operations, if it is among the sources and its table beside it; else nothing."""
     named = [one for one in sources if os.path.basename(one) == HEADER]
     return next((one for one in named if os.path.exists(os.path.join(os.path.dirname(one), TABLE))), "")
 
 
 def table_of(sources: Sequence[str], graph: Graph) -> Table:
-    """The table of the sources, if they have the header that it belongs to."""
+    """The table of the sources, an empty one where they have no header of checked operations. Raises Failure where it
+    isn't what bin/adapt wrote."""
     source = header_of(sources)
     if not source:
         return Table()
@@ -84,7 +88,8 @@ def table_of(sources: Sequence[str], graph: Graph) -> Table:
 
 
 def of_call(finder: Finder, table: Table, edges: tuple[Edge, ...], token: int, text: str, at: str) -> Site:
-    """The site of a call whose function's name is a token; `at` is the folder in which the sources' names stand."""
+    """The site of a call whose function's name is a token; `at` is the folder in which the sources' names stand, `text`
+    the call's own text."""
     word = finder.words[token]
     kind, place, told = table.operation(word.file, word.line, word.column)
     file, line, column = word.file, word.line, word.column
@@ -104,8 +109,9 @@ def of_call(finder: Finder, table: Table, edges: tuple[Edge, ...], token: int, t
 
 
 def of_finder(graph: Graph, finder: Finder, table: Table, entry: str, at: str) -> list[Site]:
-    """The sites that an entry may come to, in the order of the sources; a call that isn't found there is one by its edge alone."""
-    reached = reached_from(graph, entry)
+    """The sites that an entry may come to, in the order of the sources; a call that isn't found there is one by its
+    edge alone."""
+    reached = graph.reached(entry)
     calls = [edge for edge in graph.edges if edge.operation == "call" and edge.name in table.functions]
     left = {edge.number: edge for edge in calls if graph.owner(edge) in reached}
     found: list[Site] = []
@@ -124,12 +130,13 @@ def of_finder(graph: Graph, finder: Finder, table: Table, entry: str, at: str) -
 
 
 def query_of(functions: Sequence[str]) -> str:
-    """Asks for a run that ends in one of the functions, by each call of it."""
+    """The query of runs that end in one of the functions, by each call of it."""
     return "cover " + " + ".join(f'@CALL({one}) . "@FUNC({one})*" . NODES(@FUNC({one}))' for one in functions) + "$"
 
 
 class Sites:
-    """Has the goals of sites decided, in a folder of their own."""
+    """Has the goals of sites decided, in a folder of their own below `path`. Raises Failure where the program refuses
+    the query."""
 
     def __init__(self, graph: Graph, path: str, asked: Asked, sites: list[Site], jobs: int) -> None:
         self.graph, self.sites = graph, sites
@@ -147,7 +154,8 @@ class Sites:
         self.runs = dict(zip(self.found, runs_of(self.asked, shown)))
 
     def goals_of(self) -> dict[int, dict[int, int]]:
-        """By the number of a call's edge the goals that begin with it, each with its node."""
+        """By the number of a call's edge the goals that begin with it, each with its node. Raises Failure where a
+        goal's text isn't known."""
         made: dict[int, dict[int, int]] = {edge.number: {} for site in self.sites for edge in site.edges}
         for goal in measured(self.asked, []).goals:
             letters = graphs.letters(self.graph, goal.text)
@@ -166,7 +174,7 @@ class Sites:
         return at == node and came == edge and run.end.split(" ")[0] not in ("returned", "cut")
 
     def said(self, site: Site) -> Said:
-        """What is known of a site."""
+        """What is known of a site: an input whose run fails there, else why it is open, else that it is refuted."""
         rows = [(edge.number, goal, node) for edge in site.edges for goal, node in self.goals[edge.number].items()]
         numbers = tuple(sorted(goal for _, goal, _ in rows))
         for edge, goal, node in rows:
@@ -180,10 +188,11 @@ class Sites:
         return Said(numbers)
 
     def input(self, goal: int) -> Input:
+        """The input that hits a goal. KeyError where none is known."""
         return self.found[goal]
 
     def row(self, site: Site, limits: Limits, unreached: set[int]) -> Row:
-        """The row of a site."""
+        """The row of a site; `unreached` are the nodes that no run comes to."""
         one, said = site.operation, self.said(site)
         failed = said.failed
         verdict, why = Verdict.OPEN, said.open

@@ -4,12 +4,12 @@ import dataclasses
 import os
 import re
 from collections.abc import Sequence
-from dataclasses import dataclass
 
 from tools import originals, sarif
 from tools.asked import Asked
 from tools.rte_rows import Row, Verdict
 from tools.rte_sites import FOLDER
+from tools.sarif import Finding
 
 RULES = {
     "run-time-error": ("error", "A run is ended by an operation: the input is told."),
@@ -24,31 +24,16 @@ OF_VERDICT = {
 }
 
 
-@dataclass(frozen=True)
-class Finding:
-    """A row at its place."""
-
-    rule: str
-    file: str
-    line: int
-    column: int
-    text: str
-
-    @property
-    def level(self) -> str:
-        return RULES[self.rule][0]
-
-
 def place_of(row: Row) -> tuple[str, int, int]:
-    """The file, the line and the column of a row; a node has no column."""
+    """The file, the line and the column of a row, from 1; a node has column 1. Names are those from this folder."""
     found = re.fullmatch(r"(.*?):(\d+)(?::(\d+))?", row.place)
     file, line, column = (found[1], found[2], found[3] or "1") if found else (row.place, "1", "1")
     return os.path.relpath(file) if os.path.isabs(file) else file, int(line), int(column)
 
 
 def of_the_user(row: Row, asked: Asked) -> Row:
-    """A row as the user knows it: of a source that bin/adapt wrote the place in the original, and its names. An operation that was
-    written as a call has these already."""
+    """A row as the user knows it: of a source that bin/adapt wrote the place in the original, and its names; `asked`
+    says where the sources stand. An operation that was written as a call has these already."""
     if row.folder == FOLDER:
         return row
     file, *spot = row.place.rsplit(":", 2) if row.operations else row.place.rsplit(":", 1)
@@ -58,15 +43,16 @@ def of_the_user(row: Row, asked: Asked) -> Row:
 
 
 def findings(rows: Sequence[Row]) -> list[Finding]:
-    """What is to be looked at; a row that is never wrong is nothing."""
-    return [
-        Finding(
-            OF_VERDICT[row.verdict], *place_of(row), f"{row.verdict}: {row.what}" + (f": {row.why}" if row.why else "")
-        )
-        for row in rows
-        if row.verdict in OF_VERDICT
-    ]
+    """What is to be looked at, in the order of the rows; a row that is never wrong is nothing."""
+    found = []
+    for row in rows:
+        rule = OF_VERDICT.get(row.verdict)
+        if rule:
+            text = f"{row.verdict}: {row.what}" + (f": {row.why}" if row.why else "")
+            found.append(Finding(rule, RULES[rule][0], *place_of(row), text))
+    return found
 
 
 def sarif_of(rows: Sequence[Row], asked: Asked) -> str:
+    """The rows as SARIF 2.1.0 (OASIS); names of files are those from the folder of the question."""
     return sarif.text_of(findings(rows), RULES, os.path.realpath(asked.place))

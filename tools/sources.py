@@ -219,7 +219,7 @@ class Faces:
         return "{}:{}".format(*self.at(node.file, node.line, 0))
 
     def node_text(self, node: Node) -> str:
-        """The text of a node's line."""
+        """What stands on the line of the user's own source where a node is."""
         return self.own(node.file).line_text(self.node_line(node))
 
     def statement(self, edge: Edge) -> str:

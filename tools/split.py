@@ -24,7 +24,7 @@ Tell = Callable[[int, int], None]
 
 
 def words_of(asked: Asked, query: str, budget: int) -> list[str]:
-    """The words of `generate`."""
+    """The program's words for one part of a split `generate`, as JSON where it writes that."""
     words = ["generate", asked.entry, query, *asked.sources, *asked.words(), "--budget", str(budget)]
     return program.with_json(words)
 

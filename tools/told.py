@@ -51,7 +51,7 @@ class Told:
     # ---- as text
 
     def line(self, goal: Goal, verdict: Verdict) -> str:
-        """The line of a goal."""
+        """What report.txt says of a goal: its verdict, and the input, the certificate or why it is open."""
         behind = f" by input {goal.input}" if goal.input else ""
         if verdict in (Verdict.REFUTED, Verdict.UNREACHABLE):
             behind = f", certificates/{goal.number}.cert"
@@ -87,13 +87,14 @@ class Told:
             yield f"MC/DC: {self.conditions.tally.line('conditions')}"
 
     def text(self) -> str:
-        """The same as a text."""
+        """What report.txt is: all lines, each with its end."""
         return "".join(line + "\n" for line in self.lines())
 
     # ---- as JSON
 
     def goal_value(self, goal: Goal, verdict: Verdict) -> dict[str, object]:
-        """A goal as JSON."""
+        """What report.json says of a goal: its verdict and text, and the number of its input or the path of its
+        certificate."""
         value: dict[str, object] = {"answer": verdict, "text": goal.text}
         if goal.input:
             value["input"] = goal.input

@@ -1,14 +1,29 @@
 """The cases of `bounds`. An input that is printed is the only one whose run leaves the bounds."""
 
-from command_cases import (A, CALLEE, CALLER, COUNT, NESTED, QUOTIENTS, RECURSION, case, of_sources, of_streams, refused, usages)
+from command_cases import (
+    A,
+    CALLEE,
+    CALLER,
+    COUNT,
+    NESTED,
+    QUOTIENTS,
+    RECURSION,
+    Case,
+    Words,
+    case,
+    of_sources,
+    of_streams,
+    refused,
+    usages,
+)
 
 
-def said(name, options, source, text, entry="f", status=0):
+def said(name: str, options: Words, source: str, text: str, entry: str = "f", status: int = 0) -> Case:
     """A case of bounds with what is said of them."""
     return case(name, ["bounds", *options, entry, "k.c"], {"k.c": source}, f"bounds {text}\n", status)
 
 
-def suffice(turns=4, frames=8, answers=16):
+def suffice(turns: int = 4, frames: int = 8, answers: int = 16) -> str:
     """What is said where bounds suffice."""
     return f"suffice turns {turns} frames {frames} answers {answers}"
 
@@ -20,18 +35,18 @@ TRAP = "int f(unsigned char x) {\n  int i = 0;\n  while (i < 10) {\n    i = i + 
 HEAD = "int g(int n) {"
 
 
-def small(source, test):
+def small(source: str, test: str) -> str:
     """A function f of n with an `assume` first."""
     return source.replace("  int c", f"  assume({test});\n  int c")
 
 
-def answers(value, kind="long"):
+def answers(value: int | str, kind: str = "long") -> str:
     """A second answer is read where the argument is 7 and the first one a value."""
-    return (f"{kind} in(void);\nint f(int x) {{\n  {kind} s = in();\n  if (x == 7 && s == {value}) {{\n    s = in();\n  }}\n  return 0;\n}}\n")
+    return f"{kind} in(void);\nint f(int x) {{\n  {kind} s = in();\n  if (x == 7 && s == {value}) {{\n    s = in();\n  }}\n  return 0;\n}}\n"
 
 
 SECOND = ("long in(void);\nint f(int x) {\n  long a = in();\n  long b = in();\n  if (x == 1 && a == 0 && b == 3) {\n    b = in();\n  }\n"
-          "  return 0;\n}\n")
+          "  return 0;\n}\n")  # fmt: skip
 
 CASES = [
     said("a branch stays within them", [], A, suffice()),
@@ -73,4 +88,4 @@ CASES = [
             "error 80 TooManyInstances limit 50000", 6),
     refused("an unwinding that is too large", ["bounds", "f", "k.c"], {"k.c": QUOTIENTS}, "error 81 UnwindingTooLarge limit 4194304", 6),
     *of_streams(["bounds", "f", "a.c"], {"a.c": A}, f"bounds {suffice()}\n"),
-]
+]  # fmt: skip

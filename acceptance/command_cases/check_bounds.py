@@ -1,12 +1,12 @@
 """The cases of `check-bounds`, but for certificates that it compares, which are in certificates.py."""
 
-from command_cases import A, NESTED, QUOTIENTS, of_sources, refused, usages
+from command_cases import A, NESTED, QUOTIENTS, Case, Files, Words, of_sources, refused, usages
 
 # a certificate in its form, of a formula that is none of these sources'
 CERTIFICATE = "fshell certificate 1\np cnf 1 2\n1 0\n-1 0\nderivation 1\n0 1 2 1 0\n"
 
 
-def rejected(name, words, files, line, status=10):
+def rejected(name: str, words: Words, files: Files, line: str, status: int = 10) -> Case:
     """A case of a certificate that isn't accepted."""
     return refused(name, ["check-bounds", *words], {"c.cert": CERTIFICATE} | files, line, status)
 
@@ -35,4 +35,4 @@ CASES = [
     rejected("too many pairs of node and context", ["--turns", "1000", "f", "c.cert", "g.c"], {"g.c": NESTED},
              "error 80 TooManyInstances limit 50000", 6),
     rejected("an unwinding that is too large", ["f", "c.cert", "k.c"], {"k.c": QUOTIENTS}, "error 81 UnwindingTooLarge limit 4194304", 6),
-]
+]  # fmt: skip

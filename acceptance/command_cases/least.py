@@ -1,35 +1,67 @@
 """The cases of `least`: the input that compares least, by its words and then by its answers, as unsigned numbers of 64 bits."""
 
-from command_cases import (A, BOTH, CALLS, COUNT, ELEMENT, NESTED, NEVER, QUOTIENTS, RECURSION, SEVEN, WAIT, case, of_queries,
-                           of_sources, of_streams, refused, usages)
+from collections.abc import Sequence
+
+from command_cases import (
+    A,
+    BOTH,
+    CALLS,
+    COUNT,
+    ELEMENT,
+    NESTED,
+    NEVER,
+    QUOTIENTS,
+    RECURSION,
+    SEVEN,
+    WAIT,
+    Case,
+    Words,
+    case,
+    of_queries,
+    of_sources,
+    of_streams,
+    refused,
+    usages,
+)
 
 HIT = "cover @LINE(3)"
 
 
-def said(name, source, text, query=HIT, options=(), entry="f", goal="1", status=0):
+def said(
+    name: str,
+    source: str,
+    text: str,
+    query: str = HIT,
+    options: Words = (),
+    entry: str = "f",
+    goal: str = "1",
+    status: int = 0,
+) -> Case:
     """A case of a goal with what is said of it."""
     return case(name, ["least", *options, entry, query, goal, "k.c"], {"k.c": source}, f"goal {goal} {text}\n", status)
 
 
-def args(*words, answers=()):
+def args(*words: int | str, answers: Sequence[int | str] = ()) -> str:
     """What is said of a least input."""
     return " ".join(["least args", *map(str, words), *(["answers", *map(str, answers)] if answers else [])])
 
 
-def refuted(turns=4, frames=8, answers=16, ends=""):
+def refuted(turns: int = 4, frames: int = 8, answers: int = 16, ends: str = "") -> str:
     """What is said of a goal that no input hits."""
     return f"refuted turns {turns} frames {frames} answers {answers}" + (f" ends {ends}" if ends else "")
 
 
-def branch(parameters, test):
+def branch(parameters: str, test: str) -> str:
     """A function whose line 3 is reached where a test holds."""
     return f"int f({parameters}) {{\n  if ({test}) {{\n    return 1;\n  }}\n  return 0;\n}}\n"
 
 
-def two(first, second, kind="int"):
+def two(first: int | str, second: int | str, kind: str = "int") -> str:
     """A function whose line 6 is reached where two answers have these values."""
-    return (f"{kind} in(void);\nint f(void) {{\n  {kind} s = in();\n  int t = in();\n  if (s == {first} && t == {second}) {{\n    return 1;\n"
-            "  }\n  return 0;\n}\n")
+    return (
+        f"{kind} in(void);\nint f(void) {{\n  {kind} s = in();\n  int t = in();\n  if (s == {first} && t == {second}) {{\n    return 1;\n"
+        "  }\n  return 0;\n}\n"
+    )
 
 
 SIX = "cover @LINE(6)"
@@ -96,4 +128,4 @@ CASES = [
             "error 81 UnwindingTooLarge limit 4194304", 6),
     refused("a goal that is too large", ["least", "f", 'cover "(ID==40)==40"', "1", "a.c"], FIRST, "error 82 GoalTooLarge limit 8388608", 6),
     *of_streams(["least", "f", HIT, "1", "a.c"], FIRST, "goal 1 least args 11\n"),
-]
+]  # fmt: skip

@@ -1,10 +1,10 @@
 """The cases of `prove-bounds`, but for the certificates that it writes, which certificates.py checks."""
 
-from command_cases import (A, COUNT, NESTED, QUOTIENTS, case, of_sources, of_streams, refused, usages)
+from command_cases import A, COUNT, NESTED, QUOTIENTS, Case, Words, case, of_sources, of_streams, refused, usages
 from command_cases.bounds import FEW, KINDS, answers
 
 
-def said(name, options, source, text, status=0):
+def said(name: str, options: Words, source: str, text: str, status: int = 0) -> Case:
     """A case of bounds with what is said of them."""
     return case(name, ["prove-bounds", *options, "f", "k.c"], {"k.c": source}, f"bounds {text}\n", status)
 
@@ -31,4 +31,4 @@ CASES = [
             "error 80 TooManyInstances limit 50000", 6),
     refused("an unwinding that is too large", ["prove-bounds", "f", "k.c"], {"k.c": QUOTIENTS}, "error 81 UnwindingTooLarge limit 4194304", 6),
     *of_streams(["prove-bounds", "--turns", "3", "f", "k.c"], {"k.c": FEW}, "bounds left args 4\n"),
-]
+]  # fmt: skip

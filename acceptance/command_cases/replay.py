@@ -1,7 +1,28 @@
 """The cases of `replay`: the report of traces, and which lines of a trace file are refused."""
 
-from command_cases import (A, ALL, BOTH, CALLEE, CALLER, ELEMENT, FOREVER, REPORT, TITLE, WAIT, case, of_queries, of_sources,
-                           of_streams, refused, usages)
+from collections.abc import Sequence
+from typing import Any
+
+from command_cases import (
+    A,
+    ALL,
+    BOTH,
+    CALLEE,
+    CALLER,
+    ELEMENT,
+    FOREVER,
+    REPORT,
+    TITLE,
+    WAIT,
+    Case,
+    Words,
+    case,
+    of_queries,
+    of_sources,
+    of_streams,
+    refused,
+    usages,
+)
 
 TWO = TITLE + "args 5 edges 1 3\nargs 11 edges 0 2\n"
 FILES = {"t.txt": TWO, "a.c": A}
@@ -10,58 +31,79 @@ CALLS = TITLE + "args 9 edges 1 2 4 0 5 6 7\nargs 2 edges 1 3 7\n"
 LIMIT = 16 * 2**20
 AS_JSON = ('{"covered":4,"goals":[{"answer":"covered","input":2,"text":"e0@a.c:2"},{"answer":"covered","input":1,"text":"e1@a.c:2"},'
            '{"answer":"covered","input":2,"text":"e2@a.c:3"},{"answer":"covered","input":1,"text":"e3@a.c:5"}],'
-           '"inputs":[{"end":"returned","value":0},{"end":"returned","value":1}],"suite":[1,2]}\n')
+           '"inputs":[{"end":"returned","value":0},{"end":"returned","value":1}],"suite":[1,2]}\n')  # fmt: skip
 
 
-def said(name, text, report, source=A, query=ALL, options=()):
+def said(name: str, text: Any, report: Any, source: str = A, query: str = ALL, options: Words = ()) -> Case:
     """A case of traces with the report that they give."""
     return case(name, ["replay", *options, "f", query, "t.txt", "k.c"], {"t.txt": text, "k.c": source}, report)
 
 
-def all_edges(values, covered, suite):
+def all_edges(values: Sequence[int], covered: Sequence[int], suite: Sequence[int]) -> str:
     """The report over the four edges of A: what each run returns, the first that covers each edge, or 0, and the suite."""
-    lines = [f"goals 4 inputs {len(values)}"] + [f"input {number} returned {value}" for number, value in enumerate(values, 1)]
+    lines = [f"goals 4 inputs {len(values)}"] + [
+        f"input {number} returned {value}" for number, value in enumerate(values, 1)
+    ]
     for number, (by, place) in enumerate(zip(covered, ("e0@k.c:2", "e1@k.c:2", "e2@k.c:3", "e3@k.c:5")), 1):
         lines.append(f"goal {number} covered {by} {place}" if by else f"goal {number} missed {place}")
     return "\n".join([*lines, " ".join(["suite", *map(str, suite)]), f"covered {sum(map(bool, covered))} of 4", ""])
 
 
-def one_goal(ends, by, goal):
+def one_goal(ends: Sequence[str], by: int, goal: str) -> str:
     """The report of one goal, that a run covers."""
     lines = [f"goals 1 inputs {len(ends)}"] + [f"input {number} {end}" for number, end in enumerate(ends, 1)]
     return "\n".join([*lines, f"goal 1 covered {by} {goal}", f"suite {by}", "covered 1 of 1", ""])
 
 
-def counting(turns):
+def counting(turns: int) -> list[Any]:
     """The parts of the line of a run of LOOP that takes so many turns."""
     return [f"args {turns} edges 0 1", {"repeat": " 2 4 5", "times": turns}, " 3 6\n"]
 
 
-def length(turns):
+def length(turns: int) -> int:
     """How many bytes that line has."""
     return len(f"args {turns} edges 0 1 3 6\n") + 6 * turns
 
 
-def at_the_limit():
+def at_the_limit() -> list[Case]:
     """A case whose traces have 16 MiB: as many of 1,000 turns as go there, and three that fill what is left; then one byte more."""
     many = (LIMIT - len(TITLE) - 6000) // length(1000)
     left = LIMIT - len(TITLE) - many * length(1000)
-    rest = next(rest for first in range(2000) for second in (7, 50, 500) if sum(map(length, rest := (first, second, 3))) == left)
-    text = [TITLE, {"repeat": "args 1000 edges 0 1" + " 2 4 5" * 1000 + " 3 6\n", "times": many}, *(part for turns in rest for part in counting(turns))]
+    rest = next(
+        rest for first in range(2000) for second in (7, 50, 500) if sum(map(length, rest := (first, second, 3))) == left
+    )
+    text = [
+        TITLE,
+        {"repeat": "args 1000 edges 0 1" + " 2 4 5" * 1000 + " 3 6\n", "times": many},
+        *(part for turns in rest for part in counting(turns)),
+    ]
     ends = "".join(f"input {many + number} returned {turns}\n" for number, turns in enumerate(rest, 1))
-    report = [f"goals 1 inputs {many + 3}\n", {"count": many, "text": "input # returned 1000\n"}, ends,
-              "goal 1 covered 1 e6@k.c:6\nsuite 1\ncovered 1 of 1\n"]
-    return [said("traces of 16 MiB", text, report, LOOP, "cover @LINE(6)"),
-            refused("traces one byte above the limit", ["replay", "f", ALL, "t.txt", "k.c"], {"t.txt": [*text, " "], "k.c": LOOP},
-                    "error 16 FileTooLong t.txt", 6)]
+    report = [
+        f"goals 1 inputs {many + 3}\n",
+        {"count": many, "text": "input # returned 1000\n"},
+        ends,
+        "goal 1 covered 1 e6@k.c:6\nsuite 1\ncovered 1 of 1\n",
+    ]
+    return [
+        said("traces of 16 MiB", text, report, LOOP, "cover @LINE(6)"),
+        refused(
+            "traces one byte above the limit",
+            ["replay", "f", ALL, "t.txt", "k.c"],
+            {"t.txt": [*text, " "], "k.c": LOOP},
+            "error 16 FileTooLong t.txt",
+            6,
+        ),
+    ]
 
 
-def form(name, text, line):
+def form(name: str, text: Any, line: int) -> Case:
     """A case of a text that is no trace file, with the line that is wrong."""
-    return refused(name, ["replay", "f", ALL, "t.txt", "k.c"], {"t.txt": text, "k.c": A}, f"error 55 TraceForm line {line}", 5)
+    return refused(
+        name, ["replay", "f", ALL, "t.txt", "k.c"], {"t.txt": text, "k.c": A}, f"error 55 TraceForm line {line}", 5
+    )
 
 
-def not_the_run(name, text, line, source=A, options=()):
+def not_the_run(name: str, text: Any, line: int, source: str = A, options: Words = ()) -> Case:
     """A case of traces of which one isn't its input's run, with its line."""
     words = ["replay", *options, "f", ALL, "t.txt", "k.c"]
     return refused(name, words, {"t.txt": text, "k.c": source}, f"error 56 NotTheRun line {line}", 5)
@@ -164,4 +206,4 @@ CASES = [
     refused("a folder in the place of the traces", ["replay", "f", ALL, "t.txt", "a.c"], {"t.txt": {"folder": True}, "a.c": A},
             "error 7 ReadFault t.txt", 7),
     *of_streams(["replay", "f", ALL, "t.txt", "a.c"], FILES, REPORT),
-]
+]  # fmt: skip

@@ -1,14 +1,32 @@
 """The cases of `traces`. The edges are those that the table of docs/GRAPH.md makes, counted by hand."""
 
-from command_cases import A, BOTH, CALLEE, CALLER, ELEMENT, FOREVER, TITLE, WAIT, case, of_sources, of_streams, refused, usages
+from typing import Any
+
+from command_cases import (
+    A,
+    BOTH,
+    CALLEE,
+    CALLER,
+    ELEMENT,
+    FOREVER,
+    TITLE,
+    WAIT,
+    Case,
+    Words,
+    case,
+    of_sources,
+    of_streams,
+    refused,
+    usages,
+)
 
 
-def said(name, source, inputs, lines, options=()):
+def said(name: str, source: str, inputs: Any, lines: str, options: Words = ()) -> Case:
     """A case of inputs with the lines of their traces."""
     return case(name, ["traces", *options, "f", "in.txt", "k.c"], {"in.txt": inputs, "k.c": source}, TITLE + lines)
 
 
-def wrong(name, inputs, line, status, source=A):
+def wrong(name: str, inputs: Any, line: str, status: int, source: str = A) -> Case:
     """A case of inputs that are refused."""
     return refused(name, ["traces", "f", "in.txt", "k.c"], {"in.txt": inputs, "k.c": source}, line, status)
 
@@ -56,4 +74,4 @@ CASES = [
     wrong("runs of more than ten million edges together, none of which counts", {"repeat": "1\n", "times": 101},
           "error 54 RunsTooLong limit 10000000", 6, FOREVER),
     *of_streams(["traces", "f", "in.txt", "a.c"], FILES, TWO),
-]
+]  # fmt: skip

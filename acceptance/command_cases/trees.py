@@ -1,23 +1,46 @@
 """The cases of `trees`. Ends and numbers of turns are worked out by hand, from docs/MEANING.md."""
 
-from command_cases import (A, BOTH, CALLEE, CALLER, COUNT, ELEMENT, FOREVER, NESTED, RECURSION, case, of_sources, of_streams, refused,
-                           usages)
+from collections.abc import Sequence
+from typing import Any
+
+from command_cases import (
+    A,
+    BOTH,
+    CALLEE,
+    CALLER,
+    COUNT,
+    ELEMENT,
+    FOREVER,
+    NESTED,
+    RECURSION,
+    Case,
+    Words,
+    case,
+    of_sources,
+    of_streams,
+    refused,
+    usages,
+)
 
 
-def said(name, source, inputs, ends, options=(), entry="f"):
+def said(
+    name: str, source: str, inputs: list[Any] | str, ends: Sequence[str], options: Words = (), entry: str = "f"
+) -> Case:
     """The end of each input, in order; inputs of one word each may be given as a list."""
     given = "".join(f"{word}\n" for word in inputs) if isinstance(inputs, list) else inputs
     lines = "".join(f"input {number} {end}\n" for number, end in enumerate(ends, 1))
     return case(name, ["trees", *options, entry, "in.txt", "k.c"], {"in.txt": given, "k.c": source}, lines)
 
 
-def turns(name, source, given, enough, end, entry="f"):
+def turns(name: str, source: str, given: Any, enough: int, end: str, entry: str = "f") -> list[Case]:
     """So many turns are enough for this end of an input, and one less isn't."""
-    return [said(name, source, [given], [end], ["--steps", str(enough)], entry),
-            said(f"{name}, and one turn less", source, [given], ["cut"], ["--steps", str(enough - 1)], entry)]
+    return [
+        said(name, source, [given], [end], ["--steps", str(enough)], entry),
+        said(f"{name}, and one turn less", source, [given], ["cut"], ["--steps", str(enough - 1)], entry),
+    ]
 
 
-def wrong(name, inputs, line, status):
+def wrong(name: str, inputs: Any, line: str, status: int) -> Case:
     """A case of inputs that are refused."""
     return refused(name, ["trees", "f", "in.txt", "k.c"], {"in.txt": inputs, "k.c": A}, line, status)
 
@@ -25,7 +48,7 @@ def wrong(name, inputs, line, status):
 FILES = {"in.txt": "5\n11\n", "a.c": A}
 TWO = "input 1 returned 0\ninput 2 returned 1\n"
 WAYS = ("int f(int how, int x) {\n  int a[2];\n  switch (how) {\n  case 1: return 7 / x;\n  case 2: return x / -1;\n  case 3: return a[x];\n"
-        "  case 4: return 1 << x;\n  case 5: assert(x); return 5;\n  case 6: assume(x);\n  default: return 6;\n  }\n}\n")
+        "  case 4: return 1 << x;\n  case 5: assert(x); return 5;\n  case 6: assume(x);\n  default: return 6;\n  }\n}\n")  # fmt: skip
 LOOP = "int f(int n) {\n  int i = 0;\n  while (i < n) {\n    i = i + 1;\n  }\n  return i;\n}\n"
 DO = "int f(int n) {\n  int i = 0;\n  do {\n    i = i + 2;\n  } while (i < n);\n  return i;\n}\n"
 CALLS = "int h(int v) { return v; }\nint f(int n) { return h(1) + h(6 / n); }\n"
@@ -114,4 +137,4 @@ CASES = [
     wrong("an argument above 64 bits", "18446744073709551616\n", "error 52 Range input 1", 5),
     wrong("10,001 inputs", {"repeat": "5\n", "times": 10001}, "error 53 TooManyInputs limit 10000", 6),
     *of_streams(["trees", "f", "in.txt", "a.c"], FILES, TWO),
-]
+]  # fmt: skip

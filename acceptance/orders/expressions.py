@@ -1,15 +1,29 @@
 """Full expressions, step by step: a step is a read of a variable of the file or of an element, a trap, or a whole call."""
 
+from typing import Any
+
 from pycparser import c_ast
 
-from orders.parts import Part, Stop, has_call
-from orders.values import INT, binary, common, fit, kind, kind_of, number, promoted
+from orders.parts import Cell, Chooser, Env, Part, Stop, has_call
+from orders.values import INT, Kind, Value, binary, common, fit, kind, kind_of, number, promoted
 
 
 class Expressions:
     """What a machine does with expressions; a chooser picks one of the parts that are ready."""
 
-    def full(self, node, env):
+    def __init__(self, chooser: Chooser) -> None:
+        self.choose = chooser
+        self.functions: dict[str, Any] = {}
+        self.inputs: dict[str, Kind] = {}
+        self.globals: dict[str, Cell] = {}
+        self.answers: list[int] = []
+        self.taken, self.turns, self.depth = 0, 0, 0
+
+    def call(self, name: str, args: list[int | Cell]) -> Value:
+        """What a call of a function gives. A machine runs it; here it raises NotImplementedError."""
+        raise NotImplementedError(name)
+
+    def full(self, node: Any, env: Env) -> Value:
         """The value of a full expression with its kind. Raises Stop where a trap ends the run."""
         if not has_call(node):  # nothing is done, so its order can't be told
             return self.direct(node, env)
@@ -17,7 +31,7 @@ class Expressions:
         self.finish(root)
         return root.value
 
-    def direct(self, node, env):
+    def direct(self, node: Any, env: Env) -> Value:
         """The value of an expression without calls, whose order nothing can tell. Raises Stop at a trap."""
         if isinstance(node, c_ast.ID):
             cell = self.find(node.name, env)
@@ -46,11 +60,11 @@ class Expressions:
             raise Stop("trap")
         return value
 
-    def finish(self, root):
+    def finish(self, root: Part) -> None:
         """Does the parts of an expression, one after the other as the chooser says. Raises Stop at a trap."""
         self.settle(root)
         while not root.done:
-            leaves = []
+            leaves: list[Part] = []
             root.ready(leaves)
             leaf = self.choose.of(root, leaves, self)
             leaf.touched = True
@@ -62,7 +76,7 @@ class Expressions:
                 self.step_call(leaf)
             self.settle(root)
 
-    def step_call(self, leaf):
+    def step_call(self, leaf: Part) -> None:
         """Does a call: an answer that is read, or a function's run."""
         name = leaf.node.name.name
         if name in self.inputs and name not in self.functions:
@@ -71,17 +85,17 @@ class Expressions:
             leaf.value = fit(answer, self.inputs[name]), self.inputs[name]
         else:
             words = iter(leaf.needs)
-            leaf.value = self.call(name, [one if one else next(words).value[0] for one in leaf.inner])
+            leaf.value = self.call(name, [one if one else next(words).value[0] for one in leaf.arguments])
         leaf.done = True
 
-    def find(self, name, env):
-        """The cell of a name, the innermost scope first, or None."""
+    def find(self, name: str, env: Env) -> Cell:
+        """The cell of a name, the innermost scope first. Raises KeyError where there is none."""
         for scope in reversed(env):
             if name in scope:
                 return scope[name]
-        return None
+        raise KeyError(name)
 
-    def target(self, node, env, read):
+    def target(self, node: Any, env: Env, read: bool) -> Part:
         """The part that a place is, read or not."""
         if isinstance(node, c_ast.ID):
             cell = self.find(node.name, env)
@@ -90,7 +104,7 @@ class Expressions:
             "read" if read else "place", node, [self.part(node.subscript, env)], self.find(node.name.name, env), read
         )
 
-    def part(self, node, env):
+    def part(self, node: Any, env: Env) -> Part:
         """The part that an expression is, with those that it needs."""
         if isinstance(node, c_ast.ID):
             cell = self.find(node.name, env)
@@ -101,26 +115,32 @@ class Expressions:
         if isinstance(node, c_ast.ArrayRef):
             return self.target(node, env, True)
         if isinstance(node, c_ast.FuncCall):
-            made, needs = [], []
+            arguments, needs = list[Cell | None](), list[Part]()
             for one in node.args.exprs if node.args else ():
-                cell = self.find(one.name, env) if isinstance(one, c_ast.ID) else None
-                made.append(cell if cell and cell.length else None)
-                if not made[-1]:
+                lent = self.find(one.name, env) if isinstance(one, c_ast.ID) else None
+                arguments.append(lent if lent and lent.length else None)
+                if not arguments[-1]:
                     needs.append(self.part(one, env))
             whole = Part("call", node, needs)
-            whole.inner = made
+            whole.arguments = arguments
             return whole
         if isinstance(node, c_ast.BinaryOp) and node.op in ("&&", "||"):
-            return Part("logic", node, [self.part(node.left, env)], keep=env)
+            return self.waiting("logic", node, node.left, env)
         if isinstance(node, c_ast.TernaryOp):
-            return Part("cond", node, [self.part(node.cond, env)], keep=env)
+            return self.waiting("cond", node, node.cond, env)
         if isinstance(node, c_ast.BinaryOp):
             return Part("pure", node, [self.part(node.left, env), self.part(node.right, env)])
         if isinstance(node, (c_ast.UnaryOp, c_ast.Cast)):
             return Part("pure", node, [self.part(node.expr, env)])
         return Part("pure", node, [])
 
-    def settle(self, part):
+    def waiting(self, form: str, node: Any, first: Any, env: Env) -> Part:
+        """A part whose first operand says which others it needs."""
+        made = Part(form, node, [self.part(first, env)])
+        made.env = env
+        return made
+
+    def settle(self, part: Part) -> None:
         """Does what has no effect and can't be told apart."""
         if part.done:
             return
@@ -128,7 +148,7 @@ class Expressions:
             self.settle(one)
         if part.form == "list" and part.store:
             for at, one in enumerate(part.store[1]):
-                if one.done and not getattr(one, "kept", False):
+                if one.done and not one.kept:
                     part.store[0].values[at], one.kept = fit(one.value[0], part.store[0].kind), True
         if not all(one.done for one in part.needs):
             return
@@ -138,29 +158,29 @@ class Expressions:
                 part.index = part.needs[0].value[0]
                 part.trap = not 0 <= part.index < part.cell.length
             if part.form == "place" and not part.trap:
-                part.value, part.done = (part.cell.values[part.index] if part.keep else None, part.cell.kind), True
+                part.value, part.done = (part.cell.values[part.index], part.cell.kind), True
         elif part.form == "logic":
             first = part.needs[0].value[0]
             if len(part.needs) == 1 and bool(first) == (node.op == "&&"):
-                part.needs.append(self.part(node.right, part.keep))
+                part.needs.append(self.part(node.right, part.env))
                 return self.settle(part)
             part.value, part.done = (int(bool(part.needs[-1].value[0])), INT), True
         elif part.form == "cond":
             if len(part.needs) == 1:
-                part.needs.append(self.part(node.iftrue if part.needs[0].value[0] else node.iffalse, part.keep))
+                part.needs.append(self.part(node.iftrue if part.needs[0].value[0] else node.iffalse, part.env))
                 return self.settle(part)
-            of = common(self.kind(node.iftrue, part.keep), self.kind(node.iffalse, part.keep))
+            of = common(self.kind(node.iftrue, part.env), self.kind(node.iffalse, part.env))
             part.value, part.done = (fit(part.needs[1].value[0], of), of), True
         elif part.form == "list":
             part.done = True
         elif part.form == "pure":
-            part.value = self.pure(node, [one.value for one in part.needs], part.keep)
-            part.done, part.trap = part.value is not None, part.value is None
+            value = self.pure(node, [one.value for one in part.needs], part.whole)
+            part.done, part.trap, part.value = value is not None, value is None, value or part.value
 
-    def pure(self, node, values, keep):
+    def pure(self, node: Any, values: list[Value], whole: tuple[str, Kind] | None) -> Value | None:
         """The value of an operator or a conversion of values, by 6.3 and 6.5; None where it traps."""
-        if keep:  # the whole of an assignment
-            op, of = keep
+        if whole:  # of an assignment
+            op, _ = whole
             return values[1] if not op else binary(op, values[0], values[1])
         if isinstance(node, c_ast.Constant):
             return number(node.value), INT if not node.value.rstrip("lL").endswith(("u", "U")) else (32, 0)
@@ -175,8 +195,8 @@ class Expressions:
         of = promoted(of)
         return fit({"-": -value, "+": value, "~": ~value}[node.op], of), of
 
-    def kind(self, node, env):
-        """The kind of an expression."""
+    def kind(self, node: Any, env: Env) -> Kind:
+        """The kind that an expression has, without its being done (6.5)."""
         if isinstance(node, (c_ast.ID, c_ast.ArrayRef)):
             return self.find(node.name if isinstance(node, c_ast.ID) else node.name.name, env).kind
         if isinstance(node, c_ast.FuncCall):
@@ -192,4 +212,5 @@ class Expressions:
             return promoted(self.kind(node.left, env))
         if isinstance(node, c_ast.UnaryOp) and node.op != "!":
             return promoted(self.kind(node.expr, env))
-        return self.pure(node, [], None)[1] if isinstance(node, c_ast.Constant) else INT
+        made = self.pure(node, [], None) if isinstance(node, c_ast.Constant) else None
+        return made[1] if made else INT

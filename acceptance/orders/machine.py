@@ -1,45 +1,52 @@
 """Runs a program by one order: statements one after the other, and the steps of a full expression as a chooser says."""
 
+from typing import Any
+
 from pycparser import c_ast
 
 from orders.expressions import Expressions
-from orders.parts import DEPTH, TURNS, Cell, Jump, Part, Stop, has_call
-from orders.values import INT, binary, fit, kind_of, number, promoted
+from orders.parts import DEPTH, TURNS, Cell, Chooser, Env, Jump, Part, Stop, has_call
+from orders.values import INT, Value, binary, fit, kind_of, number, promoted
+
+
+View = tuple[tuple[int, ...], ...]  # the values of all variables of the file, by their names' order
 
 
 class Machine(Expressions):
     """A unit whose functions are run, one order of evaluation at a time."""
 
-    def __init__(self, unit, chooser):
-        self.choose, self.functions, self.inputs, self.enums, self.globals = chooser, {}, {}, {}, {}
+    def __init__(self, unit: Any, chooser: Chooser) -> None:
+        super().__init__(chooser)
+        self.views: list[tuple[str, View]] = []
         for item in unit.ext:
             if isinstance(item, c_ast.FuncDef):
                 self.functions[item.decl.name] = item
             elif isinstance(item, c_ast.Decl) and isinstance(item.type, c_ast.FuncDecl):
                 self.inputs[item.name] = kind_of(item.type)
             elif isinstance(item, c_ast.Decl) and item.name:
-                self.declare(item, self.globals, {})
+                self.declare(item, self.globals, [])
 
-    def run(self, entry, args, answers):
+    def run(self, entry: str, args: list[int], answers: list[int]) -> tuple[str, Value | None, View, int]:
         """How a run ends, its value, the globals at its end and how many answers it took."""
         self.answers, self.taken, self.turns, self.depth, self.views = answers, 0, 0, 0, []
         for _, cell in sorted(self.globals.items()):
             cell.values = list(cell.first)
+        value: Value | None
         try:
-            value = self.call(entry, list(args))
+            value = self.call(entry, [*args])
             end = "returned"
         except Stop as stop:
             end, value = stop.args[0], None
         return end, value, self.view(), self.taken
 
-    def view(self):
+    def view(self) -> View:
         """The values of all globals, by their names' order."""
         return tuple(tuple(cell.values) for _, cell in sorted(self.globals.items()))
 
-    def declare(self, item, scope, env):
+    def declare(self, item: Any, scope: dict[str, Cell], env: Env) -> None:
         """Puts a variable with its first values into a scope."""
         array = isinstance(item.type, c_ast.ArrayDecl)
-        length = number(item.type.dim.value) if array else None
+        length = number(item.type.dim.value) if array else 0
         cell = scope[item.name] = Cell(kind_of(item.type), length)
         if isinstance(item.init, c_ast.InitList):
             parts = [self.part(one, env) for one in item.init.exprs]
@@ -55,19 +62,19 @@ class Machine(Expressions):
 
     # calls and statements
 
-    def call(self, name, args):
-        """args: numbers, and cells for arrays. Raises Stop at the 65th activation."""
+    def call(self, name: str, args: list[int | Cell]) -> Value:
+        """What a call of a function gives, by numbers, and cells for arrays. Raises Stop at the 65th activation."""
         if self.depth >= DEPTH:
             raise Stop("deep")
         self.turn()
         self.depth += 1
         self.views.append((name, self.view()))
         node = self.functions[name]
-        scope = {}
+        scope: dict[str, Cell] = {}
         for one, value in zip(node.decl.type.args.params if node.decl.type.args else (), args):
             if isinstance(one, c_ast.Decl):
                 scope[one.name] = (
-                    value if isinstance(value, Cell) else Cell(kind_of(one.type), None, [fit(value, kind_of(one.type))])
+                    value if isinstance(value, Cell) else Cell(kind_of(one.type), 0, [fit(value, kind_of(one.type))])
                 )
         result, of = 0, kind_of(node.decl.type)
         try:
@@ -79,13 +86,13 @@ class Machine(Expressions):
         self.views.append((name, self.view()))
         return result, of
 
-    def turn(self):
+    def turn(self) -> None:
         """Takes a turn. Raises Stop past the last one."""
         self.turns += 1
         if self.turns > TURNS:
             raise Stop("endless")
 
-    def statement(self, node, env):
+    def statement(self, node: Any, env: Env) -> None:
         """Runs a statement. Raises Jump where control leaves it, and Stop where the run ends."""
         name = type(node).__name__
         if name == "Compound":
@@ -112,7 +119,7 @@ class Machine(Expressions):
         elif name != "EmptyStatement":
             self.effect(node, env)
 
-    def loop(self, node, env, name):
+    def loop(self, node: Any, env: Env, name: str) -> None:
         """Runs a loop. A return within it comes out as a Jump."""
         if name == "For" and node.init:
             self.statement(node.init, env)
@@ -130,7 +137,7 @@ class Machine(Expressions):
             if name == "For" and node.next:
                 self.effect(node.next, env)
 
-    def switch(self, node, env):
+    def switch(self, node: Any, env: Env) -> None:
         """Runs a switch; what is no break of its own comes out as a Jump."""
         value, of = self.full(node.cond, env)
         groups = node.stmt.block_items or []
@@ -148,7 +155,7 @@ class Machine(Expressions):
             if jump.args[0] != "Break":
                 raise
 
-    def effect(self, node, env):
+    def effect(self, node: Any, env: Env) -> None:
         """Runs an assignment, a step, a call, an assert or an assume. Raises Stop where the run ends."""
         if isinstance(node, c_ast.FuncCall) and node.name.name in ("assert", "assume"):
             if not self.full(node.args.exprs[0], env)[0]:
@@ -163,15 +170,16 @@ class Machine(Expressions):
                 at = 0 if isinstance(target, c_ast.ID) else self.direct(target.subscript, env)[0]
                 if not 0 <= at < (cell.length or 1):
                     raise Stop("trap")
-                value = self.direct(node.rvalue, env) if plain else (1, INT)
-                value = binary(op, (cell.values[at], cell.kind), value) if op else value
+                right_value = self.direct(node.rvalue, env) if plain else (1, INT)
+                value = binary(op, (cell.values[at], cell.kind), right_value) if op else right_value
                 if value is None:
                     raise Stop("trap")
                 cell.values[at] = fit(value[0], cell.kind)
                 return
             place = self.target(target, env, op != "")
             right = self.part(node.rvalue, env) if plain else Part("pure", c_ast.Constant("int", "1"), [])
-            root = Part("pure", node, [place, right], keep=(op, place.cell.kind))
+            root = Part("pure", node, [place, right])
+            root.whole = (op, place.cell.kind)
             self.finish(root)
             place.cell.values[place.index] = fit(root.value[0], place.cell.kind)
         else:

@@ -1,7 +1,16 @@
 """Random small programs of the profile with many calls in their expressions."""
 
+import random as randoms
+from typing import TypeVar
 
-def last_of(name):
+Array = tuple[str, int]  # a name and a length
+Function = tuple[
+    str, int, list[Array], tuple[set[str], set[str]], bool
+]  # .. what it may read and write, whether it reads inputs
+One = TypeVar("One")
+
+
+def last_of(name: str) -> bool:
     """Whether a function is the entry."""
     return name == "k"
 
@@ -9,22 +18,33 @@ def last_of(name):
 class Programs:
     """Programs that are drawn, by a source of random numbers."""
 
-    def __init__(self, random):
+    def __init__(self, random: randoms.Random) -> None:
         self.r = random
+        self.scalars: list[str] = []
+        self.arrays: list[Array] = []
+        self.inputs: list[str] = []
+        self.functions: list[Function] = []
+        self.busy, self.stop = 0.0, 0.0  # how often a function may do something at all, and may end the run
+        self.small, self.ends, self.takes, self.writes_lent, self.recurs = False, False, False, False, False
+        self.may: tuple[set[str], set[str]] = set(), set()
+        self.words: list[str] = []
+        self.lent: list[Array] = []
+        self.local: list[Array] = []
+        self.counter, self.name = 0, ""
 
-    def pick(self, *things):
+    def pick(self, *things: One) -> One:
         """One of some things."""
         return self.r.choice(things)
 
-    def program(self):
+    def program(self) -> str:
         """The text of the next program, whose entry is k."""
         r = self.r
         self.scalars = ["g%d" % n for n in range(r.randint(1, 3))]
         self.arrays = [("a%d" % n, r.choice((2, 2, 3))) for n in range(r.randint(1, 2))]
         self.inputs = ["in0", "in1"][: r.choice((0, 1, 1, 2))]
         self.functions = []
-        self.busy = r.choice((0.25, 0.5, 0.9))  # how often a function may do something at all
-        self.stop = r.choice((0, 0, 0.3, 0.7))  # how often it may end the run
+        self.busy = r.choice((0.25, 0.5, 0.9))
+        self.stop = r.choice((0, 0, 0.3, 0.7))
         text = [
             "%s %s = %d;" % (self.pick("int", "int", "unsigned", "signed char"), one, r.randint(0, 3))
             for one in self.scalars
@@ -37,20 +57,20 @@ class Programs:
         self.small = r.random() < 0.7
         for at in range(r.randint(1, 2) if self.small else r.randint(2, 4)):
             text.append(self.function("f%d" % at))
-        self.may = (set(self.scalars + [a for a, _ in self.arrays]),) * 2
+        every = set(self.scalars + [a for a, _ in self.arrays])
+        self.may = every, every
         self.ends, self.takes = r.random() < 0.3, True
         text.append(self.function("k", True))
         return "\n".join(text) + "\n"
 
-    def function(self, name, last=False):
+    def function(self, name: str, last: bool = False) -> str:
         """The text of a function; the last one is the entry."""
         r = self.r
         every = self.scalars + [a for a, _ in self.arrays]
         words = ["x", "y"][: 2 if last else r.randint(0, 2)]
         lent = [] if last else [("p%d" % n, r.choice((2, 2, 3))) for n in range(r.choice((0, 0, 1, 1, 2)))]
         if not last:
-            some = lambda: {one for one in every if r.random() < 0.5}  # noqa: E731
-            self.may = (some() if r.random() < 0.7 else set(), some() if r.random() < self.busy else set())
+            self.may = self.some(every, 0.7), self.some(every, self.busy)
             self.ends, self.takes = r.random() < self.stop, r.random() < 0.25
         self.writes_lent = last or r.random() < self.busy
         self.words, self.lent, self.local, self.counter = words, lent, [], 0
@@ -88,7 +108,11 @@ class Programs:
             self.functions.append((name, len(words), lent, self.may, self.takes))
         return "int %s(%s) { %s }" % (name, ", ".join(head) or "void", " ".join(body))
 
-    def target(self):
+    def some(self, names: list[str], often: float) -> set[str]:
+        """Half of the names, or seldom (as often as `often` leaves) none."""
+        return {one for one in names if self.r.random() < 0.5} if self.r.random() < often else set()
+
+    def target(self) -> str:
         """A place that the function may write."""
         may = [one for one in self.scalars if one in self.may[1]]
         arrays = (
@@ -98,7 +122,7 @@ class Programs:
             return self.element(self.pick(*arrays), 2)
         return self.pick(*may) if may and self.r.random() < 0.8 else "t"
 
-    def statement(self, deep):
+    def statement(self, deep: int) -> str:
         """A statement with others within it, so many deep."""
         r, form = self.r, self.r.random()
         if form < 0.5 or deep == 0:
@@ -122,7 +146,7 @@ class Programs:
             return "t = %s;" % self.expression(3)
         return self.pick("assert(%s);", "assume(%s);", "assume(%s);", "while (%s) { }") % self.expression(1)
 
-    def element(self, array, deep):
+    def element(self, array: Array, deep: int) -> str:
         """An element of an array, its index within it or seldom not."""
         if deep <= 0 or self.r.random() < 0.4:
             index = self.pick("0", "1")
@@ -131,11 +155,11 @@ class Programs:
             index = "%s & %d" % (inner, 3 if self.ends and self.r.random() < 0.3 else 1)
         return "%s[%s]" % (array[0], index)
 
-    def scalars_read(self):
+    def scalars_read(self) -> list[str]:
         """The globals that the function may read."""
         return [one for one in self.scalars if one in self.may[0]]
 
-    def leaf(self):
+    def leaf(self) -> str:
         """An operand without a call."""
         may = self.scalars_read()
         arrays = [one for one in self.arrays if one[0] in self.may[0]] + self.local + self.lent
@@ -146,7 +170,7 @@ class Programs:
             return self.element(self.pick(*arrays), 1)
         return self.pick(*self.words) if form < 0.85 else str(self.r.randint(0, 4))
 
-    def call(self, deep):
+    def call(self, deep: int) -> str:
         """A call of an earlier function or an input, or an operand where there is none."""
         fits = []
         for name, words, lent, may, takes in self.functions:
@@ -168,7 +192,7 @@ class Programs:
         args += [self.pick(*[one[0] for one in visible if one[1] == each[1]]) for each in lent]
         return "%s(%s)" % (name, ", ".join(args))
 
-    def expression(self, deep):
+    def expression(self, deep: int) -> str:
         """An expression, so many operators deep."""
         form = self.r.random()
         if deep <= 0 or form < 0.2:

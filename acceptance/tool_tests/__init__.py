@@ -8,6 +8,7 @@ import dataclasses
 import functools
 import importlib.util
 import os
+import re
 import shutil
 import subprocess
 import tempfile
@@ -22,6 +23,7 @@ SECONDS = programs.SECONDS
 PACKAGES = ("jinja2", "pycparser", "yaml", "jsonschema")  # of Python
 EXAMPLES = os.path.join(programs.ROOT, "examples")
 Wrong = Callable[[], list[str]]  # a line for each thing that is wrong
+Tried = list[tuple[Sequence[str], Callable[[str], Iterator[bool]]]]  # cases that are functions, each with what it needs
 
 
 def example(path: str) -> str:
@@ -75,6 +77,20 @@ def held(folder: str) -> dict[str, str]:
     return found
 
 
+def captured(pattern: str, text: str) -> str:
+    """What the first group of a pattern matches first in a text; `.` is any letter, also a line's end. Raises ValueError where
+    it matches nowhere."""
+    found = re.search(pattern, text, re.DOTALL | re.MULTILINE)
+    if not found:
+        raise ValueError(f"{pattern} isn't found")
+    return found[1]
+
+
+def told(*lines: str) -> str:
+    """Lines as a text, each with its end."""
+    return "".join(line + "\n" for line in lines)
+
+
 def differences(case: Case) -> list[str]:
     """What differs from what is due, a line each."""
     with tempfile.TemporaryDirectory() as folder:
@@ -116,7 +132,7 @@ def cases(module: ModuleType) -> Iterator[tuple[str, Sequence[str], Wrong]]:
         yield function.__name__, needs, functools.partial(tried, function)
 
 
-def told(tool: str, name: str, of_case: Wrong) -> side_by_side.Outcome:
+def outcome(tool: str, name: str, of_case: Wrong) -> side_by_side.Outcome:
     """One case of a tool, and a line for each thing that is wrong of it."""
     return 1, [f"{tool}: {name}: {line}" for line in of_case()]
 
@@ -132,6 +148,6 @@ def group(tool: str, module: ModuleType, alone: bool = False) -> side_by_side.Gr
         for need in lacking:
             skipped[need] = skipped.get(need, 0) + 1
         if not lacking:
-            parts.append(functools.partial(told, tool, name, of_case))
+            parts.append(functools.partial(outcome, tool, name, of_case))
     notes = [f"skipped: {number} cases of {tool} need {need}, which isn't there" for need, number in skipped.items()]
     return side_by_side.Group(tool, parts, notes)

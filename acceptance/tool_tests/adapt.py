@@ -7,7 +7,6 @@ isn't looked at, but runs as the original on 12 random inputs under gcc. What is
 """
 
 import contextlib
-import functools
 import glob
 import io
 import os
@@ -16,6 +15,7 @@ import resource
 import subprocess
 import sys
 import time
+from collections.abc import Callable, Iterator, Sequence
 
 import programs
 from tool_tests import Case, is_there, put, run
@@ -61,7 +61,8 @@ CASES = [
          "adapt: fshell runs: error 51 Shape input 1\n", None, NEEDS),
 ]  # fmt: skip
 # each module with adapt's words, an entry, and the program's options
-WAYS = [
+Given = tuple[str, Sequence[str], str, Sequence[str]]  # a module, words for bin/adapt, its entry, and bounds
+WAYS: list[Given] = [
     ("can.c", [], "can_receive", ["--turns", "3", "--answers", "4"]),
     ("uart.c", [], "uart_poll", ["--turns", "2", "--answers", "4"]),
     ("pid.c", ["--input", "sensor_read", "--input", "actuator_write"], "pid_step", []),
@@ -71,7 +72,7 @@ WAYS = [
 QUERY = "cover @CONDITIONEDGE"
 
 
-def without_gcc(folder):
+def without_gcc(folder: str) -> Iterator[bool]:
     """The one line where no compiler is there."""
     put(folder, SOURCE)
     words = [sys.executable, os.path.join(programs.ROOT, "bin", "adapt"), "a.c"]
@@ -80,14 +81,14 @@ def without_gcc(folder):
     yield (ended.returncode, ended.stderr) == (2, told)
 
 
-def without_pycparser(folder):
+def without_pycparser(folder: str) -> Iterator[bool]:
     """The one line where the package isn't there."""
     put(folder, {**SOURCE, "pycparser.py": "raise ModuleNotFoundError(name='pycparser')\n"})
     ended = run(folder, ["adapt", "a.c"], env={**os.environ, "PYTHONPATH": folder})
     yield (ended.returncode, ended.stderr) == (2, "adapt: pycparser isn't there (Debian's package python3-pycparser)\n")
 
 
-def nothing_is_left_half_written(folder):
+def nothing_is_left_half_written(folder: str) -> Iterator[bool]:
     """Where a file may have 10 bytes at most, as on a full disk."""
     put(folder, SOURCE)
     ended = run(folder, ["adapt", "a.c", "-o", "new"], preexec_fn=lambda: resource.setrlimit(resource.RLIMIT_FSIZE, (10, 10)))  # fmt: skip
@@ -95,7 +96,7 @@ def nothing_is_left_half_written(folder):
     yield not os.path.exists(os.path.join(folder, "new"))
 
 
-def many_blocks_on_a_line(folder):
+def many_blocks_on_a_line(folder: str) -> Iterator[bool]:
     """Blocks that close on one line take time as there are many, and no more: 8,192 take at most 14 times what 1,024 take."""
     sys.path.insert(0, programs.ROOT)
     from tools.adapt.main import main
@@ -144,7 +145,7 @@ bounds of h: --frames 3 --answers 1
 """
 
 
-def bounds_are_those_that_suffice(folder):
+def bounds_are_those_that_suffice(folder: str) -> Iterator[bool]:
     """What --bounds prints, and by the program that these bounds suffice and that none is too great."""
     put(folder, {"a.c": NEEDED})
     yield run(folder, ["adapt", "a.c", "-o", "new", "--bounds"]).stdout == FIRST + "wrote new/a.c\n" + NEEDS_OF
@@ -159,14 +160,14 @@ def bounds_are_those_that_suffice(folder):
 # ---- the tables
 
 
-def cases(text):
+def cases(text: str) -> Iterator[tuple[str, list[str], dict[str, str], dict[str, str]]]:
     """The cases of a table: each with its name, words, files, and what is expected, by kind and file."""
     for part in re.split(r"^== ", text, flags=re.MULTILINE)[1:]:
         head, rest = part.split("\n", 1)
         name, _, words = head.partition(" | ")
         pieces = re.split(r"^-- (file|becomes|refused|agrees) ?(\S*)\n", rest, flags=re.MULTILINE)
         files = {"a.c": pieces[0]} if pieces[0].strip() else {}
-        expected = {}
+        expected = dict[str, str]()
         for kind, file, body in zip(pieces[1::3], pieces[2::3], pieces[3::3]):
             (files if kind == "file" else expected)[file or ("a.c" if kind == "becomes" else kind)] = (
                 body.strip("\n") + "\n"
@@ -174,7 +175,7 @@ def cases(text):
         yield name, words.split(), files, expected
 
 
-def adapted(words):
+def adapted(words: list[str]) -> tuple[int, str, str]:
     """The status of adapt, and both texts."""
     sys.path.insert(0, programs.ROOT)
     from tools.adapt.main import main
@@ -185,7 +186,7 @@ def adapted(words):
     return status, out.getvalue(), err.getvalue()
 
 
-def outcome(words, files, folder, runs=0):
+def outcome(words: Sequence[str], files: dict[str, str], folder: str, runs: int = 0) -> dict[str, str]:
     """What adapt makes of a case: what is written by file, or what is refused. Some runs may be compared with the original's."""
     put(folder, files)
     sources = [name for name in files if name.endswith(".c")]
@@ -201,7 +202,7 @@ def outcome(words, files, folder, runs=0):
     return made if accepted.returncode == 0 else {**made, "the program": accepted.stderr}
 
 
-def table(path, folder, runs=0):
+def table(path: str, folder: str, runs: int = 0) -> Iterator[bool]:
     """Whether each case of a table is right."""
     with open(path, encoding="utf-8") as file:
         found = list(cases(file.read()))
@@ -221,9 +222,12 @@ def table(path, folder, runs=0):
         yield made == expected
 
 
-def of_table(path):
-    """A table as a case."""
-    made = functools.partial(table, path)
+def of_table(path: str) -> Callable[[str], Iterator[bool]]:
+    """The case of a table: whether each of its rows is right."""
+
+    def made(folder: str) -> Iterator[bool]:
+        return table(path, folder)
+
     made.__name__ = f"the table {os.path.basename(path)}"
     return made
 
@@ -231,7 +235,7 @@ def of_table(path):
 # ---- the modules
 
 
-def way(folder, module, words, entry, bounds):
+def way(folder: str, module: str, words: Sequence[str], entry: str, bounds: Sequence[str]) -> Iterator[bool]:
     """A module from the original through adapt and generate to a page and to tests of the original, which must pass."""
     source = os.path.join(MODULES, module)
     names = [name for name in ("can.h" if module == "can.c" else None, module) if name]
@@ -262,7 +266,7 @@ def way(folder, module, words, entry, bounds):
         yield os.path.getsize(os.path.join(folder, "page.html")) > 1000
 
 
-def counted(folder, module):
+def counted(folder: str, module: str) -> bool:
     """Whether gcov counts lines of the original that the tests took."""
     if not is_there("gcov"):
         return True
@@ -271,15 +275,18 @@ def counted(folder, module):
     return share is not None and float(share[1]) > 20 and int(share[2]) > 30
 
 
-def stubs_with_arguments_answer_the_original(folder):
+def stubs_with_arguments_answer_the_original(folder: str) -> Iterator[bool]:
     """Several sources, of which the tests include one: stubs, as bin/driver writes them, get their values from the inputs."""
-    put(folder, {
-        "bus.h": "#include <stdint.h>\ntypedef uint8_t byte;\nint bus_write(byte to, byte value);\nint bus_read(byte from, byte *value);\n",
-        "sum.c": '#include "bus.h"\nint add(byte a, byte b)\n{\n  byte c = 0;\n  if (!bus_read(a, &c))\n    return -1;\n'
-                 "  return bus_write(a, b + c) ? b + c : -2;\n}\n",
-        "main.c": '#include "bus.h"\nint add(byte a, byte b);\nstatic int tries;\nint twice(int a)\n{\n  if (a < 0 || a > 99)\n    return 0;\n  tries++;\n'
-                  "  int first = add((byte) a, 1);\n  return first + add((byte) a, 2);\n}\n",
-    })
+    put(
+        folder,
+        {
+            "bus.h": "#include <stdint.h>\ntypedef uint8_t byte;\nint bus_write(byte to, byte value);\nint bus_read(byte from, byte *value);\n",
+            "sum.c": '#include "bus.h"\nint add(byte a, byte b)\n{\n  byte c = 0;\n  if (!bus_read(a, &c))\n    return -1;\n'
+            "  return bus_write(a, b + c) ? b + c : -2;\n}\n",
+            "main.c": '#include "bus.h"\nint add(byte a, byte b);\nstatic int tries;\nint twice(int a)\n{\n  if (a < 0 || a > 99)\n    return 0;\n  tries++;\n'
+            "  int first = add((byte) a, 1);\n  return first + add((byte) a, 2);\n}\n",
+        },
+    )
     yield run(folder, ["driver", "-", "main.c", "sum.c", "--stubs", "stubs.c"]).returncode == 0
     sources = ["main.c", "sum.c", "stubs.c"]
     told = run(folder, ["adapt", *sources, "-o", "made"]).stdout.splitlines()[-1].split()[1:]
@@ -290,24 +297,45 @@ def stubs_with_arguments_answer_the_original(folder):
     run(folder, ["inputs", "report.txt", "-o", "in.json"])
     ended = run(folder, ["adapt", *sources, "-o", "made", "--harness", "twice", "in.json"])
     yield ended.stdout.splitlines()[-1] == "wrote made/tests.c: compile it with -fwrapv sum.c stubs.c"
-    words = ["gcc", "-fwrapv", "-Wall", "-Wextra", "-Werror", "--coverage", "-o", "tests", "made/tests.c", "sum.c", "stubs.c"]
+    words = [
+        "gcc",
+        "-fwrapv",
+        "-Wall",
+        "-Wextra",
+        "-Werror",
+        "--coverage",
+        "-o",
+        "tests",
+        "made/tests.c",
+        "sum.c",
+        "stubs.c",
+    ]
     yield subprocess.run(words, cwd=folder).returncode == 0
     tests = subprocess.run(["./tests"], cwd=folder, capture_output=True, text=True)
     yield tests.returncode == 0 and tests.stdout.count("\nok ") >= 3
     # (another original: the value that is written is another one, so that what the entry returns differs)
-    put(folder, {"sum.c": '#include "bus.h"\nint add(byte a, byte b)\n{\n  byte c = 0;\n  bus_read(a, &c);\n  return b - c;\n}\n'})
+    put(
+        folder,
+        {
+            "sum.c": '#include "bus.h"\nint add(byte a, byte b)\n{\n  byte c = 0;\n  bus_read(a, &c);\n  return b - c;\n}\n'
+        },
+    )
     yield subprocess.run(words, cwd=folder).returncode == 0
     yield subprocess.run(["./tests"], cwd=folder, capture_output=True).returncode == 1
 
 
-def of_module(given):
-    """A module as a case."""
-    made = functools.partial(way, module=given[0], words=given[1], entry=given[2], bounds=given[3])
-    made.__name__ = f"the module {given[0]}"
+def of_module(given: Given) -> Callable[[str], Iterator[bool]]:
+    """The case of a module: whether its whole way is right."""
+    name, words, entry, bounds = given
+
+    def made(folder: str) -> Iterator[bool]:
+        return way(folder, name, words, entry, bounds)
+
+    made.__name__ = f"the module {name}"
     return made
 
 
-def a_changed_original_fails(folder):
+def a_changed_original_fails(folder: str) -> Iterator[bool]:
     """The tests of an original with another constant fail."""
     with open(os.path.join(MODULES, "pid.c"), encoding="utf-8") as file:
         text = file.read()

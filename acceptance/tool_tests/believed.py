@@ -4,6 +4,7 @@ import os
 import shutil
 import subprocess
 import sys
+from collections.abc import Iterator
 
 import programs
 from tool_tests import SECONDS, put
@@ -78,30 +79,34 @@ for name in sys.argv[1:]:
 """
 
 
-def what_definitions_rest_on(folder):
+def what_definitions_rest_on(folder: str) -> Iterator[bool]:
     put(folder, SMALL)
     shutil.copy(os.path.join(programs.ROOT, "tools", "believed.py"), os.path.join(folder, "tools"))
-    ended = subprocess.run([sys.executable, "-c", ASK, *DUE], cwd=folder, capture_output=True, text=True, timeout=SECONDS)
+    ended = subprocess.run(
+        [sys.executable, "-c", ASK, *DUE], cwd=folder, capture_output=True, text=True, timeout=SECONDS
+    )
     got = ended.stdout.splitlines()
     yield ended.returncode == 0 and len(got) == len(DUE)
     for line, due in zip(got, DUE.values()):
         yield line == repr(due)
 
 
-def a_field_of_a_record_is_no_use_of_its_name(folder):
+def a_field_of_a_record_is_no_use_of_its_name(folder: str) -> Iterator[bool]:
     put(folder, SMALL)
     shutil.copy(os.path.join(programs.ROOT, "tools", "believed.py"), os.path.join(folder, "tools"))
-    ended = subprocess.run([sys.executable, "-c", ASK, "of_field"], cwd=folder, capture_output=True, text=True, timeout=SECONDS)
+    ended = subprocess.run(
+        [sys.executable, "-c", ASK, "of_field"], cwd=folder, capture_output=True, text=True, timeout=SECONDS
+    )
     yield ended.stdout == "['Holder 2', 'of_field 2']\n"
 
 
-def told(*words):
+def told(*words: str) -> subprocess.CompletedProcess[str]:
     """How tools/believed.py ends over this repository."""
     path = os.path.join(programs.ROOT, "tools", "believed.py")
     return subprocess.run([path, *words], stdin=subprocess.DEVNULL, capture_output=True, text=True, timeout=SECONDS)
 
 
-def each_row_has_what_its_clause_names(folder):
+def each_row_has_what_its_clause_names(folder: str) -> Iterator[bool]:
     """The definitions of a run: among them the states and the first state, and none of the formulas of goals."""
     ended = told("--of", "what a run is")
     yield ended.returncode == 0
@@ -109,12 +114,12 @@ def each_row_has_what_its_clause_names(folder):
     yield "goal_formula" not in ended.stdout
 
 
-def a_row_that_isnt_there_is_refused(folder):
+def a_row_that_isnt_there_is_refused(folder: str) -> Iterator[bool]:
     ended = told("--of", "nothing")
     yield ended.returncode == 2 and ended.stdout == "" and "invalid choice" in ended.stderr
 
 
-def the_theorem_has_the_table(folder):
+def the_theorem_has_the_table(folder: str) -> Iterator[bool]:
     ended = told()
     with open(os.path.join(programs.ROOT, "docs", "THEOREM.md"), encoding="utf-8") as file:
         yield ended.returncode == 0 and ended.stdout in file.read()

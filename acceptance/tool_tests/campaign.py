@@ -6,6 +6,8 @@ import random
 import signal
 import subprocess
 import time
+from collections.abc import Callable, Iterator
+from typing import Any
 
 import programs
 from tool_tests import SECONDS, Case, example, gates, put, run
@@ -40,46 +42,51 @@ CASES = [
                     ["--budget", "20000001"], ["--at-least", "nan"], ["--at-least", "101"])),
     Case("campaign: a folder that is no campaign's", ["campaign", "-o", "new"], FEE, 2, "",
          "campaign: new/campaign.json: No such file or directory\n", needs=PARALLEL),
-]
+]  # fmt: skip
 
 
-def campaign(folder, *words, **more):
+def campaign(folder: str, *words: str, **more: Any) -> subprocess.CompletedProcess[str]:
     """How a campaign in a folder ends, with two jobs."""
     return run(folder, ["campaign", "-o", "new", "--jobs", "2", *words], **more)
 
 
-def report(folder):
+def report(folder: str) -> Any:
     """The JSON report of the campaign `new`."""
     with open(os.path.join(folder, "new", "report.json"), encoding="utf-8") as file:
         return json.load(file)
 
 
-def verdicts(folder):
+def verdicts(folder: str) -> list[str]:
     """The answer of each goal of the campaign `new`."""
     return [goal["answer"] for goal in report(folder)["goals"]]
 
 
-def due(known):
+def due(known: int) -> list[str]:
     """The answers that are due of the first goals, so many."""
     return ["refuted within the bounds" if number in REFUTED else "covered" for number in range(1, known + 1)]
 
 
-def accepted(folder, goal):
+def accepted(folder: str, goal: int) -> bool:
     """Whether check accepts the certificate of a goal."""
     words = ["fshell", "check", "fee", PAIRS, str(goal), f"new/certificates/{goal}.cert", "fee.c"]
     return run(folder, words).stdout == f"goal {goal} refuted turns 4 frames 8 answers 16\n"
 
 
-def is_right(folder):
+def is_right(folder: str) -> bool:
     """Whether a campaign's files say what is right: verdicts, certificates, and a suite that covers as much as all inputs."""
     rest = ["fee.c", "--ends", "returned"]
-    counts = {name: run(folder, ["fshell", "measure", "fee", PAIRS, f"new/{name}.json", *rest]).stdout.splitlines()[-1]
-              for name in ("inputs", "suite")}
-    return (verdicts(folder) == due(12) and all(accepted(folder, goal) for goal in REFUTED)
-            and set(counts.values()) == {"covered 10 of 12"})
+    counts = {
+        name: run(folder, ["fshell", "measure", "fee", PAIRS, f"new/{name}.json", *rest]).stdout.splitlines()[-1]
+        for name in ("inputs", "suite")
+    }
+    return (
+        verdicts(folder) == due(12)
+        and all(accepted(folder, goal) for goal in REFUTED)
+        and set(counts.values()) == {"covered 10 of 12"}
+    )
 
 
-def a_campaign_decides_all_goals(folder):
+def a_campaign_decides_all_goals(folder: str) -> Iterator[bool]:
     put(folder, FEE)
     ended = campaign(folder, "fee", PAIRS, "fee.c")
     yield ended.returncode == 0 and is_right(folder)
@@ -92,7 +99,7 @@ def a_campaign_decides_all_goals(folder):
     yield (again.returncode, again.stdout) == (0, ended.stdout)
 
 
-def given_inputs_are_completed(folder):
+def given_inputs_are_completed(folder: str) -> Iterator[bool]:
     """The given inputs stay the first ones, and only one more is made for the goal that they miss."""
     put(folder, FEE)
     ended = campaign(folder, "fee", "cover @CONDITIONEDGE", "fee.c", "--inputs", "in.txt")
@@ -101,7 +108,7 @@ def given_inputs_are_completed(folder):
     yield [goal.get("input") for goal in report(folder)["goals"]] == [2, 1, 3, 1, 5, 1, 2, 1, 2, 1]
 
 
-def it_goes_on_with_inputs_but_not_with_other_bounds(folder):
+def it_goes_on_with_inputs_but_not_with_other_bounds(folder: str) -> Iterator[bool]:
     put(folder, FEE)
     campaign(folder, "fee", "cover @CONDITIONEDGE", "fee.c")
     for words in (["--turns", "5"], ["--frames", "3"], ["--answers", "2"], ["--ends", "any"]):
@@ -114,7 +121,7 @@ def it_goes_on_with_inputs_but_not_with_other_bounds(folder):
     yield "of which 4 were given" in campaign(folder).stdout
 
 
-def undecided_goals_and_the_gate(folder):
+def undecided_goals_and_the_gate(folder: str) -> Iterator[bool]:
     put(folder, {"slow.c": SLOW})
     query = "cover @CONDITIONEDGE"
     ended = campaign(folder, "f", query, "slow.c", "--budget", "1")
@@ -130,7 +137,7 @@ def undecided_goals_and_the_gate(folder):
     yield ended.returncode == 0 and report(folder)["counts"] == {**NONE, "covered": 6}
 
 
-def another_campaigns_folder_is_left_alone(folder):
+def another_campaigns_folder_is_left_alone(folder: str) -> Iterator[bool]:
     put(folder, FEE)
     campaign(folder, "fee", "cover @LINE(11)", "fee.c")
     before = report(folder)
@@ -144,22 +151,32 @@ def another_campaigns_folder_is_left_alone(folder):
     yield report(folder) == before
 
 
-def files_that_were_removed_or_cut_are_made_anew(folder):
+def files_that_were_removed_or_cut_are_made_anew(folder: str) -> Iterator[bool]:
     put(folder, FEE)
     campaign(folder, "fee", PAIRS, "fee.c")
     path = os.path.join(folder, "new", "certificates")
-    for harm in (lambda: os.remove(f"{path}/9.cert"), lambda: os.truncate(f"{path}/9.cert", 20), lambda: os.truncate(f"{path}/9.cert", 51),
-                 lambda: os.remove(f"{path}/10.sum"), lambda: put(path, {"9.cert": "fshell certificate 1\n"})):
+    harms: list[Callable[[], None]] = [
+        lambda: os.remove(f"{path}/9.cert"),
+        lambda: os.truncate(f"{path}/9.cert", 20),
+        lambda: os.truncate(f"{path}/9.cert", 51),
+        lambda: os.remove(f"{path}/10.sum"),
+        lambda: put(path, {"9.cert": "fshell certificate 1\n"}),
+    ]
+    for harm in harms:
         harm()
         yield campaign(folder).returncode == 0 and is_right(folder)
     new = os.path.join(folder, "new")
-    for harm in (lambda: os.remove(f"{new}/generated.json"), lambda: os.truncate(f"{new}/generated.json", 0),
-                 lambda: os.truncate(f"{new}/generated.json", 200)):
+    harms = [
+        lambda: os.remove(f"{new}/generated.json"),
+        lambda: os.truncate(f"{new}/generated.json", 0),
+        lambda: os.truncate(f"{new}/generated.json", 200),
+    ]
+    for harm in harms:
         harm()
         yield campaign(folder).returncode == 0 and is_right(folder)
 
 
-def inputs_that_were_cut_are_found_anew(folder):
+def inputs_that_were_cut_are_found_anew(folder: str) -> Iterator[bool]:
     """Those that `prove` found: a budget of 1 leaves `generate` none."""
     put(folder, {"slow.c": SLOW})
     campaign(folder, "f", "cover @CONDITIONEDGE", "slow.c", "--budget", "1")
@@ -171,36 +188,49 @@ def inputs_that_were_cut_are_found_anew(folder):
         yield campaign(folder).returncode == 0 and report(folder)["counts"] == {**NONE, "covered": 6}
 
 
-def killed_at_any_moment_it_goes_on(folder):
+def killed_at_any_moment_it_goes_on(folder: str) -> Iterator[bool]:
     """At twenty moments all processes of a campaign are killed; some of what it has found is taken away before it goes on."""
     put(folder, FEE)
     chance = random.Random(1)
     words = [os.path.join(programs.ROOT, "bin", "campaign"), "-o", "new", "--jobs", "2"]
     first = ["fee", PAIRS, "fee.c"]
     for moment in range(20):
-        started = subprocess.Popen([*words, *first], cwd=folder, start_new_session=True, stdin=subprocess.DEVNULL,
-                                   stdout=subprocess.DEVNULL, stderr=subprocess.DEVNULL)
+        started = subprocess.Popen(
+            [*words, *first],
+            cwd=folder,
+            start_new_session=True,
+            stdin=subprocess.DEVNULL,
+            stdout=subprocess.DEVNULL,
+            stderr=subprocess.DEVNULL,
+        )
         time.sleep(0.1 + 0.06 * moment)
         try:
             os.killpg(started.pid, signal.SIGKILL)
         except ProcessLookupError:
             pass
         started.wait()
-        kept = [os.path.join(at, name) for at, _, names in os.walk(os.path.join(folder, "new")) for name in names if name[0].isdigit()]
+        kept = [
+            os.path.join(at, name)
+            for at, _, names in os.walk(os.path.join(folder, "new"))
+            for name in names
+            if name[0].isdigit()
+        ]
         for path in chance.sample(sorted(kept), min(len(kept), 3)):
             os.remove(path) if chance.random() < 0.5 else os.truncate(path, os.path.getsize(path) // 2)
     ended = subprocess.run([*words, *first], cwd=folder, capture_output=True, text=True, timeout=SECONDS)
     yield ended.returncode == 0 and is_right(folder)
     # (GNU parallel gives each job a process group of its own, so that one may outlive the kill, and be writing still)
     for _ in range(100):
-        half = [name for _, _, names in os.walk(os.path.join(folder, "new")) for name in names if name.startswith(".new")]
+        half = [
+            name for _, _, names in os.walk(os.path.join(folder, "new")) for name in names if name.startswith(".new")
+        ]
         if not half:
             break
         time.sleep(0.1)
     yield not half
 
 
-def two_machines_share_the_work(folder):
+def two_machines_share_the_work(folder: str) -> Iterator[bool]:
     """Two logins, for which a script stands that runs what ssh would."""
     ssh = '#!/bin/sh\necho "$1" >>"$(dirname "$0")/log"\nshift\n[ "$1" != -- ] || shift\nexec sh -c "$*"\n'
     put(folder, {**FEE, "ssh": ssh, "logins": f"2/{folder}/ssh one\n2/{folder}/ssh two\n"})
@@ -210,7 +240,7 @@ def two_machines_share_the_work(folder):
         yield set(file.read().split()) == {"one", "two"}
 
 
-def bounds_that_suffice_are_told(folder):
+def bounds_that_suffice_are_told(folder: str) -> Iterator[bool]:
     """Where no run leaves the bounds, a refuted goal is unreachable."""
     put(folder, {"never.c": example("never/never.c")})
     ended = campaign(folder, "f", "cover @CONDITIONEDGE", "never.c")
@@ -218,7 +248,7 @@ def bounds_that_suffice_are_told(folder):
     yield "goals 4: 3 covered, 0 undecided, 1 unreachable\n" in ended.stdout
 
 
-def goals_are_decided_one_by_one(folder):
+def goals_are_decided_one_by_one(folder: str) -> Iterator[bool]:
     """As an array job does it: the goals that are left, one by one, and then the campaign alone."""
     put(folder, FEE)
     left = campaign(folder, "fee", PAIRS, "fee.c", "--left").stdout.split()
@@ -231,4 +261,4 @@ def goals_are_decided_one_by_one(folder):
 TRIED = [(PARALLEL, function) for function in (
     a_campaign_decides_all_goals, given_inputs_are_completed, it_goes_on_with_inputs_but_not_with_other_bounds, undecided_goals_and_the_gate, another_campaigns_folder_is_left_alone,
     files_that_were_removed_or_cut_are_made_anew, inputs_that_were_cut_are_found_anew, killed_at_any_moment_it_goes_on, two_machines_share_the_work,
-    bounds_that_suffice_are_told, goals_are_decided_one_by_one)] + gates.TRIED
+    bounds_that_suffice_are_told, goals_are_decided_one_by_one)] + gates.TRIED  # fmt: skip

@@ -3,6 +3,7 @@
 import os
 import subprocess
 import sys
+from collections.abc import Iterator
 
 import programs
 from tool_tests import put
@@ -58,14 +59,21 @@ pair: 3 times: a < 1
 """
 
 
-def counted(folder, *words):
+def counted(folder: str, *words: str) -> subprocess.CompletedProcess[str]:
     """How tools/clauses.py ends over a small repository."""
     return subprocess.run([sys.executable, TOOL, "--root", folder, *words], capture_output=True, text=True)
 
 
-def a_crate_is_counted(folder):
-    put(folder, {"crates.txt": "# of two\npair: std\npair_tests: pair\nempty:\n", "crates/pair/src/lib.rt": PAIR,
-                 "crates/empty/src/lib.rt": "fn requires() {}\n", "crates/pair_tests/src/lib.rt": PAIR})
+def a_crate_is_counted(folder: str) -> Iterator[bool]:
+    put(
+        folder,
+        {
+            "crates.txt": "# of two\npair: std\npair_tests: pair\nempty:\n",
+            "crates/pair/src/lib.rt": PAIR,
+            "crates/empty/src/lib.rt": "fn requires() {}\n",
+            "crates/pair_tests/src/lib.rt": PAIR,
+        },
+    )
     one = "| pair | 5 | 2 | 1 | 9 | 121 | 2 | 1 | 1 | 1 |\n"
     yield counted(folder, "pair").stdout == HEAD + one
     none = "| empty | 0 | 0 | 0 | 0 | 0 | 0 | 0 | 0 | 0 |\n"
@@ -75,10 +83,13 @@ def a_crate_is_counted(folder):
     yield counted(folder, "pair_tests").stdout == HEAD + one.replace("pair", "pair_tests")
 
 
-def what_cannot_be_counted_is_told(folder):
+def what_cannot_be_counted_is_told(folder: str) -> Iterator[bool]:
     put(folder, {"crates.txt": "open:\n", "crates/open/src/lib.rt": "fn f()\n    ensures { a\n"})
-    for words, line in ((["gone"], "there is no crate gone"), ([], "crates/open/src/lib.rt can't be read: a brace is never closed")):
-        ended = counted(folder, *words)
+    for words, line in (
+        ("gone", "there is no crate gone"),
+        ("", "crates/open/src/lib.rt can't be read: a brace is never closed"),
+    ):
+        ended = counted(folder, *words.split())
         yield (ended.stdout, ended.stderr, ended.returncode) == ("", f"clauses: {line}\n", 2)
     ended = counted(os.path.join(folder, "crates"))
     yield (ended.stdout, ended.stderr, ended.returncode) == ("", f"clauses: {folder}/crates has no crates.txt\n", 2)

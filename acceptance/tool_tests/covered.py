@@ -6,6 +6,7 @@ What differs is named in docs/TOOLS.md, and listed here by its reason; any other
 import os
 import re
 import subprocess
+from collections.abc import Iterator, Sequence
 
 from tool_tests import example, put, run
 
@@ -198,14 +199,14 @@ int valid(int y, int m, int d)
   return d >= 1 && d <= most;
 }
 """),
-}
+}  # fmt: skip
 # lines that only one of the two counts, or both in another way
 NO_VALUE, SPREAD = "a declaration without a value", "an expression over several lines"
 NESTED, ENDLESS = "a `switch` at a label's begin", "the jump back of a loop without a condition"
 KNOWN = {("loops.c", 3): NO_VALUE, ("buffer.c", 13): NO_VALUE, ("date2.c", 6): NO_VALUE, ("window.c", 7): NO_VALUE,
          ("stack.c", 10): NO_VALUE, ("utf8.c", 25): NO_VALUE, ("version.c", 7): NO_VALUE, ("version.c", 8): NO_VALUE,
          ("wide.c", 4): SPREAD, ("wide.c", 5): SPREAD, ("wide.c", 6): SPREAD, ("wide.c", 14): SPREAD, ("wide.c", 15): SPREAD,
-         ("pick.c", 8): SPREAD, ("pick.c", 10): SPREAD, ("state.c", 11): NESTED, ("stack.c", 12): ENDLESS}
+         ("pick.c", 8): SPREAD, ("pick.c", 10): SPREAD, ("state.c", 11): NESTED, ("stack.c", 12): ENDLESS}  # fmt: skip
 EXAMPLES = {
     "programs/account.c": "account", "programs/checksum.c": "accept", "programs/control.c": "control", "programs/crc.c": "frame",
     "programs/date.c": "day_of_year", "programs/debounce.c": "presses", "programs/filter.c": "filter", "programs/gcd.c": "relation",
@@ -213,11 +214,14 @@ EXAMPLES = {
     "programs/search.c": "place", "programs/sort.c": "middle", "programs/stack.c": "calculate", "programs/utf8.c": "character",
     "programs/version.c": "compare", "programs/window.c": "steady", "triangle/tri.c": "main_loop", "average/average.c": "average",
     "first/a.c": "f", "clamp/clamp.c": "clamp", "counting/count.c": "count", "counting/both.c": "both", "counting/upto.c": "upto",
-    "never/never.c": "f", "criteria/fee.c": "fee", "first_hour/heater.c": "control"}
+    "never/never.c": "f", "criteria/fee.c": "fee", "first_hour/heater.c": "control"}  # fmt: skip
 LABEL = re.compile(r"\s*(case\b[^:]*|default|\w+)\s*:\s*(/\*.*)?$")
 
+# how many times each line was reached, and each line's branches, in order of size
+Counts = tuple[dict[int, int], dict[int, list[int]]]
 
-def gcov_of_all(folder, tests="tests.c", flags=()):
+
+def gcov_of_all(folder: str, tests: str = "tests.c", flags: Sequence[str] = ()) -> dict[str, Counts]:
     """gcc's counts of all sources of a harness, by their names: of each line, and the counts of its branches in order of size."""
     command = ["gcc", "-O0", "--coverage", "-fwrapv", "-fno-builtin", "-w", *flags, "-o", "tests", tests]
     subprocess.run(command, cwd=folder, check=True)
@@ -232,9 +236,9 @@ def gcov_of_all(folder, tests="tests.c", flags=()):
     return found
 
 
-def counts_of_gcov(path):
+def counts_of_gcov(path: str) -> Counts:
     """The counts of a file that gcov wrote."""
-    lines, branches, at = {}, {}, 0
+    lines, branches, at = dict[int, int](), dict[int, list[int]](), 0
     with open(path, encoding="utf-8") as file:
         for line in file:
             count = re.match(r" *(\d+|#####|-)\*?: *(\d+):", line)
@@ -247,16 +251,16 @@ def counts_of_gcov(path):
     return lines, {line: sorted(counts) for line, counts in branches.items()}
 
 
-def ours(text):
+def ours(text: str) -> Counts:
     """The counts of a tracefile: of each line, and the counts of its branches in order of size."""
     lines = {int(line): int(count) for line, count in re.findall(r"^DA:(\d+),(\d+)", text, re.MULTILINE)}
-    branches = {}
+    branches = dict[int, list[int]]()
     for line, count in re.findall(r"^BRDA:(\d+),\d+,\d+,(\d+|-)", text, re.MULTILINE):
         branches.setdefault(int(line), []).append(0 if count == "-" else int(count))
     return lines, {line: sorted(counts) for line, counts in branches.items()}
 
 
-def both(folder, entry, name, others=()):
+def both(folder: str, entry: str, name: str, others: Sequence[str] = ()) -> tuple[Counts, Counts, set[int]]:
     """The counts of a source by bin/lcov and by gcc, of the inputs that are made for all of its steps."""
     sources = [*others, name]
     put(folder, {"made": run(folder, ["fshell", "generate", entry, "cover ID", *sources, "--budget", "300000"]).stdout})
@@ -269,7 +273,7 @@ def both(folder, entry, name, others=()):
     return ours(record), gcov_of_all(folder)[name], heads
 
 
-def may_differ(name, line, text, heads, in_ours, in_gcov):
+def may_differ(name: str, line: int, text: str, heads: set[int], in_ours: int | None, in_gcov: int | None) -> bool:
     """Whether one of the differences that docs/TOOLS.md names is that of a line."""
     if (name, line) in KNOWN:
         return True
@@ -277,7 +281,7 @@ def may_differ(name, line, text, heads, in_ours, in_gcov):
     return in_ours is None and in_gcov is not None and (line in heads or text.strip() == "}" or bool(LABEL.match(text)))
 
 
-def lines_are_those_of_gcc(folder):
+def lines_are_those_of_gcc(folder: str) -> Iterator[bool]:
     """All examples and ten modules: each line has gcc's count, but for the differences that are named."""
     same = 0
     for path, entry in [*EXAMPLES.items(), *((name, entry) for name, (entry, _) in MODULES.items())]:
@@ -294,12 +298,15 @@ def lines_are_those_of_gcc(folder):
                 print(f"lcov: {name}:{line}: {one} times, and {other} by gcc: {rows[line - 1]}")
                 yield False
         # where both have the same number of branches on a line, their counts are the same
-        yield all(counts == their_branches[line] for line, counts in branches.items()
-                  if len(counts) == len(their_branches.get(line, [])) and (name, line) not in KNOWN)
+        yield all(
+            counts == their_branches[line]
+            for line, counts in branches.items()
+            if len(counts) == len(their_branches.get(line, [])) and (name, line) not in KNOWN
+        )
     yield same > 300
 
 
-def labels_are_branches(folder):
+def labels_are_branches(folder: str) -> Iterator[bool]:
     """The test of a label isn't what is done on its line: kind 1 tests the label of line 12, whose statements aren't run."""
     put(folder, {"can.c": MODULES["can.c"][1], "in": "1 7\n"})
     yield run(folder, ["lcov", "can", "in", "can.c", "-o", "out"]).returncode == 0

@@ -5,32 +5,36 @@ gcc's count of what was written, and with its count of the original itself on th
 adds something of its own: the others that differ are those that docs/TOOLS.md names (covered.py).
 """
 
-import functools
 import os
 import re
 import shutil
+from collections.abc import Callable, Iterator, Sequence
 
 import programs
-from tool_tests import adapt, covered, put, run
+from tool_tests import adapt, captured, covered, put, run
+from tool_tests.adapt import Given
+from tool_tests.covered import Counts
 
 MODULE = os.path.join(programs.ROOT, "examples", "module")
-PARTS = ("../sensors.c", "../control.c", "../alarm.c", "drive_boiler_step.c", "drive_alarm_of.c", "drive_count_hot.c", "stubs.c")
+PARTS = ("../sensors.c", "../control.c", "../alarm.c", "drive_boiler_step.c", "drive_alarm_of.c", "drive_count_hot.c", "stubs.c")  # fmt: skip
 ENTRIES = ("calibrated", "burner_level", "drive_boiler_step", "drive_alarm_of", "drive_count_hot", "may_start")
 # a declaration of which nothing has a value
 NO_VALUE = re.compile(r"\s*(?:(?:struct |unsigned )?\w+ (?:\w+(?:\[\w+\])?(?:, )?)+;\s*)+")
-COPIED, FIXED, LOST = "a struct is copied at the block's end", "a copy of a function for one caller", "a statement without effect"
+COPIED, FIXED, LOST = "a struct is copied at the block's end", "a copy of a function for one caller", "a statement without effect"  # fmt: skip
 DIFFER = {("can.c", 147): COPIED, ("modbus.c", 208): COPIED, ("modbus.c", 227): COPIED, ("uart.c", 141): COPIED,
-          ("uart.c", 46): FIXED, ("uart.c", 47): FIXED, ("pid.c", 167): LOST}
+          ("uart.c", 46): FIXED, ("uart.c", 47): FIXED, ("pid.c", 167): LOST}  # fmt: skip
+
+NONE: list[str] = []
 
 
-def may_differ(name, line, text, heads, one, other):
+def may_differ(name: str, line: int, text: str, heads: set[int], one: int | None, other: int | None) -> bool:
     """Whether one of the differences that docs/TOOLS.md names is that of a line."""
     if other is None and NO_VALUE.fullmatch(text):
         return True
     return (name, line) in DIFFER or covered.may_differ("", line, text, heads, one, other)
 
 
-def compared(name, text, heads, counts, others):
+def compared(name: str, text: str, heads: set[int], counts: Counts, others: Counts) -> tuple[int, list[str]]:
     """How many lines of a source have one count in both, and those that differ without a reason; each has its branches too."""
     (lines, branches), (their_lines, their_branches) = counts, others
     rows, same, found = text.split("\n"), 0, []
@@ -45,18 +49,23 @@ def compared(name, text, heads, counts, others):
     return same, found
 
 
-def beside_gcov(folder, source, words, entry, bounds, originals):
+def beside_gcov(
+    folder: str, source: str, words: Sequence[str], entry: str, bounds: Sequence[str], originals: dict[str, str]
+) -> tuple[list[int], list[str]]:
     """Compares each file of a source that has lines; how many lines are the same in both, twice, and what differs."""
     made = run(folder, ["adapt", source, *words, "-o", "made"]).stdout.split("\n")[1].split()[1:]
-    put(folder, {"report": run(folder, ["fshell", "generate", entry, "cover ID", *made, *bounds, "--budget", "300000"]).stdout})
+    put(
+        folder,
+        {"report": run(folder, ["fshell", "generate", entry, "cover ID", *made, *bounds, "--budget", "300000"]).stdout},
+    )
     run(folder, ["inputs", "report", "-o", "in.json", "--to", "json"])
     run(folder, ["lcov", entry, "in.json", *made, "-o", "out"])
     run(folder, ["adapt", source, *words, "-o", "made", "--harness", entry, "in.json"])
     run(folder, ["harness", entry, "in.json", *made, "-o", "tests.c"])
     with open(os.path.join(folder, "out"), encoding="utf-8") as file:
-        records = {re.search(r"^SF:.*/(.*)$", part, re.MULTILINE)[1]: part for part in file.read().split("end_of_record\n")[:-1]}
-    same, found = [0, 0], []
-    for which, (tests, flags) in enumerate((("tests.c", ()), ("made/tests.c", ("-D_exit=exit",)))):
+        records = {captured(r"^SF:[^\n]*/([^\n]*)$", part): part for part in file.read().split("end_of_record\n")[:-1]}
+    same, found = [0, 0], list[str]()
+    for which, (tests, flags) in enumerate((("tests.c", NONE), ("made/tests.c", ["-D_exit=exit"]))):
         counted = covered.gcov_of_all(folder, tests, flags)
         for name, record in records.items():
             with open(os.path.join(folder, "made", name) if which == 0 else originals[name], encoding="utf-8") as file:
@@ -68,7 +77,7 @@ def beside_gcov(folder, source, words, entry, bounds, originals):
     return same, found
 
 
-def module_lines(folder, module, words, entry, bounds):
+def module_lines(folder: str, module: str, words: Sequence[str], entry: str, bounds: Sequence[str]) -> Iterator[bool]:
     """A module of examples/modules: at least 75 lines have gcc's counts, and each other one is named."""
     source = os.path.join(adapt.MODULES, module)
     same, found = beside_gcov(folder, source, words, entry, bounds, {module: source})
@@ -76,7 +85,7 @@ def module_lines(folder, module, words, entry, bounds):
     yield not found and min(same) > 75
 
 
-def lines_of_the_boiler(folder):
+def lines_of_the_boiler(folder: str) -> Iterator[bool]:
     """examples/module, by each of its entries: no line differs that isn't named."""
     shutil.copytree(MODULE, os.path.join(folder, "m"))
     put(folder, {"m/drivers/all.c": "".join(f'#include "{part}"\n' for part in PARTS)})
@@ -87,10 +96,14 @@ def lines_of_the_boiler(folder):
         yield not found and min(same) > 75
 
 
-def of_module(given):
+def of_module(given: Given) -> Callable[[str], Iterator[bool]]:
     """The case of a module: whether its lines are counted as gcov counts them."""
-    made = functools.partial(module_lines, module=given[0], words=given[1], entry=given[2], bounds=given[3])
-    made.__name__ = f"the lines of {given[0]}"
+    name, words, entry, bounds = given
+
+    def made(folder: str) -> Iterator[bool]:
+        return module_lines(folder, name, words, entry, bounds)
+
+    made.__name__ = f"the lines of {name}"
     return made
 
 

@@ -1,14 +1,17 @@
 """The cases of bin/drat, by hand from docs/CERTIFICATES.md; acceptance/certificates.py looks at what it writes of five goals."""
 
+
 from tool_tests import Case, example
 
 WORKED = example("certificates/worked.cert")
 CNF = "p cnf 2 4\n1 2 0\n-1 2 0\n1 -2 0\n-1 -2 0\n"
 
 
-def wrong(name, text):
+def wrong(name: str, text: str) -> Case:
     """A case of a text that is no certificate."""
-    return Case(f"drat: {name}", ["drat", "a.cert", "new"], {"a.cert": text}, 2, "", "drat: a.cert: it is no certificate\n")
+    return Case(
+        f"drat: {name}", ["drat", "a.cert", "new"], {"a.cert": text}, 2, "", "drat: a.cert: it is no certificate\n"
+    )
 
 
 CASES = [
@@ -19,4 +22,4 @@ CASES = [
     wrong("another text", "int f(int x) { return x; }\n"),
     wrong("a head alone", "fshell certificate 1\n"),
     wrong("a byte that isn't ASCII", WORKED + "ü\n"),
-]
+]  # fmt: skip

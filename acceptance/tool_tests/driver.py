@@ -2,6 +2,7 @@
 
 import os
 import subprocess
+from collections.abc import Iterator
 
 from tool_tests import EXAMPLES, Case, example, put, run
 
@@ -45,7 +46,9 @@ int inner(own_t *own) { return own->x; }
 float rate(float x) { return x; }
 """,
 }
-STEP = HEAD.format(what="bus_step of bus.c") + """#include "bus.h"
+STEP = (
+    HEAD.format(what="bus_step of bus.c")
+    + """#include "bus.h"
 
 uint8_t in_frame_id(void);
 uint16_t in_frame_data_0(void);
@@ -68,7 +71,10 @@ int drive_bus_step(int8_t count)
   return result;
 }
 """
-SUM = HEAD.format(what="sum of bus.c") + """#include "bus.h"
+)
+SUM = (
+    HEAD.format(what="sum of bus.c")
+    + """#include "bus.h"
 
 uint8_t in_bytes_0(void);
 uint8_t in_bytes_1(void);
@@ -84,7 +90,10 @@ int drive_sum(uint8_t length)
   return sum(drive_sum_bytes, (uint8_t) ((unsigned long) length % 4u));
 }
 """
-LOOK = HEAD.format(what="look of bus.c") + """#include "bus.h"
+)
+LOOK = (
+    HEAD.format(what="look of bus.c")
+    + """#include "bus.h"
 
 unsigned int in_shared_state(void);
 int8_t in_shared_count(void);
@@ -96,6 +105,7 @@ int drive_look(unsigned int wanted)
   return look((enum state) (wanted % 2u));
 }
 """
+)
 STUBS = """/* Written by bin/driver: stubs of functions that no source defines. Each gives what an input function says, and notes
    its arguments. Edit it as you like; fshell.toml names it under drivers. */
 #include "bus.h"
@@ -117,7 +127,7 @@ int32_t write_frame(int port, const frame_t *frame, uint8_t *written)
 """
 
 
-def refused(name, words, line):
+def refused(name: str, words: list[str], line: str) -> Case:
     """A case of words that are refused, with the line."""
     return Case(f"driver: {name}", ["driver", *words], BUS, 2, "", f"driver: {line}\n", needs=NEEDS)
 
@@ -140,10 +150,10 @@ CASES = [
          "driver: each function that is called is defined, or is an input function; no stub is wanted\n", needs=NEEDS),
     Case("driver: a header that isn't there", ["driver", "f", "a.c"], {"a.c": '#include "no.h"\nint f(int x) { return x; }\n'}, 2, "",
          "driver: a.c:1:10: fatal error: no.h: No such file or directory\n", needs=NEEDS),
-]
+]  # fmt: skip
 
 
-def what_is_written_is_read(folder):
+def what_is_written_is_read(folder: str) -> Iterator[bool]:
     """gcc takes it without a warning, and the program once adapt has brought it into the profile: here the count reaches 3 only
     where each step's frame and level say so."""
     texts = {"bus.c": BUS["bus.c"][: BUS["bus.c"].index("static int hidden")]}
@@ -155,7 +165,10 @@ def what_is_written_is_read(folder):
     ended = run(folder, ["adapt", *words])
     line = next((one for one in ended.stdout.splitlines() if one.startswith("wrote ")), ended.stderr)
     sources = line.split()[1:]
-    made = run(folder, ["fshell", "generate", "drive_bus_step", "cover {stub_write_frame_arg0 == 3}", *sources, "--answers", "18"])
+    made = run(
+        folder,
+        ["fshell", "generate", "drive_bus_step", "cover {stub_write_frame_arg0 == 3}", *sources, "--answers", "18"],
+    )
     yield made.stdout.endswith("covered 1 refuted 0 undecided 0 of 1\n")
     put(folder, {"in": '[{"args": [0], "answers": [4, 0, 0, 1, 0, 0, 4, 0, 0, 1, 0, 0, 4, 0, 0, 1, 7, 35]}]\n'})
     # by hand: three steps raise the count to 3, and the last one gives 35 + 7
@@ -163,11 +176,15 @@ def what_is_written_is_read(folder):
     yield order.startswith("input 1 returned 42 ")
 
 
-def drivers_of_the_example_are_as_written(folder):
+def drivers_of_the_example_are_as_written(folder: str) -> Iterator[bool]:
     module = os.path.join(EXAMPLES, "module")
     put(folder, {name: example(f"module/{name}") for name in ("boiler.h", "alarm.c", "control.c", "sensors.c")})
     os.mkdir(os.path.join(folder, "drivers"))
-    for words in (["alarm_of", "alarm.c"], ["count_hot", "alarm.c"], ["boiler_step", "control.c", "--init", "boiler_reset", "--steps", "4", "--stubs", "drivers/stubs.c"]):
+    for words in (
+        ["alarm_of", "alarm.c"],
+        ["count_hot", "alarm.c"],
+        ["boiler_step", "control.c", "--init", "boiler_reset", "--steps", "4", "--stubs", "drivers/stubs.c"],
+    ):
         yield run(folder, ["driver", *words, "-o", f"drivers/drive_{words[0]}.c"]).returncode == 0
     names = sorted(os.listdir(os.path.join(module, "drivers")))
     yield names == sorted(os.listdir(os.path.join(folder, "drivers")))

@@ -1,10 +1,36 @@
 """The cases of each tool of bin/, those with long parts first, and of what all of them share."""
 
-from tool_tests import (adapt, believed, campaign, clauses, drat, driver, explain, first_hour, harness, inputs, install, lcov, maps, mcdc,
-                        order, page, pages, progress, project, recipes, rte, rte_overflow, schemas, streams, style, where)
+from tool_tests import (
+    adapt,
+    believed,
+    campaign,
+    clauses,
+    drat,
+    driver,
+    explain,
+    first_hour,
+    harness,
+    inputs,
+    install,
+    lcov,
+    maps,
+    mcdc,
+    order,
+    page,
+    pages,
+    progress,
+    project,
+    recipes,
+    rte,
+    rte_overflow,
+    schemas,
+    streams,
+    style,
+    where,
+)
 
 rte.TRIED += rte_overflow.TRIED
 
 TOOLS = {module.__name__.split(".")[-1]: module
          for module in (campaign, project, recipes, adapt, mcdc, page, maps, progress, order, rte, driver, install, lcov, first_hour, explain,
-                       inputs, harness, schemas, drat, where, believed, pages, streams, clauses, style)}
+                       inputs, harness, schemas, drat, where, believed, pages, streams, clauses, style)}  # fmt: skip

@@ -1,5 +1,7 @@
 """The cases of bin/explain: the places are those of acceptance/command_cases/ and docs/COMMANDS.md, the texts by hand."""
 
+from collections.abc import Iterator
+
 from tool_tests import Case, example, put, run
 
 NEVER = "int f(int x) {\n  if (x > 10 && x < 5) {\n    return 1;\n  }\n  return 0;\n}\n"
@@ -77,7 +79,7 @@ suite 1 2
 covered 3 refuted 1 undecided 0 of 4
 """
 AS_JSON = ('{"bounds":{"answers":16,"budget":5000000,"frames":8,"turns":4},"covered":1,"goals":[{"answer":"covered","input":1,'
-           '"text":"e8@count.c:7"}],"inputs":[{"answers":[],"args":[3]}],"refuted":0,"suite":[1],"undecided":0}\n')
+           '"text":"e8@count.c:7"}],"inputs":[{"answers":[],"args":[3]}],"refuted":0,"suite":[1],"undecided":0}\n')  # fmt: skip
 GRAPH = ("graph",)
 WITHIN = "refuted goals have no run within the bounds; with --entry, bounds is asked whether a run leaves them\n"
 SUFFICE = "the bounds suffice: no run at all leaves them\n"
@@ -132,20 +134,20 @@ PAIRS = """code 80, more than 50,000 pairs of node and context: walks from f rea
 REFUSED = "error 81 UnwindingTooLarge limit 4194304\n"
 
 
-def goals(faces):
+def goals(faces: str) -> str:
     """What is said of goals of one letter each."""
     lines = faces.splitlines()
     return "".join(f"goal {number}:\n{line}\n" for number, line in enumerate(lines, 1)) + f"{len(lines)} goals\n"
 
 
-def said(number, verdict, faces, line):
+def said(number: int, verdict: str, faces: str, line: str) -> str:
     """What is said of a goal with its verdict and its input, if any."""
     return f"goal {number}: {verdict}\n{faces.splitlines()[number - 1]}\n{line}"
 
 
 OF_MADE = (said(1, "covered by input 1", CONDITIONS, "  input 1: args 1073741824\n")
            + said(2, "covered by input 2", CONDITIONS, "  input 2: args 0\n") + said(3, "refuted within the bounds", CONDITIONS, "")
-           + said(4, "covered by input 1", CONDITIONS, "  input 1: args 1073741824\n") + "4 goals: 3 covered, 1 refuted within the bounds\n" + WITHIN)
+           + said(4, "covered by input 1", CONDITIONS, "  input 1: args 1073741824\n") + "4 goals: 3 covered, 1 refuted within the bounds\n" + WITHIN)  # fmt: skip
 LOST = "goals 1 inputs 2\ninput 1 trapped assert\ninput 2 returned\ngoal 1 covered 2 e15@two.c:9\nsuite 2\ncovered 1 of 1\n"
 TRAPS = "int f(int x) {\n  if (x > 10 && x < 5) {\n    return 1;\n  }\n  return 0;\n}\n"
 
@@ -226,10 +228,10 @@ goal 3:
          "explain: goal 1 isn't one of these sources: e0@never.c:2\n", needs=GRAPH),
     Case("explain: a source that isn't there", ["explain", "cover ID", "no.c"], {}, 2, "",
          "explain: fshell graph: error 7 ReadFault no.c\n", needs=GRAPH),
-]
+]  # fmt: skip
 
 
-def conditions_are_cut_out(folder):
+def conditions_are_cut_out(folder: str) -> Iterator[bool]:
     """The text of each condition of a source in which they are bracketed, joined and nested in many ways."""
     due = {
         "(a + b) > c": "if ((a + b) > c && a) { return 1; }",
@@ -249,24 +251,33 @@ def conditions_are_cut_out(folder):
         yield f" {' '.join(condition.replace('/* x */', '').split())} is true, in " in faces
 
 
-def a_bound_that_is_left_is_told(folder):
+def a_bound_that_is_left_is_told(folder: str) -> Iterator[bool]:
     """Three turns make line 7, and two are the bound."""
     put(folder, {"count.c": example("counting/count.c")})
-    put(folder, {"made": run(folder, ["fshell", "generate", "count", "cover @LINE(7)", "count.c", "--turns", "2"]).stdout})
+    put(
+        folder,
+        {"made": run(folder, ["fshell", "generate", "count", "cover @LINE(7)", "count.c", "--turns", "2"]).stdout},
+    )
     said = run(folder, ["explain", "made", "count.c", "--entry", "count"]).stdout.splitlines()
     yield said[0] == "goal 1: refuted within the bounds" and said[2] == "1 goals: 1 refuted within the bounds"
     yield said[3].startswith("the bounds don't suffice: turn 3 of the loop at count.c:3, by the input args ")
     yield said[4].startswith("bounds to try next: --turns ")
 
 
-def pairs_are_counted_as_the_program_does(folder):
+def pairs_are_counted_as_the_program_does(folder: str) -> Iterator[bool]:
     """By the formula above 49,665 pairs with 126 turns, 50,440 with 127, and the program refuses these alone for their number."""
     put(folder, {"w.c": MULTIPLIED})
     for turns, pairs in ((126, 3 * 127 * 127 + 10 * 127 + 8), (127, 3 * 128 * 128 + 10 * 128 + 8)):
         told = run(folder, ["explain", "80", "w.c", "--entry", "f", "--turns", str(turns)]).stdout
         yield f"walks from f reach {pairs} pairs within" in told
-        refused = run(folder, ["fshell", "bounds", "f", "w.c", "--turns", str(turns), "--budget", "1"]).stderr.startswith("error 80 ")
+        refused = run(
+            folder, ["fshell", "bounds", "f", "w.c", "--turns", str(turns), "--budget", "1"]
+        ).stderr.startswith("error 80 ")
         yield refused == (pairs > 50_000)
 
 
-TRIED = [(GRAPH, pairs_are_counted_as_the_program_does), (GRAPH, conditions_are_cut_out), (GRAPH, a_bound_that_is_left_is_told)]
+TRIED = [
+    (GRAPH, pairs_are_counted_as_the_program_does),
+    (GRAPH, conditions_are_cut_out),
+    (GRAPH, a_bound_that_is_left_is_told),
+]

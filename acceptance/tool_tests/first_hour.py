@@ -2,12 +2,13 @@
 
 import os
 import re
+from collections.abc import Iterator
 
 import programs
 from tool_tests import hints, put, run
 
 
-def rows():
+def rows() -> Iterator[list[str]]:
     """The rows of the table: the C, the refusal, and what to write instead."""
     with open(os.path.join(programs.ROOT, "docs", "ADAPT.md"), encoding="utf-8") as file:
         table = file.read().split("| C that you have |")[1].split("\n\n")[0]
@@ -15,13 +16,13 @@ def rows():
         yield [cell.strip() for cell in line.strip("|").split(" | ")]
 
 
-def answer(folder, text):
+def answer(folder: str, text: str) -> str:
     """What the program answers to a source, a function added, so that it has a goal."""
     put(folder, {"a.c": text + "\nint goal(int x) { return x; }\n"})
     return run(folder, ["fshell", "goals", "cover ID", "a.c"]).stderr.removeprefix("error ").split(" a.c")[0].strip()
 
 
-def each_row_is_as_it_says(folder):
+def each_row_is_as_it_says(folder: str) -> Iterator[bool]:
     for given, refusal, instead in rows():
         yield answer(folder, given.strip("`")) == refusal
         code = re.match(r"`([^`]*[;}])`", instead)

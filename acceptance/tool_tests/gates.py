@@ -4,6 +4,8 @@ changed in comments. The numbers of turns, frames and answers are counted by han
 import json
 import os
 import resource
+import subprocess
+from collections.abc import Iterator
 
 from tool_tests import example, put, run
 
@@ -40,12 +42,12 @@ NEVER, FEE = example("never/never.c"), example("criteria/fee.c")
 NO_RUN = "no run at all stays within the bounds, so each goal is refuted and nothing was tested\n"
 
 
-def campaign(folder, *words, name="new"):
+def campaign(folder: str, *words: str, name: str = "new") -> subprocess.CompletedProcess[str]:
     """How a campaign in a folder ends."""
     return run(folder, ["campaign", "-o", name, *words])
 
 
-def held(folder, name):
+def held(folder: str, name: str) -> dict[str, bytes]:
     """The files of a campaign by their names, but for what belongs to the machine."""
     found = {}
     for at, _, names in os.walk(os.path.join(folder, name)):
@@ -57,7 +59,7 @@ def held(folder, name):
     return found
 
 
-def a_gate_without_a_test_fails(folder):
+def a_gate_without_a_test_fails(folder: str) -> Iterator[bool]:
     """The loop has ten turns, and the bounds four: no goal is covered, none is unreachable, and no input is made."""
     put(folder, {"sum.c": SUM, "never.c": NEVER})
     ended = campaign(folder, "sum", "cover @CONDITIONEDGE", "sum.c", "--at-least", "100")
@@ -81,13 +83,15 @@ def a_gate_without_a_test_fails(folder):
     yield ended.returncode == 0 and "\ncovered 3 of 3 goals that aren't unreachable, 100%\nthe bounds suffice" in ended.stdout
 
 
-def bounds_that_are_left_are_named(folder):
+def bounds_that_are_left_are_named(folder: str) -> Iterator[bool]:
     put(folder, {"sum.c": SUM, "down.c": DOWN})
+    none: list[str] = []
     for entry, source, words, where, options in (
-            ("sum", "sum.c", [], "turn 5 of the loop at sum.c:3, by the input args 0", "--turns 10"),
-            ("f", "down.c", [], "frame 9: a call of down at down.c:6:3, by the input args", "--frames 20"),
-            ("five", "down.c", ["--answers", "3"], "answer 4 of in at down.c:14:3, by the input args", "--answers 5"),
-            ("five", "down.c", ["--answers", "0"], "answer 1 of in at down.c:12:3, by the input args", "--answers 5")):
+        ("sum", "sum.c", none, "turn 5 of the loop at sum.c:3, by the input args 0", "--turns 10"),
+        ("f", "down.c", none, "frame 9: a call of down at down.c:6:3, by the input args", "--frames 20"),
+        ("five", "down.c", ["--answers", "3"], "answer 4 of in at down.c:14:3, by the input args", "--answers 5"),
+        ("five", "down.c", ["--answers", "0"], "answer 1 of in at down.c:12:3, by the input args", "--answers 5"),
+    ):
         name = entry + "".join(words)
         ended = campaign(folder, entry, "cover @EXIT(%s)" % entry, source, *words, name=name)
         yield f"\nthe bounds don't suffice: {where}" in ended.stdout and f"\nbounds to try next: {options}\n" in ended.stdout
@@ -97,21 +101,21 @@ def bounds_that_are_left_are_named(folder):
         yield more.returncode == 0 and " goals that aren't unreachable, 100%\n" in more.stdout
 
 
-def a_folder_is_the_same_with_any_jobs(folder):
+def a_folder_is_the_same_with_any_jobs(folder: str) -> Iterator[bool]:
     put(folder, {"fee.c": FEE, "in.txt": example("criteria/in.txt")})
     words = ["fee", 'cover @DEF(sum) . "NOT(@DEF(sum))*" . @USE(sum)', "fee.c", "--inputs", "in.txt"]
     for jobs in ("1", "3", "8"):
         yield campaign(folder, *words, "--jobs", jobs, name=jobs).returncode == 0
     yield held(folder, "1") == held(folder, "3") == held(folder, "8") and len(held(folder, "1")) > 8
     # the number is kept
-    for words, due in (([], "3\n"), (["--jobs", "2"], "2\n"), ([], "2\n")):
-        yield campaign(folder, *words, name="3").returncode == 0
+    for given, due in (("", "3\n"), ("--jobs 2", "2\n"), ("", "2\n")):
+        yield campaign(folder, *given.split(), name="3").returncode == 0
         with open(os.path.join(folder, "3", "machine", "jobs"), encoding="ascii") as file:
             yield file.read() == due
     yield held(folder, "1") == held(folder, "3")
 
 
-def comments_may_change(folder):
+def comments_may_change(folder: str) -> Iterator[bool]:
     put(folder, {"fee.c": FEE})
     yield campaign(folder, "fee", "cover @CONDITIONEDGE", "fee.c").returncode == 0
     yield campaign(folder, "fee", "cover @LINE(11)", "fee.c", name="line").returncode == 0
@@ -129,16 +133,20 @@ def comments_may_change(folder):
     ended = campaign(folder, "fee", "cover @CONDITIONEDGE", "fee.c")
     yield ended.returncode == 0 and ended.stderr.startswith(said) and "e0@fee.c:4\n" in ended.stdout
     ended = campaign(folder, name="line")
-    kept = "another one may begin with its inputs (--inputs line/inputs.json), its certificates are of the old sources\n"
+    kept = (
+        "another one may begin with its inputs (--inputs line/inputs.json), its certificates are of the old sources\n"
+    )
     yield (ended.returncode, ended.stderr) == (2, f"campaign: line: changed since the campaign began: fee.c; {kept}")
     # a number alone, which neither goals nor graph tell
     put(folder, {"fee.c": FEE.replace("1000", "1001")})
     ended = campaign(folder)
     yield ended.returncode == 2 and "new: changed since the campaign began: fee.c; another one may begin" in ended.stderr
-    yield campaign(folder, "fee", "cover @CONDITIONEDGE", "fee.c", "--inputs", "new/inputs.json", name="next").returncode == 0
+    yield campaign(
+        folder, "fee", "cover @CONDITIONEDGE", "fee.c", "--inputs", "new/inputs.json", name="next"
+    ).returncode == 0
 
 
-def line_breaks_of_a_query_make_no_lines(folder):
+def line_breaks_of_a_query_make_no_lines(folder: str) -> Iterator[bool]:
     """A comment within a predicate that looks like a line of a report."""
     put(folder, {"a.c": "int f(int x) {\n  return x;\n}\n"})
     query = "cover {x == 0 /*\ngoal 2 refuted e0@a.c:2\n*/} + {x == 1}"
@@ -155,9 +163,11 @@ def line_breaks_of_a_query_make_no_lines(folder):
     yield run(folder, ["inputs", "json"]).stdout == "0\n1\n"
 
 
-def many_easy_goals_take_few_seconds(folder):
+def many_easy_goals_take_few_seconds(folder: str) -> Iterator[bool]:
     """400 pairs of condition edges: 160 in the order of the branches, of which each has an input, and 240 that can't be."""
-    branches = "".join(f"  if (x{'' if one % 2 else ' + y'} > {7 * one % 31}) {{\n    s += {one};\n  }}\n" for one in range(10))
+    branches = "".join(
+        f"  if (x{'' if one % 2 else ' + y'} > {7 * one % 31}) {{\n    s += {one};\n  }}\n" for one in range(10)
+    )
     put(folder, {"ten.c": f"int f(int x, int y) {{\n  int s = 0;\n{branches}  return s;\n}}\n"})
     before = resource.getrusage(resource.RUSAGE_CHILDREN)
     ended = campaign(folder, "f", "cover @CONDITIONEDGE -> @CONDITIONEDGE", "ten.c", "--jobs", "2")
@@ -170,4 +180,4 @@ def many_easy_goals_take_few_seconds(folder):
 
 TRIED = [(("parallel",), function) for function in (
     a_gate_without_a_test_fails, bounds_that_are_left_are_named, a_folder_is_the_same_with_any_jobs, comments_may_change,
-    line_breaks_of_a_query_make_no_lines, many_easy_goals_take_few_seconds)]
+    line_breaks_of_a_query_make_no_lines, many_easy_goals_take_few_seconds)]  # fmt: skip

@@ -3,6 +3,7 @@
 import os
 import pty
 import subprocess
+from collections.abc import Iterator, Sequence
 
 import programs
 from tool_tests import example, put, run
@@ -34,13 +35,15 @@ ROWS = [
     (["bounds", "f", "w.c", "--turns", "127"], "error 80 TooManyInstances limit 50000", "80 TooManyInstances: ",
      ["`bin/explain 80 w.c --entry f --turns 127` says which loops and calls multiply"]),
     (["measure", "fee", "cover {days ==}", "in", "fee.c"], "error 65 PredicateSyntax query", "65 PredicateSyntax: ", ["the query has `{days ==}`"]),
-]
+]  # fmt: skip
 
 
-def on_a_terminal(folder, words):
+def on_a_terminal(folder: str, words: Sequence[str]) -> tuple[str, str, int]:
     """What standard output and a terminal as standard error get, and the status."""
     master, slave = pty.openpty()
-    ended = subprocess.run([programs.LAUNCHER, *words], cwd=folder, stdin=subprocess.DEVNULL, stdout=subprocess.PIPE, stderr=slave)
+    ended = subprocess.run(
+        [programs.LAUNCHER, *words], cwd=folder, stdin=subprocess.DEVNULL, stdout=subprocess.PIPE, stderr=slave
+    )
     os.close(slave)
     said = b""
     try:
@@ -52,8 +55,18 @@ def on_a_terminal(folder, words):
     return ended.stdout.decode(), said.decode().replace("\r\n", "\n"), ended.returncode
 
 
-def a_terminal_has_a_line_more(folder):
-    put(folder, {"fee.c": FEE, "sum.c": SUM, "in": "1\n", "in.json": '[{"args": [1, 2, 3]}, {"args": [1, 2, 3, 4]}]\n', "float.c": "int x;\nfloat y;\n", "w.c": LOOPS})
+def a_terminal_has_a_line_more(folder: str) -> Iterator[bool]:
+    put(
+        folder,
+        {
+            "fee.c": FEE,
+            "sum.c": SUM,
+            "in": "1\n",
+            "in.json": '[{"args": [1, 2, 3]}, {"args": [1, 2, 3, 4]}]\n',
+            "float.c": "int x;\nfloat y;\n",
+            "w.c": LOOPS,
+        },
+    )
     for words, line, begin, parts in ROWS:
         ended = run(folder, ["fshell", *words])
         yield (ended.stdout, ended.stderr) == ("", line + "\n")
@@ -65,7 +78,7 @@ def a_terminal_has_a_line_more(folder):
     yield on_a_terminal(folder, ["goals", "cover @LINE(5)", "sum.c"]) == ("goals 1\ngoal 1 e1@sum.c:5\n", "", 0)
 
 
-def a_trace_file_of_another_system_is_told(folder):
+def a_trace_file_of_another_system_is_told(folder: str) -> Iterator[bool]:
     put(folder, {"a.c": example("first/a.c"), "in.txt": example("first/in.txt")})
     text = run(folder, ["fshell", "traces", "f", "in.txt", "a.c"]).stdout
     put(folder, {"own": text, "other": text.replace("\n", "\r\n")})
@@ -73,7 +86,9 @@ def a_trace_file_of_another_system_is_told(folder):
     ended = run(folder, ["explain", "other", "a.c"])
     came = "it is a trace file that came through another system: its lines end with carriage return and line feed"
     yield (ended.returncode, ended.stdout, ended.stderr) == (2, "", f"explain: other: it is no report: {came}\n")
-    yield run(folder, ["explain", "own", "a.c"]).stderr == "explain: own: it is no report: it is a trace file; replay measures it\n"
+    yield run(
+        folder, ["explain", "own", "a.c"]
+    ).stderr == "explain: own: it is no report: it is a trace file; replay measures it\n"
 
 
 TRIED = [((), a_terminal_has_a_line_more), (("graph",), a_trace_file_of_another_system_is_told)]

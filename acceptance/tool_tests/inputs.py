@@ -3,6 +3,7 @@
 import json
 import os
 import subprocess
+from collections.abc import Iterator
 
 import programs
 from tool_tests import SECONDS, Case, example, is_there, put, run
@@ -18,12 +19,12 @@ suite 1 2
 covered 2 refuted 1 undecided 0 of 3
 """
 AS_JSON = ('{"bounds":{"answers":16,"budget":5000000,"frames":8,"turns":4},"covered":1,"goals":[{"answer":"covered","input":1,'
-           '"text":"e8@count.c:7"}],"inputs":[{"answers":[],"args":[3]}],"refuted":0,"suite":[1],"undecided":0}\n')
+           '"text":"e8@count.c:7"}],"inputs":[{"answers":[],"args":[3]}],"refuted":0,"suite":[1],"undecided":0}\n')  # fmt: skip
 THREE = '[{"args": [1], "answers": [5, 9]},\n {"args": [-3]},\n {"args": [7]}]\n'
 READ = " no inputs are read: "
 
 
-def wrong(name, text, why):
+def wrong(name: str, text: str, why: str) -> Case:
     """A file that isn't read: one line, and nothing is written."""
     return Case(name, ["inputs", "f", "-o", "new"], {"f": text}, 2, "", f"inputs: f:{READ}{why}\n")
 
@@ -81,22 +82,27 @@ CASES = [
     wrong("a text in place of arguments, in a report", AS_JSON.replace('"args":[3]', '"args":["3"]'), "3 is no whole number from -2^63 to 2^64 - 1"),
     wrong("a report without a bound", AS_JSON.replace('"turns":4', '"turn":4'), "it has no bound turns"),
     wrong("a trace file that is cut short", "fshell traces 1\nargs 5 ed", "'args 5 ed' isn't known"),
-]
+]  # fmt: skip
 
 
-def least_inputs_are_measured(folder):
+def least_inputs_are_measured(folder: str) -> Iterator[bool]:
     """The least inputs of two goals become one file, which covers them; and its traces are replayed."""
     put(folder, {"both.c": example("counting/both.c")})
-    lines = [run(folder, ["fshell", "least", "both", "cover EDGES(@STMTTYPE(RETURN))", goal, "both.c"]).stdout for goal in "12"]
+    lines = [
+        run(folder, ["fshell", "least", "both", "cover EDGES(@STMTTYPE(RETURN))", goal, "both.c"]).stdout
+        for goal in "12"
+    ]
     put(folder, {"least": "".join(lines)})
     yield run(folder, ["inputs", "least", "-o", "in"]).returncode == 0
     measured = run(folder, ["fshell", "measure", "both", "cover EDGES(@STMTTYPE(RETURN))", "in", "both.c"]).stdout
     yield measured.endswith("suite 1 2\ncovered 2 of 2\n")
-    yield run(folder, ["inputs", "in", "--to", "traces", "--entry", "both", "--source", "both.c", "-o", "t"]).returncode == 0
+    yield run(
+        folder, ["inputs", "in", "--to", "traces", "--entry", "both", "--source", "both.c", "-o", "t"]
+    ).returncode == 0
     yield run(folder, ["fshell", "replay", "both", "cover EDGES(@STMTTYPE(RETURN))", "t", "both.c"]).stdout == measured
 
 
-def made_inputs_are_measured(folder):
+def made_inputs_are_measured(folder: str) -> Iterator[bool]:
     """What generate made, kept as a file, covers what generate says."""
     query = "cover @CONDITIONEDGE"
     put(folder, {"both.c": example("counting/both.c")})
@@ -105,10 +111,11 @@ def made_inputs_are_measured(folder):
     yield run(folder, ["inputs", "made", "-o", "in"]).returncode == 0
     measured = run(folder, ["fshell", "measure", "both", query, "in", "both.c"]).stdout
     yield [line for line in measured.splitlines() if line.startswith("goal ")] == [
-        line for line in made.splitlines() if line.startswith("goal ")]
+        line for line in made.splitlines() if line.startswith("goal ")
+    ]
 
 
-def keys_of_a_user_are_kept(folder):
+def keys_of_a_user_are_kept(folder: str) -> Iterator[bool]:
     """What a user wrote beside the numbers goes through each tool that takes inputs and tells of them."""
     given = [{"args": [11], "req": "TP-1", "by": ["a", 2]}, {"args": [5], "req": "TP-2"}]
     put(folder, {"a.c": example("first/a.c"), "in": json.dumps(given)})
@@ -118,7 +125,9 @@ def keys_of_a_user_are_kept(folder):
     with open(os.path.join(folder, "suite"), encoding="ascii") as file:
         yield json.loads(file.read())[:2] == given
     put(folder, {"out": run(folder, ["fshell", "measure", "f", query, "in", "a.c"]).stdout})
-    yield '  input 2: args 5 {"req": "TP-2"}\n' in run(folder, ["explain", "out", "a.c", "--entry", "f", "--inputs", "in"]).stdout
+    yield '  input 2: args 5 {"req": "TP-2"}\n' in run(
+        folder, ["explain", "out", "a.c", "--entry", "f", "--inputs", "in"]
+    ).stdout
     yield '"f(5) returns 0 {\\"req\\": \\"TP-2\\"}"' in run(folder, ["harness", "f", "in", "a.c"]).stdout
     if is_there("parallel"):
         yield run(folder, ["campaign", "f", query, "a.c", "--inputs", "in", "-o", "new"]).returncode == 0
@@ -127,7 +136,7 @@ def keys_of_a_user_are_kept(folder):
                 yield json.loads(file.read()) == given
 
 
-def a_link_stays_a_link(folder):
+def a_link_stays_a_link(folder: str) -> Iterator[bool]:
     """What is written goes where a link leads to."""
     put(folder, {"a": "1\n", "to": "old\n"})
     os.symlink("to", os.path.join(folder, "link"))
@@ -137,16 +146,18 @@ def a_link_stays_a_link(folder):
         yield file.read() == "1\n"
 
 
-def what_is_no_file_is_written_into(folder):
+def what_is_no_file_is_written_into(folder: str) -> Iterator[bool]:
     """A pipe stays one, and /dev/null with it."""
     put(folder, {"a": "1\n"})
     pipe = os.path.join(folder, "pipe")
     os.mkfifo(pipe)
-    with subprocess.Popen([os.path.join(programs.ROOT, "bin", "inputs"), "a", "-o", "pipe"], cwd=folder, stderr=subprocess.DEVNULL) as tool:
+    with subprocess.Popen(
+        [os.path.join(programs.ROOT, "bin", "inputs"), "a", "-o", "pipe"], cwd=folder, stderr=subprocess.DEVNULL
+    ) as tool:
         with open(pipe, encoding="ascii") as file:
             yield file.read() == "1\n"
         yield tool.wait(SECONDS) == 0
     yield sorted(os.listdir(folder)) == ["a", "pipe"] and not os.path.isfile(pipe)
 
 
-TRIED = [(("graph",), keys_of_a_user_are_kept), ((), a_link_stays_a_link), ((), what_is_no_file_is_written_into), ((), made_inputs_are_measured), ((), least_inputs_are_measured)]
+TRIED = [(("graph",), keys_of_a_user_are_kept), ((), a_link_stays_a_link), ((), what_is_no_file_is_written_into), ((), made_inputs_are_measured), ((), least_inputs_are_measured)]  # fmt: skip

@@ -3,6 +3,7 @@
 import os
 import re
 import subprocess
+from collections.abc import Iterator
 
 from tool_tests import Case, covered, covered_modules, example, put, run
 from tool_tests.explain import NEVER, ONE, TWO
@@ -62,7 +63,7 @@ end_of_record
 """
 
 
-def of_two(first, rest, last):
+def of_two(first: int, rest: int | str, last: int) -> str:
     """The record of the two sources, with the counts of what comes before the assertion, and of what comes behind it."""
     return f"""TN:
 SF:one.c
@@ -121,10 +122,10 @@ CASES = [
          "lcov: in: no inputs are read: 'x' is no number\n", needs=GRAPH),
     Case("lcov: a folder in which nothing can be written", ["lcov", "f", "in", "never.c", "-o", "no/new"], {"never.c": NEVER, "in": "0\n"},
          2, "", "lcov: no/new: No such file or directory\n", needs=GRAPH),
-]
+]  # fmt: skip
 
 
-def written(folder, files, *words):
+def written(folder: str, files: dict[str, str], *words: str) -> tuple[str, str]:
     """What lcov writes of files, with the folder's path left out, and what it says."""
     put(folder, files)
     ended = run(folder, ["lcov", *words, "-o", "out"])
@@ -132,32 +133,42 @@ def written(folder, files, *words):
         return file.read().replace(f"SF:{os.path.realpath(folder)}/", "SF:"), ended.stdout
 
 
-def counts_are_those_by_hand(folder):
+def counts_are_those_by_hand(folder: str) -> Iterator[bool]:
     yield written(folder, {"count.c": example("counting/count.c"), "in": "3\n5\n"}, "count", "in", "count.c") == (
-        COUNT, "2 of 2 runs count: lines 6 of 6, functions 1 of 1, branches 4 of 4\n")
+        COUNT,
+        "2 of 2 runs count: lines 6 of 6, functions 1 of 1, branches 4 of 4\n",
+    )
     yield written(folder, BOTH, "f", "in", "one.c", "two.c") == (
-        of_two(1, 0, 1), "1 of 2 runs count: lines 7 of 8, functions 2 of 2, branches 1 of 4\n")
+        of_two(1, 0, 1),
+        "1 of 2 runs count: lines 7 of 8, functions 2 of 2, branches 1 of 4\n",
+    )
     yield written(folder, BOTH, "f", "in", "one.c", "two.c", "--ends", "trapped") == (
-        of_two(2, 0, 1), "2 of 2 runs count: lines 7 of 8, functions 2 of 2, branches 1 of 4\n")
+        of_two(2, 0, 1),
+        "2 of 2 runs count: lines 7 of 8, functions 2 of 2, branches 1 of 4\n",
+    )
 
 
-def refuted_goals_are_left_out(folder):
+def refuted_goals_are_left_out(folder: str) -> Iterator[bool]:
     files = {"never.c": NEVER, "in": "11\n0\n", "report": ALL_OF_NEVER}
     yield written(folder, files, "f", "in", "never.c", "--refuted", "report") == (OF_NEVER, NOTES)
 
 
-def genhtml_has_these_totals(folder):
+def genhtml_has_these_totals(folder: str) -> Iterator[bool]:
     """genhtml takes the file without a warning, and its totals are those that were told."""
-    for files, words in (({"count.c": example("counting/count.c"), "in": "3\n5\n"}, ["count", "in", "count.c"]),
-                         (BOTH, ["f", "in", "one.c", "two.c"])):
+    for files, words in (
+        ({"count.c": example("counting/count.c"), "in": "3\n5\n"}, ["count", "in", "count.c"]),
+        (BOTH, ["f", "in", "one.c", "two.c"]),
+    ):
         told = written(folder, files, *words)[1]
-        made = subprocess.run(["genhtml", "--branch-coverage", "-o", "html", "out"], cwd=folder, capture_output=True, text=True)
+        made = subprocess.run(
+            ["genhtml", "--branch-coverage", "-o", "html", "out"], cwd=folder, capture_output=True, text=True
+        )
         totals = re.findall(r"(lines|functions|branches)\.*: [\d.]+% \((\d+) of (\d+)", made.stdout)
         yield made.returncode == 0 and made.stderr == "" and "warning" not in made.stdout.lower()
         yield told.split(": ")[1].strip() == ", ".join(f"{what} {hit} of {found}" for what, hit, found in totals)
 
 
-def what_may_be_reached_isnt_left_out(folder):
+def what_may_be_reached_isnt_left_out(folder: str) -> Iterator[bool]:
     """Within four turns line 7 of the loop is refuted, and an input beyond them reaches it."""
     put(folder, {"count.c": example("counting/count.c"), "in": "0\n"})
     report = run(folder, ["fshell", "generate", "count", "cover ID", "count.c", "--turns", "2"]).stdout
@@ -165,26 +176,35 @@ def what_may_be_reached_isnt_left_out(folder):
     words = ["lcov", "count", "in", "count.c", "--refuted", "report", "-o", "out"]
     ended = run(folder, words)
     yield ended.returncode == 2 and not os.path.exists(os.path.join(folder, "out")) and ended.stderr.count("\n") == 1
-    yield ended.stderr.startswith("lcov: report: what it refutes may be reached: the bounds don't suffice: turn 3 of the loop at count.c:3")
+    yield ended.stderr.startswith(
+        "lcov: report: what it refutes may be reached: the bounds don't suffice: turn 3 of the loop at count.c:3"
+    )
     text, said = written(folder, {}, *words[1:-2], "--bounds-are-enough")
     within = "turns 2 frames 8 answers 16"
-    yield text.startswith(f"# what is refuted within {within} is left out: --bounds-are-enough\nTN:\n") and "DA:7," not in text
+    yield text.startswith(
+        f"# what is refuted within {within} is left out: --bounds-are-enough\nTN:\n"
+    ) and "DA:7," not in text
     yield f"left out, since it is refuted within {within}, which are taken to be enough: count.c:7\n" in said
     # an input that reaches it shows that they aren't
     put(folder, {"in": "3\n"})
     ended = run(folder, [*words, "--bounds-are-enough"])
     yield (ended.returncode, ended.stderr) == (2, "lcov: report: it refutes e6@count.c:6:7, which input 1 takes\n")
     ended = run(folder, [*words, "--ends", "trapped"])
-    yield (ended.returncode, ended.stderr) == (2, "lcov: report: it is of runs that returned, and other ends count here (--ends)\n")
+    yield (ended.returncode, ended.stderr) == (
+        2,
+        "lcov: report: it is of runs that returned, and other ends count here (--ends)\n",
+    )
 
 
-def a_comment_is_read_by_genhtml(folder):
+def a_comment_is_read_by_genhtml(folder: str) -> Iterator[bool]:
     put(folder, {"count.c": example("counting/count.c"), "in": "0\n"})
     put(folder, {"report": run(folder, ["fshell", "generate", "count", "cover ID", "count.c", "--turns", "2"]).stdout})
     yield "left out" in written(folder, {}, "count", "in", "count.c", "--refuted", "report", "--bounds-are-enough")[1]
-    made = subprocess.run(["genhtml", "--branch-coverage", "-o", "html", "out"], cwd=folder, capture_output=True, text=True)
+    made = subprocess.run(
+        ["genhtml", "--branch-coverage", "-o", "html", "out"], cwd=folder, capture_output=True, text=True
+    )
     yield made.returncode == 0 and made.stderr == "" and "warning" not in made.stdout.lower()
 
 
 TRIED = [(GRAPH, counts_are_those_by_hand), (GRAPH, refuted_goals_are_left_out), (("graph", "genhtml"), genhtml_has_these_totals),
-         (GRAPH, what_may_be_reached_isnt_left_out), (("graph", "genhtml"), a_comment_is_read_by_genhtml), *covered.TRIED, *covered_modules.TRIED]
+         (GRAPH, what_may_be_reached_isnt_left_out), (("graph", "genhtml"), a_comment_is_read_by_genhtml), *covered.TRIED, *covered_modules.TRIED]  # fmt: skip

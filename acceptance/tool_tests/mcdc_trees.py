@@ -1,24 +1,33 @@
 """Random decisions, and by all their inputs which of their conditions show that they decide on their own."""
 
 import itertools
+import random
+from collections.abc import Sequence
+from typing import Any
+
+Tree = Any  # a name; or ! with an operand; or an operator with two operands
 
 
-def expression(chance, depth):
+def expression(chance: random.Random, depth: int) -> Tree:
     """A random expression: a name, or an operator with its operands."""
     if depth == 0 or chance.random() < 0.2:
         return chance.choice("abc")
     op = chance.choice(["&&", "||", "&&", "||", "!"])
-    return ("!", expression(chance, depth - 1)) if op == "!" else (op, expression(chance, depth - 1), expression(chance, depth - 1))
+    return (
+        ("!", expression(chance, depth - 1))
+        if op == "!"
+        else (op, expression(chance, depth - 1), expression(chance, depth - 1))
+    )
 
 
-def text_of(tree):
+def text_of(tree: Tree) -> str:
     """The text of an expression, each operator in brackets."""
     if isinstance(tree, str):
         return tree
     return f"!({text_of(tree[1])})" if tree[0] == "!" else f"({text_of(tree[1])} {tree[0]} {text_of(tree[2])})"
 
 
-def evaluated(tree, values, leaves):
+def evaluated(tree: Tree, values: dict[str, bool], leaves: list[bool | None]) -> bool:
     """The value of an expression; each leaf that is evaluated is listed with its value, and each other one with None."""
     if isinstance(tree, str):
         leaves.append(values[tree])
@@ -32,12 +41,12 @@ def evaluated(tree, values, leaves):
     return evaluated(tree[2], values, leaves)
 
 
-def count(tree):
+def count(tree: Tree) -> int:
     """How many leaves an expression has."""
     return 1 if isinstance(tree, str) else sum(count(part) for part in tree[1:])
 
 
-def deciding(tree, row):
+def deciding(tree: Tree, row: Sequence[bool | None]) -> tuple[list[bool], bool | None]:
     """The leaves that decide: each operand beside them, up to the top, is one that leaves the value to them, or isn't evaluated."""
     if isinstance(tree, str):
         return [row[0] is not None], row[0]
@@ -53,12 +62,18 @@ def deciding(tree, row):
     return marks, one if one != passes else other
 
 
-def all_inputs_show(tree):
+def all_inputs_show(tree: Tree) -> list[bool]:
     """For each leaf whether two of all inputs show that it decides on its own."""
     seen = set()
     for values in itertools.product([False, True], repeat=3):
-        leaves = []
+        leaves: list[bool | None] = []
         outcome = evaluated(tree, dict(zip("abc", values)), leaves)
         seen.add((tuple(leaves), tuple(deciding(tree, leaves)[0]), outcome))
-    return [any(one[1][leaf] and other[1][leaf] and one[0][leaf] != other[0][leaf] and one[2] != other[2] for one in seen for other in seen)
-            for leaf in range(count(tree))]
+    return [
+        any(
+            one[1][leaf] and other[1][leaf] and one[0][leaf] != other[0][leaf] and one[2] != other[2]
+            for one in seen
+            for other in seen
+        )
+        for leaf in range(count(tree))
+    ]

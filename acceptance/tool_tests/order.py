@@ -5,12 +5,15 @@ import os
 import random
 import subprocess
 import sys
+from collections.abc import Iterator, Sequence
+from typing import Any
 
 import programs
 from orders.rows import ROWS, TWO_OUTCOMES_AT
 from tool_tests import Case, put, run
 
 GRAPH = ("graph",)
+Given = tuple[list[int], list[int]]  # arguments and answers
 RULE = ("value", "answers", "end")
 OPERANDS = """int g = 1;
 int h(void) { g = 5; return 1; }
@@ -29,11 +32,6 @@ TWO = {
 WATCH = "int g; int e; int h(void) { g = 1; return 1; } int i(void) { return 2; } int k(int x) { return h() + i(); }\n"
 LENT = "int h(int p[2]) { p[0] = 1; return 1; } int i(int q[2]) { return 2; } int k(int x) { int a[2]; return h(a) + i(a); }\n"
 STRICT = "int a[4]; int in(void); int k(int x) { a[x & 7] = in(); return 0; }\n"
-
-
-def told(*lines):
-    """Lines as a text."""
-    return "".join(line + "\n" for line in lines)
 
 
 CASES = [
@@ -61,21 +59,23 @@ CASES = [
 ]  # fmt: skip
 
 
-def wrong_words(folder):
+def wrong_words(folder: str) -> Iterator[bool]:
     """What isn't called as it is told is one line behind the usage, and status 2."""
-    for words in ([], ["k"], ["k", "a.c", "--ends", "some"], ["k", "a.c", "--no"]):
-        ended = run(folder, ["order", *words])
-        yield ended.returncode == 2 and ended.stdout == "" and ended.stderr.splitlines()[-1].startswith("order: error: ")
+    for words in ("", "k", "k a.c --ends some", "k a.c --no"):
+        ended = run(folder, ["order", *words.split()])
+        yield ended.returncode == 2 and ended.stdout == "" and ended.stderr.splitlines()[-1].startswith(
+            "order: error: "
+        )
 
 
-def as_json(folder):
+def as_json(folder: str) -> Iterator[bool]:
     put(folder, {"a.c": OPERANDS})
     ended = run(folder, ["order", "k", "a.c", "--json"])
     due = {"kind": "value", "file": "a.c", "line": 4, "column": 7, "function": "k", "why": G_AND_H}
     yield ended.returncode == 1 and json.loads(ended.stdout) == {"classes": list(RULE), "warnings": [due]}
 
 
-def rows_by_c(folder):
+def rows_by_c(folder: str) -> Iterator[bool]:
     """What is told of each row is what C11 leaves open; each sixth is asked of the tool itself."""
     for number, (_, due, text) in enumerate(ROWS):
         yield classes_of(text) - {"strict"} == ({due} if due else set())
@@ -93,7 +93,7 @@ OPEN = "C leaves the order of evaluation open at a.c:4:7 (value)"
 FREE = OPERANDS.replace("g + h() == 2", "h() == 3")  # false by each order
 
 
-def a_campaign_that_is_restricted(folder):
+def a_campaign_that_is_restricted(folder: str) -> Iterator[bool]:
     """A refuted goal is unreachable only where each order of evaluation gives the same."""
     for text, verdict, line in (
         (OPERANDS, "refuted within the bounds", f"no refuted goal is called unreachable: {OPEN}"),
@@ -106,29 +106,33 @@ def a_campaign_that_is_restricted(folder):
         yield ended.returncode == (1 if verdict != "unreachable" else 0)
 
 
-def watched_restricts(folder):
+def watched_restricts(folder: str) -> Iterator[bool]:
     """A predicate at a callee's node sees another order; without one, and of runs that returned, nothing does."""
     put(folder, {"a.c": WATCH, "b.c": STRICT})
     sys.path.insert(0, programs.ROOT)
     from tools import order
 
-    def of(source, query, ends):
+    def of(source: str, query: str, ends: str) -> str:
         return order.restriction("k", [source], query, ends, folder)
 
-    yield of("a.c", "cover {g == 0} . @ENTRY(i)", "returned") == "C leaves the order of evaluation open at a.c:1:96 (watched)"
+    yield of(
+        "a.c", "cover {g == 0} . @ENTRY(i)", "returned"
+    ) == "C leaves the order of evaluation open at a.c:1:96 (watched)"
     yield of("a.c", "cover @ENTRY(i)", "returned") == ""
     yield of("b.c", "cover ID", "returned") == ""
     yield of("b.c", "cover ID", "trapped") == "C leaves the order of evaluation open at b.c:1:40 (strict)"
 
 
-def put_report(folder, text, query):
+def put_report(folder: str, text: str, query: str) -> None:
     """A source and a report of what is generated for a query of it."""
     put(folder, {"a.c": text, "in": "0\n"})
-    report = subprocess.run([programs.LAUNCHER, "generate", "k", query, "a.c"], cwd=folder, capture_output=True, text=True)
+    report = subprocess.run(
+        [programs.LAUNCHER, "generate", "k", query, "a.c"], cwd=folder, capture_output=True, text=True
+    )
     put(folder, {"report": report.stdout})
 
 
-def explain_is_restricted(folder):
+def explain_is_restricted(folder: str) -> Iterator[bool]:
     """A report's query isn't known, so its predicates may read anything."""
     last = "no refuted goal is called unreachable: "
     put_report(folder, OPERANDS, "cover @CONDITIONEDGE")
@@ -141,7 +145,7 @@ def explain_is_restricted(folder):
     yield "goal 1: unreachable" in lines and not any(last in line for line in lines)
 
 
-def page_is_restricted(folder):
+def page_is_restricted(folder: str) -> Iterator[bool]:
     for text, is_restricted in ((OPERANDS, True), (FREE, False)):
         put_report(folder, text, "cover @CONDITIONEDGE")
         words = ["page", "report", "-o", "new", "--source", "a.c", "--entry", "k", "--query", "cover @CONDITIONEDGE"]
@@ -150,7 +154,7 @@ def page_is_restricted(folder):
             yield (OPEN in file.read()) == is_restricted
 
 
-def lcov_leaves_nothing_out(folder):
+def lcov_leaves_nothing_out(folder: str) -> Iterator[bool]:
     put_report(folder, OPERANDS, "cover ID")
     ended = run(folder, ["lcov", "k", "in", "a.c", "-o", "new", "--refuted", "report"])
     yield ended.returncode == 2 and OPEN in ended.stderr and not os.path.exists(os.path.join(folder, "new"))
@@ -159,7 +163,7 @@ def lcov_leaves_nothing_out(folder):
 # ---- all orders, by an interpreter of its own
 
 
-def unit_of(text):
+def unit_of(text: str) -> Any:
     """pycparser's tree, which knows no macro and no declaration right behind a label."""
     from pycparser import c_parser
 
@@ -168,7 +172,7 @@ def unit_of(text):
     return c_parser.CParser().parse(text)
 
 
-def classes_of(text, watched=()):
+def classes_of(text: str, watched: Sequence[str] = ()) -> set[str]:
     """The classes that the rule tells of the entry k."""
     sys.path.insert(0, programs.ROOT)
     from tools import order_items, order_rule, order_tokens
@@ -177,25 +181,26 @@ def classes_of(text, watched=()):
     return {one.kind for one in order_rule.told(unit, "k", watched)}
 
 
-def rows_by_all_orders(folder):
+def rows_by_all_orders(folder: str) -> Iterator[bool]:
     """A row has several outcomes exactly where a class is told."""
     from orders.choosers import outcomes, seen
 
     for _, due, text in ROWS:
         if "enum" not in text:
             unit = unit_of(text)
-            of_each = [outcomes(unit, "k", args, [1, 2, 3])[1] for args in TWO_OUTCOMES_AT]
+            of_each = [outcomes(unit, "k", list(args), [1, 2, 3])[1] for args in TWO_OUTCOMES_AT]
             yield any(len({seen(one) for one in found}) > 1 for found in of_each) == (due != "")
 
 
-def some_inputs(seed, count):
+def some_inputs(seed: int, count: int) -> list[Given]:
     """Inputs that are drawn, so many, each with twelve answers."""
     made = random.Random(seed)
     return [([made.randint(-1, 4), made.randint(-2, 3)], [made.randint(0, 3) for _ in range(12)]) for _ in range(count)]
 
 
-def random_programs(first, count):
-    """Programs with what is told of them."""
+def random_programs(first: int, count: int) -> Iterator[tuple[int, str, set[str]]]:
+    """Programs that are drawn by so many seeds from the first one on, each with its seed and the classes that the rule
+    tells of it."""
     from orders.programs import Programs
 
     for seed in range(first, first + count):
@@ -203,7 +208,7 @@ def random_programs(first, count):
         yield seed, text, classes_of(text)
 
 
-def programs_by_all_orders(folder):
+def programs_by_all_orders(folder: str) -> Iterator[bool]:
     """What nothing is told of has one outcome; what is told for its end alone returns by all orders or by none, and so on."""
     from orders.choosers import outcomes, seen
 
@@ -222,7 +227,7 @@ def programs_by_all_orders(folder):
     yield differ > 10  # so the programs have orders that can be told apart
 
 
-def watched_by_all_orders(folder):
+def watched_by_all_orders(folder: str) -> Iterator[bool]:
     """With all variables of the file watched, calls begin and end among the same values by all orders, where nothing is told."""
     from orders.choosers import outcomes, seen
 
@@ -237,7 +242,7 @@ def watched_by_all_orders(folder):
 # ---- compilers
 
 
-def fails(folder, text, inputs, compiler):
+def fails(folder: str, text: str, inputs: Sequence[Given], compiler: str) -> bool:
     """Whether a compiler gives another result than FShell on one of the inputs. Raises ValueError where no harness
     is written."""
     put(folder, {"a.c": text, "in": json.dumps([{"args": args, "answers": answers} for args, answers in inputs])})
@@ -254,16 +259,16 @@ def fails(folder, text, inputs, compiler):
 OTHERS = {"read call": {"clang"}, "index store": {"gcc"}, "arguments": {"gcc"}, "lent twice": {"gcc", "clang"}}
 
 
-def rows_by_compilers(folder):
+def rows_by_compilers(folder: str) -> Iterator[bool]:
     """A compiler may take another order where a class is told, and some do; where nothing is told, none does."""
     for name, due, text in ROWS:
         if due in ("", "value") and "case 1: int" not in text:
-            inputs = [(list(args), []) for args in TWO_OUTCOMES_AT]
+            inputs: list[Given] = [(list(args), []) for args in TWO_OUTCOMES_AT]
             differ = {one for one in ("gcc", "clang") if fails(folder, text, inputs, one)}
             yield differ >= OTHERS.get(name, set()) if due else not differ
 
 
-def programs_by_compilers(folder):
+def programs_by_compilers(folder: str) -> Iterator[bool]:
     """Random programs: those of which nothing is told give by gcc and clang what FShell gives."""
     for seed, text, told_of in random_programs(5000, 40):
         if not told_of - {"strict", "end"}:

@@ -1,9 +1,12 @@
 """What bin/test compares of the pages: each check finds the fault that a page is given here, and none in the page as it is."""
 
+from collections.abc import Iterator
+
 import crates
 import decisions
 import documents
 import figures
+import lists
 import proved
 import releases
 from pages import text_of
@@ -69,7 +72,7 @@ CHANGES = """# Changelog
 """
 
 
-def of_decisions(folder):
+def of_decisions(folder: str) -> Iterator[bool]:
     yield decisions.faults(DECISIONS) == []
     yield decisions.index(DECISIONS) == "- [Names](#names)\n  - [Newer](#newer)\n  - [Older](#older)\n"
     for before, after in (
@@ -83,14 +86,16 @@ def of_decisions(folder):
         yield len(decisions.faults(DECISIONS.replace(before, after))) >= 1
 
 
-def of_the_gate(folder):
+def of_the_gate(folder: str) -> Iterator[bool]:
     yield figures.faults(GATE) == []
     yield len(figures.faults(GATE.replace("| 120 |", "| 121 |"))) == 1
     yield len(figures.faults(GATE.replace("| 149 |", "| |"))) == 1
     yield len(figures.faults("## The gate\n\nNo table.\n")) == 1
+    yield figures.untold("3 s, 5 MB, 2 to 4 KB", "2, 3 and 4 s in 5 MB, 1 to 4 KB") == []
+    yield figures.untold("9 s, 2 to 5 s, 5 MB", "19 s, 2 to 4 s, 5 ms") == ["9 s", "2 to 5 s", "5 MB"]
 
 
-def of_releases(folder):
+def of_releases(folder: str) -> Iterator[bool]:
     yield releases.faults(CHANGES) == []
     for before, after in (
         ("2026-11-29", "2026-11-30"),
@@ -101,15 +106,20 @@ def of_releases(folder):
         yield len(releases.faults(CHANGES.replace(before, after))) >= 1
 
 
-def of_headings(folder):
+def of_headings(folder: str) -> Iterator[bool]:
     """A heading of another page by its name, one of the page's own, and a link."""
     text = '# A\n\n## Own part\n\nSee `CI.md`, "Jenkins", and the part ("Own part"), [here](#own-part).\n'
     yield documents.wrong_headings("docs/A.md", text) == []
-    for before, after in (("Jenkins", "Nobody"), ('("Own part")', '("Other part")'), ("#own-part", "#other"), ("`CI.md`", "`NONE.md`")):
+    for before, after in (
+        ("Jenkins", "Nobody"),
+        ('("Own part")', '("Other part")'),
+        ("#own-part", "#other"),
+        ("`CI.md`", "`NONE.md`"),
+    ):
         yield len(documents.wrong_headings("docs/A.md", text.replace(before, after))) == 1
 
 
-def of_what_is_proved(folder):
+def of_what_is_proved(folder: str) -> Iterator[bool]:
     """A section of the page, which loses a call, a definition or a part."""
     text = text_of(crates.PROVED)
     section = dict(crates.sections(text))["sample"]
@@ -119,7 +129,29 @@ def of_what_is_proved(folder):
     yield len(proved.faults_of("sample", section.replace("*Refuses*", "*Denies*"))) == 1
     yield len(proved.faults_of("sample", section + "\n| `NoSuchThing` | nothing | `specs/Sample.antt` |\n")) == 1
     yield proved.unknown("`sample_query` and `no_name_of_a_crate`") == ["no crate has no_name_of_a_crate"]
-    yield [fault for fault in proved.faults("# Page\n\n" + "x" * 301 + "\n\n## Ground\n") if fault.startswith("line 3 has 301")] != []
+    yield [
+        fault
+        for fault in proved.faults("# Page\n\n" + "x" * 301 + "\n\n## Ground\n")
+        if fault.startswith("line 3 has 301")
+    ] != []
 
 
-TRIED = [((), case) for case in (of_decisions, of_the_gate, of_releases, of_headings, of_what_is_proved)]
+def of_lists(folder: str) -> Iterator[bool]:
+    """What a landing page names, and a tool that nobody tries."""
+    page, of_commands, of_tools = (
+        "`runs`, `prove`, `check`, `bin/page`, `docs/A.md`\n",
+        "## runs\n\n## prove and check\n",
+        "## bin/page\n",
+    )
+    given = (of_commands, of_tools, ["docs/A.md"])
+    yield lists.faults(page, *given) == [] and lists.without_cases(of_tools + "## bin/package\n") == []
+    for name in ("runs", "check", "bin/page", "docs/A.md"):
+        yield lists.faults(page.replace(f"`{name}`", name), *given) == [f"it doesn't name `{name}`"]
+    yield lists.faults(page + "word " * 894, *given) == []
+    yield len(lists.faults(page + "word " * 895, *given)) == 1
+    yield lists.without_cases(of_tools + "## bin/nothing\n") == ["nothing has no cases"]
+    named = "Kit: `rattle-kit-1 logic a1` (`rt version`).\n"
+    yield lists.of_kit(named, "rattle-kit-1 logic a1") == [] and len(lists.of_kit(named, "rattle-kit-2 logic a1")) == 1
+
+
+TRIED = [((), case) for case in (of_decisions, of_the_gate, of_releases, of_headings, of_what_is_proved, of_lists)]

@@ -22,7 +22,7 @@ int press(int times) {
   }
   return lamp;
 }
-"""}
+"""}  # fmt: skip
 TOML = """[module]
 sources = ["lamp.c"]
 
@@ -42,7 +42,9 @@ requirements = true
 [requirements]
 file = "needs.toml"
 """
-LAMP["needs.toml"] = """[[requirement]]
+LAMP[
+    "needs.toml"
+] = """[[requirement]]
 id = "R-1"
 text = "A press of the key turns the lamp on."
 

@@ -10,9 +10,10 @@ import re
 import shutil
 import subprocess
 import xml.etree.ElementTree as ET
+from collections.abc import Iterator
 
 import programs
-from tool_tests import put, run
+from tool_tests import captured, put, run
 
 PLAYED = {
     "sudo": '#!/bin/sh\nexec "$@"\n',
@@ -29,21 +30,26 @@ sys.exit(max(job.wait() for job in jobs))
 }
 
 
-def sections():
+def sections() -> dict[str, str]:
     """The code of docs/CI.md under each heading."""
     with open(os.path.join(programs.ROOT, "docs", "CI.md"), encoding="utf-8") as file:
         parts = re.split(r"^## (.+)$", file.read(), flags=re.MULTILINE)
-    return {name: "".join(line[4:] + "\n" for line in text.split("\n") if line.startswith("    ")) for name, text in zip(parts[1::2], parts[2::2])}
+    return {
+        name: "".join(line[4:] + "\n" for line in text.split("\n") if line.startswith("    "))
+        for name, text in zip(parts[1::2], parts[2::2])
+    }
 
 
-def machine(folder):
+def machine(folder: str) -> tuple[dict[str, str], str]:
     """The environment of a machine on which the package isn't installed yet, and the module with the package beside it."""
     put(folder, {f"played/{name}": text for name, text in PLAYED.items()})
     for name in PLAYED:
         os.chmod(os.path.join(folder, "played", name), 0o755)
     root, module = os.path.join(folder, "root"), os.path.join(folder, "module")
     os.mkdir(root)
-    shutil.copytree(os.path.join(programs.ROOT, "examples", "module"), module, ignore=shutil.ignore_patterns("fshell.out"))
+    shutil.copytree(
+        os.path.join(programs.ROOT, "examples", "module"), module, ignore=shutil.ignore_patterns("fshell.out")
+    )
     made = run(folder, ["package", "--version", "1"]).stdout.strip()
     shutil.copy(os.path.join(folder, made), os.path.join(module, "fshell.deb"))
     own = {name: value for name, value in os.environ.items() if name != "FSHELL"}
@@ -51,17 +57,19 @@ def machine(folder):
     return {**own, "PATH": path, "ROOT": root}, module
 
 
-def ended(command, env, module):
+def ended(command: str, env: dict[str, str], module: str) -> subprocess.CompletedProcess[str]:
     """How a command of a recipe ends in the module's folder."""
-    return subprocess.run(["sh", "-e", "-c", command], cwd=module, env=env, stdin=subprocess.DEVNULL, capture_output=True, text=True)
+    return subprocess.run(
+        ["sh", "-e", "-c", command], cwd=module, env=env, stdin=subprocess.DEVNULL, capture_output=True, text=True
+    )
 
 
-def are_files(module, *names):
+def are_files(module: str, *names: str) -> bool:
     """Whether what a server is given is there; lines of warnings may be none."""
     return all(os.path.getsize(os.path.join(module, name)) > 0 or name.endswith("warnings.txt") for name in names)
 
 
-def servers(folder):
+def servers(folder: str) -> Iterator[bool]:
     """GitHub Actions, GitLab and Jenkins, one after the other in one workspace, as caches keep fshell.out."""
     import yaml
 
@@ -73,7 +81,11 @@ def servers(folder):
     for command in commands:
         yield ended(command, env, module).returncode == 0
     given = [step.get("with", {}) for step in steps]
-    yield are_files(module, *(one["sarif_file"] for one in given if "sarif_file" in one), *(one["path"] for one in given if "path" in one))
+    yield are_files(
+        module,
+        *(one["sarif_file"] for one in given if "sarif_file" in one),
+        *(one["path"] for one in given if "path" in one),
+    )
     yield {one["path"] for one in given if "path" in one} == {"fshell.out", "fshell.out/report"}
 
     job = yaml.safe_load(code["GitLab"])["fshell"]
@@ -82,14 +94,19 @@ def servers(folder):
     share = re.search(job["coverage"].strip("/"), told[-1].stdout)
     yield share is not None and share[1] == "100"
     reports = job["artifacts"]["reports"]
-    yield are_files(module, *job["artifacts"]["paths"], *job["cache"]["paths"], reports["junit"], reports["coverage_report"]["path"])
-    yield reports["coverage_report"]["coverage_format"] == "cobertura" and ET.parse(os.path.join(module, reports["junit"])).getroot().tag == "testsuites"
+    yield are_files(
+        module, *job["artifacts"]["paths"], *job["cache"]["paths"], reports["junit"], reports["coverage_report"]["path"]
+    )
+    yield reports["coverage_report"]["coverage_format"] == "cobertura" and ET.parse(
+        os.path.join(module, reports["junit"])
+    ).getroot().tag == "testsuites"
 
     text = code["Jenkins"]
     commands = re.findall(r"sh '([^']*)'", text)
     yield commands == ["fshell-project run"] and ended(commands[0], env, module).returncode == 0
     patterns = re.findall(r"(?:pattern:|junit) '([^']*)'", text)
-    folder_of, page = re.search(r"reportDir: '([^']*)', reportFiles: '([^']*)'", text).groups()
+    folder_of = captured(r"reportDir: '([^']*)', reportFiles: '[^']*'", text)
+    page = captured(r"reportDir: '[^']*', reportFiles: '([^']*)'", text)
     yield len(patterns) == 4 and are_files(module, *patterns, os.path.join(folder_of, page))
     yield text.count("{") == text.count("}") and text.count("[") == text.count("]")
 
@@ -99,7 +116,7 @@ def servers(folder):
     yield since.returncode == 0 and "0 new, 0 gone, 0 newly covered, 0 lost" in since.stderr
 
 
-def slurm(folder):
+def slurm(folder: str) -> Iterator[bool]:
     """Each entry by a process of its own in one work folder; the last command does what is left, and writes the report."""
     env, module = machine(folder)
     yield ended("apt-get install -y ./fshell.deb", env, module).returncode == 0

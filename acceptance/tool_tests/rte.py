@@ -5,9 +5,11 @@ import json
 import os
 import subprocess
 import sys
+from collections.abc import Callable, Iterator, Sequence
+from typing import Any
 
 import programs
-from tool_tests import Case, put, run
+from tool_tests import Case, put, run, told
 
 GRAPH = ("graph",)
 BAD = """int table[4] = {1, 2, 3, 4};
@@ -34,7 +36,7 @@ GOOD = (
     .replace("return s + ratio(100, n)", "return n ? s + ratio(100, n) : s")
 )
 # C11 6.5.5p5, 6.5.6p8, 6.5.7p3, 7.2.1.1: the operation, and which inputs end there though those before didn't
-PLANTED = {
+PLANTED: dict[str, tuple[str, str, Callable[[int, int], bool]]] = {
     "a.c:3:12": ("division a / b", "trapped zero-divisor", lambda a, n: n == 0 and a != 77),
     "a.c:8:14": ("index table[n]", "trapped index", lambda a, n: n == 4),
     "a.c:11:13": ("shift 1u << a", "trapped shift", lambda a, n: a == 32 and n not in (0, 4)),
@@ -78,14 +80,11 @@ VALUE = "int g = 1;\nint h(void) {\n  g = 5;\n  return 1;\n}\nint f(unsigned cha
 ENDS = "int deep(int n) {\n  return deep(n);\n}\nint f(int x) {\n  assume(x != 3);\n  return x == 5 ? deep(x) : 0;\n}\n"
 
 
-def told(*lines):
-    """Lines as a text."""
-    return "".join(line + "\n" for line in lines)
-
-
-def one(name, text, words, status, stdout):
+def one(name: str, text: str, words: Sequence[str], status: int, stdout: str | None) -> Case:
     """A case of one source."""
-    return Case(f"rte: {name}", ["rte", "f", "a.c", "-o", "d", *words], {"a.c": text}, status, stdout, written=None, needs=GRAPH)
+    return Case(
+        f"rte: {name}", ["rte", "f", "a.c", "-o", "d", *words], {"a.c": text}, status, stdout, written=None, needs=GRAPH
+    )
 
 
 CASES = [
@@ -114,26 +113,26 @@ CASES = [
 ]  # fmt: skip
 
 
-def wrong_words(folder):
+def wrong_words(folder: str) -> Iterator[bool]:
     """What isn't called as it is told is one line behind the usage, and status 2."""
-    for words in ([], ["f"], ["f", "a.c"], ["f", "a.c", "-o", "d", "--ends", "returned"], ["f", "a.c", "-o", "d", "--turns", "x"]):
-        ended = run(folder, ["rte", *words])
+    for words in ("", "f", "f a.c", "f a.c -o d --ends returned", "f a.c -o d --turns x"):
+        ended = run(folder, ["rte", *words.split()])
         yield ended.returncode == 2 and ended.stdout == "" and ended.stderr.splitlines()[-1].startswith("rte: error: ")
         yield not os.path.exists(os.path.join(folder, "d"))
 
 
-def report(folder, name="d"):
+def report(folder: str, name: str = "d") -> Any:
     """The JSON of a folder."""
     with open(os.path.join(folder, name, "rte.json"), encoding="utf-8") as file:
         return json.load(file)
 
 
-def program(folder, *words):
+def program(folder: str, *words: str) -> subprocess.CompletedProcess[str]:
     """How the program ends in a folder."""
     return subprocess.run([programs.LAUNCHER, *words], cwd=folder, capture_output=True, text=True)
 
 
-def planted_faults_are_red(folder):
+def planted_faults_are_red(folder: str) -> Iterator[bool]:
     """Each is told at its place with an input of the set that C11 gives by hand, which `runs` ends so."""
     put(folder, {"a.c": BAD})
     ended = run(folder, ["rte", "f", "a.c", "-o", "d"])
@@ -150,7 +149,7 @@ def planted_faults_are_red(folder):
         yield [made["args"] for made in json.load(file)] == [row["input"]["args"] for row in rows]
 
 
-def gcc_says_the_same(folder):
+def gcc_says_the_same(folder: str) -> Iterator[bool]:
     """gcc's sanitizer stops each of these inputs at the same line and column, and an assert by itself."""
     put(folder, {"a.c": BAD, "m.c": "#include <assert.h>\n#include <stdlib.h>\n#include \"a.c\"\n"
                  "int main(int c, char **v) { return f(atoi(v[1]), atoi(v[2])) == -1; }\n"})  # fmt: skip
@@ -165,7 +164,7 @@ def gcc_says_the_same(folder):
         yield ended.returncode != 0 and due in ended.stderr
 
 
-def certificates_stand_alone(folder):
+def certificates_stand_alone(folder: str) -> Iterator[bool]:
     """The repaired module has no fault: each certificate is accepted by a process of its own, and none lacks but the exit's."""
     put(folder, {"a.c": GOOD})
     ended = run(folder, ["rte", "f", "a.c", "-o", "d"])
@@ -184,7 +183,7 @@ def certificates_stand_alone(folder):
         yield is_exit or program(folder, "check", "f", query, number, path, "a.c", "--ends", "trapped").returncode == 0
 
 
-def a_folder_goes_on(folder):
+def a_folder_goes_on(folder: str) -> Iterator[bool]:
     """What is there is checked again; what is wrong is made anew, and another question is refused."""
     put(folder, {"a.c": GOOD, "b.c": DEAD})
     first = run(folder, ["rte", "f", "a.c", "-o", "d"])
@@ -206,7 +205,7 @@ def a_folder_goes_on(folder):
     yield ended.returncode == 2 and "changed since" in ended.stderr
 
 
-def an_input_that_is_wrong_isnt_told(folder):
+def an_input_that_is_wrong_isnt_told(folder: str) -> Iterator[bool]:
     put(folder, {"a.c": BAD})
     first = run(folder, ["rte", "f", "a.c", "-o", "d"])
     made = json.loads(json.dumps(report(folder)))
@@ -220,17 +219,19 @@ def an_input_that_is_wrong_isnt_told(folder):
     yield len(made["rows"]) == 4 and " never" not in again.stdout
 
 
-def bounds_that_are_left(folder):
+def bounds_that_are_left(folder: str) -> Iterator[bool]:
     """8 / (i + 1) divides by no 0, but a run with n above 2 has more turns; so nothing is said beyond the bounds."""
     put(folder, {"a.c": LOOP})
     ended = run(folder, ["rte", "f", "a.c", "-o", "d", "--turns", "2"])
     lines = ended.stdout.splitlines()
     yield ended.returncode == 1 and lines[0] == "a.c:4:11: never within the bounds: division 8 / (i + 1)"
     yield lines[1].startswith("the bounds don't suffice: turn 3 of the loop at a.c:3, by the input args ")
-    yield lines[-1] == "rows 1: 1 never within the bounds" and not os.path.exists(os.path.join(folder, "d", "bounds.cert"))
+    yield lines[-1] == "rows 1: 1 never within the bounds" and not os.path.exists(
+        os.path.join(folder, "d", "bounds.cert")
+    )
 
 
-def an_order_restricts_its_statement(folder):
+def an_order_restricts_its_statement(folder: str) -> Iterator[bool]:
     """Also where it is a declaration, the begin of a loop or a condition; of an `if` the whole is the statement."""
     put(folder, {"a.c": IN_OTHER_FORMS})
     run(folder, ["rte", "f", "a.c", "-o", "d"])
@@ -242,23 +243,33 @@ def an_order_restricts_its_statement(folder):
     yield rows["14:11"]["why"] == "C leaves the order of evaluation open at a.c:13:7 (strict)"
 
 
-def any_ends(folder):
+def any_ends(folder: str) -> Iterator[bool]:
     """With any ends an assume that fails and a call that is too deep are told too."""
     put(folder, {"a.c": ENDS})
     ended = run(folder, ["rte", "f", "a.c", "-o", "d", "--ends", "any", "--frames", "64"])
     rows = {row["place"]: row for row in report(folder)["rows"]}
     yield ended.returncode == 1 and set(rows) == {"a.c:2:10", "a.c:5:3", "a.c:6:19"}
-    yield (rows["a.c:5:3"]["verdict"], rows["a.c:5:3"]["end"], rows["a.c:5:3"]["input"]["args"]) == ("fails", "blocked", [3])
+    yield (rows["a.c:5:3"]["verdict"], rows["a.c:5:3"]["end"], rows["a.c:5:3"]["input"]["args"]) == (
+        "fails",
+        "blocked",
+        [3],
+    )
     yield rows["a.c:5:3"]["what"] == "assume(x != 3)"
-    yield (rows["a.c:2:10"]["what"], rows["a.c:2:10"]["end"], rows["a.c:2:10"]["input"]["args"]) == ("call deep(n)", "too-deep", [5])
+    yield (rows["a.c:2:10"]["what"], rows["a.c:2:10"]["end"], rows["a.c:2:10"]["input"]["args"]) == (
+        "call deep(n)",
+        "too-deep",
+        [5],
+    )
     yield (rows["a.c:6:19"]["what"], rows["a.c:6:19"]["verdict"]) == ("call deep(x)", "never")
 
 
-def a_budget_that_is_spent(folder):
+def a_budget_that_is_spent(folder: str) -> Iterator[bool]:
     """3 is odd, so 17 alone has 3 * 17 = 51 (in 32 bits); one move of the search doesn't find it, and a greater budget goes on."""
     put(folder, {"a.c": "int f(int x) {\n  assert(x * 3 != 51);\n  return x;\n}\n"})
     first = run(folder, ["rte", "f", "a.c", "-o", "d", "--budget", "1"])
-    yield first.returncode == 1 and first.stdout.startswith("a.c:2:3: open: assert(x * 3 != 51): its budget was spent\n")
+    yield first.returncode == 1 and first.stdout.startswith(
+        "a.c:2:3: open: assert(x * 3 != 51): its budget was spent\n"
+    )
     second = run(folder, ["rte", "f", "a.c", "-o", "d"])
     yield second.returncode == 1 and second.stdout.startswith(
         "a.c:2:3: fails: assert(x * 3 != 51): trapped assert by the input args 17\n"
@@ -289,29 +300,39 @@ OF_APART = {
     "f": [("4:12", "fails"), ("4:19", "fails"), ("4:30", "never"), ("4:33", "open"), ("4:53", "never"), ("4:70", "never")],
     "g": [("7:5", "fails"), ("7:14", "never"), ("8:12", "fails"), ("8:23", "open"), ("8:39", "never within the bounds")],
     "h": [("11:3", "fails"), ("11:12", "fails"), ("11:21", "never"), ("12:4", "never"), ("12:16", "fails")],
-}
+}  # fmt: skip
 
 
-def operations_of_one_step(folder):
+def operations_of_one_step(folder: str) -> Iterator[bool]:
     """They are told apart where their operands are plain: one that fails has an input of its own, at which no other one fails."""
     put(folder, {"a.c": APART})
     for entry, due in OF_APART.items():
-        ended = run(folder, ["rte", entry, "a.c", "-o", entry, "--confirm"] if entry != "g" else ["rte", entry, "a.c", "-o", entry])
+        ended = run(
+            folder,
+            ["rte", entry, "a.c", "-o", entry, "--confirm"] if entry != "g" else ["rte", entry, "a.c", "-o", entry],
+        )
         rows = report(folder, entry)["rows"]
         yield [(row["place"].removeprefix("a.c:"), row["verdict"]) for row in rows] == due
         yield (ended.returncode, ended.stderr) == (1, "")
         yield run(folder, ["rte", entry, "a.c", "-o", entry]).stdout.count(": ") > 5
     yield report(folder, "twice")["rows"][0]["what"] == "one of index t[y], index t[y] (a.c:16:18)"
     whys = [row["why"] for entry in "fg" for row in report(folder, entry)["rows"] if row["verdict"] == "open"]
-    yield whys == ["it fails only where another operation of the same step does", "another operation of the same step fails"]
+    yield whys == [
+        "it fails only where another operation of the same step does",
+        "another operation of the same step fails",
+    ]
 
 
-def what_is_told_apart_is_right(folder):
+def what_is_told_apart_is_right(folder: str) -> Iterator[bool]:
     """By all inputs of a small range, each evaluated by hand in C's way: whose operations fail alone, and which never do."""
     put(folder, {"a.c": APART})
     run(folder, ["rte", "f", "a.c", "-o", "f"])
     rows = {row["place"].removeprefix("a.c:"): row for row in report(folder, "f")["rows"]}
-    fails = {"4:12": lambda x, y: x == 0, "4:19": lambda x, y: y & 7 > 3, "4:33": lambda x, y: y == -1}
+    fails: dict[str, Callable[[int, int], bool]] = {
+        "4:12": lambda x, y: x == 0,
+        "4:19": lambda x, y: y & 7 > 3,
+        "4:33": lambda x, y: y == -1,
+    }
     for place in ("4:12", "4:19"):
         args = rows[place]["input"]["args"]
         yield [one for one, of in fails.items() if of(*args)] == [place]
@@ -357,7 +378,7 @@ AT = [(1, 0, "5:19"), (2, 0, "6:21"), (3, 0, "7:29"), (4, 0, "8:34"), (5, 32, "9
       (18, 4, "21:34"), (18, -1, "21:46"), (18, 0, "21:55")]  # fmt: skip
 
 
-def found_by(folder, text, ends="trapped"):
+def found_by(folder: str, text: str, ends: str = "trapped") -> tuple[list[Any], Any]:
     """The operations of a source, and its automaton."""
     put(folder, {"a.c": text})
     sys.path.insert(0, programs.ROOT)
@@ -372,7 +393,7 @@ def found_by(folder, text, ends="trapped"):
         os.chdir(here)
 
 
-def ends_of(folder, graph, inputs):
+def ends_of(folder: str, graph: Any, inputs: Sequence[Sequence[int]]) -> Iterator[tuple[str, int]]:
     """How the run of each input ends, and at which node."""
     put(folder, {"in": "".join(" ".join(map(str, args)) + "\n" for args in inputs)})
     for line in program(folder, "runs", "f", "in", "a.c").stdout.splitlines():
@@ -381,7 +402,7 @@ def ends_of(folder, graph, inputs):
         yield " ".join(words.split()[2:]), graph.edges[int(last[0])].target if last else graph.function("f").entry
 
 
-def operations_have_their_nodes(folder):
+def operations_have_their_nodes(folder: str) -> Iterator[bool]:
     """A run that an operation ends by hand stands at one of its nodes, and where several have it, all are of the same statement."""
     operations, graph = found_by(folder, FORMS)
     from tools.rte_items import CAUSES
@@ -394,7 +415,7 @@ def operations_have_their_nodes(folder):
         yield [one.place for one in there] == [f"a.c:{due}"]  # (also where a statement has several steps)
 
 
-def each_trap_has_its_operation(folder):
+def each_trap_has_its_operation(folder: str) -> Iterator[bool]:
     """Over all inputs of a small range no run is trapped where no operation of that kind is known."""
     operations, graph = found_by(folder, FORMS)
     from tools.rte_items import CAUSES

@@ -6,6 +6,8 @@ import json
 import os
 import re
 import subprocess
+from collections.abc import Callable, Iterator
+from typing import Any
 
 import programs
 from tool_tests import example, put, run
@@ -136,7 +138,7 @@ int g(int n) {
 """
 
 
-def adapted(folder, text, *words):
+def adapted(folder: str, text: str, *words: str) -> tuple[str, list[dict[str, Any]]]:
     """What adapt writes of a source, and the rows of its table."""
     put(folder, {"a.c": text})
     ended = run(folder, ["adapt", "a.c", "-o", "ad", *words])
@@ -148,12 +150,12 @@ def adapted(folder, text, *words):
         return written, json.load(file)["calls"]
 
 
-def without_blanks(text):
-    """A text without its blanks."""
+def without_blanks(text: str) -> list[str]:
+    """The lines of a text, each with one blank in place of several."""
     return [" ".join(line.split()) for line in text.splitlines()]
 
 
-def each_form_is_a_call(folder):
+def each_form_is_a_call(folder: str) -> Iterator[bool]:
     """What can overflow is a call, what can't stays as it is; and each call is told at its operator in the original."""
     written, rows = adapted(folder, FORMS, "--check-overflow")
     for one, due in zip(without_blanks(written), without_blanks(WRITTEN), strict=True):
@@ -161,7 +163,13 @@ def each_form_is_a_call(folder):
     told = [f"{row['place'].removeprefix('a.c:')} {row['what']} {row['text']}" for row in rows]
     yield told == PLACES
     yield adapted(folder, FORMS, "--check-overflow") == (written, rows)
-    put(folder, {"overflow.h": "int own(int x) { return x + 1; }\n", "b.c": '#include "overflow.h"\nint f(int x) { return own(x); }\n'})
+    put(
+        folder,
+        {
+            "overflow.h": "int own(int x) { return x + 1; }\n",
+            "b.c": '#include "overflow.h"\nint f(int x) { return own(x); }\n',
+        },
+    )
     ended = run(folder, ["adapt", "b.c", "-o", "two", "--check-overflow"])
     yield (ended.returncode, ended.stderr) == (2, "adapt: two files are named overflow.h\n")
     for row in rows:
@@ -169,7 +177,7 @@ def each_form_is_a_call(folder):
         yield line[row["column"] - 1 :].startswith(row["function"] + "(")
 
 
-def conversions_are_calls(folder):
+def conversions_are_calls(folder: str) -> Iterator[bool]:
     """With --check-conversions a conversion that may lose the value is a call, and a cast isn't."""
     written, rows = adapted(folder, NARROW, "--check-conversions")
     yield without_blanks(written) == without_blanks(NARROWED)
@@ -180,26 +188,35 @@ def conversions_are_calls(folder):
     ended = run(folder, ["rte", "g", "ad/overflow.h", "ad/a.c", "-o", "d"])
     found = {row["place"]: row["verdict"] for row in report(folder)["rows"] if "place" in row}
     # 70000 never fits, so nothing behind it is reached
-    yield ended.returncode == 1 and (found["a.c:5:15"], found["a.c:7:16"], found["a.c:12:7"]) == ("fails", "fails", "not reached")
+    yield ended.returncode == 1 and (found["a.c:5:15"], found["a.c:7:16"], found["a.c:12:7"]) == (
+        "fails",
+        "fails",
+        "not reached",
+    )
 
 
-def words_that_go_together(folder):
+def words_that_go_together(folder: str) -> Iterator[bool]:
     put(folder, {"a.c": FORMS})
     ended = run(folder, ["adapt", "a.c", "-o", "ad", "--check-overflow", "--compare", "3"])
     yield ended.returncode == 2 and ended.stderr == (
-        "adapt: --compare compares what is written without --check-overflow and --check-conversions\n")
+        "adapt: --compare compares what is written without --check-overflow and --check-conversions\n"
+    )
     yield not os.path.exists(os.path.join(folder, "ad"))
     put(folder, {"b.c": "int f(unsigned x) { return x / 2; }\n"})
     yield run(folder, ["adapt", "b.c", "-o", "new", "--check-overflow"]).returncode == 0
     yield not {"overflow.h", "overflow.json"} & set(os.listdir(os.path.join(folder, "new")))  # (nothing can overflow)
 
 
-def a_broken_table_is_told(folder):
+def a_broken_table_is_told(folder: str) -> Iterator[bool]:
     adapted(folder, "int f(int a) {\n  return a + 1;\n}\n", "--check-overflow")
     for text in ("", "[]", '{"functions": 1, "calls": []}'):
         put(folder, {"ad/overflow.json": text})
         ended = run(folder, ["rte", "f", "ad/overflow.h", "ad/a.c", "-o", "d"])
-        yield (ended.returncode, ended.stdout, ended.stderr) == (2, "", "rte: ad/overflow.json isn't what bin/adapt wrote\n")
+        yield (ended.returncode, ended.stdout, ended.stderr) == (
+            2,
+            "",
+            "rte: ad/overflow.json isn't what bin/adapt wrote\n",
+        )
     # without the table the asserts of the header are rows
     os.remove(os.path.join(folder, "ad", "overflow.json"))
     ended = run(folder, ["rte", "f", "ad/overflow.h", "ad/a.c", "-o", "e"])
@@ -209,13 +226,13 @@ def a_broken_table_is_told(folder):
 # ---- the modules of examples/rte
 
 
-def verdicts_of(text):
+def verdicts_of(text: str) -> dict[int, str]:
     """What the comments behind lines say of their operations; a line without one has operations that never fail."""
     return {number: found[1] for number, line in enumerate(text.splitlines(), 1)
             if (found := re.search(r"/\* (never|never within the bounds|fails|not reached|open) \*/", line))}  # fmt: skip
 
 
-def eight_of_each_verdict(folder):
+def eight_of_each_verdict(folder: str) -> Iterator[bool]:
     text = example("rte/gauge.c")
     put(folder, {"gauge.c": text})
     ended = run(folder, ["rte", "gauge", "gauge.c", "-o", "d"])
@@ -226,7 +243,7 @@ def eight_of_each_verdict(folder):
     yield {int(row["place"].split(":")[1]) for row in rows} == set(due)
 
 
-def scale(folder):
+def scale(folder: str) -> tuple[bool, list[dict[str, Any]], str]:
     """The rows of examples/rte/scale.c."""
     put(folder, {"scale.c": example("rte/scale.c")})
     made = run(folder, ["adapt", "scale.c", "-o", "ad", "--check-overflow"])
@@ -235,20 +252,22 @@ def scale(folder):
 
 
 # what was planted, by hand: the line, the kind, gcc's word, and which inputs reach it (raw, channel, count)
-PLANTED = {
+PLANTED: dict[int, tuple[str, str, Callable[[int, int, int], bool]]] = {
     18: ("index", "runtime error: index 4 out of bounds", lambda raw, channel, count: channel == 4),
     19: ("overflow", "runtime error: signed integer overflow", lambda raw, channel, count: channel == 3 and raw * 40000 > 2147483647),
     31: ("division", "runtime error: division by zero", lambda raw, channel, count: count == 0),
     39: ("shift", "runtime error: shift exponent 32 is too large", lambda raw, channel, count: count == 32),
-}
+}  # fmt: skip
 
 
-def planted_faults_are_red(folder):
+def planted_faults_are_red(folder: str) -> Iterator[bool]:
     """Each at its line, with an input of the set that C11 gives by hand; the original, compiled by gcc with its sanitizers, says the
     same of that input at that line. All other operations are green."""
     went, rows, stdout = scale(folder)
     fails = {int(row["place"].split(":")[1]): row for row in rows if row["verdict"] == "fails"}
-    yield went and set(fails) == set(PLANTED) == {line for line, one in verdicts_of(example("rte/scale.c")).items() if one == "fails"}
+    yield went and set(fails) == set(PLANTED) == {
+        line for line, one in verdicts_of(example("rte/scale.c")).items() if one == "fails"
+    }
     put(folder, {"m.c": '#include <stdlib.h>\n#include "scale.c"\nint main(int c, char **v) '
                  "{ return measure(atoi(v[1]), atoi(v[2]), atoi(v[3])) == -1; }\n"})  # fmt: skip
     words = ["gcc", "-w", "-fsanitize=undefined", "-fno-sanitize-recover=all", "m.c", "-o", "m"]
@@ -258,17 +277,21 @@ def planted_faults_are_red(folder):
         yield row["operations"][0]["kind"] == kind and is_right(*args)
         ended = subprocess.run(["./m", *map(str, args)], cwd=folder, capture_output=True, text=True)
         yield ended.returncode != 0 and f"scale.c:{line}:" in ended.stderr and word in ended.stderr
-        yield row["gcc"] in word.replace("runtime error: ", "") or row["gcc"].startswith(word.replace("runtime error: ", ""))
+        yield row["gcc"] in word.replace("runtime error: ", "") or row["gcc"].startswith(
+            word.replace("runtime error: ", "")
+        )
         yield f"  to repeat it: d/failures {row['failure']}\n  gcc: {row['gcc']}\n" in stdout
     yield len(rows) == 12 and all(row["verdict"] == "never" for row in rows if row not in fails.values())
     # all rows are told as the original has them, by the map beside what was written
-    yield all(row["place"].startswith("scale.c:") for row in rows) and fails[18]["what"] == "index channels.gain[channel]"
+    yield all(row["place"].startswith("scale.c:") for row in rows) and fails[18][
+        "what"
+    ] == "index channels.gain[channel]"
     run(folder, ["page", "d", "-o", "p.html"])
     with open(os.path.join(folder, "p.html"), encoding="utf-8") as file:
         yield re.findall("<h2>(.*?)</h2>", file.read()) == ["scale.c"]
 
 
-def green_rows_are_certified(folder):
+def green_rows_are_certified(folder: str) -> Iterator[bool]:
     """Each certificate of each green row is accepted by `check`, and that of the bounds by `check-bounds`, each in a process of its
     own that is told nothing else; a certificate of another goal isn't."""
     _, rows, _ = scale(folder)
@@ -290,14 +313,18 @@ def green_rows_are_certified(folder):
     yield program(folder, *words).returncode != 0
 
 
-def failures_are_repeated(folder):
+def failures_are_repeated(folder: str) -> Iterator[bool]:
     """failures.c is compiled by the command that is told, alone, and each number ends as its row says."""
     put(folder, {"a.c": "int in(void);\nint t[3];\nint f(int x) {\n  assert(x != 7);\n  int y = in();\n  if (x == 8) {\n    return t[y];\n  }\n"
                  "  if (x == 9) {\n    return 5 % y;\n  }\n  return 0;\n}\n"})  # fmt: skip
     ended = run(folder, ["rte", "f", "a.c", "-o", "d"])
     how = next(line for line in ended.stdout.splitlines() if line.startswith("failures are repeated by "))
     yield subprocess.run(how.removeprefix("failures are repeated by ").split(), cwd=folder).returncode == 0
-    due = {"assert": "a.c:4: an assert failed", "index": "out of bounds for type 'int [3]'", "remainder": "division by zero"}
+    due = {
+        "assert": "a.c:4: an assert failed",
+        "index": "out of bounds for type 'int [3]'",
+        "remainder": "division by zero",
+    }
     rows = report(folder)["rows"]
     yield [row["operations"][0]["kind"] for row in rows] == list(due)
     for row in rows:
@@ -307,7 +334,7 @@ def failures_are_repeated(folder):
         yield subprocess.run(["d/failures", word], cwd=folder, capture_output=True).returncode == 2
 
 
-def other_programs_read_it(folder):
+def other_programs_read_it(folder: str) -> Iterator[bool]:
     """SARIF has a result for each row that isn't green, at its place, with the level of its rule."""
     put(folder, {"gauge.c": example("rte/gauge.c")})
     run(folder, ["rte", "gauge", "gauge.c", "-o", "d"])
@@ -315,7 +342,9 @@ def other_programs_read_it(folder):
     with open(os.path.join(folder, "d", "rte.sarif"), encoding="utf-8") as file:
         log = json.load(file)
     (one,) = log["runs"]
-    yield log["version"] == "2.1.0" and one["originalUriBaseIds"]["SRCROOT"]["uri"] == f"file://{os.path.realpath(folder)}/"
+    yield log["version"] == "2.1.0" and one["originalUriBaseIds"]["SRCROOT"][
+        "uri"
+    ] == f"file://{os.path.realpath(folder)}/"
     levels = {"fails": "error", "open": "warning", "never within the bounds": "warning", "not reached": "note"}
     yield len(one["results"]) == len(rows) == 32
     for result, row in zip(one["results"], rows):
@@ -326,7 +355,7 @@ def other_programs_read_it(folder):
         yield one["tool"]["driver"]["rules"][result["ruleIndex"]]["id"] == result["ruleId"]
 
 
-def a_page_has_each_row(folder):
+def a_page_has_each_row(folder: str) -> Iterator[bool]:
     """Each row with its verdict by a word, a sign and a colour of its own; a mark at each line; commands that check, as they stand."""
     put(folder, {"gauge.c": example("rte/gauge.c")})
     run(folder, ["rte", "gauge", "gauge.c", "-o", "d"])
@@ -341,7 +370,9 @@ def a_page_has_each_row(folder):
     commands = [line for line in re.findall(r"<pre>(.*?)</pre>", text) if line.startswith("fshell check")][:3]
     for line in commands:
         plain = line.replace("&#39;", "'").replace("&gt;", ">").replace("&lt;", "<").replace("&amp;", "&")
-        said = subprocess.run(plain.replace("fshell", programs.LAUNCHER, 1), cwd=folder, shell=True, capture_output=True)
+        said = subprocess.run(
+            plain.replace("fshell", programs.LAUNCHER, 1), cwd=folder, shell=True, capture_output=True
+        )
         yield said.returncode == 0
     yield len(commands) == 3
     ended = run(folder, ["page", "d", "d", "-o", "q.html"])
@@ -351,12 +382,15 @@ def a_page_has_each_row(folder):
     yield (ended.returncode, ended.stderr) == (2, "page: d has no whole rte.json\n")
 
 
-def colours_have_contrast(folder):
+def colours_have_contrast(folder: str) -> Iterator[bool]:
     from tool_tests.page import contrast
 
     with open(os.path.join(programs.ROOT, "tools", "page_rte.html"), encoding="utf-8") as file:
         text = file.read()
-    themes = [dict(re.findall(r"--([a-z]+): (#[0-9a-f]{6});", rest)) for rest in re.findall(r"color-scheme: (?:light|dark);(.*?)[}{]", text, re.DOTALL)]
+    themes = [
+        dict(re.findall(r"--([a-z]+): (#[0-9a-f]{6});", rest))
+        for rest in re.findall(r"color-scheme: (?:light|dark);(.*?)[}{]", text, re.DOTALL)
+    ]
     yield len(themes) == 2
     for theme in themes:
         for mark in ("never", "fails", "within", "open", "unreached"):
@@ -364,7 +398,7 @@ def colours_have_contrast(folder):
         yield contrast(theme["text"], theme["ground"]) >= 4.5 and contrast(theme["quiet"], theme["ground"]) >= 4.5
 
 
-def a_stopped_run_goes_on(folder):
+def a_stopped_run_goes_on(folder: str) -> Iterator[bool]:
     """What was found stays where a run is killed, with any number of jobs; the rows are those of a run that wasn't."""
     put(folder, {"gauge.c": example("rte/gauge.c")})
     whole = run(folder, ["rte", "gauge", "gauge.c", "-o", "whole"]).stdout.replace("whole/", "d/")

@@ -3,6 +3,7 @@
 import json
 import os
 import subprocess
+from collections.abc import Iterator
 
 import programs
 from tool_tests import example, put, run
@@ -11,13 +12,18 @@ from tool_tests.project_files import DIRECTORY, LAMP, TESTS, TOML
 SCHEMAS = os.path.join(programs.HERE, "schemas")
 
 
-def is_valid(path, schema):
+def is_valid(path: str, schema: str) -> bool:
     """Whether a file of XML meets a schema or a DTD."""
     word = "--dtdvalid" if schema.endswith(".dtd") else "--schema"
-    return subprocess.run(["xmllint", "--noout", "--nonet", word, os.path.join(SCHEMAS, schema), path], capture_output=True).returncode == 0
+    return (
+        subprocess.run(
+            ["xmllint", "--noout", "--nonet", word, os.path.join(SCHEMAS, schema), path], capture_output=True
+        ).returncode
+        == 0
+    )
 
 
-def a_module(folder):
+def a_module(folder: str) -> Iterator[bool]:
     """The report's folder of a module whose gate fails, with findings and a lost goal; names have marks of XML and bytes above 127."""
     toml = TOML.replace("at-least = 100", "at-least = 100\nno-run-time-errors = true")
     put(folder, {**LAMP, "fshell.toml": toml, "tests.json": TESTS.replace("TC-1", 'ä<&\\"')})
@@ -27,31 +33,36 @@ def a_module(folder):
     yield run(folder, ["project", "run", "--since", "before"]).returncode == 1
 
 
-def at(folder, name):
+def at(folder: str, name: str) -> str:
     """The path of a file of the report."""
     return os.path.join(folder, DIRECTORY, "report", name)
 
 
-def junit_and_cobertura(folder):
+def junit_and_cobertura(folder: str) -> Iterator[bool]:
     yield from a_module(folder)
     yield is_valid(at(folder, "junit.xml"), "junit-10.xsd") and is_valid(at(folder, "cobertura.xml"), "coverage-04.dtd")
     # (the schema does refuse: a case without a name, a suite without its count)
     with open(at(folder, "junit.xml"), encoding="utf-8") as file:
         text = file.read()
     for old, new in (('" name="', '" nome="'), (' tests="', ' texts="'), ("<failure ", "<lapse ")):
-        put(folder, {"bad.xml": text.replace(old, new).replace("</failure>", "</lapse>" if "lapse" in new else "</failure>")})
+        put(
+            folder,
+            {"bad.xml": text.replace(old, new).replace("</failure>", "</lapse>" if "lapse" in new else "</failure>")},
+        )
         yield old in text and not is_valid(os.path.join(folder, "bad.xml"), "junit-10.xsd")
 
 
-def a_harness_as_junit(folder):
+def a_harness_as_junit(folder: str) -> Iterator[bool]:
     put(folder, {"clamp.c": example("clamp/clamp.c"), "in.txt": example("clamp/in.txt")})
     run(folder, ["harness", "clamp", "in.txt", "clamp.c", "-o", "tests.c"])
     yield subprocess.run(["gcc", "-fwrapv", "-o", "tests", "tests.c"], cwd=folder).returncode == 0
-    put(folder, {"tests.xml": subprocess.run(["./tests", "--junit"], cwd=folder, capture_output=True, text=True).stdout})
+    put(
+        folder, {"tests.xml": subprocess.run(["./tests", "--junit"], cwd=folder, capture_output=True, text=True).stdout}
+    )
     yield is_valid(os.path.join(folder, "tests.xml"), "junit-10.xsd")
 
 
-def sarif(folder):
+def sarif(folder: str) -> Iterator[bool]:
     import jsonschema
 
     with open(os.path.join(SCHEMAS, "sarif-2.1.0.json"), encoding="utf-8") as file:
@@ -62,7 +73,12 @@ def sarif(folder):
     value = json.loads(text)
     yield len(value["runs"][0]["results"]) >= 1 and not list(checker.iter_errors(value))
     # (the schema does refuse: another version, a result without a message, a line 0, a property that there isn't)
-    for old, new in (('"2.1.0"', '"2.0.0"'), ('"message": {', '"massage": {'), ('"startLine": ', '"startLine": -'), ('"ruleId"', '"ruleID"')):
+    for old, new in (
+        ('"2.1.0"', '"2.0.0"'),
+        ('"message": {', '"massage": {'),
+        ('"startLine": ', '"startLine": -'),
+        ('"ruleId"', '"ruleID"'),
+    ):
         yield old in text and bool(list(checker.iter_errors(json.loads(text.replace(old, new)))))
 
 

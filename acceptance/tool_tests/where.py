@@ -3,6 +3,7 @@
 import os
 import shutil
 import subprocess
+from collections.abc import Iterator
 
 import programs
 from tool_tests import SECONDS, put, run
@@ -22,7 +23,7 @@ SMALL = {
 }
 
 
-def asked(folder, *words):
+def asked(folder: str, *words: str) -> tuple[int, str, str]:
     """How bin/where ends in the small repository, with what it prints."""
     for name in ("where", "common.sh"):
         os.makedirs(os.path.join(folder, "bin"), exist_ok=True)
@@ -33,7 +34,7 @@ def asked(folder, *words):
     return ended.returncode, ended.stdout, ended.stderr
 
 
-def documents_come_first_then_files_the_lowest_crate_first(folder):
+def documents_come_first_then_files_the_lowest_crate_first(folder: str) -> Iterator[bool]:
     put(folder, SMALL)
     yield asked(folder, "count") == (
         0,
@@ -45,13 +46,13 @@ def documents_come_first_then_files_the_lowest_crate_first(folder):
     )
 
 
-def an_option_has_its_line(folder):
+def an_option_has_its_line(folder: str) -> Iterator[bool]:
     put(folder, SMALL)
     status, out, _ = asked(folder, "--most")
     yield (status, out) == (0, "docs/COMMANDS.md:7  `--most N` is the limit of count.\n")
 
 
-def a_filter_that_stands_second_in_its_row_and_a_kind_of_a_grammar(folder):
+def a_filter_that_stands_second_in_its_row_and_a_kind_of_a_grammar(folder: str) -> Iterator[bool]:
     put(folder, SMALL)
     for word in ("@FILE", "@LINE"):
         status, out, _ = asked(folder, word)
@@ -61,7 +62,7 @@ def a_filter_that_stands_second_in_its_row_and_a_kind_of_a_grammar(folder):
         yield (status, out) == (0, 'docs/QUERY.md:1  kind = "IF" | "FOR"\n')
 
 
-def a_refusal_by_name_and_by_number(folder):
+def a_refusal_by_name_and_by_number(folder: str) -> Iterator[bool]:
     put(folder, SMALL)
     rooms = (
         "docs/REFUSALS.md:1  7 | `TooMany` | more words than the limit\n",
@@ -73,24 +74,24 @@ def a_refusal_by_name_and_by_number(folder):
         yield status == 0 and err == "" and all(room in out for room in rooms)
 
 
-def a_crate_by_its_name(folder):
+def a_crate_by_its_name(folder: str) -> Iterator[bool]:
     put(folder, SMALL)
     status, out, _ = asked(folder, "counts")
     yield status == 0 and out.splitlines()[0] == "crates/counts  a crate"
 
 
-def what_is_nowhere_has_status_1(folder):
+def what_is_nowhere_has_status_1(folder: str) -> Iterator[bool]:
     put(folder, SMALL)
     yield asked(folder, "nowhere") == (1, "", "")
 
 
-def what_has_no_letter_is_refused_in_one_line(folder):
+def what_has_no_letter_is_refused_in_one_line(folder: str) -> Iterator[bool]:
     put(folder, SMALL)
     yield asked(folder, "--", "..")[0] == 2
     yield asked(folder, "..") == (2, "", "where: '..' has no letter and no digit\n")
 
 
-def more_than_25_files_are_told_by_their_number(folder):
+def more_than_25_files_are_told_by_their_number(folder: str) -> Iterator[bool]:
     many = {f"crates/counts/src/part{number:02}.rt": f"pub fn pile_{number}() {{}}\n" for number in range(27)}
     put(folder, {**SMALL, **many})
     status, out, _ = asked(folder, "pile")
@@ -100,7 +101,7 @@ def more_than_25_files_are_told_by_their_number(folder):
     yield status == 0 and out.count("\n") == 27 and "more" not in out
 
 
-def this_repository(folder):
+def this_repository(folder: str) -> Iterator[bool]:
     """Each word of the questions in docs/CHANGING.md leads to its document and to its crate."""
     for word, document, crate in (
         ("bounds", "docs/COMMANDS.md", "crates/command/"),

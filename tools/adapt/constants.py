@@ -84,13 +84,12 @@ def is_offset(node: Any) -> bool:
 
 
 class Constants:
-    """Values and types, by what names stand for. `place_type` is set where places are known."""
+    """Values and types, by what names stand for."""
 
     def __init__(self, names: Any) -> None:
         self.names = names
-        self.place_type: Callable[[Any], Type] = self.simple_place
 
-    def simple_place(self, node: Any) -> Type:
+    def place_type(self, node: Any) -> Type:
         """The type of a name, an element or a member."""
         if isinstance(node, tree.ID):
             meaning = self.names.meaning.get(node)

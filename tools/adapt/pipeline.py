@@ -73,11 +73,10 @@ def written(given: Namespace, refusals: Refusals, apart: set[Any]) -> Optional[A
     taken = {word for unit in units for word in unit.words}
     library = expanded(units, taken, apart, refusals)
     names = named(units, library, given, refusals, taken)
-    places = Places(names)
-    Bindings(places, apart).bind()
-    places.columns = Columns(names, apart)
-    places.choosers = Choosers(names, places.columns)
-    lifetimes = Lifetimes(names, places.columns)
+    Bindings(Places(names), apart).bind()
+    columns = Columns(names, apart)
+    places = Places(names, columns, Choosers(names, columns))
+    lifetimes = Lifetimes(names, columns)
     inputs = set(given.inputs) | OUTPUT
     effected = Effected(names, places, inputs)
     known = Analysis(names, places, effected, lifetimes, inputs)
@@ -112,8 +111,7 @@ def expanded(units: list[Unit], taken: set[str], apart: set[Any], refusals: Refu
 
 def named(units: list[Unit], library: Library, given: Namespace, refusals: Refusals, taken: set[str]) -> Names:
     """What the names stand for. The names that jumps got become taken."""
-    names = Names(refusals)
-    names.pool = given.pool
+    names = Names(refusals, given.pool)
     for unit in units:
         taken.update(node.name for node in tree.walk(unit.tree) if isinstance(node, tree.ID))
         names.unit(unit)

@@ -26,13 +26,16 @@ HEAD_OF_STUBS = """/* Written by bin/driver: stubs of functions that no source d
 
 
 def number(word: str) -> int:
+    """The number, from 1 to 999, that a word of digits is: how many calls, or how many elements. Raises
+    argparse.ArgumentTypeError for any other word, which ends the tool with status 2."""
     if not re.fullmatch(r"[0-9]{1,3}", word) or int(word) < 1:
         raise argparse.ArgumentTypeError(f"{word} isn't from 1 to 999")
     return int(word)
 
 
 def length(word: str) -> tuple[str, int]:
-    """PARAMETER=N."""
+    """The name of a parameter and its number of elements, of the word PARAMETER=N (N from 1 to 999). Raises
+    argparse.ArgumentTypeError where it isn't one."""
     name, _, count = word.partition("=")
     if not re.fullmatch(r"[A-Za-z_]\w*", name):
         raise argparse.ArgumentTypeError(f"{word} isn't PARAMETER=N")
@@ -40,7 +43,7 @@ def length(word: str) -> tuple[str, int]:
 
 
 def parser_of_words() -> usage.Parser:
-    """What reads the words."""
+    """What reads the words of bin/driver; a wrong word ends the tool with status 2."""
     parser = usage.parser("driver", __doc__, "the driver and the stubs are written")
     parser.add_argument(
         "function", metavar="FUNCTION", help="the function that is called; - where stubs alone are written"
@@ -67,11 +70,14 @@ def parser_of_words() -> usage.Parser:
 
 
 def words() -> argparse.Namespace:
+    """The words that the tool was called with; a wrong one ends it with status 2, --help with 0."""
     return parser_of_words().parse_intermixed_args()
 
 
 def includes(read: Read, out: str | None) -> list[str]:
-    """The lines that include the sources' own headers, from where the file is written."""
+    """The #include lines for the headers that the sources include in quotation marks, each once. A header that stands
+    beside its source is named from the folder of `out`, the file that is written (from this folder where that is None);
+    any other as the source names it."""
     found: dict[str, None] = {}
     for path, names in read.includes.items():
         for name in names:
@@ -83,7 +89,8 @@ def includes(read: Read, out: str | None) -> list[str]:
 
 
 def declaration(read: Read, sources: list[str], name: str) -> Any:
-    """The declaration of a function that another file may call; a failure where there is none."""
+    """The declaration of a function that another file may call, as pycparser's tree. Raises Failure where no source
+    declares it, or it is static (C11 6.2.2: no other file sees it)."""
     known = read.defined.get(name)
     if known is None:
         known = read.declared.get(name)
@@ -95,7 +102,8 @@ def declaration(read: Read, sources: list[str], name: str) -> Any:
 
 
 def prototype(read: Read, sources: list[str], name: str) -> list[str]:
-    """A line that declares a function, where no header does."""
+    """The line that declares a function which no header declares, as a list of one; an empty list where a header
+    declares it. KeyError where nothing does: `declaration` is asked first."""
     from pycparser import c_generator
 
     known = read.declared.get(name)
@@ -105,7 +113,8 @@ def prototype(read: Read, sources: list[str], name: str) -> list[str]:
 
 
 def own_types(read: Read, sources: list[str], lines: list[str]) -> None:
-    """A failure where what is written names a type that a source has for itself."""
+    """Raises Failure where `lines`, which are to be written, name a struct or a typedef that stands in a source and in
+    no header, so that the driver's file can't have it."""
     text = "\n".join(lines)
     named = [(name, one) for name, one in read.typedefs.items()] + [
         (f"struct {name}", one) for name, one in read.structs.items()
@@ -118,7 +127,9 @@ def own_types(read: Read, sources: list[str], lines: list[str]) -> None:
 
 
 def driver(given: argparse.Namespace, read: Read) -> str:
-    """The text of a driver."""
+    """The text of the file that calls the function: head, includes, input functions, objects and drive_FUNCTION. Raises
+    Failure where the function can't be called from another file, a variable of --state isn't a header's, a parameter of
+    --length isn't there, or a type can't be filled."""
     types = Types(read)
     step = declaration(read, given.sources, given.function)
     init = declaration(read, given.sources, given.init) if given.init else None
@@ -142,7 +153,8 @@ def driver(given: argparse.Namespace, read: Read) -> str:
 
 
 def stub_text(given: argparse.Namespace, read: Read) -> str:
-    """The text of the stubs."""
+    """The text of the file of stubs. Raises Failure where no function wants one, or a type of a parameter or result
+    can't be filled."""
     names = stubs.undefined(read)
     if not names:
         raise Failure("each function that is called is defined, or is an input function; no stub is wanted")
@@ -155,6 +167,7 @@ def stub_text(given: argparse.Namespace, read: Read) -> str:
 
 
 def main() -> int:
+    """Writes what is asked for, the stubs first. The status: 0. Raises Failure, by which the tool ends with status 2."""
     given = words()
     if given.function == "-" and not given.stubs:
         raise Failure("neither a FUNCTION nor --stubs is asked for")

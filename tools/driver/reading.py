@@ -18,7 +18,9 @@ _ATTRIBUTE = re.compile(r"\b__attribute__\s*\(\((?:[^()]|\((?:[^()]|\([^()]*\))*
 
 @dataclass
 class Read:
-    """What sources say: each function's declaration and where it is defined, typedefs, structs and enums by their names."""
+    """What sources say together, by names, as pycparser's trees: functions that are `declared` and `defined` (with a
+    body), `typedefs`, `structs` and `enums` with their members, `constants` of enums with their values, `variables` of
+    files; which names are `called`, and of each source the headers that it `includes` in quotation marks."""
 
     declared: dict[str, Any] = field(default_factory=dict)
     defined: dict[str, Any] = field(default_factory=dict)
@@ -32,7 +34,8 @@ class Read:
 
 
 def preprocessed(path: str, flags: list[str]) -> str:
-    """A source behind the preprocessor; what that refuses is a failure."""
+    """A source as gcc or clang (-std=gnu11 -E) gives it, with the headers of tools/adapt alone and without attributes;
+    `flags` are -I and -D. Raises Failure where neither is there, or with the first error that it writes."""
     compiler = shutil.which("gcc") or shutil.which("clang")
     if not compiler:
         raise Failure(
@@ -50,7 +53,8 @@ def preprocessed(path: str, flags: list[str]) -> str:
 
 
 def parsed(path: str, flags: list[str]) -> Any:
-    """The tree of a source."""
+    """The tree of a source, by pycparser. Raises Failure where that isn't there, doesn't read the source, or the source
+    is nested too deep; and those of `preprocessed`."""
     try:
         from pycparser import c_parser
     except ModuleNotFoundError:
@@ -64,7 +68,7 @@ def parsed(path: str, flags: list[str]) -> Any:
 
 
 def walk(node: Any) -> Iterator[Any]:
-    """A node and all nodes in it."""
+    """A node of pycparser's tree and all nodes within it, in the order of the text."""
     waiting = [node]
     while waiting:
         one = waiting.pop()
@@ -73,12 +77,13 @@ def walk(node: Any) -> Iterator[Any]:
 
 
 def kind(node: Any) -> str:
-    """The name of a node's class."""
+    """What a node of pycparser's tree is: the name of its class, such as "FuncDef"."""
     return type(node).__name__
 
 
 def of_sources(paths: list[str], flags: list[str]) -> Read:
-    """What sources say together."""
+    """What the sources say together; of a name that several define, the last definition, and of a declaration the
+    first. Raises Failure where one can't be read or parsed."""
     found = Read()
     for path in paths:
         found.includes[path] = _INCLUDE.findall(program.read(path).decode(errors="replace"))
@@ -118,7 +123,9 @@ def _types(found: Read, node: Any) -> None:
 
 
 def constant(node: Any, known: dict[str, int]) -> int | None:
-    """The value of a constant expression of numbers, names and simple operators; None where it isn't one."""
+    """The value of an integer constant expression (C11 6.6) of numbers, constants of enums (`known`), casts, which are
+    passed over, + - ~ of one operand and + - * / % << >> | & ^ of two; None where it is another, or isn't defined.
+    Arithmetic is without a limit of size."""
     if kind(node) == "Constant" and node.type.endswith("int"):
         text = node.value.rstrip("uUlL")
         return int(text, 0) if not re.fullmatch(r"0\d+", text) else int(text, 8)

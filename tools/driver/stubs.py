@@ -11,7 +11,8 @@ OWN = ("assert", "assume")
 
 
 def undefined(read: Read) -> list[str]:
-    """The functions that want a stub: called and declared, defined nowhere, and no input functions."""
+    """The functions that want a stub, in the order of their declarations: declared and called, defined nowhere, and no
+    input functions (which take nothing and give a value), nor assert and assume."""
     found = []
     for name, decl in read.declared.items():
         listed = decl.type.args.params if decl.type.args else []
@@ -28,7 +29,8 @@ def _is_void(node: Any) -> bool:
 
 
 class Stub:
-    """Writes one stub."""
+    """Writes the stub of one function: `variables` that note its calls and arguments, and the lines of its `body`.
+    Raises Unfit where a parameter or the result is of a type that can't be filled."""
 
     def __init__(self, types: Types, name: str, decl: Any, text: Text) -> None:
         self.name, self.text = name, text
@@ -38,7 +40,9 @@ class Stub:
         self.body = [f"stub_{name}_calls++;"]
 
     def argument(self, number: int, one: Parameter) -> str:
-        """Notes an argument, or fills what it leads to; gives its declaration."""
+        """The declaration of the parameter at place `number`, from 0. An integer or a struct is noted in
+        stub_NAME_argNUMBER, what a const pointer leads to likewise; what another pointer leads to is filled by input
+        functions. Raises Unfit for anything else."""
         noted = f"stub_{self.name}_arg{number}"
         if isinstance(one.type, (Int, Struct)):
             self.variables.append(f"{one.type.text} {noted};")
@@ -57,7 +61,8 @@ class Stub:
         return f"{const}{target.text} *{one.name}"
 
     def lines(self) -> list[str]:
-        """The stub's lines."""
+        """The lines of the stub: its variables and the function, whose result is an input function's answer, or a
+        struct that is filled by such. Raises Unfit where the result is a pointer, or a parameter can't be noted."""
         listed = [self.argument(number, one) for number, one in enumerate(self.parameters)]
         head = f"{self.result.text if isinstance(self.result, (Int, Struct)) else 'void'} {self.name}({', '.join(listed) or 'void'})"
         if isinstance(self.result, Int):
@@ -72,7 +77,8 @@ class Stub:
 
 
 def lines_of(types: Types, read: Read, names: list[str]) -> list[str]:
-    """The lines of the stubs of functions."""
+    """The lines of the stubs of these functions, behind the declarations of the input functions that they call. Raises
+    Unfit, with the function's name, where one of them can't be written."""
     text, found = Text(), []
     for name in names:
         try:

@@ -11,46 +11,56 @@ MOST_PARTS = 256
 
 
 class Unfit(Exception):
-    """Why a driver can't fill an object of a type."""
+    """Why a driver can't fill an object of a type, or a stub can't be written, in a few words for the user."""
 
 
 @dataclass(frozen=True)
 class Int:
-    """An integer; of an enum whose values are 0 to N - 1, `count` is N."""
+    """An integer type: `text` is how C writes it. Of an enum whose constants are 0 to N - 1, `count` is N, so that it
+    gets one of these alone; else it is 0."""
 
     text: str
     count: int = 0
 
     @property
     def answer(self) -> str:
-        """The type of the input function that gives it."""
+        """The type of the input function that gives its values, as C writes it."""
         return "unsigned int" if self.count else self.text
 
     def given(self, name: str) -> str:
-        """What is assigned of an input function's answer."""
+        """What is assigned of the answer of the input function `name`: of an enum with a count, the answer's remainder
+        by it."""
         return f"({self.text}) ({name}() % {self.count}u)" if self.count else f"{name}()"
 
 
 @dataclass(frozen=True)
 class Array:
+    """An array of `length` elements, at least 1 (C11 6.7.6.2)."""
+
     element: "Type"
     length: int
 
 
 @dataclass(frozen=True)
 class Struct:
+    """A struct, as C writes its name, with its members in their order, each with its type (C11 6.7.2.1)."""
+
     text: str
     members: "tuple[tuple[str, Type], ...]"
 
 
 @dataclass(frozen=True)
 class Pointer:
+    """A pointer to an object; `is_const` says that what it leads to may not be changed (C11 6.7.6.1)."""
+
     target: "Type"
     is_const: bool
 
 
 @dataclass(frozen=True)
 class Void:
+    """The type void (C11 6.2.5, paragraph 19): no value, or the target of a pointer to anything."""
+
     pass
 
 
@@ -58,13 +68,15 @@ Type = Int | Array | Struct | Pointer | Void
 
 
 class Types:
-    """Makes types of pycparser's trees."""
+    """Makes types of pycparser's trees, by the typedefs, structs, enums and constants that sources have."""
 
     def __init__(self, read: Read) -> None:
         self.read = read
 
     def of(self, node: Any, name: str = "") -> Type:
-        """The type of a declaration's tree."""
+        """The type that a declaration's tree stands for; `name` is that of the typedef by which it is written, if any.
+        Raises Unfit for unions, floating types, pointers to functions, arrays without a known length, members with a
+        number of bits, and structs that aren't defined."""
         form = kind(node)
         if form in ("Decl", "Typename", "Typedef"):
             return self.of(node.type, name)
@@ -82,7 +94,8 @@ class Types:
         raise Unfit("a type that isn't known")
 
     def parameter(self, node: Any) -> Type:
-        """The type of a parameter; of an array without a length, a pointer to its elements."""
+        """The type of a parameter; of an array without a length, a pointer to its elements (C11 6.7.6.3, paragraph 7).
+        Raises Unfit as `of` does."""
         if kind(node.type) == "ArrayDecl" and node.type.dim is None:
             return Pointer(self.of(node.type.type), "const" in getattr(node.type.type, "quals", []))
         return self.of(node.type)
@@ -131,7 +144,9 @@ class Types:
 
 
 def parts(found: Type, place: str, name: str) -> list[tuple[str, Int, str]]:
-    """The integers of an object: how each is written, its type, and the words of its name."""
+    """The integers of an object, in the order of its members and elements: how C writes each (`place` is how it writes
+    the object), its type, and its place in words that are joined by underscores. Raises Unfit where there is a pointer
+    within it, or more than 256 integers."""
     made: list[tuple[str, Int, str]] = []
     if isinstance(found, Int):
         made = [(place, found, name)]
@@ -149,7 +164,7 @@ def parts(found: Type, place: str, name: str) -> list[tuple[str, Int, str]]:
 
 
 def declared(found: Type, name: str) -> str:
-    """A declaration of an object."""
+    """The declaration of an object of a type, as C writes it, without a semicolon. Raises Unfit for a pointer."""
     if isinstance(found, Array):
         return declared(found.element, f"{name}[{found.length}]")
     if isinstance(found, (Int, Struct)):

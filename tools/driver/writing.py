@@ -10,7 +10,9 @@ LENGTHS = ("n", "len", "length", "size", "count", "num")
 
 @dataclass(frozen=True)
 class Wanted:
-    """What is asked of a driver."""
+    """What is asked of a driver: the function, how many times it is called (`steps`, 1 to 999), the function that is
+    called first (or nothing), variables that are set before, the number of elements of pointers by their parameters'
+    names, and that of a pointer that isn't named."""
 
     function: str
     steps: int = 1
@@ -22,33 +24,37 @@ class Wanted:
 
 @dataclass
 class Text:
-    """The parts of what is written."""
+    """The parts of the file that grow while the function is written: the types of the input functions (`answers`, by
+    their names), declarations of static `objects`, and the caller's own `parameters`."""
 
     answers: dict[str, str] = field(default_factory=dict)
     objects: list[str] = field(default_factory=list)
     parameters: list[str] = field(default_factory=list)
 
     def answer(self, name: str, found: Int) -> str:
-        """A value of an input function, which is declared."""
+        """The expression that gives an answer of an input function of this type; the function is declared. Where the
+        name stands for another type already, it gets _2 at its end."""
         if self.answers.setdefault(name, found.answer) != found.answer:
             return self.answer(name + "_2", found)
         return found.given(name)
 
     def fill(self, found: Type, place: str, name: str) -> list[str]:
-        """The statements that fill an object."""
+        """The statements that fill an object, an assignment for each of its integers; `place` is how C writes the
+        object, `name` the words of its input functions' names. Raises Unfit as `parts` does."""
         return [f"{part} = {self.answer(f'in_{word}', one)};" for part, one, word in parts(found, place, name)]
 
 
 @dataclass(frozen=True)
 class Parameter:
-    """A parameter of a function."""
+    """A parameter of a function; one without a name in its declaration is argumentN, from 0."""
 
     name: str
     type: Type
 
 
 def parameters(types: Types, decl: Any) -> list[Parameter]:
-    """The parameters of a function's declaration."""
+    """The parameters of a function's declaration in their order; none for (void). Raises Unfit for variable arguments
+    (C11 6.7.6.3), and for types that can't be filled."""
     listed = decl.type.args.params if decl.type.args else []
     found = []
     for number, one in enumerate(listed):
@@ -61,13 +67,15 @@ def parameters(types: Types, decl: Any) -> list[Parameter]:
 
 
 def is_length(one: Parameter) -> bool:
-    """Whether a parameter's name says that it is a number of elements."""
+    """Whether a parameter is an integer whose name has a word for a number of elements: n, len, length, size, count or
+    num."""
     words = one.name.lower().replace("-", "_").split("_")
     return isinstance(one.type, Int) and any(word in LENGTHS for word in words)
 
 
 class Caller:
-    """Writes the caller of a function."""
+    """Writes the caller of a function: its parameters and result, those of the function that is called first, and the
+    variables that are set before. Raises Unfit where one has a type that can't be filled."""
 
     def __init__(self, types: Types, wanted: Wanted, step: Any, init: Any, variables: dict[str, Any]) -> None:
         self.wanted, self.text = wanted, Text()
@@ -79,7 +87,7 @@ class Caller:
         self.shared = [target for target in shared if isinstance(target, Struct)]
 
     def object(self, name: str, found: Type) -> str:
-        """The name of an object of the driver."""
+        """The name of a static object of the driver, which is declared once. Raises Unfit for a pointer."""
         made = f"drive_{self.wanted.function}_{name}"
         line = f"static {declared(found, made)};"
         if line not in self.text.objects:
@@ -87,14 +95,17 @@ class Caller:
         return made
 
     def length_of(self, one: Parameter, after: Parameter | None) -> int:
-        """How many elements a pointer's object has; 0 where it is one object alone."""
+        """How many elements the object behind a pointer has: as --length says, or 4 (`wanted.length`) where it leads to
+        integers and the parameter `after` it has the name of a length; 0 where it leads to one object alone."""
         if one.name in self.wanted.lengths:
             return self.wanted.lengths[one.name]
         is_row = isinstance(one.type, Pointer) and isinstance(one.type.target, Int)
         return self.wanted.length if is_row and after is not None and is_length(after) else 0
 
     def arguments(self, listed: list[Parameter], is_step: bool) -> tuple[list[str], list[str]]:
-        """The statements before a call, and its arguments."""
+        """The statements before a call, and its arguments, in the order of the parameters. A parameter that has the
+        name of a length, behind an array, gets a value up to the array's length. Raises Unfit where one can't be
+        filled."""
         before: list[str] = []
         made: list[str] = []
         limit = 0
@@ -109,7 +120,8 @@ class Caller:
         return before, made
 
     def integer(self, one: Parameter, found: Int, is_step: bool, limit: int) -> str:
-        """The argument of an integer: a parameter of the driver, or of several steps an input function's answer."""
+        """The argument for an integer: a parameter of the driver, or in a row of calls (`is_step` and several steps)
+        the answer of an input function. With a `limit` above 0 it is from 0 to that."""
         if is_step and self.wanted.steps > 1:
             value = self.text.answer(f"in_{one.name}", found)
         else:
@@ -122,7 +134,8 @@ class Caller:
         return f"({found.text}) ((unsigned long) {value} % {limit + 1}u)" if limit else value
 
     def whole(self, one: Parameter, after: Parameter | None) -> tuple[list[str], str, int]:
-        """The statements that fill what a parameter is to have, the argument, and how many elements it has."""
+        """The statements that fill an object for a parameter, the argument, and the object's number of elements, 0
+        where it is no array. Raises Unfit for void, and as `pointed` does."""
         if isinstance(one.type, (Array, Struct)):
             name = self.object(one.name, one.type)
             length = one.type.length if isinstance(one.type, Array) else 0
@@ -132,7 +145,9 @@ class Caller:
         raise Unfit(f"{one.name} is nothing that can be filled")
 
     def pointed(self, one: Parameter, target: Type, length: int) -> tuple[list[str], str, int]:
-        """The same of a pointer: to elements, to the state that init made, or to an object."""
+        """The same for a pointer to `target`: to an array of `length` elements, to the state that the first function
+        made where it has a struct of this type, or to one object. Raises Unfit for a pointer to void or to a pointer.
+        """
         if isinstance(target, (Void, Pointer)):
             raise Unfit(f"{one.name} is a pointer to {'void' if isinstance(target, Void) else 'a pointer'}")
         if length:
@@ -145,7 +160,8 @@ class Caller:
         return self.text.fill(target, name, one.name), f"&{name}", 0
 
     def body(self) -> list[str]:
-        """The statements of the driver."""
+        """The statements of the driver: the first function's call, the variables that are set, and the calls. Raises
+        Unfit where something can't be filled."""
         lines: list[str] = []
         if self.wanted.init:
             before, made = self.arguments(self.init, False)
@@ -157,7 +173,8 @@ class Caller:
         return lines + self.calls(before, call)
 
     def calls(self, before: list[str], call: str) -> list[str]:
-        """One call, or several in a row; what the last one gives is given."""
+        """The statements of one call, or of several in a row (with `before` in front of each). What the last one gives
+        is returned; a struct is kept in an object. Raises Unfit where the result is a pointer."""
         is_one = self.wanted.steps == 1
         if isinstance(self.result, Int):
             if is_one:
@@ -175,7 +192,8 @@ class Caller:
         return head + loop + [f"  {line}" for line in (*before, kept)] + ["}"] + tail
 
     def function(self) -> list[str]:
-        """The driver's lines."""
+        """The driver's lines: declarations of input functions, objects, and the function drive_FUNCTION. Raises Unfit
+        where something can't be filled."""
         body = self.body()
         result = self.result.text if isinstance(self.result, Int) else "void"
         head = f"{result} drive_{self.wanted.function}({', '.join(self.text.parameters) or 'void'})"

@@ -28,7 +28,8 @@ Key = tuple[str, int]
 
 
 class Ordinals:
-    """The place of each edge and node of an automaton among those of its function."""
+    """The place of each edge and node of an automaton among those of its function, from 0, in the automaton's order. An
+    edit of another function leaves it."""
 
     def __init__(self, graph: Graph) -> None:
         self.graph = graph
@@ -40,21 +41,26 @@ class Ordinals:
             self.edges.setdefault(graph.owner(edge), []).append(edge.number)
 
     def of_node(self, number: int) -> Key:
+        """The function of a node of this number, and its place there. IndexError where there is no such number."""
         function = self.graph.nodes[number].function
         return function, self.nodes[function].index(number)
 
     def of_edge(self, number: int) -> Key:
+        """The function of an edge of this number, and its place there. IndexError where there is no such number."""
         function = self.graph.owner(self.graph.edges[number])
         return function, self.edges[function].index(number)
 
     def edge(self, key: Sequence[Any]) -> int:
+        """The number of the edge at a place of a function; KeyError or IndexError where it has none there."""
         return int(self.edges[key[0]][key[1]])
 
     def node(self, key: Sequence[Any]) -> int:
+        """The number of the node at a place of a function; KeyError or IndexError where it has none there."""
         return int(self.nodes[key[0]][key[1]])
 
 
 def ordinals(graph: Graph) -> Ordinals:
+    """The places of an automaton's edges and nodes. It goes over the automaton once."""
     return Ordinals(graph)
 
 
@@ -70,7 +76,9 @@ def _matched(old: Sequence[object], new: Sequence[object]) -> list[tuple[int, in
 
 
 class Mapping:
-    """Where the edges and nodes of an older automaton are in a newer one."""
+    """Where the edges and nodes of an older automaton are in a newer one, by their numbers. Within a function an edge
+    is the same one where what it does stays in the same order (difflib's longest matching blocks); what isn't found has
+    no entry."""
 
     def __init__(self, old: Graph, new: Graph) -> None:
         self.new = new
@@ -93,7 +101,7 @@ class Mapping:
         self.nodes.setdefault(old.target, new.target)
 
     def text(self, old: str) -> str:
-        """A goal's text as the newer automaton has it, or nothing where a letter of it is gone."""
+        """A goal's text with the newer automaton's numbers and lines; nothing where an edge or a node of it is gone."""
         is_lost = False
 
         def letter(found: re.Match[str]) -> str:
@@ -110,7 +118,8 @@ class Mapping:
 
 
 def texts(goals: str) -> list[str]:
-    """The goals of a text of `goals`, in their order."""
+    """The goals of a text of `fshell goals`, in their order: the first is goal 1. One whose predicate has line feeds is
+    one text."""
     lines = goals.split("\n")[1:]
     found: list[str] = []
     for line in lines:
@@ -153,7 +162,9 @@ def _exchange(path: str) -> None:
 
 
 def prepare(place: Place, goals: str, context: "Context", entry: Entry, query: str) -> None:
-    """Makes the folder of a campaign ready: as it is where it asks for just this, else a new one with what the old one leaves."""
+    """Makes the folder of a campaign ready: as it is where it asks for just this, else a new one that takes the old
+    one's place, with its inputs and the certificates of goals that are there still. A change that was stopped is ended
+    first. `goals` is what `fshell goals` wrote of the query. Raises Failure where a file can't be written."""
     _settled(place.path, "graph.txt")
     if _is_same(place, context, entry, query):
         return
@@ -168,7 +179,8 @@ def prepare(place: Place, goals: str, context: "Context", entry: Entry, query: s
 
 
 def carried(place: Place) -> dict[str, Any]:
-    """What an earlier campaign left to one: its inputs, and whether it was whole."""
+    """What an earlier campaign left to the one in this folder: `inputs`, and whether it `was_whole`; nothing where it
+    is the first."""
     found = place.value("carried.json")
     return found if isinstance(found, dict) else {}
 

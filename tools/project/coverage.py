@@ -16,7 +16,8 @@ Branch = tuple[int, int, int]
 
 @dataclass
 class File:
-    """The counts of a file. A branch has no count where its test was never made."""
+    """The counts of a file: how many times each line (from 1) was reached, each branch taken (by line, block and
+    branch, as lcov numbers them) and each function called. A branch has no count where its test was never made."""
 
     lines: Counter[int] = field(default_factory=Counter)
     branches: dict[Branch, int | None] = field(default_factory=dict)
@@ -24,7 +25,8 @@ class File:
     calls: Counter[str] = field(default_factory=Counter)
 
     def add(self, line: str) -> None:
-        """Adds a line of a tracefile."""
+        """Adds a line of an lcov tracefile (geninfo(1)); lines of other words than DA, FN, FNDA and BRDA change
+        nothing. ValueError or IndexError where one isn't whole."""
         word, _, rest = line.partition(":")
         parts = rest.split(",")
         if word == "DA":
@@ -39,12 +41,13 @@ class File:
             self.branches[key] = before if count is None else count + (before or 0)
 
     def of_line(self, line: int) -> list[int | None]:
-        """The counts of the branches on a line."""
+        """How many times each branch on a line was taken, None where its test was never made."""
         return [count for (at, _, _), count in self.branches.items() if at == line]
 
 
 def read(results: Results) -> dict[str, File]:
-    """The counts of the module's own files over all tests of all entries."""
+    """The counts of the module's own files over all tests of all entries, by the files' names from the settings'
+    folder, as bin/lcov tells them. Raises Failure where that fails."""
     found: dict[str, File] = {}
     unit = results.context.unit
     # (the tracefile names the original of a source that bin/adapt wrote)
@@ -67,7 +70,7 @@ def read(results: Results) -> dict[str, File]:
 
 
 def program_inputs(tests: list[tuple[tuple[int, ...], tuple[int, ...]]]) -> str:
-    """Inputs as the program reads them."""
+    """Inputs, each arguments and answers, as the JSON text that the program reads (docs/FORMATS.md)."""
     return json.dumps([{"args": args, "answers": answers} for args, answers in tests])
 
 
@@ -87,7 +90,7 @@ def _record(path: str, file: File) -> Iterator[str]:
 
 
 def lcov(files: dict[str, File], folder: str) -> str:
-    """The tracefile."""
+    """The counts as lcov's tracefile (geninfo(1)); `folder` stands before the files' names."""
     return "".join(line + "\n" for name, file in files.items() for line in _record(os.path.join(folder, name), file))
 
 
@@ -133,7 +136,8 @@ def _class(parent: ET.Element, name: str, file: File) -> None:
 
 
 def cobertura(files: dict[str, File], folder: str, seconds: int) -> str:
-    """The report as Cobertura's XML, by its coverage-04.dtd."""
+    """The counts as Cobertura's XML, by its coverage-04.dtd; `folder` is the one that holds the files, and `seconds` is
+    the time of the report since 1970."""
     head = {"complexity": "0", "version": "fshell", "timestamp": str(1000 * seconds)}
     top = ET.Element("coverage", {**_counts(list(files.values())), **head})
     ET.SubElement(ET.SubElement(top, "sources"), "source").text = folder

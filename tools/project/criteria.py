@@ -18,12 +18,13 @@ NAMES = (*COVER, MCDC)
 
 
 def is_query(text: str) -> bool:
-    """Whether a text is a query of its own, and no criterion's name."""
+    """Whether a text is a query (it begins with the word in or cover), and no criterion's name."""
     return text.split(maxsplit=1)[:1] in (["in"], ["cover"])
 
 
 def fault(text: str) -> str:
-    """What is wrong with a criterion's name, if anything; queries are read by the program."""
+    """What is wrong with a text that is to be a criterion's name, with the nearest name or all names; nothing of a name
+    or of a query, which the program reads."""
     if text in NAMES or is_query(text):
         return ""
     near = difflib.get_close_matches(text, NAMES, 1)
@@ -31,7 +32,8 @@ def fault(text: str) -> str:
 
 
 def union(functions: Sequence[str]) -> str:
-    """A filter that keeps these functions; its brackets are as few deep as they can be."""
+    """A filter that keeps these functions, at least one; its brackets are as few deep as they can be, since the program
+    has a limit of depth."""
     if len(functions) == 1:
         return f"@FUNC({functions[0]})"
     half = len(functions) // 2
@@ -39,22 +41,9 @@ def union(functions: Sequence[str]) -> str:
 
 
 def query(text: str, functions: Sequence[str], graph: Graph) -> str:
-    """The query that a criterion's name stands for over these functions of an automaton; a query stands for itself."""
+    """The query that a criterion's name stands for over these functions of an automaton; all of them need no `in`. A
+    query stands for itself. KeyError of another text, and of mcdc, which is no query."""
     if is_query(text):
         return text
     scope = "" if len(functions) == len(graph.functions) else f"in {union(functions)} "
     return f"{scope}cover {COVER[text]}"
-
-
-def reached(graph: Graph, entry: str) -> list[str]:
-    """The functions that runs of an entry may call, and the entry, in the order of the automaton."""
-    calls: dict[str, set[str]] = {}
-    for edge in graph.edges:
-        if edge.operation == "call":
-            calls.setdefault(graph.owner(edge), set()).add(edge.name)
-    found, waiting = {entry}, [entry]
-    while waiting:
-        for name in sorted(calls.get(waiting.pop(), set()) - found):
-            found.add(name)
-            waiting.append(name)
-    return [one.name for one in graph.functions if one.name in found]

@@ -20,9 +20,11 @@ from tools.told import Told
 
 
 class Here(Campaign):
-    """A campaign whose goals are decided by threads of this process."""
+    """A campaign whose goals are decided by threads of this process, or by GNU parallel where other machines are named."""
 
     def search(self, left: list[int], size: int) -> None:
+        """Has goals decided: those that were refuted before, and the first `size` of the others. Raises Failure where
+        other machines are named and GNU parallel isn't there."""
         if self.logins:
             if not has_parallel():
                 raise Failure("GNU parallel isn't there (Debian: apt-get install parallel), which asks other machines")
@@ -35,8 +37,9 @@ class Here(Campaign):
         self.tried.update(goals)
 
     def decide(self, is_carried: bool) -> Report:
-        """Goes on until something is known of each goal. Where an earlier version left inputs and certificates, only goals that
-        these leave open are searched."""
+        """The report, with something known of each goal. Where an earlier version left inputs and certificates
+        (`is_carried`), only goals that these leave open are searched. Raises Failure where the program refuses
+        something."""
         if not is_carried:
             self.generate()
         for size in sizes():
@@ -49,13 +52,15 @@ class Here(Campaign):
 
 
 class Known(Told):
-    """The report of a campaign of an entry whose bounds are known."""
+    """Writes the report of a campaign of an entry whose bounds the task `bounds` has found already."""
 
     def __init__(self, known: Left, folder: Folder, asked: Asked, made: list[Input], report: Report) -> None:
         self.known = known
         super().__init__(folder, asked, made, report)
 
     def bounds(self) -> Left:
+        """What is known of the bounds; where they suffice, with the expression whose order of evaluation C leaves open,
+        if one restricts what the query says (docs/ORDER.md)."""
         if not self.known.limits.suffice:
             return self.known
         asked = self.asked
@@ -72,7 +77,9 @@ def decide(
     jobs: int,
     logins: str | None,
 ) -> None:
-    """Decides the goals of a query, and writes the report of its campaign."""
+    """Has the goals of a query decided in a folder, and writes the campaign's report and inputs there. `first` are
+    inputs to begin with, `jobs` is the number of threads, `logins` the file of other machines. Waits for a process that
+    is still at work there. Raises Failure where the folder is another question's, or the program refuses this one."""
     folder = Folder(place.path)
     folder.begin(asked, inputs.of_text(json.dumps(first), False))
     with open(folder.at("machine", "lock"), "w", encoding="ascii") as lock:

@@ -4,10 +4,11 @@ import re
 import xml.etree.ElementTree as ET
 from collections.abc import Sequence
 
-from tools.project.findings import RULES, Finding
+from tools.project.findings import RULES
 from tools.project.facts import Test
 from tools.project.results import Results
 from tools.project.since import Difference
+from tools.sarif import Finding
 from tools.sarif import text_of as sarif_text
 
 _NO_XML = re.compile(r"[^\t\n\r\x20-\ud7ff\ue000-\ufffd\U00010000-\U0010ffff]")
@@ -41,8 +42,9 @@ def _failure_of(test: Test) -> str:
 
 
 def junit(results: Results, gate: Sequence[str], lost: Difference | None) -> str:
-    """The report as JUnit's XML: a suite an entry, a test an input, a failure a run that a trap ends, a goal that was covered
-    before and isn't now, and each reason for which the gate fails."""
+    """The report as JUnit's XML (the schema that Jenkins' plugin reads): a suite an entry, a test an input, a failure a
+    run that a trap ends, a goal that was covered before and isn't now, and each reason for which the gate fails. What
+    XML 1.0 can't hold is written as `?`; times are 0."""
     top = ET.Element("testsuites", {"name": "fshell"})
     for entry in results.entries:
         suite = ET.SubElement(top, "testsuite", {"name": entry.function})
@@ -67,5 +69,5 @@ def junit(results: Results, gate: Sequence[str], lost: Difference | None) -> str
 
 
 def sarif(findings: Sequence[Finding], folder: str) -> str:
-    """The findings as SARIF 2.1."""
+    """The findings as SARIF 2.1.0 (OASIS); names of files are those from `folder`."""
     return sarif_text(findings, RULES, folder)

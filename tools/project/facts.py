@@ -11,7 +11,8 @@ ORDER = (Verdict.COVERED, Verdict.UNDECIDED, Verdict.MISSED, Verdict.REFUTED, Ve
 
 @dataclass
 class Test:
-    """An input of an entry, with how its run ends; `file` is the one that gives it, or empty where it was made."""
+    """An input of an entry, with the requirements that it names; `is_given` says that a file of the settings has it,
+    else it was made. `end` is how its run ends and `value` its object with names, once the runs are made."""
 
     id: str
     entry: str
@@ -24,12 +25,14 @@ class Test:
 
     @property
     def numbers(self) -> tuple[tuple[int, ...], tuple[int, ...]]:
+        """Its arguments and its answers, by which inputs are compared."""
         return self.args, self.answers
 
 
 @dataclass
 class Goal:
-    """A goal of an entry's query."""
+    """A goal of an entry's query: the name of its task, its number there from 1, its text as the program writes it, its
+    verdict, and where there are some the test that covers it and the path of its certificate from the work folder."""
 
     entry: str
     task: str
@@ -42,7 +45,8 @@ class Goal:
 
 @dataclass
 class Row:
-    """A goal of a criterion over all entries that ask for it."""
+    """A goal of a criterion over all entries that ask for it: the unit's file, the line and the column from 1 in the
+    user's own source, the module's verdict (the first of ORDER that an entry has), and the entries' goals."""
 
     criterion: str
     text: str
@@ -55,16 +59,19 @@ class Row:
 
     @property
     def place(self) -> str:
+        """FILE:LINE, as pages show it."""
         return f"{self.file}:{self.line}"
 
     @property
     def test(self) -> Test | None:
+        """The first test that covers it, or None."""
         return next((goal.test for goal in self.goals if goal.test), None)
 
 
 @dataclass
 class Condition:
-    """A condition of a decision: `state` is shown, no pair, no pair within the bounds, or undecided."""
+    """A condition of a decision, at FILE:LINE:COLUMN, with the decision's statement; its `state` is one of SHOWN,
+    NO_PAIR, NONE_WITHIN and OPEN, and `pair` has the two tests that show it, or is empty."""
 
     function: str
     place: str

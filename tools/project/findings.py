@@ -1,12 +1,12 @@
 """What is to be looked at in a module, each at its place: for SARIF and as lines that editors know from gcc."""
 
 from collections.abc import Iterator
-from dataclasses import dataclass
 
 from tools import order, originals
 from tools.program import Failure
 from tools.project.facts import NONE_WITHIN, OPEN
 from tools.project.results import GOOD, Results, state_of
+from tools.sarif import Finding
 from tools.verdicts import Verdict
 
 RULES = {
@@ -34,47 +34,30 @@ OF_VERDICT = {
 }
 
 
-@dataclass(frozen=True)
-class Finding:
-    """A finding at a place of a file of the module's own; lines and columns count from 1."""
-
-    rule: str
-    file: str
-    line: int
-    column: int
-    text: str
-
-    @property
-    def level(self) -> str:
-        return RULES[self.rule][0]
-
-    @property
-    def gcc_line(self) -> str:
-        """The line that gcc would write."""
-        return f"{self.file}:{self.line}:{self.column}: {self.level}: {self.text} [{self.rule}]"
-
-
 class Finder:
-    """Gathers the findings of a module."""
+    """Gathers the findings of a module, each kind by a method that gives them in any order."""
 
     def __init__(self, results: Results) -> None:
         self.results = results
 
     def at(self, rule: str, file: str, line: int, column: int, text: str) -> Finding:
-        return Finding(rule, self.results.own(file), max(line, 1), max(column, 1), text)
+        """A finding at a place of a file of the unit, for which the module's own stands; a line or a column of 0 counts
+        as 1."""
+        return Finding(rule, RULES[rule][0], self.results.own(file), max(line, 1), max(column, 1), text)
 
     def placed(self, rule: str, place: str, text: str) -> Finding:
-        """A finding at FILE:LINE:COLUMN."""
+        """The same at a place in words, FILE:LINE:COLUMN. ValueError where it isn't one."""
         file, line, column = place.rsplit(":", 2)
         return self.at(rule, file, int(line), int(column), text)
 
     def all(self) -> list[Finding]:
-        """The findings by their files and places."""
+        """All findings, each once, by their files, places and rules."""
         parts = (self.goals(), self.errors(), self.conditions(), self.functions(), self.requirements(), self.orders())
         found = dict.fromkeys(one for part in parts for one in part)
         return sorted(found, key=lambda one: (one.file, one.line, one.column, one.rule, one.text))
 
     def goals(self) -> Iterator[Finding]:
+        """The goals that aren't covered, by what is known of them: open, refuted within the bounds, or unreachable."""
         for row in self.results.rows:
             if row.verdict in OF_VERDICT:
                 told = self.results.told(row.text)
@@ -83,6 +66,8 @@ class Finder:
                 )
 
     def errors(self) -> Iterator[Finding]:
+        """The places where a run may be ended by a trap: those where an input does it, and those where it isn't ruled
+        out."""
         for entry in self.results.entries:
             for place, verdict, line in self.results.errors(entry.function):
                 if verdict is Verdict.COVERED:
@@ -93,12 +78,14 @@ class Finder:
                     )
 
     def conditions(self) -> Iterator[Finding]:
+        """The conditions that no pair of tests shows (MC/DC), but those that are known to have none at all."""
         for one in self.results.conditions:
             if one.state in (OPEN, NONE_WITHIN):
                 text = f"the condition {one.text} of {one.statement}: {one.state}"
                 yield self.placed("open-condition", one.place, text)
 
     def functions(self) -> Iterator[Finding]:
+        """The module's functions that no entry reaches."""
         for name in self.results.unreached:
             node = self.results.graph.nodes[self.results.graph.function(name).entry]
             yield self.at(
@@ -106,15 +93,18 @@ class Finder:
             )
 
     def requirements(self) -> Iterator[Finding]:
+        """The requirements that nothing shows, at their lines in the file that has them."""
         settings = self.results.context.settings
         for one in self.results.requirements:
             state = state_of(one, self.results)[0]
             if state not in GOOD:
                 text = f"requirement {one.id} ({one.text}): {state}"
-                yield Finding("open-requirement", settings.requirements or settings.path, one.line, 1, text)
+                file = settings.requirements or settings.path
+                yield Finding("open-requirement", RULES["open-requirement"][0], file, one.line, 1, text)
 
     def orders(self) -> Iterator[Finding]:
-        """Where C leaves an order of evaluation open that matters, as bin/order tells of each entry."""
+        """Where C leaves an order of evaluation open that matters (C11 6.5, paragraphs 2 and 3), as bin/order tells of
+        each entry; an entry of which it can't is left out."""
         unit = self.results.context.unit
         for entry in self.results.entries:
             try:

@@ -9,7 +9,7 @@ from tools.verdicts import Verdict, failures, percentage
 
 
 def why(results: Results) -> list[str]:
-    """Why the gate fails, a line each; none where it passes."""
+    """Why the gate fails, a line for each reason; an empty list where it passes. A gate that asks for nothing fails."""
     gate = results.context.settings.gate
     if not gate.asks:
         return ["[gate] asks for nothing"]
@@ -70,7 +70,7 @@ def _requirements(results: Results) -> Iterator[str]:
 
 
 def lines(results: Results) -> list[str]:
-    """What is known of a module, in a few lines."""
+    """What is known of a module, a line for each criterion, for MC/DC and for each requirement."""
     found = []
     for name in results.criteria:
         found.append(f"{name}: {results.tally(name).line()}")

@@ -9,7 +9,6 @@ from tools import named, program
 from tools.items import variables
 from tools.named import Signature
 from tools.program import Failure
-from tools.project import criteria
 from tools.project import unit as units
 from tools.project.settings import Gate, Module, Settings
 from tools.project.unit import Unit
@@ -36,7 +35,8 @@ def _module(module: Module) -> Iterator[str]:
 
 
 class Draft:
-    """What is known of a unit's functions."""
+    """What is known of a unit's functions: its automaton, its sources, the variables of its files, and the functions
+    that drivers have (`drivers` are their sources)."""
 
     def __init__(self, unit: Unit, drivers: Sequence[str]) -> None:
         self.unit, self.graph = unit, unit.graph()
@@ -48,26 +48,29 @@ class Draft:
         }
 
     def signature(self, function: str) -> Signature:
+        """The parameters of a function with their types, as its definition has them. Raises Failure where no source
+        defines it, as where a macro makes its head."""
         return named.signature(self.sources, function)
 
     def own(self, name: str) -> str:
-        """The module's own file of a function."""
+        """The module's own file in which a function is defined."""
         file = self.graph.nodes[self.graph.function(name).entry].file
         return self.unit.own.get(file, file)
 
     def arrays(self, name: str) -> list[str]:
-        """The parameters of a function that are arrays."""
+        """The names of a function's parameters that are arrays, so that no input has them."""
         return [word for kind, word in self.signature(name).parameters if "[" in kind]
 
     def kept(self, name: str) -> list[str]:
-        """The variables of the file that runs of a function read and some function writes, so that runs hang on what was before."""
-        reached = criteria.reached(self.graph, name)
+        """The variables of the file that runs of a function read and some function writes, so that runs hang on what
+        was before; sorted."""
+        reached = self.graph.reached(name)
         read = {one for edge in self.graph.edges if self.graph.owner(edge) in reached for one in edge.reads}
         written = {one for edge in self.graph.edges for one in edge.writes}
         return sorted(read & written & self.state)
 
     def driver_of(self, name: str) -> str:
-        """The driver of a function, where there is one."""
+        """The name of the driver of a function, drive_NAME, or nothing where no driver's source has it."""
         driver = f"drive_{name}"
         return driver if driver in self.of_drivers else ""
 
@@ -85,7 +88,8 @@ def _entry(draft: Draft, name: str, queries: Sequence[str]) -> Iterator[str]:
 
 
 def text_of(draft: Draft, module: Module, queries: Sequence[str]) -> str:
-    """The file's text."""
+    """The text of fshell.toml: an entry with these queries for each function that can be one, a line for each that
+    can't be and why, and a gate that asks for 100 percent."""
     lines = [HEAD, *_module(module)]
     left_out = []
     for one in draft.graph.functions:
@@ -108,7 +112,8 @@ def text_of(draft: Draft, module: Module, queries: Sequence[str]) -> str:
 
 
 def write(path: str, module: Module, queries: Sequence[str]) -> tuple[int, int]:
-    """Writes the file; gives the numbers of entries and of functions. One that is there isn't written over."""
+    """Writes the file; gives the numbers of entries and of the module's functions. Raises Failure where a file stands
+    there already, a source or folder isn't there, or the program and bin/adapt refuse the sources."""
     if os.path.lexists(path):
         raise Failure(f"{path} is there already; move it away, or name another one (-o)")
     folder = os.path.dirname(os.path.abspath(path))

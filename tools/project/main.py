@@ -26,15 +26,8 @@ from tools.project.work import NAME, Work
 FILE = "fshell.toml"
 
 
-def jobs(word: str) -> int:
-    """How many jobs there are: one at least."""
-    if not word.isdecimal() or int(word) < 1:
-        raise argparse.ArgumentTypeError(f"{word} is no number from 1 on")
-    return int(word)
-
-
 def parser_of_words() -> usage.Parser:
-    """What reads the words."""
+    """What reads the words of bin/project and of its four commands; a wrong word ends the tool with status 2."""
     parser = usage.parser(
         "project",
         __doc__,
@@ -54,13 +47,16 @@ def parser_of_words() -> usage.Parser:
         if name != "check":
             one.add_argument("--since", metavar="FOLDER", help="tells the difference to the report in this folder")
         if name == "run":
-            one.add_argument("--jobs", type=jobs, default=os.cpu_count() or 1, metavar="N", help="jobs side by side")
+            one.add_argument(
+                "--jobs", type=program.jobs, default=os.cpu_count() or 1, metavar="N", help="jobs side by side"
+            )
             one.add_argument("--entry", metavar="FUNCTION", help="does the tasks of this entry alone, without a report")
             one.add_argument("--sshloginfile", metavar="FILE", help="the machines, as GNU parallel reads them")
     return parser
 
 
 def words() -> argparse.Namespace:
+    """The words that the tool was called with; a wrong one ends it with status 2, --help with 0."""
     return parser_of_words().parse_args()
 
 
@@ -80,7 +76,8 @@ def _init_words(one: argparse.ArgumentParser) -> None:
 
 
 def init(given: argparse.Namespace) -> int:
-    """Writes the settings."""
+    """Writes the settings; the status: 0. Raises Faults where a --query is no criterion and no query, and Failure where
+    the file can't be made."""
     wrong = [one for one in map(criteria.fault, given.query) if one]
     if wrong:
         raise Faults(wrong)
@@ -98,19 +95,21 @@ def init(given: argparse.Namespace) -> int:
 
 
 def context_of(given: argparse.Namespace, work: Work) -> Context:
-    """The context of a command."""
+    """What the tasks of a command share, by the settings. Raises Faults with all that is wrong with them, and Failure
+    where the sources are refused."""
     read = settings.of_file(given.file)
     return runner.context_of(read, work, getattr(given, "jobs", 1), getattr(given, "sshloginfile", None))
 
 
 def work_of(given: argparse.Namespace) -> Work:
-    """The work folder: it is made where there are settings."""
+    """The work folder, beside the settings where -o names none; nothing is made yet. Raises Failure where the settings
+    can't be read."""
     program.read(given.file)
     return Work(given.work or os.path.join(os.path.dirname(os.path.abspath(given.file)), NAME))
 
 
 def told_left(context: Context) -> bool:
-    """Whether something isn't done, which is told."""
+    """Whether something isn't done, which is told on standard output, a line a task."""
     left = runner.left(context)
     for task in left:
         print(f"not done yet: {task.entry.function}, {task.name}")
@@ -122,7 +121,8 @@ def told_left(context: Context) -> bool:
 
 
 def run(given: argparse.Namespace) -> int:
-    """Does what isn't done, and the rest."""
+    """Does what isn't done, writes the report and judges the gate; the status: 0 where it passes, 1 where it fails.
+    Raises Failure where another process works in the folder, and Faults with what went wrong."""
     if given.sshloginfile:
         program.read(given.sshloginfile)
     work = work_of(given)
@@ -139,7 +139,8 @@ def run(given: argparse.Namespace) -> int:
 
 
 def run_entry(given: argparse.Namespace, work: Work) -> int:
-    """Does the tasks of one entry, beside other processes that do those of others."""
+    """Does the tasks of one entry, beside other processes that do those of others, and writes no report; the status: 0.
+    Raises Failure where the settings have no such entry."""
     with work.lock(waits=True):
         context = context_of(given, work)
     if given.entry not in context.given:
@@ -150,7 +151,7 @@ def run_entry(given: argparse.Namespace, work: Work) -> int:
 
 
 def report(given: argparse.Namespace) -> int:
-    """Writes the report of what is done."""
+    """Writes the report of what is done; the status: 0, or 1 where something isn't done, and nothing is written."""
     work = work_of(given)
     with work.lock():
         context = context_of(given, work)
@@ -161,14 +162,14 @@ def report(given: argparse.Namespace) -> int:
 
 
 def judged(results: Results) -> int:
-    """Tells the gate's judgement; its status."""
+    """Tells the gate's judgement on standard output; the status: 0 where it passes, 1 where it fails."""
     told, passes = gate.verdict(results)
     print("\n".join([*gate.lines(results), *told]))
     return program.DONE if passes else program.OPEN
 
 
 def check(given: argparse.Namespace) -> int:
-    """Judges by what is done."""
+    """Judges the gate by what is done; the status: 0 where it passes, 1 where it fails or something isn't done."""
     work = work_of(given)
     context = context_of(given, work)
     if told_left(context):
@@ -177,6 +178,8 @@ def check(given: argparse.Namespace) -> int:
 
 
 def main() -> int:
+    """Does the command that the words name; its status, or 2 behind a line for each fault of the settings. Raises
+    Failure, by which the tool ends with status 2 too."""
     given = words()
     try:
         return {"init": init, "run": run, "report": report, "check": check}[given.command](given)

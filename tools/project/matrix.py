@@ -20,7 +20,7 @@ def _goal(goal: Goal) -> dict[str, Any]:
 
 
 def rows(results: Results) -> list[dict[str, Any]]:
-    """The rows of the matrix, one a requirement."""
+    """The rows of the matrix as JSON's values, one a requirement, in the order of their file."""
     found = []
     for one in results.requirements:
         state, goals, tests = state_of(one, results)
@@ -41,6 +41,7 @@ def rows(results: Results) -> list[dict[str, Any]]:
 
 
 def as_json(results: Results) -> str:
+    """The matrix as JSON: an object whose key `requirements` has the rows."""
     return json.dumps({"requirements": rows(results)}, indent=1, ensure_ascii=False) + "\n"
 
 
@@ -50,7 +51,8 @@ def _cell(text: str) -> str:
 
 
 def as_csv(results: Results) -> str:
-    """The matrix as CSV (RFC 4180): a line for each goal of a requirement, or one where it has none."""
+    """The matrix as CSV (RFC 4180): a line for each goal of a requirement, or one where it has none. A cell that a
+    spreadsheet would take for a formula has ' before it."""
     file = io.StringIO()
     writer = csv.writer(file)
     writer.writerow(["requirement", "text", "state", "entry", "goal", "verdict", "tests", "certificate"])

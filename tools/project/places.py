@@ -18,7 +18,7 @@ class _Part:
 
 
 class Places:
-    """The line of each table, key and element of a TOML text that tomllib accepts."""
+    """The line, from 1, of each table, key and element of a TOML text that tomllib accepts (TOML 1.0)."""
 
     def __init__(self, text: str) -> None:
         self.lines: dict[Path, int] = {(): 1}
@@ -33,7 +33,8 @@ class Places:
         self._whole()
 
     def line(self, path: Path) -> int:
-        """The line of what stands at a path, or of the nearest thing around it."""
+        """The line, from 1, of what stands at a path of keys and numbers of elements, or of the nearest thing around
+        it."""
         while path not in self.lines:
             path = path[:-1]
         return self.lines[path]

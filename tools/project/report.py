@@ -1,26 +1,26 @@
 """Writes the report of a module: pages for people, and files for other tools."""
 
-import importlib.util
 import json
 import os
 import time
 from typing import Any
 
-from tools import program
+from tools import html, program
 from tools.project import coverage, exchange, gate, matrix, since
-from tools.project.findings import Finder, Finding
+from tools.project.findings import Finder
 from tools.project.facts import Row
 from tools.project.results import Results, bounds_line
 from tools.project.since import Difference
 from tools.project.unit import sum_of_file, sum_of_text
 from tools.project.work import Place
+from tools.sarif import Finding
 from tools.verdicts import Tally, percentage
 
 FORMAT = "fshell report 1"
 
 
 def share(found: Tally) -> str:
-    """The percentage of a tally, or a mark where there is nothing to be covered."""
+    """How much of a tally is covered, in percent of the goals that can be; a dash where there are none."""
     covered = sum(count for verdict, count in found.counts.items() if verdict == "covered")
     return percentage(covered, found.reachable) if found.reachable else "-"
 
@@ -62,7 +62,7 @@ def _function(results: Results, name: str) -> dict[str, Any]:
 
 
 def value_of(results: Results, findings: list[Finding], lost: Difference | None) -> dict[str, Any]:
-    """The whole report as JSON."""
+    """The whole report as JSON's value, of the form that FORMAT names (docs/MODULE.md)."""
     lines, passes = gate.verdict(results)
     return {
         "format": FORMAT,
@@ -120,19 +120,23 @@ def _test(results: Results, at: int) -> dict[str, Any]:
 
 
 def key_of(results: Results, folder: str | None) -> str:
-    """The sum of what a report is made from."""
+    """The sum of all that a report is made from: the tasks' answers, the settings, the tools, whether jinja2 is there,
+    and the earlier report of `folder` where one is named. By the same sum nothing is written anew."""
     done = [task.place(results.context).value("done.json") for task in results.tasks]
     names = [results.context.settings.path]
     names += [results.context.settings.at(one) for one in (results.context.settings.requirements,) if one]
     names += [os.path.join(folder, "report.json")] if folder else []
     here = os.path.dirname(__file__)
     names += [os.path.join(here, name) for name in sorted(os.listdir(here))]
-    jinja = importlib.util.find_spec("jinja2") is not None
-    return sum_of_text(json.dumps([done, [sum_of_file(name) for name in names], results.context.given_key(), jinja]))
+    return sum_of_text(
+        json.dumps([done, [sum_of_file(name) for name in names], results.context.given_key(), html.is_there()])
+    )
 
 
 def write(results: Results, folder: str | None) -> list[str]:
-    """Writes the report, where it isn't there as it would be; gives the lines that are told."""
+    """Writes the report's files, where they aren't there as they would be; gives the lines that are told. The
+    difference to the report in `folder` is among them. Without jinja2 the pages are left out, which is told. Raises
+    Failure where a file can't be written or `folder` has no report."""
     place = Place(results.context.work.at("report"))
     lost = since.difference(folder, results) if folder else None
     told = lost.lines() if lost else []
@@ -157,7 +161,7 @@ def write(results: Results, folder: str | None) -> list[str]:
         "report.json": json.dumps(value, indent=1, ensure_ascii=False) + "\n",
     }
     os.makedirs(place.path, exist_ok=True)
-    if importlib.util.find_spec("jinja2"):
+    if html.is_there():
         texts |= pages(value)
     else:
         told.append("skipped: the pages need jinja2, which isn't there (Debian: apt-get install python3-jinja2)")
@@ -168,15 +172,14 @@ def write(results: Results, folder: str | None) -> list[str]:
 
 
 def tests_text(results: Results) -> str:
-    """All tests with the names of their arguments and answers, by their entries."""
+    """All tests as JSON: of each entry its inputs with the names of arguments and answers."""
     found = {entry.function: [test.value for test in results.tests(entry.function)] for entry in results.entries}
     return json.dumps(found, indent=1, ensure_ascii=False) + "\n"
 
 
 def pages(value: dict[str, Any]) -> dict[str, str]:
-    """The pages."""
-    import jinja2
-
-    loader = jinja2.FileSystemLoader(os.path.dirname(__file__))
-    made = jinja2.Environment(loader=loader, autoescape=True, undefined=jinja2.StrictUndefined, trim_blocks=True)
-    return {name: made.get_template(name).render(report=value) + "\n" for name in ("index.html", "matrix.html")}
+    """The pages by their files' names, of the report's value. Raises Failure where jinja2 isn't there."""
+    folder = os.path.dirname(__file__)
+    return {
+        name: html.rendered(os.path.join(folder, name), report=value) + "\n" for name in ("index.html", "matrix.html")
+    }

@@ -19,7 +19,8 @@ from tools.project.unit import sum_of_text
 
 @dataclass(frozen=True)
 class Requirement:
-    """A requirement; its query is empty where inputs alone say that they test it."""
+    """A requirement, at a line of its file; its query is empty where inputs alone say that they test it. One that
+    `is_never` holds where no run meets its query."""
 
     id: str
     text: str
@@ -54,7 +55,8 @@ def _requirement(table: Table, entries: dict[str, Entry]) -> Requirement:
 
 
 def of_settings(settings: Settings) -> tuple[Requirement, ...]:
-    """The requirements of a module's file, none where it names none; a failure with all that is wrong."""
+    """The requirements of the file that the settings name, none where they name none. Raises Failure where it can't be
+    read, and Faults with all that is wrong in it."""
     if settings.requirements is None:
         return ()
     file = File(settings.at(settings.requirements))
@@ -72,7 +74,8 @@ def of_settings(settings: Settings) -> tuple[Requirement, ...]:
 
 
 def task_name(requirement: Requirement) -> str:
-    """The name of the task of a requirement: its id, as far as a file's name may have it."""
+    """The name of the task of a requirement: its id, as far as a file's name may have it (60 letters), and where that
+    isn't all of it eight digits of its sum."""
     plain = re.sub(r"[^A-Za-z0-9_-]", "_", requirement.id)[:60]
     told = "" if plain == requirement.id else "-" + sum_of_text(requirement.id)[:8]
     return f"requirement-{plain}{told}"

@@ -22,7 +22,8 @@ from tools.verdicts import Tally, Verdict, tally
 
 
 class Results:
-    """What is known of a module."""
+    """What is known of a module: tests, goals and conditions, from the files that the tasks left, all of which are
+    done."""
 
     def __init__(self, context: Context, requirements: tuple[Requirement, ...]) -> None:
         self.context, self.requirements = context, requirements
@@ -41,7 +42,7 @@ class Results:
     # ---- tests
 
     def test(self, entry: str, value: dict[str, Any]) -> Test:
-        """The test of an input's numbers; a new one where it was made."""
+        """The test of an entry with these numbers; a new one, ENTRY-made-N, where none was given."""
         numbers = tuple(value["args"]), tuple(value.get("answers", ()))
         own = self._tests[entry]
         if numbers not in own:
@@ -50,10 +51,12 @@ class Results:
         return own[numbers]
 
     def tests(self, entry: str) -> list[Test]:
+        """The tests of an entry, the given ones first."""
         return list(self._tests[entry].values())
 
     @cached_property
     def all_tests(self) -> list[Test]:
+        """The tests of all entries, in the order of the settings."""
         return [test for entry in self.entries for test in self.tests(entry.function)]
 
     # ---- goals
@@ -85,7 +88,7 @@ class Results:
         return [self._row(name, goals) for (name, _), goals in found.items()]
 
     def criterion(self, goal: Goal) -> str:
-        """The criterion's name, or of a query the entry's with the query."""
+        """The name of a goal's criterion, or of a query ENTRY: QUERY."""
         if goal.task in criteria.COVER:
             return goal.task
         task = next(one for one in self.tasks if (one.entry.function, one.name) == (goal.entry, goal.task))
@@ -97,7 +100,8 @@ class Results:
         return Row(name, goals[0].text, function, *place, verdict, goals)
 
     def where(self, text: str, entry: str) -> tuple[str, tuple[str, int, int]]:
-        """The function and the place of a goal: those of its first letter that has some."""
+        """The function and the place of a goal: the unit's file, and the line and column from 1 of its first letter
+        that is an edge or a node (a node has column 1); of a goal without any, those of the entry."""
         for letter in graphs.letters(self.graph, text):
             if letter.edge:
                 edge = self.faces.shown(letter.edge)
@@ -108,16 +112,17 @@ class Results:
         return entry, (node.file, self.faces.node_line(node), 1)
 
     def spot(self, edge: Edge) -> str:
-        """The file of the unit in which an edge stands, with the line and the column in the user's own source."""
+        """The file of the unit in which an edge stands, with the line and the column in the user's own source:
+        FILE:LINE:COLUMN."""
         return "{}:{}:{}".format(edge.file, *self.faces.spot(self.faces.shown(edge))[1:])
 
     def told(self, text: str) -> str:
-        """What a goal asks for, in one line."""
+        """What a goal asks for, in one line: its edges, nodes and predicates in their order."""
         return "; then ".join(letter_line(self.faces, one) for one in graphs.letters(self.graph, text))
 
     @cached_property
     def criteria(self) -> list[str]:
-        """The criteria and queries that are asked for, also those without goals."""
+        """The criteria and queries that are asked for, in the order of the settings, also those without goals."""
         found: dict[str, None] = {}
         for task in self.tasks:
             if isinstance(task, Campaign) and not task.name.startswith("requirement-"):
@@ -135,7 +140,8 @@ class Results:
 
     @cached_property
     def own_files(self) -> dict[str, str]:
-        """The module's own file, from the settings' folder, for each file of the unit: headers too, drivers and stubs not."""
+        """The module's own file, from the settings' folder, for each file of the unit: headers too, drivers and stubs
+        not."""
         module, unit = self.context.settings.module, self.context.unit
         drivers = {os.path.normpath(name) for name in module.drivers}
         return {
@@ -143,12 +149,12 @@ class Results:
         }
 
     def own(self, file: str) -> str:
-        """The user's own file for one of the unit."""
+        """The user's own file for one of the unit; a file that isn't the unit's stands for itself."""
         return os.path.normpath(self.context.unit.own.get(file, file))
 
     @cached_property
     def files(self) -> dict[str, str]:
-        """The file of each function."""
+        """The unit's file in which each function is defined, in the order of the automaton."""
         return {one.name: self.graph.nodes[one.entry].file for one in self.graph.functions}
 
     @cached_property
@@ -158,25 +164,30 @@ class Results:
 
     @cached_property
     def unreached(self) -> list[str]:
-        """The module's functions that no entry reaches and that the file doesn't leave out."""
-        reached = {name for entry in self.entries for name in criteria.reached(self.graph, entry.function)}
+        """The module's functions that no entry reaches and that the settings don't leave out."""
+        reached = {name for entry in self.entries for name in self.graph.reached(entry.function)}
         left_out = self.context.settings.module.left_out
         return [name for name in self.functions if name not in reached and name not in left_out]
 
     # ---- bounds, errors, MC/DC
 
     def place(self, entry: str, task: str) -> Place:
+        """The folder in which a task of an entry keeps what it found."""
         return self.context.work.task(entry, task)
 
     def bounds(self, entry: str) -> dict[str, Any]:
+        """What the task of an entry's bounds found: `suffice`, the input that `left` them, `where`, and what to try
+        `next`; empty where nothing is there."""
         found = self.place(entry, "bounds").value("bounds.json")
         return found if isinstance(found, dict) else {}
 
     def suffice(self, entry: str) -> bool:
+        """Whether no run of an entry leaves its bounds, as the program says."""
         return bool(self.bounds(entry).get("suffice"))
 
     def errors(self, entry: str) -> list[tuple[str, Verdict, str]]:
-        """The places at which a trap may end runs of an entry, with a verdict, and of a covered one its input."""
+        """The places at which a trap may end runs of an entry, as FILE:LINE:COLUMN, each with a verdict, and of a
+        covered one its input in words, else nothing."""
         ordinals = Ordinals(self.graph)
         found = []
         value = self.place(entry, "errors").value("errors.json") or {"rows": [], "restriction": ""}
@@ -211,14 +222,15 @@ class Results:
             yield Condition(self.graph.owner(edge), self.spot(edge), self.statements.get(number, ""), text, state, pair)
 
     def mcdc(self, function: str | None = None) -> tuple[int, int]:
-        """How many conditions are shown, and of how many: all but those without a pair at all."""
+        """How many conditions are shown, of a function or of all, and of how many: all but those without a pair at all."""
         told = [one.state for one in self.conditions if function in (None, one.function)]
         return told.count(SHOWN), len(told) - told.count(NO_PAIR)
 
     # ---- runs
 
     def run(self) -> None:
-        """Notes how the run of each test ends, and its object with names."""
+        """Notes how the run of each test ends, and its object with names. Raises Failure where the program refuses
+        them."""
         for entry in self.entries:
             tests = self.tests(entry.function)
             if not tests:
@@ -233,7 +245,8 @@ class Results:
 
 
 def state_of(requirement: Requirement, results: Results) -> tuple[str, list[Goal], list[Test]]:
-    """What is known of a requirement, its goals, and its tests: those that name it and those that cover its goals."""
+    """What is known of a requirement in words (those of GOOD pass the gate), its goals, and its tests: those that name
+    it and those that cover its goals."""
     name = task_name(requirement)
     goals = [goal for goal in results.goals if goal.task == name]
     tests = [test for test in results.all_tests if requirement.id in test.requirements]
@@ -260,7 +273,8 @@ GOOD = ("tested", "shown", "holds")
 
 
 def bounds_line(results: Results, entry: str) -> str:
-    """What is known of an entry's bounds, in words."""
+    """What is known of an entry's bounds, in words: whether a run leaves them, where, by which input, and what to try
+    next."""
     value = results.bounds(entry)
     if value.get("suffice"):
         return "no run leaves the bounds"

@@ -46,7 +46,9 @@ def _of_file(reader: Reader, path: str, shown: str) -> list[Named]:
 
 
 def context_of(settings: Settings, work: Work, jobs: int, logins: str | None) -> Context:
-    """What the tasks share; a failure where an entry or an input isn't as the sources have it."""
+    """What the tasks share: the unit, its automaton, the given inputs and the requirements. Raises Faults where an
+    entry, a function that is left out, or a requirement of an input isn't there, and Failure where a file can't be
+    read."""
     unit = units.made(settings, work.at("unit"))
     graph = unit.graph()
     defined = [one.name for one in graph.functions]
@@ -96,7 +98,8 @@ def _done(task: Task, context: Context) -> str:
 
 
 def side_by_side(tasks: list[Task], context: Context, tell: Progress) -> list[str]:
-    """Does tasks side by side; what went wrong, a line each."""
+    """Does tasks, at most `context.jobs` at a time; what went wrong, a line each. Where it is interrupted, those that
+    haven't begun are left."""
     workers = max(1, min(context.jobs, len(tasks)))
     wrong = []
     with concurrent.futures.ThreadPoolExecutor(workers) as pool:
@@ -113,12 +116,13 @@ def side_by_side(tasks: list[Task], context: Context, tell: Progress) -> list[st
 
 
 def left(context: Context) -> list[Task]:
-    """The tasks that aren't done."""
+    """The tasks that aren't done, in their order."""
     return [task for task in tasks_of(context.settings, context.requirements) if not task.is_done(context)]
 
 
 def run(context: Context, entry: str | None = None) -> int:
-    """Does what isn't done, of all entries or of one; gives the number of tasks that were."""
+    """Does what isn't done, of all entries or of one, the bounds first; gives the number of tasks that were. Raises
+    Faults with a line for each task that failed."""
     if entry is None:
         _forget(context)
     tasks = [task for task in left(context) if entry in (None, task.entry.function)]

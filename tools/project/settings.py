@@ -16,7 +16,9 @@ ADAPT = ("where needed", "always", "never")
 
 @dataclass(frozen=True)
 class Module:
-    """The sources, and what reads them. Names are those of the file's folder."""
+    """The sources, and how they are read; names are from the settings' folder. `defines` are NAME=VALUE, `answered` the
+    functions that give inputs (--input of bin/adapt), `adapt` one of ADAPT, `left_out` functions that no entry needs to
+    reach."""
 
     sources: tuple[str, ...]
     drivers: tuple[str, ...] = ()
@@ -28,12 +30,14 @@ class Module:
 
     @property
     def all_sources(self) -> tuple[str, ...]:
+        """The sources, and behind them those of drivers and stubs."""
         return self.sources + self.drivers
 
 
 @dataclass(frozen=True)
 class Entry:
-    """A function from which runs begin, and what is asked of it."""
+    """A function from which runs begin, and what is asked of it, at a line of the file: criteria or queries, bounds,
+    which ends count (ENDS), the budget in moves of a search, and files of inputs."""
 
     function: str
     queries: tuple[str, ...]
@@ -50,7 +54,8 @@ class Entry:
 
 @dataclass(frozen=True)
 class Gate:
-    """What must hold; what is None or False isn't asked for."""
+    """What must hold: least percentages, from 0 to 100, of covered goals and of shown conditions, no run-time errors,
+    and all requirements. What is None or False isn't asked for."""
 
     at_least: float | None = None
     mcdc: float | None = None
@@ -59,12 +64,13 @@ class Gate:
 
     @property
     def asks(self) -> bool:
+        """Whether it asks for anything."""
         return self != Gate()
 
 
 @dataclass(frozen=True)
 class Settings:
-    """What a file says; `folder` is the one that its names are read from."""
+    """What the file at `path` says; `folder` is the one that its names are read from."""
 
     path: str
     folder: str
@@ -74,6 +80,7 @@ class Settings:
     requirements: str | None = None
 
     def at(self, name: str) -> str:
+        """The path of a file that the settings name."""
         return os.path.join(self.folder, name)
 
 
@@ -164,7 +171,8 @@ def _requirements(top: Table) -> str | None:
 
 
 def of_file(path: str) -> Settings:
-    """What a file says; a failure with all that is wrong with it."""
+    """What a file of settings says (docs/MODULE.md). Raises Failure where it can't be read or is no TOML, and Faults
+    with all that is wrong with it, each with its line."""
     file = File(path)
     top = file.top()
     module = top.table("module")

@@ -15,8 +15,8 @@ from tools.verdicts import Verdict
 
 @dataclass
 class Difference:
-    """The goals of two reports by what became of them, each as its criterion and its text. What `kept` names was covered before
-    and is so still."""
+    """The goals of two reports by what became of them, each as its criterion and its text. What `kept` names was
+    covered before and is so still."""
 
     folder: str
     new: list[str] = field(default_factory=list)
@@ -26,14 +26,15 @@ class Difference:
     kept: list[str] = field(default_factory=list)
 
     def lines(self) -> list[str]:
-        """What is told."""
+        """What is told: a line of numbers, and one for each goal that is new, gone, newly covered or lost."""
         parts = (("new", self.new), ("gone", self.gone), ("newly covered", self.covered), ("lost", self.lost))
         head = ", ".join(f"{len(goals)} {name}" for name, goals in parts)
         return [f"since {self.folder}: {head}", *(f"{name}: {goal}" for name, goals in parts for goal in goals)]
 
 
 def earlier(folder: str) -> tuple[dict[str, Any], graphs.Graph]:
-    """The report that stands in a folder, with its automaton; a failure where none does."""
+    """The report that stands in a folder, as its goals' criteria, texts and verdicts (`rows`), with its automaton.
+    Raises Failure where none does."""
     path = os.path.join(folder, "report.json")
     try:
         value = json.loads(program.read(path))
@@ -45,7 +46,8 @@ def earlier(folder: str) -> tuple[dict[str, Any], graphs.Graph]:
 
 
 def difference(folder: str, results: Results) -> Difference:
-    """What became of the goals of an earlier report."""
+    """What became of the goals of the report in `folder`, which are found again by their edges and nodes. Raises
+    Failure where none stands there."""
     value, graph = earlier(folder)
     found = Difference(folder)
     mapping = Mapping(graph, results.graph)

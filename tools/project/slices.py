@@ -12,7 +12,7 @@ from tools.sources import CLOSING, OPENING, Source
 
 
 def parts(source: Source) -> Iterator[tuple[str, str]]:
-    """The tokens of a source in parts, each with the name of the function that it defines, or with none."""
+    """The tokens of a source in parts, each as one text with the name of the function that it defines, or with none."""
     kept: list[str] = []
     depth, name = 0, ""
     for token in source.tokens:
@@ -28,7 +28,8 @@ def parts(source: Source) -> Iterator[tuple[str, str]]:
 
 
 class Slices:
-    """The parts of a unit's sources, each as one text."""
+    """The parts of a unit's sources, each as one text: those `outside` of functions, with the directives, and each
+    function's."""
 
     def __init__(self, unit: Unit) -> None:
         self.outside: list[str] = []
@@ -43,6 +44,6 @@ class Slices:
                     self.outside.append(text)
 
     def sum(self, functions: Sequence[str]) -> str:
-        """One sum of what runs through these functions depend on."""
+        """One SHA-256 sum of what runs through these functions depend on, in hexadecimal digits."""
         bodies = [self.functions.get(name, "") for name in functions]
         return sum_of_text("\n".join([*self.outside, *bodies]))

@@ -23,7 +23,7 @@ from tools.verdicts import Limits
 
 
 def made_by() -> str:
-    """One sum of the program and of the tools that make answers of what it says: by others all is done again."""
+    """One SHA-256 sum of the program and of the tools that make answers of what it says: by others all is done again."""
     folders = [os.path.join(program.ROOT, "tools"), os.path.dirname(__file__)]
     paths = [os.path.join(at, name) for at in folders for name in sorted(os.listdir(at)) if name.endswith(".py")]
     return sum_of_text(json.dumps([sum_of_file(path) for path in (program.program(), *paths)]))
@@ -31,7 +31,9 @@ def made_by() -> str:
 
 @dataclass
 class Context:
-    """What all tasks share."""
+    """What all tasks share: the settings, the unit with its automaton and its parts, the work folder, of each entry the
+    given inputs and its signature, the requirements, how many jobs go side by side, and the file of other machines, if
+    any."""
 
     settings: Settings
     unit: Unit
@@ -46,49 +48,58 @@ class Context:
     made_by: str = field(default_factory=made_by)
 
     def key(self, *parts: object) -> str:
+        """The sum of what an answer hangs on, with the program and the tools: by the same sum it needn't be asked
+        again."""
         return sum_of_text(json.dumps([self.made_by, *parts]))
 
     def reached(self, entry: Entry) -> list[str]:
-        return criteria.reached(self.graph, entry.function)
+        """The functions that runs of an entry may call, and the entry, in the order of the automaton."""
+        return self.graph.reached(entry.function)
 
     def arity(self, entry: Entry) -> int:
         """The number of an entry's parameters."""
         return len(self.signatures[entry.function].parameters)
 
     def given_key(self) -> list[str]:
-        """What is given of the inputs, with their ids and requirements."""
+        """What is given of the inputs of each entry, with their ids and requirements, as JSON."""
         return [json.dumps([one.value() for one in self.given[entry.function]]) for entry in self.settings.entries]
 
     def slice(self, entry: Entry) -> str:
-        """The sum of what the runs of an entry depend on."""
+        """The sum of what the runs of an entry depend on: it stays where only comments, layout or other functions
+        change."""
         return self.slices.sum(self.reached(entry))
 
     def first_inputs(self, entry: Entry) -> str:
-        """The given inputs of an entry as a file of inputs."""
+        """The given inputs of an entry as the text of a file of inputs (docs/FORMATS.md)."""
         return json.dumps([one.value() for one in self.given[entry.function]]) + "\n"
 
 
 @dataclass(frozen=True)
 class Task:
-    """One thing that is asked of an entry."""
+    """One thing that is asked of an entry, whose answer is kept in a folder of its own; each kind is a class below."""
 
     entry: Entry
     name: str
 
     def place(self, context: Context) -> Place:
+        """The folder of its answer."""
         return context.work.task(self.entry.function, self.name)
 
     def key(self, context: Context) -> str:
+        """The sum of what its answer hangs on. A Task of no kind has none: it raises NotImplementedError."""
         raise NotImplementedError
 
     def do(self, context: Context) -> None:
+        """Asks, and keeps the answer in its folder. Raises Failure where the program or a tool refuses; a Task of no
+        kind raises NotImplementedError."""
         raise NotImplementedError
 
     def is_done(self, context: Context) -> bool:
+        """Whether its answer stands in its folder whole, and hangs on what there is now."""
         return self.place(context).is_done(self.key(context))
 
     def run(self, context: Context) -> None:
-        """Does what isn't done."""
+        """Does it, and notes that it is done. Raises Failure, with the entry's and the task's name."""
         try:
             self.do(context)
         except Failure as failure:
@@ -97,12 +108,15 @@ class Task:
 
 
 class Bounds(Task):
-    """Whether a run of the entry leaves the bounds, and by which input."""
+    """Whether a run of the entry leaves the bounds, and by which input (`fshell bounds`)."""
 
     def key(self, context: Context) -> str:
+        """It hangs on the text of the sources, since the place where a run leaves is told."""
         return context.key("bounds", context.unit.sum(), self.entry.bounds, self.entry.budget)
 
     def do(self, context: Context) -> None:
+        """Keeps bounds.json: whether they `suffice`, an input that `left` them, `where`, and the bounds to try `next`.
+        The program isn't asked again where only places have moved. Raises Failure where it refuses."""
         place, entry, unit = self.place(context), self.entry, context.unit
         of_slice = context.key("bounds", context.slice(entry), entry.bounds, entry.budget)
         known = place.value("said.json") or {}
@@ -125,12 +139,16 @@ class Bounds(Task):
 
 
 class Errors(Task):
-    """Where runs of the entry are ended by a trap: a node for each operation that fails, with an input."""
+    """Where runs of the entry are ended by a trap: a node for each operation that fails, with an input (`fshell
+    generate`)."""
 
     def key(self, context: Context) -> str:
+        """It hangs on the functions that the entry reaches, its bounds and its budget."""
         return context.key("errors", context.slice(self.entry), self.entry.bounds, self.entry.budget)
 
     def do(self, context: Context) -> None:
+        """Keeps errors.json: each node by its function and its place there, with the program's verdict and an input,
+        and the `restriction` of what is refuted (docs/ORDER.md). Raises Failure where the program refuses."""
         entry, unit, graph = self.entry, context.unit, context.graph
         reached = context.reached(entry)
         scope = "" if len(reached) == len(graph.functions) else f"in {criteria.union(reached)} "
@@ -151,19 +169,23 @@ class Errors(Task):
 
 @dataclass(frozen=True)
 class Campaign(Task):
-    """A query whose goals are covered, refuted or left undecided by bin/campaign."""
+    """A query whose goals are covered, refuted or left undecided as by bin/campaign; `text` is a criterion or a query."""
 
     text: str
 
     def query(self, context: Context) -> str:
+        """The query in the program's words, over the functions that the entry reaches."""
         return criteria.query(self.text, context.reached(self.entry), context.graph)
 
     def key(self, context: Context) -> str:
+        """It hangs on the query, the text of the sources, bounds, ends, budget and given inputs."""
         entry = self.entry
         asked = (self.query(context), context.unit.sum(), entry.bounds, entry.ends, entry.budget)
         return context.key("campaign", *asked, sum_of_text(context.first_inputs(entry)))
 
     def do(self, context: Context) -> None:
+        """Keeps the campaign's report.json and inputs.json; a query without goals (error 72) has empty ones. Raises
+        Failure where the program refuses."""
         place, entry, unit = self.place(context), self.entry, context.unit
         query = self.query(context)
         words = ["goals", query, *unit.sources]
@@ -181,7 +203,7 @@ class Campaign(Task):
         decided.decide(place, asked, first, left["was_whole"], self.left(context), context.jobs, context.logins)
 
     def left(self, context: Context) -> Left:
-        """What the task of the bounds found."""
+        """What the task of the bounds found, in the form that a campaign reads; nothing known where it isn't done."""
         known = Bounds(self.entry, "bounds").place(context).value("bounds.json") or {}
         one = input_of(known["left"]) if known.get("left") else None
         suffice = True if known.get("suffice") else False if one else None
@@ -191,14 +213,17 @@ class Campaign(Task):
 
 
 class Mcdc(Task):
-    """The pairs of inputs that show for each condition that it decides on its own."""
+    """The pairs of inputs that show for each condition that it decides on its own (MC/DC, DO-178C), by bin/mcdc."""
 
     def key(self, context: Context) -> str:
+        """It hangs on the functions that the entry reaches, its bounds, its budget and the given inputs."""
         entry = self.entry
         asked = (context.slice(entry), entry.bounds, entry.budget, sum_of_text(context.first_inputs(entry)))
         return context.key("mcdc", *asked)
 
     def do(self, context: Context) -> None:
+        """Keeps mcdc.json: of each condition its guard's function and place there, its text, the answer, and the pair.
+        Raises Failure where bin/mcdc refuses, but for there being no decision."""
         place, entry, unit = self.place(context), self.entry, context.unit
         place.keep("first.json", [one.value() for one in context.given[entry.function]])
         words = [entry.function, *unit.sources, *entry.options(), "--budget", str(entry.budget), "--json"]
@@ -221,7 +246,8 @@ class Mcdc(Task):
 
 
 def tool(name: str, words: list[str], folder: str) -> str:
-    """What a tool answers; its failure is one here."""
+    """What bin/NAME writes to standard output where it is called in `folder`. Raises Failure where it ends with another
+    status than 0 or 1, with its last line."""
     path = os.path.join(program.ROOT, "bin", name)
     ended = subprocess.run(
         [sys.executable, path, *words],
@@ -238,12 +264,12 @@ def tool(name: str, words: list[str], folder: str) -> str:
 
 
 def name_of(text: str) -> str:
-    """The name of a query's task."""
+    """The name of a query's task, query- and eight digits of its sum; a criterion's is its own."""
     return f"query-{sum_of_text(text)[:8]}" if criteria.is_query(text) else text
 
 
 def tasks_of(settings: Settings, requirements: tuple[Requirement, ...]) -> list[Task]:
-    """All tasks, the bounds of all entries first."""
+    """All tasks, the bounds of all entries first, which the others read."""
     found: list[Task] = [Bounds(entry, "bounds") for entry in settings.entries]
     for entry in settings.entries:
         found += [Campaign(entry, name_of(text), text) for text in entry.queries if text != criteria.MCDC]

@@ -18,9 +18,9 @@ from tools.project.tables import Faults
 
 @dataclass(frozen=True)
 class Unit:
-    """The sources in their order, and the folder in which they stand. `own` has the module's own file for each name, from the
-    settings' folder; `read` has the sum of each file that they were made of; `refusal` is why the own ones aren't taken.
-    """
+    """The sources in their order, and the folder in which they stand. `own` has the module's own file for each name,
+    from the settings' folder; `read` has the sum of each file that they were made of; `refusal` is why the own ones
+    aren't taken, or nothing; `key` is the sum of all else that they were made of."""
 
     place: str
     sources: tuple[str, ...]
@@ -31,13 +31,15 @@ class Unit:
 
     @property
     def is_adapted(self) -> bool:
+        """Whether bin/adapt wrote the sources."""
         return bool(self.refusal)
 
     def at(self, name: str) -> str:
+        """The path of a file of the unit."""
         return os.path.join(self.place, name)
 
     def graph(self) -> Graph:
-        """The automaton, which is kept beside the sources."""
+        """The automaton, which is kept beside the sources. Raises Failure where it can't be read."""
         return graphs.of_text(program.read(self.at("graph.txt")).decode())
 
     def sum(self) -> str:
@@ -46,11 +48,12 @@ class Unit:
 
 
 def sum_of_text(text: str) -> str:
+    """The SHA-256 sum of a text as UTF-8, in hexadecimal digits."""
     return hashlib.sha256(text.encode(errors="surrogateescape")).hexdigest()
 
 
 def sum_of_file(path: str) -> str:
-    """The SHA-256 sum of a file, or nothing where it isn't read."""
+    """The SHA-256 sum of a file's bytes, in hexadecimal digits, or nothing where it can't be read."""
     try:
         with open(path, "rb") as file:
             return hashlib.file_digest(file, "sha256").hexdigest()
@@ -66,7 +69,7 @@ def _key(module: Module) -> str:
 
 
 def kept(settings: Settings, place: str) -> Unit | None:
-    """The unit that stands in a folder, where nothing that it was made of has changed."""
+    """The unit that stands in a folder, where nothing that it was made of has changed; None else."""
     try:
         value = json.loads(program.read(os.path.join(place, "unit.json")))
         found = Unit(place, tuple(value["sources"]), value["own"], value["read"], value["refusal"], value["key"])
@@ -79,7 +82,9 @@ def kept(settings: Settings, place: str) -> Unit | None:
 
 
 def made(settings: Settings, place: str) -> Unit:
-    """The unit of a module: the one that stands there, or a new one."""
+    """The unit of a module: the one that stands in `place`, or a new one, which is put there whole. Raises Failure
+    where the program refuses the sources and they aren't to be adapted, or two have one name, and Faults with what
+    bin/adapt refuses."""
     found = kept(settings, place)
     if found:
         return found

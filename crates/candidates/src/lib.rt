@@ -10,6 +10,7 @@
 
 mod constants;
 mod counters;
+mod ends;
 mod mixing;
 mod progressions;
 mod reads;

@@ -1,4 +1,5 @@
 // What the runs of a function read of an input.
+use c_values::Kind;
 use cfa::{CellPlace, Edge, Expr, Graph, Operation};
 use fq_core::Memory;
 use std::alloc::Global;
@@ -91,4 +92,13 @@ pub(crate) fn most_answers(graph: &Graph) -> u32 {
         return u32::MAX;
     }
     count
+}
+
+/// The kinds of the input functions, in order.
+pub(crate) fn asked_kinds(alloc: Global, graph: &Graph) -> Result<Vec<Kind>, Memory> {
+    let mut kinds = Vec::new(alloc);
+    for asked in graph.inputs() {
+        kinds.push(asked.result)?;
+    }
+    Ok(kinds)
 }

@@ -5,9 +5,10 @@ ghost use Rattle.c_values.specs.Kind.{IsKind, IsValue};
 ghost use Rattle.candidates.specs.Row.{IsCandidate};
 
 use crate::constants::constants_of;
+use crate::ends::word_beside_end;
 use crate::mixing::drawn;
 use crate::progressions::{Progression, progressions_of};
-use crate::reads::{most_answers, parameters_read};
+use crate::reads::{asked_kinds, most_answers, parameters_read};
 use crate::values::values_of;
 use c_meaning::Input;
 use c_values::{Kind, convert};
@@ -20,9 +21,9 @@ use std::alloc::Global;
 ///
 /// Of eight numbers the first has an input whose words and answers are all one of the values, the second one where they rise
 /// from a value or go through the values, and past the end of these both have one where one of them is of a progression. The
-/// third to the fifth have one of a grid of small numbers, or of the same numbers times a power of ten. The others, and those
-/// past the end of the grids, have one whose words and answers are drawn: values, small numbers, sums of two values, or any
-/// numbers.
+/// third to the fifth have one of a grid of small numbers, or of the same numbers times a power of ten. The sixth has one where
+/// one place has an end of its kind's range, or the number beside that, and the others a small number. The others, and those
+/// past the end of these, have one whose words and answers are drawn: values, small numbers, sums of two values, or any numbers.
 #[derive(Drop)]
 pub struct Candidates {
     values: Vec<u64>,
@@ -31,6 +32,8 @@ pub struct Candidates {
     read: Vec<bool>,
     /// The most answers that a run reads.
     most_answers: u32,
+    /// The kinds of the input functions.
+    asked: Vec<Kind>,
 }
 
 /// Of how many constants sums, products and progressions are made, two by two.
@@ -118,6 +121,7 @@ impl Candidates {
             progressions: progressions_of(alloc, first)?,
             read: parameters_read(alloc, graph, function)?,
             most_answers: most_answers(graph),
+            asked: asked_kinds(alloc, graph)?,
         })
     }
 
@@ -181,8 +185,17 @@ impl Candidates {
         self.progressions[(turn % count) as usize].at(turn / count)
     }
 
-    /// The word for a place of the input of a number: the places are those of the parameters, and then those of the answers.
-    fn word(&self, number: u64, slot: u64, slots: u64) -> u64 {
+    /// A word of an input in which one place has an end of its kind's range; or one that is drawn.
+    fn end_word(&self, number: u64, index: u64, slot: u64, slots: u64, kind: Kind) -> u64 {
+        match word_beside_end(index, slot, slots, kind) {
+            Some(word) => word,
+            None => self.drawn_word(number, slot),
+        }
+    }
+
+    /// The word for a place, of a kind, of the input of a number: the places are those of the parameters, and then those of the
+    /// answers.
+    fn word(&self, number: u64, slot: u64, slots: u64, kind: Kind) -> u64 {
         let index = number / 8;
         let count = self.values.len() as u64;
         match number % 8 {
@@ -194,6 +207,7 @@ impl Candidates {
             2 => self.grid_word(number, 3 * index, slot, slots),
             3 => self.grid_word(number, 3 * index + 1, slot, slots),
             4 => self.grid_word(number, 3 * index + 2, slot, slots),
+            5 => self.end_word(number, index, slot, slots, kind),
             _ => self.drawn_word(number, slot),
         }
     }
@@ -204,6 +218,15 @@ impl Candidates {
             Some(is_read) => *is_read,
             None => true,
         }
+    }
+
+    /// The kind that is taken for an answer's: where there are several input functions, in turn that of each.
+    fn asked_kind(&self, slot: u32) -> Kind {
+        let count = self.asked.len();
+        if count == 0 {
+            return Kind::INT;
+        }
+        self.asked[slot as usize % count]
     }
 
     /// How many of the first parameters are read.
@@ -217,10 +240,10 @@ impl Candidates {
         count
     }
 
-    /// The word of a parameter, whose place among those that are read is given: 0 where it isn't read.
-    fn word_read(&self, number: u64, slot: usize, place: u64, slots: u64) -> u64 {
+    /// The word of a parameter of a kind, whose place among those that are read is given: 0 where it isn't read.
+    fn word_read(&self, number: u64, slot: usize, place: u64, slots: u64, kind: Kind) -> u64 {
         if self.is_read(slot) {
-            self.word(number, place, slots)
+            self.word(number, place, slots, kind)
         } else {
             0
         }
@@ -264,7 +287,7 @@ impl Candidates {
         let mut words = Vector::new(alloc);
         let mut place: u64 = 0;
         for (slot, kind) in kinds.iter().enumerate() {
-            let word = self.word_read(number, slot, place, slots);
+            let word = self.word_read(number, slot, place, slots, *kind);
             place = place.wrapping_add(self.is_read(slot) as u64);
             words.push(convert(word, Kind::UNSIGNED_LONG, *kind))?;
         }
@@ -284,7 +307,8 @@ impl Candidates {
     {
         let mut answers = Vector::new(alloc);
         for slot in 0..count {
-            answers.push(self.word(number, first.wrapping_add(slot as u64), slots))?;
+            let kind = self.asked_kind(slot);
+            answers.push(self.word(number, first.wrapping_add(slot as u64), slots, kind))?;
         }
         Ok(answers)
     }

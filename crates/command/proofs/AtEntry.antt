@@ -17,6 +17,7 @@ use Rattle.command.specs.declared.bounds.Form.{Form}
 use Rattle.command.specs.Bounds.{IsAskedOfBounds}
 use Rattle.command.specs.Check.{IsChecked, IsCheckedAt}
 use Rattle.command.specs.CheckBounds.{IsCheckedBounds}
+use Rattle.command.specs.Events.{AreEvents}
 use Rattle.command.specs.Generate.{IsGeneration, generated_report}
 use Rattle.command.specs.Least.{IsLowered}
 use Rattle.command.specs.Measure.{IsMeasured}
@@ -80,6 +81,10 @@ TracesThen r m graph entry = OfInputs r m.sources m.inputs (length entry.functio
 abbrev pub TreesThen : Reads → Running → Typed → GraphParts → EntryFunction → Said → Type 0
 TreesThen r m typed graph entry =
     OfInputs r m.sources m.inputs (length entry.function.parameters) (λ given said. said ≡ ended graph typed entry m.steps given)
+
+abbrev pub EventsThen : Reads → Running → Typed → GraphParts → EntryFunction → Said → Type 0
+EventsThen r m typed graph entry =
+    OfInputs r m.sources m.inputs (length entry.function.parameters) (AreEvents graph typed entry m.steps)
 
 abbrev pub BoundsThen : Form → Sufficing → GraphParts → EntryFunction → Said → Type 0
 BoundsThen form m graph entry = IsAskedOfBounds form graph entry (within m.bounds) m.sources m.budget

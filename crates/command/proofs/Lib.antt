@@ -7,6 +7,7 @@ pub mod CodeLaws
 pub mod DueLaws
 pub mod Ended
 pub mod EntryLaws
+pub mod EventsLaws
 pub mod FirstCovering
 pub mod GenerateLaws
 pub mod GivesLaws

@@ -12,7 +12,7 @@ use Rattle.command_words.specs.declared.command_option.CommandOption.TheVariants
 use Rattle.command_words.specs.declared.requests.Bounds.{Bounds}
 use Rattle.command_words.specs.Reading.{Text, Use, reading, values}
 use Rattle.command_words.specs.Request as asks
-use Rattle.command_words.specs.Request.{Asked, asked_by, bounds_checked, bounds_of, bounds_proved, bounds_with, check_bounds_of, check_of, checked, generate_of, generated, goal_in, goals_of, graph_of, least_of, listed, lowered, measure_of, measured, number_in, number_of, of_bounds, positionals_of, printed, prove_bounds_of, prove_of, proved, replay_of, replayed, request_of, run_on_trees, run_with, runs_of, sample_of, sampled, suffice_of, sufficed, traced, traces_of, trees_of}
+use Rattle.command_words.specs.Request.{Asked, asked_by, bounds_checked, bounds_of, bounds_proved, bounds_with, check_bounds_of, check_of, checked, events_of, generate_of, generated, goal_in, goals_of, graph_of, least_of, listed, lowered, measure_of, measured, number_in, number_of, of_bounds, positionals_of, printed, prove_bounds_of, prove_of, proved, replay_of, replayed, request_of, run_for_events, run_on_trees, run_with, runs_of, sample_of, sampled, suffice_of, sufficed, traced, traces_of, trees_of}
 use Rattle.command.specs.Ranges.{AreBounds, IsInRange}
 
 -- ---- numbers
@@ -128,6 +128,10 @@ module _ (a : Asked) where
   trees_within (entry ∷ inputs ∷ source ∷ sources) (Some n) is = asked_is _ tt is
   trees_within words steps is = none_asked is
 
+  events_within : (words : List Text) (steps : Option ℕ) → run_for_events words steps ≡ Some a → IsInRange a
+  events_within (entry ∷ inputs ∷ source ∷ sources) (Some n) is = asked_is _ tt is
+  events_within words steps is = none_asked is
+
   -- ---- by the name of the command
 
   bounds_ok : (uses : List Use) → IfSome (bounds_of uses) AreBounds
@@ -167,5 +171,6 @@ module _ (a : Asked) where
       (choose (bytes_eq name (codes "traces")) _ _ (asked_within traces_of (Steps ∷ ends_option ∷ []) words (λ uses. traced_within _ _ _))
       (choose (bytes_eq name (codes "replay")) _ _ (asked_within replay_of (ends_option ∷ Json ∷ []) words (λ uses. replayed_within _ _ _))
       (choose (bytes_eq name (codes "trees")) _ _ (asked_within trees_of (Steps ∷ []) words (λ uses. trees_within _ _))
+      (choose (bytes_eq name (codes "events")) _ _ (asked_within events_of (Steps ∷ []) words (λ uses. events_within _ _))
       (choose (bytes_eq name (codes "graph")) _ _ (asked_within graph_of [] words (λ uses. printed_within (positionals_of uses)))
-      (choose (bytes_eq name (codes "sample")) _ _ (asked_within sample_of [] words (λ uses. sampled_within (positionals_of uses))) (of_bounds_within name words)))))))))))) is
+      (choose (bytes_eq name (codes "sample")) _ _ (asked_within sample_of [] words (λ uses. sampled_within (positionals_of uses))) (of_bounds_within name words))))))))))))) is

@@ -3,16 +3,30 @@ use Rattle.std.proofs.Common.{◌≡◌, ℕ, ◌+◌, ◌<◌, ◌≤◌, List,
 use Rattle.std.proofs.lemmas.Bool.{le-ltb, lt-ltb}
 use Rattle.std.proofs.lemmas.List.{map-append, take-map}
 use Rattle.std.proofs.lemmas.List.Sums.{sum_by-append, sum_by-cons, sum_by-take-le}
-use Rattle.fq_core.specs.declared.refusal.Place.TheVariants as place
+use Rattle.fq_core.specs.declared.refusal.Refusal.{Refusal}
 use Rattle.cfa.specs.declared.parts.GraphParts.{GraphParts}
 use Rattle.c_meaning.specs.declared.input.Input.{Input}
 use Rattle.path_runner.specs.declared.path.PathRecord.{PathRecord}
-use Rattle.report.specs.Texts.{runs_text}
-use Rattle.command.specs.RunList.{edges_in, ending, most_listed, recorded}
+use Rattle.command.specs.RunList.{edges_in, ending, most_listed, too_many, unless_many}
 use Rattle.command.specs.Refusal.{said_by}
 use Rattle.command.specs.Runs.{EntryFunction, no_predicates, run_of, runs_of}
 use Rattle.command.specs.Said.{answered}
 use Rattle.command.proofs.MeasureLaws.{runs_more}
+
+-- ---- what is answered, and the refusal
+
+pub said_limit : (names : List (List ℕ)) → said_by names too_many ≡ said_by [] too_many
+unfolding said_by
+said_limit names = refl
+
+module _ (runs : List PathRecord) (text : List ℕ) where
+  pub refused_many : (x : Refusal) (names : List (List ℕ)) → (x ≡ too_many) × (most_listed < edges_in runs) → said_by names x ≡ unless_many runs text
+  refused_many x names why = ap (λ (y : Refusal). said_by names y) why.0 ∙ said_limit names ∙ sym (rw (lt-ltb most_listed (edges_in runs) why.1) refl)
+
+  pub answered_few : edges_in runs ≤ most_listed → answered text ≡ unless_many runs text
+  answered_few few = sym (rw (le-ltb most_listed (edges_in runs) few) refl)
+
+-- ---- the runs of the first inputs
 
 module _ (graph : GraphParts) (entry : EntryFunction) (steps : ℕ) (inputs : List Input) where
   abbrev runs_at : List Input → List PathRecord
@@ -23,20 +37,9 @@ module _ (graph : GraphParts) (entry : EntryFunction) (steps : ℕ) (inputs : Li
       rw (sym (take-map (run_of graph entry.function no_predicates steps) n inputs))
       (sum_by-take-le (λ (run : PathRecord). length run.edges) (runs_at inputs) n)
 
-  pub said_limit : (names : List (List ℕ)) → said_by names (record { code = 54; place = place.Limit most_listed }) ≡ said_by [] (record { code = 54; place = place.Limit most_listed })
-  unfolding said_by
-  said_limit names = refl
-
   -- too many edges are in the runs of the first inputs
-  pub too_many : (n : ℕ) (names : List (List ℕ)) → most_listed < edges_in (runs_at (take n inputs))
-      → recorded graph entry steps inputs ≡ said_by names (record { code = 54; place = place.Limit most_listed })
-  too_many n names many =
-      let up = edges_up_to n in
-      rw (lt-ltb most_listed (edges_in (runs_at inputs)) (omega (arith, many, up))) (sym (said_limit names))
-
-  -- all runs are listed
-  pub listed_all : edges_in (runs_at inputs) ≤ most_listed → recorded graph entry steps inputs ≡ answered (runs_text graph entry.number (map ending (runs_at inputs)))
-  listed_all few = rw (le-ltb most_listed (edges_in (runs_at inputs)) few) refl
+  pub many_in : (n : ℕ) → most_listed < edges_in (runs_at (take n inputs)) → most_listed < edges_in (runs_at inputs)
+  many_in n many = let up = edges_up_to n in omega (arith, many, up)
 
   module _ (i : ℕ) (d : Input) (within : i < length inputs) (run : PathRecord) (is : run ≡ run_of graph entry.function no_predicates steps (get_or inputs i d)) where
     -- the runs with that of the next input

@@ -26,7 +26,7 @@ use Rattle.path_runner.specs.declared.path.PathRecord.{PathRecord}
 use Rattle.reached.specs.declared.bounds.Bounds.{Bounds}
 use Rattle.report.specs.Generated.{sample_text}
 use Rattle.report.specs.Suffice.{suffice_text}
-use Rattle.report.specs.Texts.{goals_text, runs_text}
+use Rattle.report.specs.Texts.{goals_text}
 use Rattle.trace_file.specs.Written.{traces_text}
 use Rattle.sample.specs.Sample.{query_text}
 use Rattle.suite.specs.Generated.{IsGenerateFault}
@@ -50,7 +50,8 @@ use Rattle.command.specs.Check.{IsChecked, IsDueOfCheck, accepted_text}
 use Rattle.command.specs.CheckBounds.{IsCheckedBounds, IsDueOfCheckBounds}
 use Rattle.command.specs.Codes.{RefusalsHaveTheirCodes, certificate_codes, input_codes, query_codes, trace_codes, unread_codes}
 use Rattle.command.specs.Comparison.{IsCompared, said_of_verdict}
-use Rattle.command.specs.Due.{IsDueOf, IsDueOfGoals, IsDueOfGraph, IsDueOfMeasure, IsDueOfReplay, IsDueOfRuns, IsDueOfTraces, IsDueOfTrees}
+use Rattle.command.specs.Due.{IsDueOf, IsDueOfEvents, IsDueOfGoals, IsDueOfGraph, IsDueOfMeasure, IsDueOfReplay, IsDueOfRuns, IsDueOfTraces, IsDueOfTrees}
+use Rattle.command.specs.Events.{AreEvents}
 use Rattle.command.specs.Generate.{IsDueOfGenerate, IsGeneration, generated_report}
 use Rattle.command.specs.Inputs as inputs
 use Rattle.command.specs.Least.{IsDueOfLeast, IsLowered, said_of_least}
@@ -61,7 +62,7 @@ use Rattle.command.specs.Prove.{IsDueOfProve, IsProved, IsSaidOf}
 use Rattle.command.specs.Queries as queries
 use Rattle.command.specs.Ranges.{within}
 use Rattle.command.specs.Reads.{Reads}
-use Rattle.command.specs.RunList.{edges_in, ending, listed, most_listed, recorded}
+use Rattle.command.specs.RunList.{edges_in, most_listed, recorded, too_many, unless_many}
 use Rattle.command.specs.Refusal.{said_by, status_of}
 use Rattle.command.specs.Runs.{EntryFunction, entry_of, no_predicates, runs_of}
 use Rattle.command.specs.Said.{Said, answered}
@@ -209,10 +210,10 @@ module _ (law : RefusedByTheseCodes) where
 
 -- ---- the last stage of each command
 
-listed_told : (graph : GraphParts) (entry : ℕ) (runs : List PathRecord) (said : Said) → said ≡ listed graph entry runs → HasStatus said
-listed_told graph entry runs said is = by (nat_lt most_listed (edges_in runs)) is
+listed_told : (runs : List PathRecord) (text : List ℕ) (said : Said) → said ≡ unless_many runs text → HasStatus said
+listed_told runs text said is = by (nat_lt most_listed (edges_in runs)) is
   where
-    by : (many : Bool) → said ≡ cond many (said_by [] (record { code = 54; place = place.Limit most_listed })) (answered (runs_text graph entry (map ending runs))) → HasStatus said
+    by : (many : Bool) → said ≡ cond many (said_by [] too_many) (answered text) → HasStatus said
     by true e = nowhere_coded 54 (place.Limit most_listed) said refl e
     by false e = answered_done _ said e
 
@@ -298,7 +299,7 @@ module _ (law : RefusedByTheseCodes) (r : Reads) where
   runs_told : (m : Running) (graph : GraphParts) (said : Said) → IsDueOfRuns r m graph said → HasStatus said
   runs_told m graph =
       of_entry law graph m.entry _ (λ entry. of_inputs law r m.sources m.inputs (length entry.function.parameters) (λ given said. said ≡ recorded graph entry m.steps given)
-      (λ given said is. listed_told graph entry.number (runs_of graph entry.function no_predicates m.steps given) said is))
+      (λ given said is. listed_told (runs_of graph entry.function no_predicates m.steps given) _ said is))
 
   goals_told : (m : Listing) (graph : GraphParts) (said : Said) → IsDueOfGoals m graph said → HasStatus said
   goals_told m graph = of_query law m.sources graph m.query (λ p plan said. said ≡ answered (goals_text graph plan)) (λ p plan said is. answered_done _ said is)
@@ -348,6 +349,11 @@ module _ (law : RefusedByTheseCodes) (r : Reads) where
       of_entry law graph m.entry _ (λ entry. of_inputs law r m.sources m.inputs (length entry.function.parameters) (λ given said. said ≡ ended graph typed entry m.steps given)
       (λ given said is. answered_done _ said is))
 
+  events_told : (m : Running) (graph : GraphParts) (typed : Typed) (said : Said) → IsDueOfEvents r m graph typed said → HasStatus said
+  events_told m graph typed =
+      of_entry law graph m.entry _ (λ entry. of_inputs law r m.sources m.inputs (length entry.function.parameters) (AreEvents graph typed entry m.steps)
+      (λ given said are. listed_told (runs_of graph entry.function no_predicates m.steps given) _ said are.text))
+
   sampled_told : (number : ℕ) (graph : GraphParts) (said : Said) → IsSampled number graph said → HasStatus said
   sampled_told number graph =
       of_entry law graph (codes "f") _ (λ entry. of_query law (sample_file ∷ []) graph query_text _ (λ p plan.
@@ -367,6 +373,7 @@ module _ (law : RefusedByTheseCodes) (r : Reads) where
   due_told (asks.traces m) said due = of_sources law r m.sources (IsDueOfTraces r m) (traces_told m) said due
   due_told (asks.replay m) said due = of_sources law r m.sources (IsDueOfReplay r m) (replay_told m) said due
   due_told (asks.trees m) said due = of_trees law r m.sources (IsDueOfTrees r m) (trees_told m) said due
+  due_told (asks.events m) said due = of_trees law r m.sources (IsDueOfEvents r m) (events_told m) said due
   due_told (asks.graph sources) said due = of_sources law r sources IsDueOfGraph graph_told said due
   due_told (asks.sample number) said due = of_texts law (sample_file ∷ []) (sample_source number ∷ []) (IsSampled number) (sampled_told number) said due
 

@@ -50,7 +50,7 @@ module _ (graph : GraphParts) (entry : EntryFunction) (ends : Ends) (steps : ℕ
       → traced graph entry ends steps (xs ++ ys) ≡ said_by names (record { code = 54; place = place.Limit most_listed })
   too_many xs ys names many =
       let joined = edges_with xs ys in
-      rw (lt-ltb most_listed (edges_in (runs_at (xs ++ ys))) (omega (arith, many, joined))) (sym (said_limit graph entry steps [] names))
+      rw (lt-ltb most_listed (edges_in (runs_at (xs ++ ys))) (omega (arith, many, joined))) (sym (said_limit names))
 
   -- all counted runs are written
   pub traced_all : (inputs : List Input) → edges_in (runs_at inputs) ≤ most_listed

@@ -23,5 +23,6 @@ sources_of (asks.least m) = m.sources
 sources_of (asks.traces m) = m.sources
 sources_of (asks.replay m) = m.sources
 sources_of (asks.trees m) = m.sources
+sources_of (asks.events m) = m.sources
 sources_of (asks.graph sources) = sources
 sources_of (sample number) = sample_file ∷ []

@@ -9,6 +9,7 @@ use Rattle.command_words.specs.Request as asks
 use Rattle.command_words.specs.Request.{Asked, measure, generate, goals, runs, prove, check, suffice, sample, Measuring, Listing, Replaying, Running, Tracing, request_of}
 use Rattle.command.specs.Check.{IsDueOfCheck}
 use Rattle.command.specs.CheckBounds.{IsDueOfCheckBounds}
+use Rattle.command.specs.Events.{AreEvents}
 use Rattle.command.specs.Generate.{IsDueOfGenerate}
 use Rattle.command.specs.Least.{IsDueOfLeast}
 use Rattle.command.specs.Measure.{IsMeasured}
@@ -57,6 +58,11 @@ module _ (r : Reads) where
   IsDueOfTrees m graph typed said =
       OfEntry graph m.entry (λ entry. OfInputs r m.sources m.inputs (length entry.function.parameters) (λ given said. said ≡ ended graph typed entry m.steps given)) said
 
+  -- what happens in runs, as the edges of the automaton tell it and as it is by the meaning of the typed tree
+  abbrev pub IsDueOfEvents : Running → GraphParts → Typed → Said → Type 0
+  IsDueOfEvents m graph typed said =
+      OfEntry graph m.entry (λ entry. OfInputs r m.sources m.inputs (length entry.function.parameters) (AreEvents graph typed entry m.steps)) said
+
   -- ---- what is due, by what is asked
 
   abbrev pub IsDueOf : Asked → Said → Type 0
@@ -73,6 +79,7 @@ module _ (r : Reads) where
   IsDueOf (asks.traces m) said = OfSources r m.sources (IsDueOfTraces m) said
   IsDueOf (asks.replay m) said = OfSources r m.sources (IsDueOfReplay m) said
   IsDueOf (asks.trees m) said = OfTrees r m.sources (IsDueOfTrees m) said
+  IsDueOf (asks.events m) said = OfTrees r m.sources (IsDueOfEvents m) said
   IsDueOf (asks.graph sources) said = OfSources r sources IsDueOfGraph said
   IsDueOf (sample number) said = IsDueOfSample number said
 

@@ -10,6 +10,7 @@ pub mod Codes
 pub mod Comparison
 pub mod Due
 pub mod Entries
+pub mod Events
 pub mod Generate
 pub mod Inputs
 pub mod Laws

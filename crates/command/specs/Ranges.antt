@@ -28,5 +28,6 @@ IsInRange (asks.least m) = AreBounds m.bounds × (1 ≤ m.goal)
 IsInRange (asks.traces m) = Unit {0}
 IsInRange (asks.replay m) = Unit {0}
 IsInRange (asks.trees m) = Unit {0}
+IsInRange (asks.events m) = Unit {0}
 IsInRange (asks.graph sources) = Unit {0}
 IsInRange (sample number) = (1 ≤ number) × (number ≤ 200)

@@ -109,6 +109,7 @@ fn sources_of<'a>(request: &'a Request<'a>) -> &'a [&'a str]
         Request::Traces(request) => &request.sources,
         Request::Replay(request) => &request.sources,
         Request::Trees(request) => &request.sources,
+        Request::Events(request) => &request.sources,
         Request::Graph(sources) => sources,
         Request::Sample(_) => &SAMPLE_SOURCES,
     }

@@ -8,7 +8,8 @@
 //! certificate refutes a goal, for `bounds` whether an input leaves the bounds, for `prove-bounds` a certificate that none does, or
 //! what stands in its place, for `check-bounds` whether a certificate says so, for `least` the least input that covers a goal, for
 //! `traces` a file of inputs with the edges of their runs, for `replay` the report of measuring such a file, for `trees` how the
-//! inputs' runs end by the meaning of the sources' trees, for `sample` what is found of a large program, and else the line of the
+//! inputs' runs end by the meaning of the sources' trees, for `events` what happens in
+//! those runs, for `sample` what is found of a large program, and else the line of the
 //! refusal that is due.
 //!
 //! Each stage has a crate: the words `command_words`, the sources' automaton `c_front` and their typed tree `typed_sources`, the
@@ -27,6 +28,7 @@ mod command;
 mod comparison;
 mod difference;
 mod entry;
+mod events;
 mod generate;
 mod given;
 mod goal_list;

@@ -8,7 +8,7 @@ ghost use Rattle.command.specs.Answered.{IsTold};
 ghost use Rattle.command.specs.Entries.{seen};
 ghost use Rattle.command.specs.Reads.{reads};
 ghost use Rattle.command.specs.Replies.{Tells};
-ghost use Rattle.command.specs.RunList.{IsRecorded, most_listed};
+ghost use Rattle.command.specs.RunList.{AreRecordedAs, IsRecorded, most_listed};
 ghost use Rattle.fq_core.specs.declared.refusal.Fault.TheVariants as fault;
 ghost use Rattle.fq_core.specs.declared.refusal.Place.TheVariants as place;
 ghost use Rattle.command_words.specs.Reading.{Text};
@@ -45,11 +45,15 @@ pub fn too_many_edges() -> Fault
     })
 }
 
-// The list of the runs of these inputs, each cut after so many edges.
-fn list(alloc: Global, entry: &Entry, steps: u32, inputs: &[Input]) -> Result<Reply, Fault>
+/// How the runs of these inputs end, each cut after so many edges, and their edges, where they have no more than are listed.
+pub fn recorded(
+    alloc: Global,
+    entry: &Entry,
+    steps: u32,
+    inputs: &[Input],
+) -> Result<Vec<(RunEnd, Vector<u32>)>, Fault>
     requires { All (λ input. CanStart entry.now.function.now input.words) inputs.now }
-    ensures { (names : List Text) →
-        Tells (IsRecorded entry.now.graph.now (seen entry.now) steps inputs.now) names result }
+    ensures { AreRecordedAs entry.now.graph.now (seen entry.now) steps inputs.now result }
 {
     let none = Predicates {
         texts: Vector::new(alloc),
@@ -68,6 +72,16 @@ fn list(alloc: Global, entry: &Entry, steps: u32, inputs: &[Input]) -> Result<Re
         }
         runs.push((run.end, run.edges))?;
     }
+    Ok(runs)
+}
+
+// The list of the runs of these inputs, each cut after so many edges.
+fn list(alloc: Global, entry: &Entry, steps: u32, inputs: &[Input]) -> Result<Reply, Fault>
+    requires { All (λ input. CanStart entry.now.function.now input.words) inputs.now }
+    ensures { (names : List Text) →
+        Tells (IsRecorded entry.now.graph.now (seen entry.now) steps inputs.now) names result }
+{
+    let runs = recorded(alloc, entry, steps, inputs)?;
     let text = runs_text(alloc, entry.graph, entry.number, &runs)?;
     Ok(Reply::Answer {
         text,

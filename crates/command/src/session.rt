@@ -8,6 +8,7 @@ ghost use Rattle.command.specs.Watched.{watched};
 use crate::bounds::{Form, bounds};
 use crate::check::check;
 use crate::check_bounds::check_bounds;
+use crate::events::events;
 use crate::generate::generate;
 use crate::goal_list::goals;
 use crate::graph::graph;
@@ -51,6 +52,7 @@ pub fn answer<F: Files, W: Watch>(
         Request::Traces(request) => traces(alloc, request, files),
         Request::Replay(request) => replay(alloc, request, files),
         Request::Trees(request) => trees(alloc, request, files),
+        Request::Events(request) => events(alloc, request, files),
         Request::Graph(sources) => graph(alloc, sources, files),
         Request::Sample(number) => sample(alloc, *number, watch),
     }

@@ -1,4 +1,5 @@
-// The commands `bounds`, `prove-bounds`, `check-bounds`, `least`, `traces`, `replay` and `trees`.
+// The commands `bounds`, `prove-bounds`, `check-bounds`, `least`, `traces`, `replay`, `trees` and
+// `events`.
 use crate::searching::{SOURCES, text_of};
 use crate::tests::{A_C, QUERY, TWO_INPUTS, compare, files, words};
 use command::*;
@@ -364,6 +365,43 @@ fn ends_on_trees(rt: HostRuntime) -> Result<(), Fail> {
         ),
         (
             &["trees", "f", "none.txt", "e.c"],
+            (Status::ReadFault, "", "error 7 ReadFault none.txt\n"),
+        ),
+    ] {
+        compare(&rt, rt.alloc(), words, &held, want)?;
+    }
+    Ok(())
+}
+
+// What happens in a run, the same cut, and refusals.
+#[test]
+fn events(rt: HostRuntime) -> Result<(), Fail> {
+    let held = [("e.c", E_C), ("one.txt", "1\n"), ("two.txt", "1 2\n")];
+    for (words, want) in [
+        (
+            ["events", "f", "one.txt", "e.c"].as_slice(),
+            (
+                Status::Done,
+                "input 1 returned 0\ndid DECL e.c:2:3 i\nenters WHILE e.c:3:3\noutcome WHILE e.c:3:10 true settles\n\
+did ASSIGN e.c:4:5 i\nagain WHILE e.c:3:3\noutcome WHILE e.c:3:10 false settles\noutcome IF e.c:6:7 false settles\n\
+did RETURN e.c:9:3\n",
+                "",
+            ),
+        ),
+        (
+            &["events", "--steps", "2", "f", "one.txt", "e.c"],
+            (
+                Status::Done,
+                "input 1 cut\ndid DECL e.c:2:3 i\nenters WHILE e.c:3:3\n",
+                "",
+            ),
+        ),
+        (
+            &["events", "f", "two.txt", "e.c"],
+            (Status::InputRefused, "", "error 51 Shape input 1\n"),
+        ),
+        (
+            &["events", "f", "none.txt", "e.c"],
             (Status::ReadFault, "", "error 7 ReadFault none.txt\n"),
         ),
     ] {

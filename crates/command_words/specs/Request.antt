@@ -119,6 +119,8 @@ pub data Asked : Type 0 where
   replay : Replaying → Asked
   -- for the ends of runs by the meaning of the trees, the steps being turns
   trees : Running → Asked
+  -- for what happens in runs, by the meaning of the trees
+  events : Running → Asked
   -- of these sources
   graph : List Text → Asked
   -- of this size
@@ -174,6 +176,7 @@ asked (request.Least m) = least (proving m)
 asked (request.Traces m) = traces (tracing m)
 asked (request.Replay m) = replay (replaying m)
 asked (request.Trees m) = trees (running m)
+asked (request.Events m) = events (running m)
 asked (request.Graph sources) = graph (texts_at sources.items)
 asked (request.Sample size) = sample size
 
@@ -300,6 +303,10 @@ abbrev pub run_on_trees : List Text → Option ℕ → Option Asked
 run_on_trees (entry ∷ inputs ∷ source ∷ sources) (Some steps) = Some (trees record { entry = entry; inputs = inputs; sources = source ∷ sources; steps = steps })
 run_on_trees _ _ = None
 
+abbrev pub run_for_events : List Text → Option ℕ → Option Asked
+run_for_events (entry ∷ inputs ∷ source ∷ sources) (Some steps) = Some (events record { entry = entry; inputs = inputs; sources = source ∷ sources; steps = steps })
+run_for_events _ _ = None
+
 abbrev pub printed : List Text → Option Asked
 printed (source ∷ sources) = Some (graph (source ∷ sources))
 printed _ = None
@@ -352,6 +359,9 @@ replay_of uses = replayed (positionals_of uses) (ends_of uses) (json_of uses)
 abbrev pub trees_of : List Use → Option Asked
 trees_of uses = run_on_trees (positionals_of uses) (steps_of uses)
 
+abbrev pub events_of : List Use → Option Asked
+events_of uses = run_for_events (positionals_of uses) (steps_of uses)
+
 abbrev pub graph_of : List Use → Option Asked
 graph_of uses = printed (positionals_of uses)
 
@@ -383,5 +393,6 @@ request_of (name ∷ words) =
     (if bytes_eq name (codes "traces") then asked_by traces_of (Steps ∷ ends_option ∷ []) words else
     (if bytes_eq name (codes "replay") then asked_by replay_of (ends_option ∷ Json ∷ []) words else
     (if bytes_eq name (codes "trees") then asked_by trees_of (Steps ∷ []) words else
+    (if bytes_eq name (codes "events") then asked_by events_of (Steps ∷ []) words else
     (if bytes_eq name (codes "graph") then asked_by graph_of [] words else
-    (if bytes_eq name (codes "sample") then asked_by sample_of [] words else of_bounds name words)))))))))))
+    (if bytes_eq name (codes "sample") then asked_by sample_of [] words else of_bounds name words))))))))))))

@@ -3,15 +3,15 @@ ghost use Rattle.std.specs.Prelude.{◌≡◌, None, Some, IfOk, IsErrOf};
 ghost use Rattle.clap.specs.Matches.{found_of};
 ghost use Rattle.clap.specs.Walk.{rows_of};
 ghost use Rattle.command_words.specs.Reading.{texts, row_values};
-ghost use Rattle.command_words.specs.Request.{asked, asked_by, bounds_in, check_bounds_of, check_of, generate_of, goals_of, graph_of, least_of, measure_of, of_bounds, prove_bounds_of, prove_of, replay_of, request_of, runs_of, sample_of, suffice_of, traces_of, trees_of};
+ghost use Rattle.command_words.specs.Request.{asked, asked_by, bounds_in, check_bounds_of, check_of, events_of, generate_of, goals_of, graph_of, least_of, measure_of, of_bounds, prove_bounds_of, prove_of, replay_of, request_of, runs_of, sample_of, suffice_of, traces_of, trees_of};
 
 use crate::CommandOption;
 use crate::matching::{WORDS, matches, values_of};
 use crate::requests::{
     Bounds, Refused, Request, bounds_given, budget_given, check_bounds_with, check_with,
-    ends_given, flag_given, generate_with, goals_with, graph_with, least_with, measure_with,
-    number_given, prove_bounds_with, prove_with, replay_with, runs_with, sample_with, steps_given,
-    suffice_with, traces_with, trees_with,
+    ends_given, events_with, flag_given, generate_with, goals_with, graph_with, least_with,
+    measure_with, number_given, prove_bounds_with, prove_with, replay_with, runs_with, sample_with,
+    steps_given, suffice_with, traces_with, trees_with,
 };
 use clap::ArgMatches;
 use std::alloc::{AllocError, Global};
@@ -83,6 +83,8 @@ const TRACES: [CommandOption; 2] = [CommandOption::Steps, CommandOption::Ends];
 const REPLAY: [CommandOption; 2] = [CommandOption::Ends, CommandOption::Json];
 
 const TREES: [CommandOption; 1] = [CommandOption::Steps];
+
+const EVENTS: [CommandOption; 1] = [CommandOption::Steps];
 
 const GRAPH: [CommandOption; 0] = [];
 
@@ -270,6 +272,16 @@ fn trees<'a>(alloc: Global, words: &'a [String]) -> Result<Request<'a>, Refused>
     trees_with(alloc, &positionals, steps_given(&steps))
 }
 
+fn events<'a>(alloc: Global, words: &'a [String]) -> Result<Request<'a>, Refused>
+    ensures ok { IfOk result (λ r. asked_by events_of EVENTS (texts words.now) ≡ Some (asked r)) }
+    ensures usage { IsErrOf result Refused.Usage → asked_by events_of EVENTS (texts words.now) ≡ None }
+{
+    let matches = matches(alloc, "events", &EVENTS, words)?;
+    let positionals = values_of(alloc, &matches, WORDS)?;
+    let steps = values_of(alloc, &matches, CommandOption::Steps.name())?;
+    events_with(alloc, &positionals, steps_given(&steps))
+}
+
 fn graph<'a>(alloc: Global, words: &'a [String]) -> Result<Request<'a>, Refused>
     ensures ok { IfOk result (λ r. asked_by graph_of GRAPH (texts words.now) ≡ Some (asked r)) }
     ensures usage { IsErrOf result Refused.Usage → asked_by graph_of GRAPH (texts words.now) ≡ None }
@@ -321,6 +333,7 @@ pub fn request<'a>(alloc: Global, words: &'a [String]) -> Result<Request<'a>, Re
         [name, rest @ ..] if name.as_str() == "traces" => traces(alloc, rest),
         [name, rest @ ..] if name.as_str() == "replay" => replay(alloc, rest),
         [name, rest @ ..] if name.as_str() == "trees" => trees(alloc, rest),
+        [name, rest @ ..] if name.as_str() == "events" => events(alloc, rest),
         [name, rest @ ..] if name.as_str() == "graph" => graph(alloc, rest),
         [name, rest @ ..] if name.as_str() == "sample" => sample(alloc, rest),
         [name, rest @ ..] => of_bounds(alloc, name, rest),

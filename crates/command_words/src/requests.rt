@@ -2,7 +2,7 @@
 ghost use Rattle.std.specs.Prelude.{◌≡◌, ◌&&◌, nat_le, length, map, IfOk, IsErrOf, None, Some};
 ghost use Rattle.std.specs.Char.{is_ascii_digit};
 ghost use Rattle.std.specs.List.{list_all};
-ghost use Rattle.command_words.specs.Request.{asked, bounds_checked, bounds_proved, bounds_with, budget_in, checked, ends_in, ends_named, flag_of, generated, goal_in, listed, lowered, measured, number_in, number_of, printed, proved, replayed, run_on_trees, run_with, sampled, steps_in, sufficed, traced};
+ghost use Rattle.command_words.specs.Request.{asked, bounds_checked, bounds_proved, bounds_with, budget_in, checked, ends_in, ends_named, flag_of, generated, goal_in, listed, lowered, measured, number_in, number_of, printed, proved, replayed, run_for_events, run_on_trees, run_with, sampled, steps_in, sufficed, traced};
 
 use c_meaning::Ends;
 use std::alloc::{AllocError, Global};
@@ -199,6 +199,8 @@ pub enum Request<'a> {
     Replay(Replay<'a>),
     /// How the runs of given inputs end by the meaning of the trees, by the words of `runs`. The steps are turns.
     Trees(Runs<'a>),
+    /// What happens in the runs of given inputs by the meaning of the trees, by the words of `runs`. The steps are edges.
+    Events(Runs<'a>),
     /// The automaton of the sources whose files have these names, one at least.
     Graph(Vec<&'a str>),
     /// A large program, made from a number from 1 to 200.
@@ -646,6 +648,29 @@ pub fn trees_with<'a>(
     };
     match positionals {
         [entry, inputs, sources @ ..] if !sources.is_empty() => Ok(Request::Trees(Runs {
+            entry: *entry,
+            inputs: *inputs,
+            sources: sources.to_vec(alloc)?,
+            steps,
+        })),
+        _ => Err(Refused::Usage),
+    }
+}
+
+/// The request of `events`.
+pub fn events_with<'a>(
+    alloc: Global,
+    positionals: &[&'a str],
+    steps: Option<u32>,
+) -> Result<Request<'a>, Refused>
+    ensures ok { IfOk result (λ r. run_for_events (map (λ v. v.now) positionals.now) steps ≡ Some (asked r)) }
+    ensures usage { IsErrOf result Refused.Usage → run_for_events (map (λ v. v.now) positionals.now) steps ≡ None }
+{
+    let Some(steps) = steps else {
+        return Err(Refused::Usage);
+    };
+    match positionals {
+        [entry, inputs, sources @ ..] if !sources.is_empty() => Ok(Request::Events(Runs {
             entry: *entry,
             inputs: *inputs,
             sources: sources.to_vec(alloc)?,

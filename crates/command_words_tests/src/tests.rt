@@ -143,6 +143,12 @@ fn show(alloc: Global, request: &Request) -> Result<String, Fail> {
                 m.entry, m.inputs, m.sources, m.steps
             )?
         }
+        Request::Events(m) => {
+            format!(in alloc;
+                "events {} {} {:?} {}",
+                m.entry, m.inputs, m.sources, m.steps
+            )?
+        }
         Request::Graph(sources) => format!(in alloc; "graph {:?}", sources)?,
         Request::Sample(size) => format!(in alloc; "sample {size}")?,
     };
@@ -159,7 +165,7 @@ fn answer(alloc: Global, line: &str) -> Result<String, Fail> {
 }
 
 // What lines ask for.
-static ASKED: [(&str, &str); 44] = [
+static ASKED: [(&str, &str); 46] = [
     (
         "measure f q in a.c",
         "measure f q in [\"a.c\"] 100000 returned false",
@@ -274,6 +280,11 @@ static ASKED: [(&str, &str); 44] = [
         "trees --steps 7 f in a.c b.c",
         "trees f in [\"a.c\", \"b.c\"] 7",
     ),
+    ("events f in a.c", "events f in [\"a.c\"] 100000"),
+    (
+        "events --steps 7 f in a.c b.c",
+        "events f in [\"a.c\", \"b.c\"] 7",
+    ),
     ("graph a.c", "graph [\"a.c\"]"),
     ("graph a.c b.c a.c", "graph [\"a.c\", \"b.c\", \"a.c\"]"),
     ("graph _ -- --json -", "graph [\"\", \"--json\", \"-\"]"),
@@ -285,7 +296,7 @@ static ASKED: [(&str, &str); 44] = [
 ];
 
 // Lines that ask for nothing.
-static REFUSED: [&str; 86] = [
+static REFUSED: [&str; 88] = [
     "measure f q in a.c --ends",
     "measure f q in a.c --ends blocked",
     "measure f q in a.c --ends Returned",
@@ -362,6 +373,8 @@ static REFUSED: [&str; 86] = [
     "trees f in a.c --ends any",
     "trees f in a.c --json",
     "trees f in a.c --steps 0",
+    "events f in",
+    "events f in a.c --ends any",
     "graph",
     "graph --",
     "graph a.c --json",

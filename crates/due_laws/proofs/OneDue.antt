@@ -48,6 +48,7 @@ use Rattle.command.specs.Trees.{ended}
 use Rattle.command.specs.Queries.{IsPlanned}
 use Rattle.command.specs.Queries as queries
 use Rattle.command.specs.Reads.{Reads, Sees}
+use Rattle.command.specs.Events.{AreEvents}
 use Rattle.command.specs.RunList.{recorded}
 use Rattle.command.specs.Refusal.{said_by}
 use Rattle.command.specs.Runs.{EntryFunction, entry_of, runs_of}
@@ -482,6 +483,15 @@ module _ (front_law : (texts : List SourceText) → front.HasOneOutcome texts) (
       one_by IsSame is_same (entry_of graph m.entry) no_such_entry (Given graph typed) (λ entry.
       one_of_inputs r still m.inputs t.1 (length entry.function.parameters) m.sources (Ended graph typed entry) (λ given x y e f. e ∙ sym f))) said other c d
 
+  pub eventful_once : ((texts : List SourceText) → trees.HasOneOutcome texts) → (m : Running) → IsTrue (are_told r (m.sources ++ m.inputs ∷ [])) → AnyTwo IsSame (IsDueOf r (asks.events m))
+  eventful_once trees_law m h said other c d =
+      let t = both_told m.sources m.inputs h in
+      let Listed : GraphParts → Typed → EntryFunction → List Input → Said → Type 0 = λ graph typed entry given. AreEvents graph typed entry m.steps given in
+      let Given : GraphParts → Typed → EntryFunction → Said → Type 0 = λ graph typed entry. OfInputs r m.sources m.inputs (length entry.function.parameters) (Listed graph typed entry) in
+      one_of_trees r still front_law m.sources t.0 trees_law (λ graph typed. OfEntry graph m.entry (Given graph typed)) (λ graph typed.
+      one_by IsSame is_same (entry_of graph m.entry) no_such_entry (Given graph typed) (λ entry.
+      one_of_inputs r still m.inputs t.1 (length entry.function.parameters) m.sources (Listed graph typed entry) (λ given x y e f. e.text ∙ sym f.text))) said other c d
+
 none_told : (b : Bool) → IsTrue (false && b) → ⊥
 none_told b h = absurd cc
 
@@ -502,6 +512,7 @@ at_most_one front_law trees_law predicates_law hits_law r words still told said 
     asked_once (asks.traces m) h c d = traced_once front_law predicates_law hits_law r still m h said other c d
     asked_once (asks.replay m) h c d = replayed_once front_law predicates_law hits_law r still m h said other c d
     asked_once (asks.trees m) h c d = ended_once front_law predicates_law hits_law r still trees_law m h said other c d
+    asked_once (asks.events m) h c d = eventful_once front_law predicates_law hits_law r still trees_law m h said other c d
     asked_once (asks.graph sources) h c d = printed_once front_law predicates_law hits_law r still sources h said other c d
     asked_once (sample number) h c d = absurd (none_told (are_told r (files_of (sample number))) h)
 

@@ -85,7 +85,7 @@ use Rattle.command.specs.Bounds.{IsAskedOfBounds, said_of_bounds, sufficient_tex
 use Rattle.due_laws.proofs.Agreement.{no_arrays}
 use Rattle.due_laws.proofs.OneLeast.{one_least_input}
 use Rattle.due_laws.proofs.OneLine.{one_line}
-use Rattle.due_laws.proofs.OneDue.{AnyTwo, Once, TellsSame, both_told, ended_once, listed_once, measured_once, not_seen, one_by, one_of_query, one_of_sources, one_saying, one_seen, printed_once, recorded_once, replayed_once, same_refusal, traced_once, unread_is}
+use Rattle.due_laws.proofs.OneDue.{AnyTwo, Once, TellsSame, both_told, ended_once, eventful_once, listed_once, measured_once, not_seen, one_by, one_of_query, one_of_sources, one_saying, one_seen, printed_once, recorded_once, replayed_once, same_refusal, traced_once, unread_is}
 
 one_kind : TellsSame AreOfOneKind
 one_kind x y e = inl e
@@ -547,6 +547,7 @@ module _ (front_law : (texts : List SourceText) → front.HasOneOutcome texts) (
     one_asked (asks.traces m) h said other c d = traced_once front_law predicates_law hits_law r still m h said other c d
     one_asked (asks.replay m) h said other c d = replayed_once front_law predicates_law hits_law r still m h said other c d
     one_asked (asks.trees m) h said other c d = ended_once front_law predicates_law hits_law r still trees_law m h said other c d
+    one_asked (asks.events m) h said other c d = eventful_once front_law predicates_law hits_law r still trees_law m h said other c d
     one_asked (asks.graph sources) h said other c d = printed_once front_law predicates_law hits_law r still sources h said other c d
     one_asked (sample number) h said other c d = one_sample number said other c d
 

@@ -38,6 +38,7 @@ measures_or_lists (asks.least m) = false
 measures_or_lists (asks.traces m) = true
 measures_or_lists (asks.replay m) = true
 measures_or_lists (asks.trees m) = true
+measures_or_lists (asks.events m) = true
 measures_or_lists (asks.graph sources) = true
 measures_or_lists (sample number) = false
 
@@ -56,6 +57,7 @@ files_of (asks.least m) = m.sources
 files_of (asks.traces m) = m.sources ++ m.inputs ∷ []
 files_of (asks.replay m) = m.sources ++ m.traces ∷ []
 files_of (asks.trees m) = m.sources ++ m.inputs ∷ []
+files_of (asks.events m) = m.sources ++ m.inputs ∷ []
 files_of (asks.graph sources) = sources
 files_of (sample number) = []
 
@@ -151,6 +153,7 @@ AreAlike (runs m) said other = said ≡ other
 AreAlike (asks.traces m) said other = said ≡ other
 AreAlike (asks.replay m) said other = said ≡ other
 AreAlike (asks.trees m) said other = said ≡ other
+AreAlike (asks.events m) said other = said ≡ other
 AreAlike (asks.graph sources) said other = said ≡ other
 AreAlike (generate m) said other = AreOfOneKind said other
 AreAlike (prove m) said other = AreOfOneKind said other

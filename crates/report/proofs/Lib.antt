@@ -1,3 +1,4 @@
+pub mod EventLines
 pub mod GeneratedLaws
 pub mod JsonTexts
 pub mod NoFloats

@@ -1,4 +1,5 @@
 pub mod Ends
+pub mod EventsText
 pub mod Generated
 pub mod GeneratedJson
 pub mod GraphText

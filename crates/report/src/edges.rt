@@ -19,7 +19,8 @@ pub fn function_name(functions: &[Function], number: u32) -> &[u8]
     }
 }
 
-fn input_name(inputs: &[InputFunction], number: u32) -> &[u8]
+/// The name of an input function, or nothing past the last one.
+pub fn input_name(inputs: &[InputFunction], number: u32) -> &[u8]
     ensures { result.now ≡ input_name (slice_get inputs.now number) }
 {
     match inputs.get(number as usize) {
@@ -51,7 +52,8 @@ fn called_name(graph: &Graph, call: u32) -> &[u8]
     }
 }
 
-fn kind_text(kind: StatementKind) -> &'static [u8]
+/// The word of a statement kind.
+pub fn kind_text(kind: StatementKind) -> &'static [u8]
     ensures { result.now ≡ kind_text kind }
 {
     match kind {
@@ -72,8 +74,8 @@ fn kind_text(kind: StatementKind) -> &'static [u8]
     }
 }
 
-// Appends a word and a name.
-fn push_two(text: &mut Vec<u8>, word: &[u8], name: &[u8]) -> Result<(), AllocError>
+/// Appends a word and a name.
+pub fn push_two(text: &mut Vec<u8>, word: &[u8], name: &[u8]) -> Result<(), AllocError>
     ensures { OnOk result (text.new.items ≡ text.old.items ++ (word.now ++ name.now)) }
 {
     text.extend_from_slice(word)?;
@@ -106,8 +108,8 @@ fn push_operation(
     }
 }
 
-// Appends the word of a mark, where it is set.
-fn push_mark(text: &mut Vec<u8>, is_set: bool, word: &[u8]) -> Result<(), AllocError>
+/// Appends the word of a mark, where it is set.
+pub fn push_mark(text: &mut Vec<u8>, is_set: bool, word: &[u8]) -> Result<(), AllocError>
     ensures { OnOk result (text.new.items ≡ text.old.items ++ mark is_set word.now) }
 {
     if is_set {

@@ -14,6 +14,7 @@ mod automaton;
 mod counts;
 mod edges;
 mod ends;
+mod events;
 mod generated;
 mod generated_values;
 mod json;
@@ -29,6 +30,7 @@ mod strings;
 mod suffice;
 
 pub use automaton::graph_text;
+pub use events::events_text;
 pub use generated::generated_text;
 pub use generated_values::generated_json;
 pub use json::measured_json;

@@ -40,7 +40,8 @@ pub fn push_head(
     Ok(())
 }
 
-fn push_input(
+/// Appends how the run of an input ended.
+pub fn push_input(
     text: &mut Vec<u8>,
     kind: Option<Kind>,
     number: usize,

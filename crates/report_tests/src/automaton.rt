@@ -1,5 +1,10 @@
-//! The texts of automata, byte for byte, of sources whose nodes and edges are worked by hand from the table of the automaton.
-use report::graph_text;
+//! The texts of automata and of events, byte for byte, of sources whose nodes and edges are worked by hand from the table of the
+//! automaton.
+use cfa::Graph;
+use containers::Vector;
+use path_runner::RunEnd;
+use report::{events_text, graph_text};
+use std::alloc::Global;
 use std::test::Fail;
 use test_programs::{graph_of, graph_of_texts, texts_of};
 
@@ -118,5 +123,87 @@ fn statement_kinds(rt: HostRuntime) -> Result<(), Fail> {
         return Err(Fail::from("no text"));
     };
     assert_eq!(rt; text.as_slice(), OF_KINDS);
+    Ok(())
+}
+
+// The text of the events of one run along these edges of the function of a number.
+fn told(
+    alloc: Global,
+    graph: &Graph,
+    entry: u32,
+    end: RunEnd,
+    edges: &[u32],
+) -> Result<Vec<u8>, Fail> {
+    let runs = [(end, Vector::from_vec(edges.to_vec(alloc)?))];
+    match events_text(alloc, graph, entry, &runs) {
+        Ok(text) => Ok(text),
+        Err(_) => Err(Fail::from("no text")),
+    }
+}
+
+// The run of the argument 2 with the answer 1.
+#[test]
+fn events_of_operations(rt: HostRuntime) -> Result<(), Fail> {
+    let alloc = rt.alloc();
+    let Ok(texts) = texts_of(alloc, &[("one.c", ONE), ("two.c", TWO)]) else {
+        return Err(Fail::from("no memory"));
+    };
+    let Ok(graph) = graph_of_texts(alloc, &texts) else {
+        return Err(Fail::from("no graph"));
+    };
+    let end = RunEnd::Returned { value: Some(0) };
+    let edges = [1, 2, 3, 5, 7, 8, 9, 4, 10, 11, 0, 12, 13, 14, 15, 16];
+    let text = told(alloc, &graph, 1, end, &edges)?;
+    assert_eq!(rt;
+        text.as_slice(),
+        b"input 1 returned 0
+did DECL two.c:2:3 a
+enters WHILE two.c:3:3
+outcome WHILE two.c:3:10 true
+outcome WHILE two.c:3:19 true settles
+answered in
+did ASSIGN two.c:4:5 x
+again WHILE two.c:3:3
+outcome WHILE two.c:3:10 false settles
+did ASSUME two.c:6:3
+entered g
+did RETURN one.c:4:3
+left g
+did ASSIGN two.c:7:3 a
+did ASSERT two.c:8:3
+did LABEL two.c:9:1 done
+did RETURN two.c:9:7
+"
+            .as_slice()
+    );
+    Ok(())
+}
+
+// Edges of several statements, of which no run takes them in this order.
+#[test]
+fn events_of_kinds(rt: HostRuntime) -> Result<(), Fail> {
+    let alloc = rt.alloc();
+    let Ok(graph) = graph_of(alloc, b"k.c", KINDS) else {
+        return Err(Fail::from("no graph"));
+    };
+    let edges = [10, 11, 13, 14, 15, 17, 18, 8, 9, 19];
+    let text = told(alloc, &graph, 0, RunEnd::Cut, &edges)?;
+    assert_eq!(rt;
+        text.as_slice(),
+        b"input 1 cut
+valued SWITCH k.c:4:3
+outcome SWITCH k.c:4:16 true settles
+did EMPTY k.c:4:24
+did ASSIGN k.c:4:35 x
+outcome IF k.c:5:7 true settles
+entered h
+left h
+did CALL k.c:5:10
+did JUMP k.c:3:15
+again FOR k.c:3:3
+did RETURN k.c:5:21
+"
+            .as_slice()
+    );
     Ok(())
 }

@@ -1,11 +1,25 @@
-use Rattle.std.proofs.Common.{◌+◌, sym, arith}
+use Rattle.std.proofs.Common.{ap, ◌∙◌}
+use Rattle.std.proofs.lemmas.Result.{err_from_is_err_and}
+use Rattle.report.specs.Texts.{runs_text}
 use Rattle.command.specs.Entries.{seen}
-use Rattle.command.proofs.RunListLaws.{edges_more, too_many}
+use Rattle.command.specs.RunList.{IsRecorded, ending}
+use Rattle.command.specs.Runs.{no_predicates, runs_of}
+use Rattle.command.specs.Said.{answered}
+use Rattle.command.proofs.GivesLaws.{tells_refused}
+use Rattle.command.proofs.ReadsLaws.{refused_map}
+use Rattle.command.proofs.RunListLaws.{answered_few, refused_many}
 use Rattle.command.proofs.runs.list.Goals as goal
 
-pub returns-then-listed-gt-MOST_LISTED : goal.returns-then-listed-gt-MOST_LISTED
-returns-then-listed-gt-MOST_LISTED c =
-    let is = rw (c.new.ensures, c.new-2.ensures, c.input-item.is) at c.in_ok-run.ensures in
-    let more = edges_more c.args.entry.now.graph.now (seen c.args.entry.now) c.args.steps c.args.inputs.now c.loop-input.input-index _ c.loop-input-test.true c.in_ok-run.run' is in
-    rw c.too_many_edges.ensures (λ names. sym (too_many c.args.entry.now.graph.now (seen c.args.entry.now) c.args.steps c.args.inputs.now (c.loop-input.input-index + 1) names
-    (omega (arith, c.if-listed-gt-MOST_LISTED.true, c.loop-input.invariant.listed, c.len.ensures, more))))
+pub returns-in_err-runs : goal.returns-in_err-runs
+returns-in_err-runs c = λ names.
+    let e = c.args.entry.now in
+    let p = err_from_is_err_and c.from_residual.result c.from_residual.ensures.1 in
+    rw (p.1, p.2) (tells_refused (IsRecorded e.graph.now (seen e) c.args.steps c.args.inputs.now) names c.in_err-runs.field-0.0
+    (refused_map c.in_err-runs.field-0.0 c.in_err-runs.ensures (λ x why. refused_many (runs_of e.graph.now e.function.now no_predicates c.args.steps c.args.inputs.now) _ x names why)))
+
+pub returns : goal.returns
+returns c = λ names.
+    let e = c.args.entry.now in
+    let text = rw c.deref.ensures.value at c.in_ok-text.ensures in
+    ap answered (text ∙ ap (runs_text e.graph.now e.number) c.in_ok-runs.ensures.1)
+    ∙ answered_few (runs_of e.graph.now e.function.now no_predicates c.args.steps c.args.inputs.now) _ c.in_ok-runs.ensures.0

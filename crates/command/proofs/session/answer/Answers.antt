@@ -37,6 +37,11 @@ returns-in-Trees g c =
     gives_told (IsDueOf (reads g.F.Files c.args.files.now c.trees.new.files) (asked c.args.request.now)) (sources_of (asked c.args.request.now))
     (watched g.W.Watch c.args.watch.now c.args.watch.now) c.trees.result refl (rw c.in-Trees.is c.trees.ensures)
 
+pub returns-in-Events : goal.returns-in-Events
+returns-in-Events g c =
+    gives_told (IsDueOf (reads g.F.Files c.args.files.now c.events.new.files) (asked c.args.request.now)) (sources_of (asked c.args.request.now))
+    (watched g.W.Watch c.args.watch.now c.args.watch.now) c.events.result refl (rw c.in-Events.is c.events.ensures)
+
 pub returns-in-Check : goal.returns-in-Check
 returns-in-Check g c =
     gives_told (IsDueOf (reads g.F.Files c.args.files.now c.check.new.files) (asked c.args.request.now)) (sources_of (asked c.args.request.now))

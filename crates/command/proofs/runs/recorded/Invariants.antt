@@ -1,7 +1,7 @@
 use Rattle.std.proofs.Common.{◌≡◌, ◌≤◌, map, take}
 use Rattle.command.specs.RunList.{edges_in, ending, most_listed}
 use Rattle.command.specs.Runs.{no_predicates, runs_of}
-use Rattle.command.proofs.runs.list.Given as goal
+use Rattle.command.proofs.runs.recorded.Given as goal
 
 abbrev pub invariant-loop-input : goal.invariant-loop-input
 invariant-loop-input l = record {

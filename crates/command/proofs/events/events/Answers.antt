@@ -1,0 +1,62 @@
+use Rattle.std.proofs.Common.{inl, inr, refl}
+use Rattle.std.proofs.lemmas.Result.{err_from_is_err_and}
+use Rattle.command_words.specs.Request.{running}
+use Rattle.command.specs.Entries.{seen}
+use Rattle.command.specs.Events.{IsEventful}
+use Rattle.command.specs.Due.{IsDueOfEvents}
+use Rattle.command.specs.Stages.{OfTrees}
+use Rattle.command.proofs.AtEntry.{EventsThen}
+use Rattle.command.proofs.CallLaws.{at_entry, no_entry, refused_at_entry, refused_at_trees, trees_not_given}
+use Rattle.command.proofs.DueLaws.{at_trees, inputs_since, refused_since}
+use Rattle.command.proofs.EventsLaws.{events_at, with_tree}
+use Rattle.command.proofs.GivesLaws.{tells_map, tells_refused}
+use Rattle.command.proofs.ReadsLaws.{refused_map}
+use Rattle.command.proofs.events.events.Goals as goal
+
+pub returns-in_err-automaton : goal.returns-in_err-automaton
+returns-in_err-automaton g c =
+    let m = running c.args.request.now in
+    let p = err_from_is_err_and c.from_residual.result c.from_residual.ensures.1 in
+    rw (p.1, p.2) (tells_refused (OfTrees _ m.sources (IsDueOfEvents _ m)) m.sources c.in_err-automaton.field-0.0
+    (trees_not_given _ m.sources (IsDueOfEvents _ m) c.in_err-automaton.field-0.0 (rw c.deref.ensures.value at c.in_err-automaton.ensures.answer)))
+
+pub returns-in_err-entry : goal.returns-in_err-entry
+returns-in_err-entry g c =
+    let m = running c.args.request.now in
+    let have = rw c.deref.ensures.value at c.in_ok-automaton.ensures.answer in
+    let graph = c.in_ok-automaton.automaton.graph in
+    let t = with_tree _ m.sources graph have in
+    let p = err_from_is_err_and c.from_residual-in_err-entry.result c.from_residual-in_err-entry.ensures.1 in
+    rw (p.1, p.2) (tells_refused (OfTrees _ m.sources (IsDueOfEvents _ m)) m.sources c.in_err-entry.field-0.0
+    (refused_at_trees _ m.sources (IsDueOfEvents _ m) graph t.0 t.1 c.in_err-entry.field-0.0
+    (no_entry graph m.entry (EventsThen _ m t.0 graph) m.sources c.in_err-entry.field-0.0 c.in_err-entry.ensures)))
+
+pub returns-in_err-inputs : goal.returns-in_err-inputs
+returns-in_err-inputs g c =
+    let m = running c.args.request.now in
+    let have = rw c.deref.ensures.value at c.in_ok-automaton.ensures.answer in
+    let graph = c.in_ok-automaton.automaton.graph in
+    let t = with_tree _ m.sources graph have in
+    let cause = c.in_err-inputs.ensures.answer in
+    let p = err_from_is_err_and c.from_residual-in_err-inputs.result c.from_residual-in_err-inputs.ensures.1 in
+    rw (p.1, p.2) (tells_refused (OfTrees _ m.sources (IsDueOfEvents _ m)) m.sources c.in_err-inputs.field-0.0
+    (refused_at_trees _ m.sources (IsDueOfEvents _ m) graph t.0 t.1 c.in_err-inputs.field-0.0
+    (refused_at_entry graph m.entry (EventsThen _ m t.0) c.in_ok-entry.entry c.in_ok-entry.ensures m.sources c.in_err-inputs.field-0.0
+    (refused_map c.in_err-inputs.field-0.0 cause (λ x why. inl (x, refused_since _ _ _ _ _ _ _ _ _ c.in_ok-automaton.ensures.same_files c.in_ok-automaton.ensures.no_fault c.in_ok-automaton.ensures.received _ _ x why, refl))))))
+
+pub list-requires : goal.list-requires
+list-requires g c = rw c.deref-2.ensures.value c.in_ok-inputs.ensures.start
+
+pub returns : goal.returns
+returns g c =
+    let m = running c.args.request.now in
+    let have = rw c.deref.ensures.value at c.in_ok-automaton.ensures.answer in
+    let graph = c.in_ok-automaton.automaton.graph in
+    let t = with_tree _ m.sources graph have in
+    let e = c.in_ok-entry.entry in
+    let inputs = c.in_ok-inputs.inputs.items in
+    let given = inputs_since _ _ _ _ _ _ _ _ _ c.in_ok-automaton.ensures.same_files c.in_ok-automaton.ensures.no_fault c.in_ok-automaton.ensures.received _ _ _ c.in_ok-inputs.ensures.answer in
+    tells_map (IsEventful e.graph.now (seen e) m.steps inputs) (OfTrees _ m.sources (IsDueOfEvents _ m)) m.sources c.list.result
+    (λ said text. at_trees _ m.sources (IsDueOfEvents _ m) graph t.0 said t.1
+    (at_entry graph m.entry (EventsThen _ m t.0) e c.in_ok-entry.ensures said
+    (inr (inputs, given, events_at have.texts graph have.automaton (seen e) m.steps e.graph.now c.in_ok-entry.ensures.0 e.there inputs c.in_ok-inputs.ensures.start said text)))) (rw c.deref-2.ensures.value at (c.list.ensures m.sources))
