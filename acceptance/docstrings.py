@@ -18,7 +18,7 @@ UNITS = re.compile(
     r"number|how many|count|status|seconds?|bytes?|percent|column|line|bit|width|moves|place|least|greatest|value",
     re.IGNORECASE,
 )
-LATER = re.compile(r"tools/(?:adapt|driver|page|project|rte)")  # whose docstrings aren't complete
+LATER = re.compile(r"tools/(?:driver|page|project|rte)")  # whose docstrings aren't complete
 
 
 def is_case(node: ast.AST) -> bool:
