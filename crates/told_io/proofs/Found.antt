@@ -1,11 +1,13 @@
 -- The first file of a name, and what becomes of it by a write at its place.
 use Rattle.std.proofs.Common.{◌≡◌, ◌≢◌, ℕ, ◌<◌, Bool, true, false, cond, List, [], ◌∷◌, length, get_or, Option, Some, None, find, slice_get, refl, sym, ap, subst, ◌∙◌, arith}
-use Rattle.std.specs.Prelude.{is_some, nat_lt, option_map}
+use Rattle.std.specs.Prelude.{◌++◌, is_some, nat_lt, option_map}
+use Rattle.std.specs.Option.{option_or}
 use Rattle.std.specs.List.{position, position_or_len}
 use Rattle.std.specs.Str.{bytes_eq}
 use Rattle.std.proofs.Math.ListN.{set}
+use Rattle.std.proofs.lemmas.List.{map-append}
 use Rattle.std.proofs.lemmas.Bool.{ltb-false, ltb-true}
-use Rattle.std.proofs.lemmas.List.Folds.{find_at, find-set, find_past}
+use Rattle.std.proofs.lemmas.List.Folds.{find-append, find_at, find-set, find_past}
 use Rattle.std.proofs.lemmas.Option.{slice_get-get_or, slice_get_past}
 use Rattle.std.proofs.lemmas.Slice.Eq.{bytes_eq-Decides}
 use Rattle.fq_io.specs.MemoryFiles.{content_of}
@@ -114,3 +116,70 @@ pub its_text : (files : List Handed) (told : List (List ℕ × Text)) (name : Li
     → content_of (texts_told told) name ≡ Some (bytes_told d.text)
 its_text files told name d before is some =
     before name (subst (λ (o : Option Handed). 0 < times_of_file o) (sym is) some) ∙ ap (option_map (λ (file : Handed). bytes_told file.text)) is
+
+-- the place is one in the files, by the name's bytes
+pub placed : (files lent : List Handed) (name bytes : List ℕ) (o p : Option ℕ) → lent ≡ files → bytes ≡ name → o ≡ position (has_name bytes) lent → o ≡ p → position (has_name name) files ≡ p
+placed files lent name bytes o p e f g h = ap (position (has_name name)) (sym e) ∙ ap (λ (n : List ℕ). position (has_name n) lent) (sym f) ∙ sym g ∙ h
+
+-- ---- a file behind the others
+
+-- what the entries of a front tell goes before what others tell
+content_more : (xs ys : List (List ℕ × List ℕ)) (n : List ℕ) → content_of (xs ++ ys) n ≡ option_or (content_of xs n) (content_of ys n)
+content_more xs ys n = ap (option_map (λ (e : List ℕ × List ℕ). e.1)) (find-append (λ (e : List ℕ × List ℕ). bytes_eq e.0 n) xs ys) ∙ either (find (λ (e : List ℕ × List ℕ). bytes_eq e.0 n) xs)
+  where
+    either : (o : Option (List ℕ × List ℕ)) → option_map (λ (e : List ℕ × List ℕ). e.1) (option_or o (find (λ (e : List ℕ × List ℕ). bytes_eq e.0 n) ys)) ≡ option_or (option_map (λ (e : List ℕ × List ℕ). e.1) o) (content_of ys n)
+    either None = refl
+    either (Some e) = refl
+
+module _ (files : List Handed) (told : List (List ℕ × Text)) (file : Handed) where
+  abbrev longer : List (List ℕ × Text)
+  longer = told ++ (file.name, file.text) ∷ []
+
+  first_more : (n : List ℕ) → first_of (files ++ file ∷ []) n ≡ option_or (first_of files n) (cond (bytes_eq file.name n) (Some file) None)
+  first_more n = find-append (has_name n) files (file ∷ [])
+
+  told_more : (n : List ℕ) → content_of (texts_told longer) n ≡ option_or (content_of (texts_told told) n) (cond (bytes_eq file.name n) (Some (bytes_told file.text)) None)
+  told_more n = ap (λ (es : List (List ℕ × List ℕ)). content_of es n) (map-append (λ (e : List ℕ × Text). (e.0, bytes_told e.1)) told ((file.name, file.text) ∷ [])) ∙ content_more (texts_told told) ((file.name, bytes_told file.text) ∷ []) n ∙ ap (option_or (content_of (texts_told told) n)) (one (bytes_eq file.name n))
+    where
+      one : (b : Bool) → option_map (λ (e : List ℕ × List ℕ). e.1) (cond b (Some (file.name, bytes_told file.text)) None) ≡ cond b (Some (bytes_told file.text)) None
+      one true = refl
+      one false = refl
+
+  module _ (all : AreAll files told) where
+    all_at : (n : List ℕ) (b : Bool) (o : Option Handed) (t : Option (List ℕ)) → is_some t ≡ is_some o → is_some (option_or t (cond b (Some (bytes_told file.text)) None)) ≡ is_some (option_or o (cond b (Some file) None))
+    all_at n true None None e = refl
+    all_at n false None None e = refl
+    all_at n b (Some f) (Some t) e = refl
+    all_at n b None (Some t) e = cc
+    all_at n b (Some f) None e = cc
+
+    pub all_added : AreAll (files ++ file ∷ []) longer
+    all_added n = ap is_some (told_more n) ∙ all_at n (bytes_eq file.name n) (first_of files n) (content_of (texts_told told) n) (all n) ∙ ap is_some (sym (first_more n))
+
+    told_at : (b : Bool) (o : Option Handed) (t : Option (List ℕ)) → is_some t ≡ is_some o → (0 < times_of_file o → t ≡ option_map (λ (f : Handed). bytes_told f.text) o)
+        → 0 < times_of_file (option_or o (cond b (Some file) None)) → option_or t (cond b (Some (bytes_told file.text)) None) ≡ option_map (λ (f : Handed). bytes_told f.text) (option_or o (cond b (Some file) None))
+    told_at true None None e before some = refl
+    told_at false None None e before some = refl
+    told_at b (Some f) (Some t) e before some = before some
+    told_at b None (Some t) e before some = cc
+    told_at b (Some f) None e before some = cc
+
+    pub told_added : AreTold files told → AreTold (files ++ file ∷ []) longer
+    told_added before n some =
+        let here = subst (λ (o : Option Handed). 0 < times_of_file o) (first_more n) some in
+        told_more n ∙ told_at (bytes_eq file.name n) (first_of files n) (content_of (texts_told told) n) (all n) (before n) here ∙ ap (option_map (λ (f : Handed). bytes_told f.text)) (sym (first_more n))
+
+  -- the file is the first of its name, where no other had it
+  pub first_added : first_of files file.name ≡ None → first_of (files ++ file ∷ []) file.name ≡ Some file
+  first_added none = first_more file.name ∙ ap (λ (o : Option Handed). option_or o (cond (bytes_eq file.name file.name) (Some file) None)) none ∙ ap (λ b. cond b (Some file) None) ((bytes_eq-Decides file.name file.name).1 refl)
+
+  -- and other names have the files that they had
+  pub others_added : (other : List ℕ) → other ≢ file.name → first_of (files ++ file ∷ []) other ≡ first_of files other
+  others_added other apart = first_more other ∙ ap (λ b. option_or (first_of files other) (cond b (Some file) None)) (not_it (bytes_eq file.name other) refl) ∙ nothing (first_of files other)
+    where
+      not_it : (b : Bool) → bytes_eq file.name other ≡ b → bytes_eq file.name other ≡ false
+      not_it false is = is
+      not_it true is = absurd (apart (sym ((bytes_eq-Decides file.name other).0 is)))
+      nothing : (o : Option Handed) → option_or o None ≡ o
+      nothing None = refl
+      nothing (Some f) = refl

@@ -55,7 +55,7 @@ module _ (limit : ℕ) (held : Option (List ℕ)) where
   of_longer : (most : ℕ) (b : Bool) → nat_le limit most ≡ b → held ≡ Some (replicate (most + 1) 0) → (r : Given) → IsAnswer r (if b then is_too_long else fails) → Says limit held r
   of_longer most true is e r h =
       let within : limit ≤ most = leb-true _ _ is in
-      of_long (replicate (most + 1) 0) (omega (arith, length-replicate (most + 1) 0, within)) e r h
+      of_long (replicate (most + 1) 0) (omega (arith, length-replicate {A = ℕ} (most + 1) 0, within)) e r h
   of_longer most false is e r h = of_fault r h
 
   of_text : (text : Text) → held ≡ Some (bytes_told text) → (r : Given) → IsAnswer r (answer_within limit text) → Says limit held r

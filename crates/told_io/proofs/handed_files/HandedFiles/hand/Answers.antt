@@ -1,19 +1,13 @@
-use Rattle.std.proofs.Common.{◌≡◌, ◌≤◌, ◌<◌, ℕ, List, Option, None, Some, Err, sym, ap, ◌∙◌, subst, arith}
-use Rattle.std.specs.List.{position}
+use Rattle.std.proofs.Common.{◌≤◌, ◌<◌, ℕ, Option, Some, Err, sym, ap, ◌∙◌, subst, arith}
 use Rattle.fq_io.specs.declared.files.FileFault.TheVariants as fault
 use Rattle.told_io.specs.declared.handed.Handed.{Handed}
 use Rattle.told_io.specs.Answers.{IsAnswer, answer_of}
-use Rattle.told_io.specs.Handed.{first_of, has_name}
-use Rattle.told_io.proofs.Found.{its_text, nowhere, others, stay_all, stay_told, there, written}
+use Rattle.told_io.proofs.Found.{its_text, nowhere, others, placed, stay_all, stay_told, there, written}
 use Rattle.told_io.proofs.Says.{of_file}
 use Rattle.told_io.proofs.handed_files.HandedFiles.hand.Goals as goal
 
 more : {m n : ℕ} → m ≤ n → 0 < m → 0 < n
 more less some = omega arith
-
--- the place is one in the files, by the name's bytes
-placed : (files lent : List Handed) (name bytes : List ℕ) (o p : Option ℕ) → lent ≡ files → bytes ≡ name → o ≡ position (has_name bytes) lent → o ≡ p → position (has_name name) files ≡ p
-placed files lent name bytes o p e f g h = ap (position (has_name name)) (sym e) ∙ ap (λ (n : List ℕ). position (has_name n) lent) (sym f) ∙ sym g ∙ h
 
 pub returns-in-None-clause-answer : goal.returns-in-None-clause-answer
 returns-in-None-clause-answer c =
