@@ -1,5 +1,5 @@
 -- The first file of a name, and what becomes of it by a write at its place.
-use Rattle.std.proofs.Common.{◌≡◌, ◌≢◌, ℕ, ◌<◌, Bool, true, false, cond, List, [], ◌∷◌, length, get_or, Option, Some, None, find, slice_get, refl, sym, ap, subst, ◌∙◌, arith}
+use Rattle.std.proofs.Common.{◌≡◌, ◌≢◌, ℕ, ◌<◌, Bool, true, false, cond, List, [], ◌∷◌, length, get_or, Option, Some, None, find, slice_get, refl, sym, ap, subst, ◌∙◌}
 use Rattle.std.specs.Prelude.{◌++◌, is_some, nat_lt, option_map}
 use Rattle.std.specs.Option.{option_or}
 use Rattle.std.specs.List.{position, position_or_len}
@@ -124,7 +124,7 @@ placed files lent name bytes o p e f g h = ap (position (has_name name)) (sym e)
 -- ---- a file behind the others
 
 -- what the entries of a front tell goes before what others tell
-content_more : (xs ys : List (List ℕ × List ℕ)) (n : List ℕ) → content_of (xs ++ ys) n ≡ option_or (content_of xs n) (content_of ys n)
+pub content_more : (xs ys : List (List ℕ × List ℕ)) (n : List ℕ) → content_of (xs ++ ys) n ≡ option_or (content_of xs n) (content_of ys n)
 content_more xs ys n = ap (option_map (λ (e : List ℕ × List ℕ). e.1)) (find-append (λ (e : List ℕ × List ℕ). bytes_eq e.0 n) xs ys) ∙ either (find (λ (e : List ℕ × List ℕ). bytes_eq e.0 n) xs)
   where
     either : (o : Option (List ℕ × List ℕ)) → option_map (λ (e : List ℕ × List ℕ). e.1) (option_or o (find (λ (e : List ℕ × List ℕ). bytes_eq e.0 n) ys)) ≡ option_or (option_map (λ (e : List ℕ × List ℕ). e.1) o) (content_of ys n)
@@ -180,6 +180,7 @@ module _ (files : List Handed) (told : List (List ℕ × Text)) (file : Handed) 
       not_it : (b : Bool) → bytes_eq file.name other ≡ b → bytes_eq file.name other ≡ false
       not_it false is = is
       not_it true is = absurd (apart (sym ((bytes_eq-Decides file.name other).0 is)))
+
       nothing : (o : Option Handed) → option_or o None ≡ o
       nothing None = refl
       nothing (Some f) = refl

@@ -10,7 +10,7 @@ use Rattle.fq_io.specs.Faults.{OnTooLong}
 use Rattle.told_io.specs.declared.handed.Handed.{Handed}
 use Rattle.told_io.specs.declared.handed.Text.{Text}
 use Rattle.told_io.specs.declared.handed.Text.TheVariants.{Longer, Whole}
-use Rattle.told_io.specs.Answers.{Answer, IsAnswer, answer_of, answer_within, fails, gives, is_too_long}
+use Rattle.told_io.specs.Answers.{IsAnswer, answer_of, answer_within, fails, gives, is_too_long}
 use Rattle.told_io.specs.Handed.{bytes_told}
 
 abbrev pub Given : Type 0

@@ -1,7 +1,6 @@
 -- Which of the files that are wanted were read, and what stands for them.
-use Rattle.std.specs.Prelude.{◌≡◌, ◌<◌, ◌≤◌, ◌⊎◌, ℕ, List, Option, Contains, IfSome, IsSome, length}
+use Rattle.std.specs.Prelude.{◌≡◌, ◌<◌, ◌≤◌, ℕ, List, Option, Some, IfSome, IsSome, length, slice_get}
 use Rattle.std.specs.List.{All}
-use Rattle.fq_io.specs.Counts.{Rose}
 use Rattle.fq_io.specs.MemoryFiles.{content_of}
 use Rattle.told_io.specs.declared.wanted.Wanted.{Wanted}
 
@@ -12,8 +11,9 @@ pub data Stands (holds : List ℕ → Option (List ℕ)) (wanted : Wanted) (byte
 
 -- the entry is of a file that is wanted
 pub record IsOfWanted (holds : List ℕ → Option (List ℕ)) (all : List Wanted) (entry : List ℕ × List ℕ) : Type 0 where
+  pub place : ℕ
   pub wanted : Wanted
-  pub one : Contains all wanted
+  pub one : slice_get all place ≡ Some wanted
   pub name : entry.0 ≡ wanted.name.now
   pub stands : Stands holds wanted entry.1
 

@@ -1,6 +1,5 @@
 -- A sink that tells what another one took.
 use Rattle.std.specs.Prelude.{ℕ, List}
-use Rattle.fq_io.specs.declared.sinks.Sink.{Ghosts}
 use Rattle.told_io.specs.declared.told_sink.ToldSink.{ToldSink}
 use Rattle.told_io.specs.Told.{bytes_of}
 

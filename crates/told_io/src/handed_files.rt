@@ -95,8 +95,8 @@ impl HandedFiles {
 impl HandedFiles {
     ghost use Rattle.told_io.specs.HandedFiles.{file_of, texts, times_of};
 
-    // Whether a file has this name, which may then be handed over once more.
-    fn again(&mut self, name: &str) -> bool
+    /// Whether a file has this name, which may then be handed over once more.
+    pub(crate) fn again(&mut self, name: &str) -> bool
         ensures there { result ≡ is_some (file_of self.old name.now) }
         ensures told { texts self.new ≡ texts self.old }
         ensures none { result ≡ false → self.new ≡ self.old }
@@ -112,8 +112,8 @@ impl HandedFiles {
         }
     }
 
-    // Puts a file behind the others, which may be handed over once.
-    fn add(&mut self, alloc: Global, name: &str, text: Text) -> Result<(), Memory>
+    /// Puts a file behind the others, which may be handed over once.
+    pub(crate) fn add(&mut self, alloc: Global, name: &str, text: Text) -> Result<(), Memory>
         requires { file_of self.old name.now ≡ None }
         ensures ok { OnOk result (texts self.new ≡ texts self.old ++ (name.now, bytes_told text) ∷ []) }
         ensures err { OnErr result (texts self.new ≡ texts self.old) }

@@ -1,4 +1,4 @@
-use Rattle.std.proofs.Common.{◌≡◌, ◌++◌, List, [], ◌∷◌, Option, None, Some, ℕ, ap, sym, subst, ◌∙◌}
+use Rattle.std.proofs.Common.{◌≡◌, ◌++◌, List, [], ◌∷◌, None, Some, ℕ, ap, sym, subst, ◌∙◌}
 use Rattle.told_io.specs.declared.handed.Handed.{Handed}
 use Rattle.told_io.specs.declared.handed.Text.{Text}
 use Rattle.told_io.specs.Handed.{AreAll, AreTold, first_of, times_of_file}

@@ -1,7 +1,5 @@
-use Rattle.std.proofs.Common.{Option, Some, ap, sym, subst, ◌<◌, ◌∙◌}
+use Rattle.std.proofs.Common.{Some, ap, sym, subst, ◌<◌, ◌∙◌}
 use Rattle.told_io.specs.declared.handed.Handed.{Handed}
-use Rattle.told_io.specs.Handed.{times_of_file}
-use Rattle.told_io.specs.Times.{more_times}
 use Rattle.told_io.proofs.Found.{nowhere, others, placed, stay_all, stay_told, there, written}
 use Rattle.told_io.proofs.Times.{once_more}
 use Rattle.told_io.proofs.handed_files.HandedFiles.again.Goals as goal
