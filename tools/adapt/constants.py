@@ -84,13 +84,12 @@ def is_offset(node: Any) -> bool:
 
 
 class Constants:
-    """Values and types, by what names stand for. `place_type` is set where places are known."""
+    """Values and types, by what names stand for."""
 
     def __init__(self, names: Any) -> None:
         self.names = names
-        self.place_type: Callable[[Any], Type] = self.simple_place
 
-    def simple_place(self, node: Any) -> Type:
+    def place_type(self, node: Any) -> Type:
         """The type of a name, an element or a member."""
         if isinstance(node, tree.ID):
             meaning = self.names.meaning.get(node)
@@ -185,7 +184,9 @@ class Constants:
     def offset(self, node: Any, of: Type) -> tuple[int, Type]:
         """Where a member lies in a struct, and its type (7.19p3). Raises Refused where it isn't known."""
         at, inner = 0, of
-        if isinstance(node, tree.StructRef):
+        if isinstance(node, tree.StructRef) and node.type == "->":
+            inner, node = getattr(self.type_of(node.name), "to", of), node.field
+        elif isinstance(node, tree.StructRef):
             at, inner = self.offset(node.name, of)
             node = node.field
         elif isinstance(node, tree.ArrayRef):
@@ -197,6 +198,16 @@ class Constants:
         if not isinstance(node, tree.ID) or node.name not in own:
             raise Refused(node.coord, "an offset that isn't known", "write its number")
         return at + own[node.name], dict(getattr(inner, "members", None) or [])[node.name]
+
+    def is_null_offset(self, node: Any) -> bool:
+        """Whether an expression is the address of a member of a struct at a null pointer, as offsetof was written once."""
+        inner = node.expr if isinstance(node, tree.UnaryOp) and node.op == "&" else None
+        while isinstance(inner, tree.ArrayRef) or (isinstance(inner, tree.StructRef) and inner.type == "."):
+            inner = inner.name
+        pointer = inner.name if isinstance(inner, tree.StructRef) else None
+        while isinstance(pointer, tree.Cast):
+            pointer = pointer.expr
+        return pointer is not None and isinstance(pointer, tree.Constant) and self.value(pointer) == 0
 
     def length_of(self, init: Any, of: Type) -> int:
         """The length of an array that has none of its own, by its initialiser (6.7.9p22). The number is one of
@@ -228,6 +239,9 @@ class Constants:
         if isinstance(node, tree.ID):
             value = getattr(self.names.meaning.get(node), "value", None)
             return None if value is None else (value, kinds.INT)
+        if isinstance(node, tree.Cast) and self.is_null_offset(node.expr):
+            to, member = self.names.types.get(node.to_type), getattr(node.expr, "expr")
+            return (fit(self.offset(member, kinds.VOID)[0], to), to) if isinstance(to, Int) else None
         if isinstance(node, tree.Cast):
             to, one = self.names.types.get(node.to_type), self.known(node.expr)
             return (fit(one[0], to), to) if one and isinstance(to, Int) else None

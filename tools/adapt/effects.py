@@ -108,7 +108,9 @@ class Effected:
     def is_own(self, one: Object, function: Function) -> bool:
         """Whether a column has objects of this function alone, which end with its call."""
         region = self.places.columns.of_column.get(one[0]) if one[0] and one[0].home == "column" else None
-        objects_of = region.objects if region else []
+        if region is None or self.places.columns.inner.get(region):
+            return False  # (members of other objects lie in it too)
+        objects_of = region.objects
         return bool(objects_of) and all(v.function is function and v.home in ("local", "parameter") for v in objects_of)
 
     @staticmethod

@@ -287,6 +287,8 @@ class Expressions(Component):
         to = self.writer.names.types.get(node.to_type)
         if not isinstance(to, Int):
             raise Refused(node.coord, "a conversion to what is no integer", "convert to an integer type")
+        if self.writer.constants.is_null_offset(node.expr):
+            return Value(f"{self.writer.at(node)}({to.text}) {self.writer.constants.value(node)}", to, UNARY)
         if self.writer.pointers.is_pointer(node.expr) and not to.boolean:
             return self.as_number(node.expr, to)
         one = self.value(node.expr)

@@ -1,20 +1,41 @@
 """What each name of the units stands for: scopes as C has them (6.2.1)."""
 
 from collections import ChainMap
-from typing import Any
+from typing import Any, Optional
 
 
 from . import kinds, tree
-from .constants import is_offset
+from .constants import Constants, is_offset
 from .declarators import Declarators, Function, Variable
-from .kinds import Array, Other
+from .kinds import Array, Other, Struct, Type
 from .parsing import printed
 from .reading import Unit, is_system
-from .refusals import Refused
+from .refusals import Refusals, Refused
 
 
-class Names(Declarators):
-    """Reads the units, and ties each name to what it stands for."""
+class Names:
+    """Reads the units, and ties each name to what it stands for: `meaning` has what names, declarations and calls stand for, `types`
+    what types' names give. `pool` is how many slots a call of malloc has, and how many elements where their number isn't constant.
+    """
+
+    def __init__(self, refusals: Refusals, pool: tuple[int, int]) -> None:
+        self.refusals = refusals
+        self.linked: dict[Any, Any] = {}
+        self.meaning: dict[tree.Node, Any] = {}
+        self.types: dict[tree.Node, Type] = {}
+        self.functions: list[Function] = []
+        self.variables: list[Variable] = []
+        self.enumerators: dict[str, Any] = {}
+        self.constants, self.declarators = Constants(self), Declarators(self)
+        self.function: Optional[Function] = None
+        self.structs: list[Struct] = []
+        self.named_members: set[str] = set()
+        self.initialised: list[Type] = []  # types of objects that have lists of first values
+        self.pool = pool
+        self.scope: ChainMap[str, Any] = ChainMap()
+        self.tags: ChainMap[str, Any] = ChainMap()
+        self.items: list[tuple[Unit, Any]] = []
+        self.current: Any = None  # the unit that is read
 
     def unit(self, unit: Unit) -> None:
         """Reads one source; what is refused in an item is gathered."""
@@ -39,12 +60,12 @@ class Names(Declarators):
     def typedef(self, node: Any) -> None:
         """The name of a type; the library's own of known widths are kept as they are."""
         fixed = kinds.FIXED.get(node.name) if is_system(str(node.coord.file)) else None
-        self.scope[node.name] = fixed or self.usable(node.type)
+        self.scope[node.name] = fixed or self.declarators.usable(node.type)
 
     def declaration(self, node: Any) -> None:
         """A declaration of a type alone, of a function, or of an object."""
         if isinstance(node.type, (tree.Struct, tree.Enum, tree.Union)) and node.name is None:
-            self.type_of(node.type)
+            self.declarators.type_of(node.type)
         elif isinstance(node.type, tree.FuncDecl):
             self.meaning[node] = self.declared_function(node)
         else:
@@ -57,7 +78,7 @@ class Names(Declarators):
     def variable(self, node: Any) -> Variable:
         """The object that a declaration declares, which may be known already (6.2.2). Raises Refused for static ones
         that differ from source to source."""
-        of = self.usable(node.type)
+        of = self.declarators.usable(node.type)
         if isinstance(of, Array) and of.length is None and node.init is not None:
             self.initialiser(node.init)
             of = Array(of.of, self.constants.length_of(node.init, of.of))
@@ -132,7 +153,9 @@ class Names(Declarators):
         made = old if isinstance(old, Function) else self.linked.get(key)
         parameters = self.parameters(node)
         if not isinstance(made, Function):
-            made = Function(node.name, self.usable(result), parameters, node.coord, static=static, declaration=node)
+            made = Function(
+                node.name, self.declarators.usable(result), parameters, node.coord, static=static, declaration=node
+            )
             self.linked[key] = made
             self.functions.append(made)
         elif made.definition is None and (parameters or not made.parameters):
@@ -152,7 +175,7 @@ class Names(Declarators):
         for one in self.written(node):
             if isinstance(one, tree.EllipsisParam):
                 continue
-            of = self.usable(one.type)
+            of = self.declarators.usable(one.type)
             if of == kinds.VOID:
                 continue
             of = kinds.Pointer(of) if isinstance(of, kinds.Signature) else of
@@ -249,7 +272,7 @@ class Names(Declarators):
         elif isinstance(node, tree.StatementExpr):
             self.statement(node.body)
         elif isinstance(node, tree.Typename):
-            self.types[node] = self.type_of(node.type)
+            self.types[node] = self.declarators.type_of(node.type)
         elif isinstance(node, tree.InitList):
             self.initialiser(node)
         elif isinstance(node, tree.CompoundLiteral):

@@ -65,19 +65,9 @@ class Place:
 class Places:
     """The objects that expressions name, by the columns where these are known."""
 
-    def __init__(self, names: Names) -> None:
-        self.names = names
-        self.columns: Any = None  # set once regions have columns
-        self.choosers: Any = None
-        names.constants.place_type = self.type_at
+    def __init__(self, names: Names, columns: Any = None, choosers: Any = None) -> None:
+        self.names, self.columns, self.choosers = names, columns, choosers
         self.zero = tree.Constant("int", "0")
-
-    def type_at(self, node: Any) -> Type:
-        """The type of an object."""
-        try:
-            return self.place(node).type
-        except Refused:
-            return self.names.constants.simple_place(node)
 
     def of_variable(self, variable: Variable) -> Place:
         """The place of a variable, which may lie in a column."""
