@@ -3,10 +3,10 @@
 from typing import Any, Optional, Union
 
 from . import kinds
-from .clones import learn
 from .declarators import Variable
 from .heap import bytes_asked, call_key, heap_call
 from .kinds import Array, Path, Pointer, Type
+from .learning import learn
 from .names import Names
 from .points_to import PointsTo
 from .refusals import Refused

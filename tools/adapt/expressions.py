@@ -254,8 +254,9 @@ class Expressions(Component):
         kind = self.writer.constants.type_of(node)
         if not isinstance(kind, Int):
             raise Refused(node.coord, "a choice between what are no integers", "use if")
-        yes = self.writer.order.inline(node.iftrue, lambda: self.value(node.iftrue))
-        no = self.writer.order.inline(node.iffalse, lambda: self.value(node.iffalse))
+        apart = self.writer.order.needs_statements(node.iffalse)
+        yes = None if apart else self.writer.order.inline(node.iftrue, lambda: self.value(node.iftrue))
+        no = None if yes is None else self.writer.order.inline(node.iffalse, lambda: self.value(node.iffalse))
         if yes is not None and no is not None:
             test = self.test(node.cond)
             text = f"{test.within(1)} ? {yes.text} : {no.within(0)}"

@@ -1,14 +1,14 @@
-"""The way of C sources through bin/adapt, stage by stage. Each stage is a module or a few, and knows those before it alone.
+"""The way of C sources through bin/adapt, stage by stage. Each stage is a module or a few (STAGES), and knows those before it alone.
 
-    read      the text of each source, by the machine's preprocessor and compiler, as a tree          reading, gnu, parsing
-    expand    copies of functions, models of the library, switches and jumps: trees as they were      clones, library, cases, jumps
-    names     what each name stands for, and the types of declarations and expressions                names, declarators, constants
-    bind      which parameters stand for objects                                                      bindings
-    points-to which objects each pointer may meet                                                     points_to, meetings, settling
-    layout    where these objects lie in arrays, the columns                                          columns, places, choosers
-    effects   what expressions and calls read and write                                               effects
-    write     each statement in the profile, on its line                                              writer and its parts
-    judge     the program reads what would be written                                                 gate
+    read        the text of each source, by the machine's preprocessor and compiler, as a tree of our own (tree.py)
+    expand      copies of functions, models of the library, switches and jumps: trees as they were, written otherwise
+    names       what each name stands for, and the types of declarations and expressions
+    bind        which parameters stand for objects
+    points-to   which objects each pointer may meet
+    layout      where these objects lie in arrays, the columns, and how long they live
+    effects     what expressions and calls read and write
+    write       each statement in the profile, on its line
+    judge       the program reads what would be written
 
 What a later stage learns, that parameters can't stand for objects or that functions need copies, begins the whole anew.
 """
@@ -37,6 +37,23 @@ from .sorting import check_sizes
 from .spelling import Spelling
 from .unions import settle
 from .writer import Analysis, Checking, Writer
+
+
+STAGES = {
+    "common": "refusals tree parsing kinds regions output",
+    "read": "gnu reading",
+    "expand": "lists states jumps cases sorting library clones",
+    "names": "unions constants declarators names",
+    "bind": "values initialisers places bindings",
+    "points-to": "heap models first_members unification meetings settling points_to",
+    "layout": "learning spelling columns choosers lifetimes",
+    "effects": "changed effects",
+    "write": "large raw component order conversions elements pointers pointer_effects outside model_calls calls wholes assignments "
+    "expressions statement_exprs operators overflow_texts overflow checked statements column_items checks uses units writer",
+    "judge": "gate",
+    "pipeline": "pipeline",
+    "command": "compare harness mapping needed main",
+}
 
 
 class Adapted(NamedTuple):

@@ -215,8 +215,9 @@ class Pointers(Component):
     def chosen_pointer(self, node: Any, of: Pointer) -> Parts:
         """?: of pointers, each integer by itself, or by a branch."""
         names = of.region.parts()
-        yes = self.writer.order.inline(node.iftrue, lambda: self.pointer(node.iftrue))
-        no = self.writer.order.inline(node.iffalse, lambda: self.pointer(node.iffalse))
+        apart = self.writer.order.needs_statements(node.iffalse)
+        yes = None if apart else self.writer.order.inline(node.iftrue, lambda: self.pointer(node.iftrue))
+        no = None if yes is None else self.writer.order.inline(node.iffalse, lambda: self.pointer(node.iffalse))
         if yes is not None and no is not None:
             test = self.writer.expressions.test(node.cond)
             if not any(one.calls for one in [test, *yes.values(), *no.values()]) or len(names) == 1:

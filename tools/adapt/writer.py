@@ -21,7 +21,7 @@ from .heap import Heap
 from .kinds import Int
 from .large import LargeArrays
 from .lifetimes import Lifetimes
-from .models import ModelCalls
+from .model_calls import ModelCalls
 from .names import Names
 from .order import Order
 from .output import File, mark, unmarked
