@@ -44,7 +44,7 @@ def bound(text):
 
 
 def of_name(things, name):
-    """What has a name."""
+    """The variable or the function of the sources that is called so."""
     return next(one for one in things if one.name == name)
 
 
