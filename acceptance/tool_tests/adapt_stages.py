@@ -7,6 +7,8 @@ import ast
 import glob
 import os
 import sys
+from collections.abc import Iterable, Iterator
+from typing import Any
 
 import programs
 
@@ -15,7 +17,7 @@ NEEDS = ("pycparser",)
 sys.path.insert(0, programs.ROOT)
 
 
-def parsed(text):
+def parsed(text: str) -> Any:
     """The unit of a text, which nothing has preprocessed."""
     from tools.adapt.parsing import parsed as tree_of
     from tools.adapt.reading import Unit
@@ -23,7 +25,7 @@ def parsed(text):
     return Unit("a.c", tree_of(text, "a.c"), ["a.c"])
 
 
-def named(text):
+def named(text: str) -> Any:
     """What the names of a text stand for."""
     from tools.adapt.names import Names
     from tools.adapt.refusals import Refusals
@@ -33,7 +35,7 @@ def named(text):
     return names
 
 
-def bound(text):
+def bound(text: str) -> Any:
     """The same with its parameters bound."""
     from tools.adapt.bindings import Bindings
     from tools.adapt.places import Places
@@ -43,12 +45,12 @@ def bound(text):
     return names
 
 
-def of_name(things, name):
-    """The variable or the function of the sources that is called so."""
+def of_name(things: Iterable[Any], name: str) -> Any:
+    """What has a name."""
     return next(one for one in things if one.name == name)
 
 
-def no_stage_knows_a_later_one(folder):
+def no_stage_knows_a_later_one(folder: str) -> Iterator[bool]:
     """By the imports; and the parser's nodes are known to one module."""
     from tools.adapt.pipeline import STAGES
 
@@ -60,7 +62,9 @@ def no_stage_knows_a_later_one(folder):
             text = file.read()
         own = ranks.get(os.path.basename(path)[:-3], 99)
         found = [one for one in ast.parse(text).body if isinstance(one, ast.ImportFrom) and one.level == 1]
-        known = [name for one in found for name in ([one.module] if one.module else [alias.name for alias in one.names])]
+        known = [
+            name for one in found for name in ([one.module] if one.module else [alias.name for alias in one.names])
+        ]
         later = [name for name in known if ranks[name] > own]
         print(*(f"{path} knows {name}" for name in later), sep="\n", end="\n" if later else "")
         yield not later
@@ -68,7 +72,7 @@ def no_stage_knows_a_later_one(folder):
         yield ("pycparser" in modules) is path.endswith("parsing.py")
 
 
-def the_tree_is_our_own(folder):
+def the_tree_is_our_own(folder: str) -> Iterator[bool]:
     """What is read is a tree without nodes of the parser, which prints as it was."""
     from tools.adapt import parsing, tree
 
@@ -80,7 +84,7 @@ def the_tree_is_our_own(folder):
     yield unit.ext[0].coord == tree.Coord("a.c", 1, 5)
 
 
-def jumps_become_breaks(folder):
+def jumps_become_breaks(folder: str) -> Iterator[bool]:
     """A goto out of a loop to a label behind it, and a switch with a case within a statement."""
     from tools.adapt import parsing, tree
     from tools.adapt.cases import Cases, is_plain
@@ -98,29 +102,36 @@ def jumps_become_breaks(folder):
     yield [is_plain(one) for one in switches] == [True]
 
 
-def names_have_their_scopes(folder):
+def names_have_their_scopes(folder: str) -> Iterator[bool]:
     """C11 6.2.1p4: the inner x is another object; 6.5.3.4 and 6.6: sizes and constants."""
     from tools.adapt import tree
 
     names = named("enum { K = 5 }; int a[3 * K]; int x; int f(void) { char x = 1; { long x = 2; x = K; } return x; }")
     objects = [one for one in names.variables if one.name == "x"]
     yield [one.type.bits for one in objects] == [32, 8, 64]
-    used = [names.meaning[node] for _, item in names.items for node in tree.walk(item) if isinstance(node, tree.ID) and node.name == "x"]
+    used = [
+        names.meaning[node]
+        for _, item in names.items
+        for node in tree.walk(item)
+        if isinstance(node, tree.ID) and node.name == "x"
+    ]
     yield used == [objects[2], objects[1]]
     yield of_name(names.variables, "a").type.length == 15
     yield names.refusals.found == set()
 
 
-def parameters_are_bound(folder):
+def parameters_are_bound(folder: str) -> Iterator[bool]:
     """One object of the file, a copy of several, a whole array, and a pointer that moves."""
-    names = bound("int a, b, c[4]; void one(int *p) { *p = 1; } void two(int *p) { *p = 1; } int all(int *p) { return p[1]; }\n"
-                  "void on(int *p) { p++; *p = 2; } void f(void) { one(&a); two(&a); two(&b); all(c); on(c); }")
+    names = bound(
+        "int a, b, c[4]; void one(int *p) { *p = 1; } void two(int *p) { *p = 1; } int all(int *p) { return p[1]; }\n"
+        "void on(int *p) { p++; *p = 2; } void f(void) { one(&a); two(&a); two(&b); all(c); on(c); }"
+    )
     way = {function.name: function.parameters[0].binding for function in names.functions if function.parameters}
     yield (way["two"], way["all"], way["on"]) == ("copy", "lent", "pointer")
     yield way["one"].variable is of_name(names.variables, "a")
 
 
-def pointers_meet_their_objects(folder):
+def pointers_meet_their_objects(folder: str) -> Iterator[bool]:
     """By assignments p meets a and b, q meets c; they come together where p is compared with q."""
     from tools.adapt.points_to import PointsTo
 
@@ -132,18 +143,19 @@ def pointers_meet_their_objects(folder):
         yield homes[0] is homes[1] and (homes[1] is homes[2]) is together
 
 
-def objects_lie_behind_each_other(folder):
+def objects_lie_behind_each_other(folder: str) -> Iterator[bool]:
     """Each object of a column with one element between it and the next, which no pointer into either may reach."""
     from tools.adapt.columns import Columns
 
     names = bound("int a, b[3], c, *p; void f(int x) { p = x ? &a : b; p++; p = &c; *p = x; }")
     columns = Columns(names, set())
     region = columns.home(of_name(names.variables, "a"))
+    assert region is not None
     yield [columns.begin(region, of_name(names.variables, name)) for name in "abc"] == [0, 2, 6]
     yield (columns.counts[region], region.parts()) == (7, ["@p", "@e"])
 
 
-def effects_are_told(folder):
+def effects_are_told(folder: str) -> Iterator[bool]:
     """What a call of f reads and writes, through g."""
     from tools.adapt.choosers import Choosers
     from tools.adapt.columns import Columns
@@ -154,10 +166,11 @@ def effects_are_told(folder):
     columns = Columns(names, set())
     effected = Effected(names, Places(names, columns, Choosers(names, columns)), set())
     found = effected.of_function[of_name(names.functions, "f")]
-    yield ({one[0].name for one in found.reads}, {one[0].name for one in found.writes}) == ({"a"}, {"b"})
+    read, written = ({one[0].name for one in places if one[0]} for places in (found.reads, found.writes))
+    yield (read, written) == ({"a"}, {"b"})
 
 
-def a_function_is_written(folder):
+def a_function_is_written(folder: str) -> Iterator[bool]:
     """The pieces of a function, each with its line."""
     from tools.adapt.choosers import Choosers
     from tools.adapt.columns import Columns
@@ -178,7 +191,7 @@ def a_function_is_written(folder):
     yield pieces == due
 
 
-def what_the_program_refuses_is_told(folder):
+def what_the_program_refuses_is_told(folder: str) -> Iterator[bool]:
     from tools.adapt.gate import check
     from tools.adapt.refusals import Refusals
 
