@@ -46,7 +46,7 @@ def bound(text: str) -> Any:
 
 
 def of_name(things: Iterable[Any], name: str) -> Any:
-    """What has a name."""
+    """The variable or the function of the sources that is called so."""
     return next(one for one in things if one.name == name)
 
 
