@@ -23,7 +23,6 @@ LITTLE = set(  # words that say nothing by themselves
     " them those they such where whose".split()
 )
 REPEATS = "its docstring repeats its name"
-LATER = re.compile(r"tools/adapt")  # where some thirty docstrings still repeat their names
 
 
 def is_case(node: ast.AST) -> bool:
@@ -79,6 +78,5 @@ def wrong() -> list[str]:
     found = list[str]()
     for pattern in ("tools/**/*.py", "acceptance/**/*.py"):
         for path in sorted(glob.glob(pattern, root_dir=programs.ROOT, recursive=True)):
-            faults = faults_of(ast.parse(text_of(os.path.join(programs.ROOT, path))), path)
-            found += [fault for fault in faults if not LATER.match(path) or not fault.endswith(REPEATS)]
+            found += faults_of(ast.parse(text_of(os.path.join(programs.ROOT, path))), path)
     return found

@@ -64,7 +64,7 @@ class Assignments(Component):
         return f"{target} = {whole.text if other else self.writer.conversions.converted(whole, kind).text};"
 
     def stepping(self, node: Any, target: str, kind: Int) -> str:
-        """The statement of `++` or `--`."""
+        """The statement that adds 1 to a place or takes 1 off (6.5.2.4, 6.5.3.1), converted to the kind of the place."""
         if not kind.width:
             return f"{target}{node.op[-2:]};"
         return f"{target} = {self.writer.conversions.converted(Value(f'{target} {node.op[-1]} 1', kinds.INT, 9), kind).text};"
@@ -92,7 +92,7 @@ class Assignments(Component):
         return f"({index.within(9)} << {step} | -(({wide}) {index.within(UNARY)} >= {view.length}))"
 
     def part(self, place: Place, whole: str) -> Value:
-        """The value of a part."""
+        """What a bit-field or a view has, out of the integer that holds it whole."""
         view, shift = place.view, self.part_shift(place)
         assert view is not None
         text = f"({view.kind.text}) ({whole} >> {shift})" if shift else f"({view.kind.text}) {whole}"

@@ -17,7 +17,7 @@ if TYPE_CHECKING:
 
 
 class CheckedExpressions(Expressions):
-    """Expressions whose operations are checked."""
+    """Values with a call in place of each operation that may overflow (--check-overflow)."""
 
     def __init__(self, writer: "Writer", overflow: Overflow) -> None:
         super().__init__(writer)

@@ -84,7 +84,7 @@ class Enumerator:
 
 
 def bit_field(declared: Int, width: int) -> Int:
-    """The type of a bit-field."""
+    """The kind that holds a bit-field of so many bits (6.7.2.1p10): of 8, 16 or 32 bits, signed where it was or where int holds it."""
     if declared.boolean:
         return declared
     bits = 8 if width <= 8 else 16 if width <= 16 else 32

@@ -19,7 +19,7 @@ from .values import LEVELS, PRIMARY, UNARY, Known, Value
 
 
 class Expressions(Component):
-    """The expressions of one function."""
+    """Writes what a function computes (6.5), each part once and in an order that C allows."""
 
     # ---- values
 

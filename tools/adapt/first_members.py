@@ -67,7 +67,7 @@ def related(points: Any, node: Any, to: Type) -> Optional[Type]:
 
 
 def regions(points: Any) -> list[Region]:
-    """The regions of structs."""
+    """Each region once that a home or a pointer leads to, with those of its members and elements."""
     found: dict[Region, None] = {}
     rest = [*points.homes.values(), *(of.region for of in points.values.values() if isinstance(of, Pointer))]
     while rest:

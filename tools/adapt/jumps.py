@@ -32,7 +32,7 @@ def parameters_of(item: tree.FuncDef) -> set[str]:
 
 
 class Jumps:
-    """The jumps of one function."""
+    """Rewrites each `goto` of one function (6.8.6.1) as `break`, flags and, where it goes back, a state."""
 
     def __init__(self, fresh: Callable[[str], str], refusals: Refusals) -> None:
         self.fresh, self.refusals = fresh, refusals

@@ -32,7 +32,7 @@ class Spot(tree.Coord):
 
 
 def without_comments(text: str) -> str:
-    """A text without its comments."""
+    """What is left of C text (6.4.9); a comment that isn't closed goes to the end."""
     while "/*" in text:
         begin, _, rest = text.partition("/*")
         text = begin + rest.partition("*/")[2]

@@ -25,7 +25,7 @@ def count(word: str) -> int:
 
 
 def parser_of_words() -> usage.Parser:
-    """What reads the words."""
+    """The options and the statuses of bin/adapt; argparse ends with status 2 where the words are wrong."""
     about = f"Writes C sources again in the profile of C that FShell reads, every statement on its line. {FIRST}."
     done = "the sources are written, and with --compare all runs agree"
     refused = "sources are refused, with a line for each cause"

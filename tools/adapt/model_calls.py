@@ -34,7 +34,7 @@ class Written:
         self.leaf, self.names = own.model_leaf, own.model_word
 
     def text(self) -> str:
-        """The function's text."""
+        """What is written of a model for the regions of one call: its head, with integers for pointers, and its body."""
         heads = []
         for one in self.model.parameters:
             at = letter(one)

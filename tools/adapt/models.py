@@ -24,7 +24,7 @@ class Model(NamedTuple):
 
     @property
     def gives_pointer(self) -> bool:
-        """Whether it gives a pointer."""
+        """Whether a call of it is an index, by the type that its head has."""
         return "*" in self.result
 
 

@@ -166,7 +166,7 @@ class Names:
 
     @staticmethod
     def written(node: Any) -> list[Any]:
-        """The parameters as they are written."""
+        """The declarations in the brackets of a function's declarator, also a lone `void`; none where there are none."""
         return list(node.type.args.params) if node.type.args else []
 
     def parameters(self, node: Any) -> list[Variable]:

@@ -78,7 +78,7 @@ class Written:
             self.constants[one.name] = last
 
     def calls(self, function: str) -> list[Any]:
-        """The calls in a function."""
+        """Where this function, by what is written, calls another or itself; nothing where its body isn't there."""
         nodes = tree.walk(self.functions[function].body) if function in self.functions else []
         return [one for one in nodes if isinstance(one, tree.FuncCall)]
 
@@ -150,7 +150,7 @@ def stepped(node: Any, name: str) -> Optional[int]:
 
 
 def changes(node: Any, name: str) -> list[Any]:
-    """What changes a variable."""
+    """The assignments, `++` and `--` in a tree whose target is the variable of this name."""
     found = []
     for one in tree.walk(node):
         target = (

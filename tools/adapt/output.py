@@ -19,7 +19,7 @@ def unmarked(text: str) -> str:
 
 @dataclass
 class File:
-    """One file that is written."""
+    """What goes to one path: pieces, each with the line of the source on which it begins."""
 
     path: str
     pieces: list[tuple[int, str]] = field(default_factory=list)

@@ -165,7 +165,7 @@ class Overflow(Component):
         return Value(self.writer.at(node) + text, kind, PRIMARY, calls=True)
 
     def unchecked(self, op: str, left: Value, right: Value) -> Value:
-        """The operation as it is."""
+        """A sum, product or shift without a call, with the least and greatest number that it may have where these fit."""
         level = LEVELS[op]
         kind = kinds.promoted(left.kind) if op in ("<<", ">>") else kinds.common(left.kind, right.kind)
         text, calls = f"{left.within(level)} {op} {right.within(level + 1)}", left.calls or right.calls

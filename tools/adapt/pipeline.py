@@ -147,6 +147,6 @@ def laid_out(files: dict[str, File], units: list[Unit], sources: list[str]) -> d
 
 
 def lines_of(path: str) -> list[str]:
-    """The lines of a file."""
+    """A source as it stands, split at line feeds; bytes that aren't UTF-8 are kept. Raises OSError."""
     with open(path, encoding="utf-8", errors="surrogateescape") as file:
         return file.read().split("\n")

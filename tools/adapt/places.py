@@ -245,5 +245,5 @@ class Places:
 
 
 def arguments(call: Any) -> list[Any]:
-    """The arguments of a call."""
+    """The expressions between the brackets of a call (6.5.2.2), in order."""
     return list(call.args.exprs) if call.args else []

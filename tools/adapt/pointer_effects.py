@@ -20,7 +20,7 @@ class PointerEffects(Component):
     """What is done with pointers, and with objects part by part."""
 
     def compared(self, node: Any) -> Value:
-        """A comparison of pointers."""
+        """`==`, `<` and the like of two pointers by their indexes in one column (6.5.8p5, 6.5.9p6)."""
         self.writer.order.unsequenced(node, [node.left, node.right])
         left, right = self.writer.pointers.pointer(node.left)[INDEX], self.writer.pointers.pointer(node.right)[INDEX]
         text = f"{left.within(7 if node.op in ('==', '!=') else 8)} {node.op} {right.within(8)}"

@@ -27,7 +27,7 @@ Parts = dict[str, Value]
 
 
 class Pointers(Component):
-    """The values of pointers."""
+    """Writes expressions with pointer types as integers: an index, and an end and a begin where they are needed."""
 
     def is_null(self, node: Any) -> bool:
         """Whether an expression is a null pointer constant (6.3.2.3p3)."""

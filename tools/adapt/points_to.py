@@ -197,7 +197,7 @@ class PointsTo(Unification):
         return of
 
     def address(self, node: Any) -> Type:
-        """The pointer that an address is."""
+        """What `&` gives (6.5.3.2p3): a pointer into the region of its operand, which is now pointed to."""
         if isinstance(self.constants.type_of(node.expr), Signature):
             return self.value(node.expr)
         of, region = self.place(node.expr)

@@ -39,7 +39,7 @@ def value(writer: Any, node: tree.StatementExpr) -> Value:
 
 
 def pointer(writer: Any, node: tree.StatementExpr, names: list[str]) -> dict[str, Value]:
-    """The integers of a pointer."""
+    """What `({ .. })` gives where its last expression points: a temporary for each integer of the pointer."""
     made = {name: writer.temporary(kinds.INT, "0", "pointer") for name in names}
 
     def keep(one: Any) -> None:

@@ -60,12 +60,12 @@ class Statements(Component):
         self.close(node)
 
     def write_Compound(self, node: Any) -> None:
-        """A block."""
+        """Writes braces, and the declarations and statements between them (6.8.2)."""
         self.writer.emit("{")
         self.body(node)
 
     def write_EmptyStatement(self, node: Any) -> None:
-        """An empty statement."""
+        """Writes a null statement (6.8.3p3)."""
         self.writer.emit(";")
 
     def write_Typedef(self, node: Any) -> None:
@@ -290,11 +290,11 @@ class Statements(Component):
     # ---- jumps
 
     def write_Break(self, node: Any) -> None:
-        """A break."""
+        """Writes the jump behind the innermost loop or switch (6.8.6.3)."""
         self.writer.emit("break;")
 
     def write_Continue(self, node: Any) -> None:
-        """A continue."""
+        """Writes the jump to the end of the innermost loop's body (6.8.6.2)."""
         self.writer.emit("continue;")
 
     def write_Return(self, node: Any) -> None:

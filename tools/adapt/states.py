@@ -16,7 +16,7 @@ def holds(node: Any, names: set[str]) -> bool:
 
 
 def jump(name: str, coord: Any) -> Any:
-    """A jump to a label."""
+    """A `goto` of this name at a place, as it goes into a tree (6.8.6.1)."""
     return tree.Goto(name, coord)
 
 

@@ -18,7 +18,7 @@ MOST_COPIED = 256
 
 
 class Wholes(Component):
-    """Structs as wholes."""
+    """Writes copies, arguments and results of a struct type (6.5.16.1, 6.5.2.2), member by member."""
 
     def assign_whole(self, target: Place, source: Any, node: Any) -> None:
         """Writes the assignment of a struct, member by member. Raises Refused for more than 256 integers."""
