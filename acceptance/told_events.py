@@ -157,7 +157,7 @@ def of_example(row: tuple[str, str, str, tuple[str, ...]], folder: str) -> list[
     home = os.path.join(programs.ROOT, "examples", name)
     if inputs.endswith(".txt"):
         return at_steps(entry, inputs, list(sources), home)
-    path = os.path.join(folder, "inputs")
+    path = os.path.join(folder, "inputs.json")
     with open(path, "w", encoding="ascii") as file:
         file.write(inputs)
     return at_steps(entry, path, list(sources), home)
