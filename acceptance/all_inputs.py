@@ -12,7 +12,6 @@ import itertools
 import json
 import os
 import re
-import subprocess
 import tempfile
 from collections.abc import Callable, Iterable, Iterator, Sequence
 from dataclasses import dataclass
@@ -93,15 +92,7 @@ TABLE = [
 
 def run(words: list[str], folder: str) -> tuple[int, str, str]:
     """How the program ends in a folder: its status and both texts."""
-    ended = subprocess.run(
-        [programs.program(), *words],
-        cwd=folder,
-        stdin=subprocess.DEVNULL,
-        capture_output=True,
-        text=True,
-        timeout=programs.SECONDS,
-    )
-    return ended.returncode, ended.stdout, ended.stderr
+    return programs.ended([programs.program(), *words], folder)
 
 
 class Automaton:

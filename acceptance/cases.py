@@ -3,11 +3,13 @@
 Each case is run in a fresh temporary folder that holds the case's files alone. Its fields:
 
   name            what it shows
-  files           file name -> text; {"folder": true} makes a folder of that name; a text may be
+  files           file name -> text; {"folder": true} makes a folder of that name, {"pipe": true} a pipe into which nobody
+                  writes; a text may be
                   {"repeat": TEXT, "times": N}, {"count": N, "text": TEXT}, which is TEXT for each of N numbers from 1 on
                   (or from "from" on) with the number in place of #, and the ones beside it in place of #-1 and #+1, or a
                   list of texts
   words           the words after the program's own name; {"hex": "ff"} is a word of these bytes
+  stdin           a text that comes through a pipe, the file /dev/stdin; without it there is none
   status          the exit status
   stdout, stderr  the exact texts
   stdout_to       instead of `stdout`: "closed", or a device such as /dev/full
@@ -74,11 +76,13 @@ def instances(case: Case) -> list[Case]:
 
 
 def make_files(folder: str, files: dict[str, Any]) -> None:
-    """Writes the files of a case into a folder; one may be a folder."""
+    """Writes the files of a case into a folder; one may be a folder or a pipe."""
     for name, content in files.items():
         path = os.path.join(folder, name)
         if isinstance(content, dict) and content.get("folder"):
             os.mkdir(path)
+        elif isinstance(content, dict) and content.get("pipe"):
+            os.mkfifo(path)
         else:
             with open(path, "wb") as file:
                 file.write(text(content))
@@ -136,10 +140,12 @@ def run(case: Case) -> tuple[int, bytes | None, bytes | None]:
         words = [os.fsencode(programs.program() if streams.direct else programs.LAUNCHER)] + [
             text(word) for word in case["words"]
         ]
+        piped = text(case["stdin"]) if "stdin" in case else None
         ended = subprocess.run(
             words,
             cwd=folder,
-            stdin=subprocess.DEVNULL,
+            input=piped,
+            stdin=subprocess.DEVNULL if piped is None else None,
             timeout=programs.SECONDS,
             preexec_fn=streams.before,
             stdout=streams.targets["stdout"],

@@ -153,19 +153,6 @@ def is_drat(folder: str, text: str) -> bool:
     return bool(lines) and not lines[-1] and dimacs in text
 
 
-def run(program: str, folder: str, words: list[str]) -> tuple[int, str, str]:
-    """How a program ends in a folder: its status and both texts."""
-    done = subprocess.run(
-        [program, *words],
-        cwd=folder,
-        stdin=subprocess.DEVNULL,
-        capture_output=True,
-        text=True,
-        timeout=programs.SECONDS,
-    )
-    return done.returncode, done.stdout, done.stderr
-
-
 def changes(text: str) -> Iterator[str]:
     """The text with one digit or sign being another one, at some sixty places."""
     places = [place for place, letter in enumerate(text) if letter.isdigit() or letter == "-"]
@@ -187,14 +174,15 @@ class Written:
 
     def proved(self) -> tuple[int, str]:
         """The status and the text of the command that writes the certificate."""
-        return run(self.program, self.folder, [self.case.prove, *self.case.bounds, *self.case.asked, "s.c"])[:2]
+        return programs.ended([self.program, self.case.prove, *self.case.bounds, *self.case.asked, "s.c"], self.folder)[
+            :2
+        ]
 
     def checked(self, text: str) -> tuple[int, str, str]:
         """What the command that reads a certificate says of this one."""
         self.write("some.cert", text)
-        return run(
-            self.program, self.folder, [self.case.check, *self.case.bounds, *self.case.asked, "some.cert", "s.c"]
-        )
+        words = [self.case.check, *self.case.bounds, *self.case.asked, "some.cert", "s.c"]
+        return programs.ended([self.program, *words], self.folder)
 
 
 def of_case(case: Case) -> Outcome:

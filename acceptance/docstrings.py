@@ -22,7 +22,7 @@ LITTLE = set(  # words that say nothing by themselves
     "a an the of is it its that this what which one in on at by for to and or as with has have are all each there here be from"
     " them those they such where whose".split()
 )
-LATER = re.compile(r"tools/adapt")  # whose docstrings are complete on another branch
+REPEATS = "its docstring repeats its name"
 
 
 def is_case(node: ast.AST) -> bool:
@@ -59,7 +59,7 @@ def faults_of(node: ast.Module | ast.ClassDef | ast.FunctionDef, name: str) -> I
     elif said and "." not in said:
         yield f"{name}: its docstring has no sentence"
     elif said and repeats(name.split(":")[-1].split(".")[-1], said):
-        yield f"{name}: its docstring repeats its name"
+        yield f"{name}: {REPEATS}"
     if isinstance(node, ast.FunctionDef):
         missing = {one for one in raised(node) if one not in said and not (one == "Failure" and "failure" in said)}
         yield from (f"{name}: its docstring doesn't name {one}" for one in sorted(missing) if not is_case(node))
@@ -78,6 +78,5 @@ def wrong() -> list[str]:
     found = list[str]()
     for pattern in ("tools/**/*.py", "acceptance/**/*.py"):
         for path in sorted(glob.glob(pattern, root_dir=programs.ROOT, recursive=True)):
-            if not LATER.match(path):
-                found += faults_of(ast.parse(text_of(os.path.join(programs.ROOT, path))), path)
+            found += faults_of(ast.parse(text_of(os.path.join(programs.ROOT, path))), path)
     return found

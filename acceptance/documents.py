@@ -73,20 +73,13 @@ def outcome(folder: str, words: list[str], kept: str) -> str | tuple[int, str, s
         os.path.join(kept, word) if word in os.listdir(kept) else word for word in (words[:-2] if target else words)
     ]
     try:
-        ended = subprocess.run(
-            [programs.LAUNCHER] + words,
-            cwd=os.path.join(programs.ROOT, folder),
-            stdin=subprocess.DEVNULL,
-            capture_output=True,
-            text=True,
-            timeout=programs.SECONDS,
-        )
+        status, text, err = programs.ended([programs.LAUNCHER, *words], os.path.join(programs.ROOT, folder))
     except subprocess.TimeoutExpired:
         return f"no end within {programs.SECONDS} seconds"
     if target:
         with open(target, "w", encoding="ascii") as file:
-            file.write(ended.stdout)
-    return ended.returncode, "" if target else ended.stdout, ended.stderr
+            file.write(text)
+    return status, "" if target else text, err
 
 
 def tool_examples(text: str) -> Iterator[tuple[str, str, list[str]]]:
@@ -128,19 +121,12 @@ def wrong_tool_examples(text: str) -> Outcome:
             os.symlink(os.path.join(programs.ROOT, "bin"), os.path.join(kept, "bin"))
         for folder, line, due in runs:
             try:
-                ended = subprocess.run(
-                    ["sh", "-c", line],
-                    cwd=os.path.join(kept, folder),
-                    stdin=subprocess.DEVNULL,
-                    capture_output=True,
-                    text=True,
-                    timeout=programs.SECONDS,
-                )
+                status, said, err = programs.ended(["sh", "-c", line], os.path.join(kept, folder))
             except subprocess.TimeoutExpired:
                 wrong.append(f"{line}: no end within {programs.SECONDS} seconds")
                 continue
-            if ended.returncode or not matches(due, ended.stdout):
-                wrong.append(f"{line}: {ended.returncode}, {ended.stdout!r}, {ended.stderr[-200:]!r}"[:1500])
+            if status or not matches(due, said):
+                wrong.append(f"{line}: {status}, {said!r}, {err[-200:]!r}"[:1500])
     return len(runs), wrong
 
 

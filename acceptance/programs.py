@@ -1,9 +1,10 @@
-"""The program that the cases run, and where it comes from."""
+"""The program that the cases run, where it comes from, and how it ends."""
 
 import functools
 import os
 import subprocess
 import sys
+from collections.abc import Sequence
 
 HERE = os.path.dirname(os.path.abspath(__file__))
 ROOT = os.path.normpath(os.path.join(HERE, ".."))
@@ -20,3 +21,10 @@ def program() -> str:
     if found.returncode:
         sys.exit(1)
     return found.stdout.removesuffix("\n")
+
+
+def ended(words: Sequence[str], folder: str) -> tuple[int, str, str]:
+    """How a command ends in a folder, with nothing on its standard input: its status and both texts. Raises
+    subprocess.TimeoutExpired where it has no end within SECONDS."""
+    run = subprocess.run(words, cwd=folder, stdin=subprocess.DEVNULL, capture_output=True, timeout=SECONDS)
+    return run.returncode, run.stdout.decode(), run.stderr.decode()

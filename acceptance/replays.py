@@ -87,11 +87,8 @@ def of_json(report: str, counted: Sequence[str]) -> str:
 
 
 def run(words: list[str], folder: str) -> tuple[int, str, str]:
-    """How the launcher ends: its status and both texts."""
-    ended = subprocess.run(
-        [programs.LAUNCHER, *words], cwd=folder, stdin=subprocess.DEVNULL, capture_output=True, timeout=programs.SECONDS
-    )
-    return ended.returncode, ended.stdout.decode(), ended.stderr.decode()
+    """How the launcher ends in a folder: its status and both texts."""
+    return programs.ended([programs.LAUNCHER, *words], folder)
 
 
 def wrong(words: list[str], report: str, folder: str) -> str:

@@ -34,7 +34,7 @@ EXAMPLES = (
     ("average", "average", "in.txt", ("quotient.c", "average.c")),
     ("clamp", "clamp", "in.txt", ("clamp.c",)),
     ("triangle", "classify", "sides.txt", ("tri.c",)),
-    ("triangle", "main_loop", '[{"args":[],"answers":[1,3,4,5,1,2,2,2,1,9,1,1,0]},{"args":[]}]', ("tri.c",)),
+    ("triangle", "main_loop", '[{"args":[13],"answers":[1,3,4,5,1,2,2,2,1,9,1,1,0]},{"args":[0]}]', ("tri.c",)),
     ("counting", "count", "0\n1\n3\n7\n", ("count.c",)),
     ("counting", "both", '[{"args":[1],"answers":[5,9]},{"args":[1]},{"args":[0],"answers":[5,9]}]', ("both.c",)),
     ("counting", "upto", "0\n4\n5\n", ("upto.c",)),
@@ -157,7 +157,7 @@ def of_example(row: tuple[str, str, str, tuple[str, ...]], folder: str) -> list[
     home = os.path.join(programs.ROOT, "examples", name)
     if inputs.endswith(".txt"):
         return at_steps(entry, inputs, list(sources), home)
-    path = os.path.join(folder, "inputs")
+    path = os.path.join(folder, "inputs.json")
     with open(path, "w", encoding="ascii") as file:
         file.write(inputs)
     return at_steps(entry, path, list(sources), home)

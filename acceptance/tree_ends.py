@@ -8,13 +8,10 @@ with one more an end stays the same.
 """
 
 import functools
-import importlib.machinery
-import importlib.util
 import json
 import os
 import re
 import subprocess
-import sys
 import tempfile
 from collections.abc import Callable, Iterator
 from typing import Any
@@ -25,6 +22,7 @@ import programs
 import replays
 from command_cases import Case
 from side_by_side import Outcome
+from with_gcc.loading import load
 
 RANDOM = range(1001, 1025)
 FEW, MANY = (1, 2, 4, 9, 30), 20000
@@ -34,17 +32,10 @@ Differing = Callable[[str], list[str]]
 
 def said(words: list[str], folder: str) -> list[str]:
     """The lines of an answer, which must have the status 0. Raises ValueError where the program refuses them."""
-    ended = subprocess.run(
-        [programs.program(), *words],
-        cwd=folder,
-        stdin=subprocess.DEVNULL,
-        capture_output=True,
-        text=True,
-        timeout=programs.SECONDS,
-    )
-    if ended.returncode or ended.stderr:
-        raise ValueError(f"{words[:4]} ends with {ended.returncode}, {ended.stderr!r}")
-    return ended.stdout.splitlines()
+    status, text, err = programs.ended([programs.program(), *words], folder)
+    if status or err:
+        raise ValueError(f"{words[:4]} ends with {status}, {err!r}")
+    return text.splitlines()
 
 
 def by_trees(steps: int | str, entry: str, inputs: str, sources: list[str], folder: str) -> list[str]:
@@ -110,14 +101,7 @@ def all_of(name: str, folder: str) -> list[str]:
 
 def generator() -> Any:
     """What makes random programs."""
-    path = os.path.join(programs.HERE, "with_gcc", "program_runs")
-    loader = importlib.machinery.SourceFileLoader("program_runs", path)
-    spec = importlib.util.spec_from_loader("program_runs", loader)
-    assert spec
-    made = importlib.util.module_from_spec(spec)
-    sys.dont_write_bytecode = True
-    loader.exec_module(made)
-    return made.Program
+    return load("program_runs").Program
 
 
 def of_random(program: Any, folder: str) -> list[str]:

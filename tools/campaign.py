@@ -162,13 +162,6 @@ def numbers(text: str) -> list[int]:
     return [int(word) for word in text.split(",")]
 
 
-def jobs(word: str) -> int:
-    """How many jobs there are: one at least. Raises argparse.ArgumentTypeError for another text."""
-    if not word.isdecimal() or int(word) < 1:
-        raise argparse.ArgumentTypeError(f"{word} is no number from 1 on")
-    return int(word)
-
-
 def parser_of_words() -> usage.Parser:
     """What reads the words of bin/campaign; a wrong word ends the tool with status 2."""
     done = "each goal is decided, and the gate of --at-least passes"
@@ -182,7 +175,7 @@ def parser_of_words() -> usage.Parser:
     parser.add_argument("--budget", type=program.in_range("budget"), metavar="N", help=budget)
     parser.add_argument("--inputs", metavar="FILE", help="inputs that are measured first")
     side_by_side = "goals that are decided side by side, on each machine (those of before, or the processors)"
-    parser.add_argument("--jobs", type=jobs, metavar="N", help=side_by_side)
+    parser.add_argument("--jobs", type=program.jobs, metavar="N", help=side_by_side)
     parser.add_argument("--sshloginfile", metavar="FILE", help="the machines, as GNU parallel reads them")
     gate = "the status is 1 where less than P percent are covered"
     parser.add_argument("--at-least", type=verdicts.percent, metavar="P", help=gate)

@@ -95,6 +95,19 @@ class Graph:
                 return one
         raise program.Failure(f"no function is called {name}")
 
+    def reached(self, entry: str) -> list[str]:
+        """The functions that runs of an entry may call, and the entry, in the automaton's order."""
+        calls: dict[str, set[str]] = {}
+        for edge in self.edges:
+            if edge.operation == "call":
+                calls.setdefault(self.owner(edge), set()).add(edge.name)
+        found, waiting = {entry}, [entry]
+        while waiting:
+            new = calls.get(waiting.pop(), set()) - found
+            found |= new
+            waiting.extend(new)
+        return [one.name for one in self.functions if one.name in found]
+
     def owner(self, edge: Edge) -> str:
         """The name of the function to which an edge belongs: for a return the caller's."""
         return self.nodes[edge.target if edge.operation == "return" else edge.source].function

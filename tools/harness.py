@@ -97,9 +97,7 @@ def text_of(entry: str, given: list[Input], runs: list[Run], sources: list[Sourc
 def parser_of_words() -> usage.Parser:
     """What reads the words of bin/harness; a wrong word ends the tool with status 2."""
     parser = usage.parser("harness", __doc__, "the file is written")
-    parser.add_argument("entry", metavar="ENTRY", help="the function in which runs begin")
-    parser.add_argument("inputs", metavar="INPUTS", help="a file of inputs, in any form that bin/inputs reads")
-    parser.add_argument("sources", nargs="+", metavar="SOURCE", help="the sources, in their order")
+    usage.takes_entry(parser, with_inputs=True)
     parser.add_argument("-o", metavar="OUT", dest="out", help="the C file that is written; else standard output")
     parser.add_argument("--steps", type=program.in_range("steps"), metavar="N", help="as for runs")
     return parser

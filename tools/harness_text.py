@@ -1,6 +1,16 @@
 """The parts of the C file that bin/harness and bin/adapt --harness write: what stands before the sources, and the tests."""
 
-HEAD = """/* Written by FShell's {by}: {count} tests of {entry}.
+# what gives the next answer of an input, or 0 behind the last one
+ANSWER = """static unsigned long long fshell_answer(void) {{
+  if (fshell_left == 0) {{
+    return 0;
+  }}
+  fshell_left--;
+  return *fshell_answers++;
+}}
+"""
+HEAD = (
+    """/* Written by FShell's {by}: {count} tests of {entry}.
    Compile it with -fwrapv. Run, it prints TAP, or JUnit's XML with --junit, and ends with 1 where a test fails. */
 #include <stddef.h>
 #include <stdint.h>
@@ -16,20 +26,16 @@ static void fshell_stop(const char *why) {{
   longjmp(fshell_back, 1);
 }}
 
-static unsigned long long fshell_answer(void) {{
-  if (fshell_left == 0) {{
-    return 0;
-  }}
-  fshell_left--;
-  return *fshell_answers++;
-}}
-
+"""
+    + ANSWER
+    + """
 #undef assert
 #undef assume
 #define assert(holds) ((holds) ? (void) 0 : fshell_stop("an assert failed"))
 #define assume(holds) ((holds) ? (void) 0 : fshell_stop("an assume failed"))
 #define main fshell_main
 """
+)
 TESTS = """
 #define FSHELL_TESTS {count}
 #define FSHELL_ENTRY {entry}

@@ -178,9 +178,7 @@ def left_out(given: argparse.Namespace, graph: Graph, runs: list[Run]) -> LeftOu
 def parser_of_words() -> usage.Parser:
     """What reads the words of bin/lcov; a wrong word ends the tool with status 2."""
     parser = usage.parser("lcov", __doc__, "the tracefile is written")
-    parser.add_argument("entry", metavar="ENTRY", help="the function in which runs begin")
-    parser.add_argument("inputs", metavar="INPUTS", help="a file of inputs, in any form that bin/inputs reads")
-    parser.add_argument("sources", nargs="+", metavar="SOURCE", help="the sources, in their order")
+    usage.takes_entry(parser, with_inputs=True)
     parser.add_argument("-o", metavar="OUT", dest="out", help="the tracefile that is written; else standard output")
     parser.add_argument("--ends", choices=ENDS, default="returned", help="the ends of runs that count")
     parser.add_argument("--steps", type=program.in_range("steps"), metavar="N", help="as for runs")

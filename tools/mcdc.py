@@ -91,8 +91,7 @@ def parser_of_words() -> usage.Parser:
         "each condition is decided, and the gate of --at-least passes",
         "a condition is undecided, or the gate fails",
     )
-    parser.add_argument("entry", metavar="ENTRY", help="the function in which runs begin")
-    parser.add_argument("sources", nargs="+", metavar="SOURCE", help="the sources, in their order")
+    usage.takes_entry(parser)
     for name, value in BOUNDS.items():
         parser.add_argument(
             f"--{name}", type=program.in_range(name), default=value, metavar="N", help=f"as for generate ({value})"

@@ -143,8 +143,7 @@ def parser_of_words() -> usage.Parser:
     parser = usage.parser(
         "order", __doc__, "nothing is told: each order of evaluation gives the same", "places are told"
     )
-    parser.add_argument("entry", metavar="ENTRY", help="the function in which runs begin")
-    parser.add_argument("sources", nargs="+", metavar="SOURCE", help="the sources, in their order")
+    usage.takes_entry(parser)
     parser.add_argument("--ends", choices=ENDS, default="returned", help="as for generate: which runs count")
     parser.add_argument("--query", default="", help="a query, whose predicates watch the variables that they read")
     parser.add_argument("--watch", action="append", default=[], metavar="NAME", help="a variable that is watched")

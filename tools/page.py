@@ -11,7 +11,7 @@ import os
 from collections import Counter
 
 from tools import graph as graphs
-from tools import page_picture, page_rte, page_tabs, program, progress, syntax, usage, verdicts
+from tools import html, page_picture, page_rte, page_tabs, program, progress, syntax, usage, verdicts
 from tools.page_data import Page, folded, worst
 from tools.program import Failure
 from tools.progress import Progress
@@ -19,6 +19,7 @@ from tools.shown import shown
 from tools.sources import Faces
 from tools.verdicts import Verdict
 
+TEMPLATE = os.path.join(os.path.dirname(os.path.realpath(__file__)), "page.html")
 SIGNS = {
     Verdict.COVERED: "✓",
     Verdict.MISSED: "✗",
@@ -32,16 +33,8 @@ BARS = (Verdict.COVERED, Verdict.UNREACHABLE, Verdict.REFUTED, Verdict.UNDECIDED
 
 
 def page_text(page: Page) -> str:
-    """The page as HTML, by jinja2 and the templates beside this file. Raises Failure where jinja2 isn't there, or the
+    """The page as HTML, by the templates beside this file. Raises Failure where jinja2 isn't there, or the
     program refuses what the tabs ask of it."""
-    try:
-        import jinja2
-    except ImportError:
-        raise Failure("jinja2 isn't there (Debian: apt-get install python3-jinja2)") from None
-    loader = jinja2.FileSystemLoader(os.path.dirname(os.path.realpath(__file__)))
-    template = jinja2.Environment(loader=loader, autoescape=True, trim_blocks=True, lstrip_blocks=True).get_template(
-        "page.html"
-    )
     tally = verdicts.tally(goal["t"] for goal in page.goals)
     tables = {"mcdc": page_tabs.decisions(page), "requirements": page_tabs.requirements(page)}
     errors = page_tabs.errors(page)
@@ -53,8 +46,8 @@ def page_text(page: Page) -> str:
         for title, text in graphs_of.items():
             pictures[title] = page_picture.svg(text)
             tell.step(title)
-    return template.render(
-        page=page, verdicts=BARS, signs=SIGNS, tally=tally, kinds=sorted({goal["k"] for goal in page.goals}), folded=folded,
+    return html.rendered(
+        TEMPLATE, page=page, verdicts=BARS, signs=SIGNS, tally=tally, kinds=sorted({goal["k"] for goal in page.goals}), folded=folded,
         worst=worst, pictures=pictures, colours=syntax.KINDS, data=page.data(),
         tabs=shown_tabs, decisions=tables["mcdc"], requirements=tables["requirements"], errors=errors,
     )  # fmt: skip

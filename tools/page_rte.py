@@ -6,11 +6,12 @@ import shlex
 from dataclasses import dataclass, field
 from typing import Any
 
-from tools import leaving, program, rte_search, rte_sites, source_map
+from tools import html, leaving, program, rte_search, rte_sites, source_map
 from tools.program import Failure
 from tools.reports import BOUNDS
 from tools.rte_rows import Verdict
 
+TEMPLATE = os.path.join(os.path.dirname(os.path.realpath(__file__)), "page_rte.html")
 MARKS = {
     Verdict.FAILS: "fails",
     Verdict.OPEN: "open",
@@ -172,15 +173,9 @@ def is_folder(name: str) -> bool:
 
 
 def text_of(page: Page) -> str:
-    """The page as HTML, by jinja2. Raises Failure where that isn't there."""
-    try:
-        import jinja2
-    except ImportError:
-        raise Failure("jinja2 isn't there (Debian: apt-get install python3-jinja2)") from None
-    loader = jinja2.FileSystemLoader(os.path.dirname(os.path.realpath(__file__)))
-    made = jinja2.Environment(loader=loader, autoescape=True, trim_blocks=True, lstrip_blocks=True)
+    """The page as HTML. Raises Failure where jinja2 isn't there."""
     names = {mark: str(verdict) for verdict, mark in MARKS.items()}
-    return made.get_template("page_rte.html").render(page=page, signs=SIGNS, names=names)
+    return html.rendered(TEMPLATE, page=page, signs=SIGNS, names=names)
 
 
 def write(folder: str, out: str) -> int:

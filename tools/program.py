@@ -174,6 +174,14 @@ def in_range(name: str) -> Callable[[str], int]:
     return read_number
 
 
+def jobs(word: str) -> int:
+    """The number of jobs side by side that a word of digits is, at least 1. Raises argparse.ArgumentTypeError for any other word,
+    which ends the tool with status 2."""
+    if not word.isdecimal() or int(word) < 1:
+        raise argparse.ArgumentTypeError(f"{word} is no number from 1 on")
+    return int(word)
+
+
 @contextlib.contextmanager
 def as_file(text: str) -> Iterator[str]:
     """A file with a text, as long as it is used."""

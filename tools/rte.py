@@ -23,7 +23,7 @@ import os
 from tools import graph as graphs
 from tools import inputs, leaving, program, rte_apart, rte_items, rte_order, rte_repeat, rte_sites, rte_told, usage
 from tools.asked import Asked, read_sums
-from tools.campaign import DEFAULTS, jobs, locked, measured
+from tools.campaign import DEFAULTS, locked, measured
 from tools.folder import Folder
 from tools.graph import Graph
 from tools.leaving import Left
@@ -40,8 +40,7 @@ def parser_of_words() -> usage.Parser:
     parser = usage.parser(
         "rte", __doc__, "each row is `never`, and the bounds suffice", "a row is another, or the bounds don't suffice"
     )
-    parser.add_argument("entry", metavar="ENTRY", help="the function in which runs begin")
-    parser.add_argument("sources", nargs="+", metavar="SOURCE", help="the sources, in their order")
+    usage.takes_entry(parser)
     parser.add_argument("-o", metavar="DIR", dest="folder", required=True, help="the folder of what is found")
     for name, value in DEFAULTS.items():
         number = program.in_range(name)
@@ -53,7 +52,7 @@ def parser_of_words() -> usage.Parser:
     confirm = "compiles DIR/failures.c by gcc with its sanitizers, runs each failure, and tells what they say"
     parser.add_argument("--confirm", action="store_true", help=confirm)
     told = "how many searches at a time, which is kept (as many as there are processors)"
-    parser.add_argument("--jobs", type=jobs, metavar="N", help=told)
+    parser.add_argument("--jobs", type=program.jobs, metavar="N", help=told)
     return parser
 
 

@@ -235,18 +235,6 @@ class Finder:
             yield Operation(kind, word.file, word.line, word.column, self.text(form), frozenset(nodes), span)
 
 
-def reached_from(graph: Graph, entry: str) -> set[str]:
-    """The functions that an entry may call, itself among them."""
-    found, agenda = {entry}, [entry]
-    while agenda:
-        name = agenda.pop()
-        for edge in graph.edges:
-            if edge.operation == "call" and graph.owner(edge) == name and edge.name not in found:
-                found.add(edge.name)
-                agenda.append(edge.name)
-    return found
-
-
 def finder_of(graph: Graph, sources: Sequence[str]) -> Finder:
     """What finds the operations of sources that the program accepts. Raises Failure where a source can't be read, or
     isn't read here as the program reads it."""
@@ -269,4 +257,4 @@ def of_sources(graph: Graph, entry: str, sources: Sequence[str], ends: str) -> l
 def of_finder(graph: Graph, finder: Finder, entry: str, ends: str) -> list[Operation]:
     """The operations that are found, as far as the entry may come to them, each once, in the order of the sources;
     `ends` is trapped, or any for those that end a run otherwise too."""
-    return list(dict.fromkeys(finder.operations(reached_from(graph, entry), ends == "any")))
+    return list(dict.fromkeys(finder.operations(set(graph.reached(entry)), ends == "any")))

@@ -14,7 +14,7 @@ from tools.asked import Asked
 from tools.graph import Graph
 from tools.order import Warned
 from tools.program import Failure
-from tools.rte_items import Finder, reached_from
+from tools.rte_items import Finder
 from tools.rte_rows import Row, Verdict
 from tools.verdicts import Limits
 
@@ -58,7 +58,7 @@ class Regions:
             tokens |= set(range(form.first, form.last + 1)) if form else {token}
         names = {self.finder.words[token].text for token in tokens}
         called = [name for name in self.finder.bodies if name in names]
-        for name in {inner for one in called for inner in reached_from(self.graph, one)}:
+        for name in {inner for one in called for inner in self.graph.reached(one)}:
             body = self.finder.bodies.get(name)
             tokens |= set(range(body.first, body.last + 1)) if body else set()
         return tokens

@@ -12,6 +12,7 @@ from collections.abc import Iterator, Sequence
 
 from tools import items, program
 from tools.harness import source_text, word
+from tools.harness_text import ANSWER
 from tools.program import Failure
 from tools.reports import Input
 from tools.sources import Source
@@ -20,7 +21,8 @@ NAME = "failures"
 FLAGS = ("-w", "-fsanitize=undefined", "-fno-sanitize-recover=all")
 WRAPS = "-fwrapv"  # where overflows aren't asked about: then gcc reports none
 SECONDS = 10
-HEAD = """/* Written by FShell's bin/rte: runs of {entry} that end wrongly. Compile it with
+HEAD = (
+    """/* Written by FShell's bin/rte: runs of {entry} that end wrongly. Compile it with
    {command}
    and run it with the number of an input of inputs.json, from 1. */
 #include <stddef.h>
@@ -33,14 +35,9 @@ extern void _Exit(int);
 static const unsigned long long *fshell_answers;
 static int fshell_left;
 
-static unsigned long long fshell_answer(void) {{
-  if (fshell_left == 0) {{
-    return 0;
-  }}
-  fshell_left--;
-  return *fshell_answers++;
-}}
-
+"""
+    + ANSWER
+    + """
 static void fshell_failed(const char *file, int line, const char *what) {{
   printf("%s:%d: %s\\n", file, line, what);
   fflush(0);
@@ -52,6 +49,7 @@ static void fshell_failed(const char *file, int line, const char *what) {{
 #define assume(holds) ((holds) ? (void) 0 : fshell_failed(__FILE__, __LINE__, "an assume failed"))
 #define main fshell_main
 """
+)
 ASSERTS = '#undef assert\n#define assert(holds) ((holds) ? (void) 0 : fshell_failed(__FILE__, __LINE__, "an assert failed"))\n'
 NO_ASSERTS = "#undef assert\n#define assert(holds) ((void) 0)\n"
 MAIN = """#undef main

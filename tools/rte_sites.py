@@ -18,7 +18,7 @@ from tools.folder import Folder
 from tools.graph import Edge, Graph
 from tools.program import Failure
 from tools.reports import Input, Run
-from tools.rte_items import Finder, Operation, reached_from
+from tools.rte_items import Finder, Operation
 from tools.rte_rows import Row, Verdict, refuted
 from tools.rte_search import Failed, decide, runs_of
 from tools.verdicts import Limits
@@ -111,7 +111,7 @@ def of_call(finder: Finder, table: Table, edges: tuple[Edge, ...], token: int, t
 def of_finder(graph: Graph, finder: Finder, table: Table, entry: str, at: str) -> list[Site]:
     """The sites that an entry may come to, in the order of the sources; a call that isn't found there is one by its
     edge alone."""
-    reached = reached_from(graph, entry)
+    reached = graph.reached(entry)
     calls = [edge for edge in graph.edges if edge.operation == "call" and edge.name in table.functions]
     left = {edge.number: edge for edge in calls if graph.owner(edge) in reached}
     found: list[Site] = []

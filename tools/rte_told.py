@@ -4,12 +4,12 @@ import dataclasses
 import os
 import re
 from collections.abc import Sequence
-from dataclasses import dataclass
 
 from tools import originals, sarif
 from tools.asked import Asked
 from tools.rte_rows import Row, Verdict
 from tools.rte_sites import FOLDER
+from tools.sarif import Finding
 
 RULES = {
     "run-time-error": ("error", "A run is ended by an operation: the input is told."),
@@ -22,22 +22,6 @@ OF_VERDICT = {
     Verdict.WITHIN: "possible-error",
     Verdict.NOT_REACHED: "dead-operation",
 }
-
-
-@dataclass(frozen=True)
-class Finding:
-    """A row at its place; `rule` is a key of RULES, lines and columns count from 1."""
-
-    rule: str
-    file: str
-    line: int
-    column: int
-    text: str
-
-    @property
-    def level(self) -> str:
-        """SARIF's level of its rule: error, warning or note."""
-        return RULES[self.rule][0]
 
 
 def place_of(row: Row) -> tuple[str, int, int]:
@@ -60,13 +44,13 @@ def of_the_user(row: Row, asked: Asked) -> Row:
 
 def findings(rows: Sequence[Row]) -> list[Finding]:
     """What is to be looked at, in the order of the rows; a row that is never wrong is nothing."""
-    return [
-        Finding(
-            OF_VERDICT[row.verdict], *place_of(row), f"{row.verdict}: {row.what}" + (f": {row.why}" if row.why else "")
-        )
-        for row in rows
-        if row.verdict in OF_VERDICT
-    ]
+    found = []
+    for row in rows:
+        rule = OF_VERDICT.get(row.verdict)
+        if rule:
+            text = f"{row.verdict}: {row.what}" + (f": {row.why}" if row.why else "")
+            found.append(Finding(rule, RULES[rule][0], *place_of(row), text))
+    return found
 
 
 def sarif_of(rows: Sequence[Row], asked: Asked) -> str:

@@ -1,48 +1,33 @@
-"""Findings as SARIF 2.1, which services that show code beside its review read."""
+"""Findings at places: as SARIF 2.1, which services that show code beside its review read, and as lines that editors know from gcc."""
 
 import json
 import urllib.parse
 from collections.abc import Mapping, Sequence
-from typing import Any, Protocol
+from dataclasses import dataclass
+from typing import Any
 
 SCHEMA = "https://json.schemastore.org/sarif-2.1.0.json"
 
 
-class Found(Protocol):
-    """A finding at a place; lines and columns count from 1."""
+@dataclass(frozen=True)
+class Finding:
+    """A finding at a place of a file; `rule` is a key of a table of rules, of which `level` is error, warning or note. Lines and
+    columns count from 1."""
+
+    rule: str
+    level: str
+    file: str
+    line: int
+    column: int
+    text: str
 
     @property
-    def rule(self) -> str:
-        """A key of the table of rules."""
-        ...
-
-    @property
-    def file(self) -> str:
-        """Its place: the path from the folder."""
-        ...
-
-    @property
-    def line(self) -> int:
-        """Its place: the line, counted from 1."""
-        ...
-
-    @property
-    def column(self) -> int:
-        """Its place: the column, counted from 1."""
-        ...
-
-    @property
-    def level(self) -> str:
-        """How grave it is: error, warning or note."""
-        ...
-
-    @property
-    def text(self) -> str:
-        """The message that a reader sees."""
-        ...
+    def gcc_line(self) -> str:
+        """The line that gcc would write: FILE:LINE:COLUMN: LEVEL: TEXT [RULE]."""
+        return f"{self.file}:{self.line}:{self.column}: {self.level}: {self.text} [{self.rule}]"
 
 
-def _result(one: Found, rules: list[str]) -> dict[str, Any]:
+def _result(one: Finding, rules: list[str]) -> dict[str, Any]:
     region = {"startLine": one.line, "startColumn": one.column}
     where = {"artifactLocation": {"uri": urllib.parse.quote(one.file), "uriBaseId": "SRCROOT"}, "region": region}
     return {
@@ -54,7 +39,7 @@ def _result(one: Found, rules: list[str]) -> dict[str, Any]:
     }
 
 
-def text_of(findings: Sequence[Found], rules: Mapping[str, tuple[str, str]], folder: str) -> str:
+def text_of(findings: Sequence[Finding], rules: Mapping[str, tuple[str, str]], folder: str) -> str:
     """The findings as SARIF 2.1. `rules` has of each rule its level and what it says; files are named from the folder."""
     told = [
         {"id": name, "shortDescription": {"text": text}, "defaultConfiguration": {"level": level}}

@@ -42,6 +42,15 @@ def parser(name: str, about: str | None, done: str, is_open: str = "", **more: s
     return made
 
 
+def takes_entry(of_tool: argparse.ArgumentParser, with_inputs: bool = False) -> None:
+    """Has a tool take ENTRY, perhaps INPUTS, and SOURCE.., as most of the program's commands do."""
+    of_tool.add_argument("entry", metavar="ENTRY", help="the function in which runs begin")
+    if with_inputs:
+        told = "a file of inputs, in any form that bin/inputs reads"
+        of_tool.add_argument("inputs", metavar="INPUTS", help=told)
+    of_tool.add_argument("sources", nargs="+", metavar="SOURCE", help="the sources, in their order")
+
+
 def of_tool(name: str) -> Parser:
     """What reads the words of an installed tool."""
     found: Parser = importlib.import_module(TOOLS[name]).parser_of_words()

@@ -51,6 +51,12 @@ class Gate:
         self.git("commit", "-q", "-m", "a change")
         return self.git("rev-parse", "HEAD")
 
+    def begin(self) -> None:
+        """Builds and releases the program, and commits all to a new repository."""
+        self.tree.build_and_release()
+        self.git("init", "-q")
+        self.commit()
+
     def run(self, processors: int | str) -> Ran:
         """The status, the lines, and what rt was called for, on a machine that says it has so many processors."""
         os.environ["FSHELL_PROCESSORS"] = str(processors)
@@ -106,9 +112,7 @@ def gate_runs_all(tree: Tree) -> Iterator[bool]:
 
 def gate_is_whole_where_it_can_be(tree: Tree) -> Iterator[bool]:
     gate = Gate(tree)
-    tree.run()
-    tree.call(tree.path("bin/release"))
-    tree.calls()
+    tree.build_and_release()
     yield gate.is_whole(1, "this kit (a kit) keeps what it proved from run to run")
     yield not os.path.exists(tree.path("release/GATE"))
     tree.write("help", KEEPS_NOTHING)
@@ -124,10 +128,7 @@ def gate_is_whole_where_it_can_be(tree: Tree) -> Iterator[bool]:
 
 def whole_gate_is_noted(tree: Tree) -> Iterator[bool]:
     gate = Gate(tree)
-    tree.run()
-    tree.call(tree.path("bin/release"))
-    gate.git("init", "-q")
-    commit = gate.commit()
+    gate.begin()
     tree.write("crates/other/src/lib.rt", "newer\n")
     yield gate.run(1)[0] == 0 and not os.path.exists(tree.path("release/GATE"))
     commit = gate.commit()
@@ -146,10 +147,7 @@ def whole_gate_is_noted(tree: Tree) -> Iterator[bool]:
 
 def part_of_the_gate(tree: Tree) -> Iterator[bool]:
     gate = Gate(tree)
-    tree.run()
-    tree.call(tree.path("bin/release"))
-    gate.git("init", "-q")
-    gate.commit()
+    gate.begin()
     gate.run(4)
     noted = tree.text("release/GATE")
     gate.commit()
@@ -183,10 +181,7 @@ def part_of_the_gate(tree: Tree) -> Iterator[bool]:
 
 def nothing_is_left_out_untold(tree: Tree) -> Iterator[bool]:
     gate = Gate(tree)
-    tree.run()
-    tree.call(tree.path("bin/release"))
-    gate.git("init", "-q")
-    gate.commit()
+    gate.begin()
     gate.run(4)
     noted = tree.text("release/GATE")
     tree.write("help", KEEPS_NOTHING)
@@ -199,17 +194,13 @@ def nothing_is_left_out_untold(tree: Tree) -> Iterator[bool]:
     ):
         before = tree.text(name)
         tree.write(name, text)
-        tree.run()
-        tree.call(tree.path("bin/release"))
-        tree.calls()
+        tree.build_and_release()
         yield gate.is_whole(2, "but nothing can be left out: " + reason)
         tree.write(name, before)
         tree.write("release/GATE", noted)
     for name in ("low/src/lib.rt", "other/src/lib.rt", "fshell/args"):
         tree.write("crates/" + name, "a\n")
-    tree.run()
-    tree.call(tree.path("bin/release"))
-    tree.calls()
+    tree.build_and_release()
     yield gate.is_whole(2, why + "all crates changed since ")
 
 

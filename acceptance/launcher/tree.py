@@ -129,12 +129,18 @@ class Tree:
         """How the launcher ends with two words."""
         return self.call(launcher or self.path("bin/fshell"), "a", "b c", user=user)
 
-    def release(self) -> Ended:
-        """Builds the program, releases it, and leaves the tree as a fresh clone has it."""
+    def build_and_release(self) -> Ended:
+        """Builds the program where it isn't what the sources give, and releases it: how bin/release ends. The calls of rt are
+        forgotten."""
         self.run()
         ended = self.call(self.path("bin/release"))
-        shutil.rmtree(self.path("crates/fshell/out"))
         self.calls()
+        return ended
+
+    def release(self) -> Ended:
+        """Builds the program, releases it, and leaves the tree as a fresh clone has it: how bin/release ends."""
+        ended = self.build_and_release()
+        shutil.rmtree(self.path("crates/fshell/out"))
         return ended
 
     def for_nobody(self) -> int | None:

@@ -275,18 +275,18 @@ def counted(folder: str, module: str) -> bool:
     return share is not None and float(share[1]) > 20 and int(share[2]) > 30
 
 
+STUBBED = {
+    "bus.h": "#include <stdint.h>\ntypedef uint8_t byte;\nint bus_write(byte to, byte value);\nint bus_read(byte from, byte *value);\n",
+    "sum.c": '#include "bus.h"\nint add(byte a, byte b)\n{\n  byte c = 0;\n  if (!bus_read(a, &c))\n    return -1;\n'
+    "  return bus_write(a, b + c) ? b + c : -2;\n}\n",
+    "main.c": '#include "bus.h"\nint add(byte a, byte b);\nstatic int tries;\nint twice(int a)\n{\n  if (a < 0 || a > 99)\n    return 0;\n  tries++;\n'
+    "  int first = add((byte) a, 1);\n  return first + add((byte) a, 2);\n}\n",
+}
+
+
 def stubs_with_arguments_answer_the_original(folder: str) -> Iterator[bool]:
     """Several sources, of which the tests include one: stubs, as bin/driver writes them, get their values from the inputs."""
-    put(
-        folder,
-        {
-            "bus.h": "#include <stdint.h>\ntypedef uint8_t byte;\nint bus_write(byte to, byte value);\nint bus_read(byte from, byte *value);\n",
-            "sum.c": '#include "bus.h"\nint add(byte a, byte b)\n{\n  byte c = 0;\n  if (!bus_read(a, &c))\n    return -1;\n'
-            "  return bus_write(a, b + c) ? b + c : -2;\n}\n",
-            "main.c": '#include "bus.h"\nint add(byte a, byte b);\nstatic int tries;\nint twice(int a)\n{\n  if (a < 0 || a > 99)\n    return 0;\n  tries++;\n'
-            "  int first = add((byte) a, 1);\n  return first + add((byte) a, 2);\n}\n",
-        },
-    )
+    put(folder, STUBBED)
     yield run(folder, ["driver", "-", "main.c", "sum.c", "--stubs", "stubs.c"]).returncode == 0
     sources = ["main.c", "sum.c", "stubs.c"]
     told = run(folder, ["adapt", *sources, "-o", "made"]).stdout.splitlines()[-1].split()[1:]

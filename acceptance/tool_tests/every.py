@@ -2,6 +2,7 @@
 
 from tool_tests import (
     adapt,
+    adapt_stages,
     believed,
     campaign,
     clauses,
@@ -30,6 +31,7 @@ from tool_tests import (
 )
 
 rte.TRIED += rte_overflow.TRIED
+adapt.TRIED += adapt_stages.TRIED
 
 TOOLS = {module.__name__.split(".")[-1]: module
          for module in (campaign, project, recipes, adapt, mcdc, page, maps, progress, order, rte, driver, install, lcov, first_hour, explain,

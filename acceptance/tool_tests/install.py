@@ -167,14 +167,8 @@ def a_package_is_one_file_that_works(folder: str) -> Iterator[bool]:
         yield file.read() == first
     root = os.path.join(folder, "root")
     put(root, {"var/lib/dpkg/status": "", "var/lib/dpkg/available": ""})
-    dpkg = [
-        "dpkg",
-        f"--root={root}",
-        "--force-not-root",
-        "--force-depends",
-        "--force-script-chrootless",
-        "--no-triggers",
-    ]
+    forced = "--force-not-root --force-depends --force-script-chrootless --no-triggers"
+    dpkg = ["dpkg", f"--root={root}", *forced.split()]
     yield subprocess.run([*dpkg, "-i", path], capture_output=True, text=True).returncode == 0
     own = {name: value for name, value in os.environ.items() if name != "FSHELL"}
 

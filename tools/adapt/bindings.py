@@ -7,10 +7,10 @@ from typing import Any, Optional
 
 from . import tree
 from .declarators import Function, Variable
-from .tree import walk, with_parents
 from .kinds import VOID, Array, Pointer, Signature, Type
 from .places import Place, Places, arguments
 from .refusals import Refused
+from .tree import walk, with_parents
 
 Key = tuple[str, int, int, str]  # a parameter by its place and name, over several readings
 SOMEWHERE = Variable("", VOID, None, "local")  # an object of which no more is known
@@ -19,11 +19,15 @@ CONDITIONS = (tree.If, tree.While, tree.DoWhile, tree.For, tree.TernaryOp)
 
 
 def key(parameter: Variable) -> Key:
+    """What names a parameter over several readings of the sources."""
     at = parameter.coord
     return (str(at.file), at.line, at.column or 0, parameter.name)
 
 
 class Bindings:
+    """Binds the parameters of all functions; those in `apart` are pointers in any case. `of` has the function and the
+    number of each."""
+
     def __init__(self, places: Places, apart: set[Key]) -> None:
         self.places, self.names, self.apart = places, places.names, apart
         self.types: dict[Variable, Type] = {}
@@ -91,6 +95,8 @@ class Bindings:
         )
 
     def plain_use(self, node: Any, parents: tuple[Any, ...], standing: set[Variable]) -> bool:
+        """Whether one use of a parameter is among those that let it stand for an object; a test for null only where
+        calls hand objects over."""
         up, called = parents[-1], bool(parents[0].decl and self.names.meaning[parents[0]].calls)
         if self.argument(node, parents) is not None:
             return self.argument(node, parents) in standing
@@ -137,6 +143,7 @@ class Bindings:
         return called.parameters[at] if known and isinstance(called, Function) else SOMEWHERE
 
     def is_null(self, node: Any) -> bool:
+        """Whether an expression is a null pointer constant (6.3.2.3p3)."""
         while isinstance(node, tree.Cast):
             node = node.expr
         return self.names.constants.value(node) == 0
@@ -150,6 +157,8 @@ class Bindings:
         return all(self.is_object(node, standing) for node in given)
 
     def is_object(self, node: Any, standing: set[Variable]) -> bool:
+        """Whether an argument is the address of a named object, an array by its name, or a parameter that stands for
+        an object."""
         if isinstance(node, tree.UnaryOp) and node.op == "&":
             return isinstance(node.expr, (tree.ID, tree.StructRef, tree.ArrayRef))
         meaning = self.names.meaning.get(node) if isinstance(node, tree.ID) else None
@@ -215,6 +224,8 @@ class Bindings:
             return Place(SOMEWHERE, (), (), SOMEWHERE.type)
 
     def bound_array(self, parameter: Variable, targets: list[Place], called: bool) -> bool:
+        """Lends a parameter whole arrays of one length; whether that length is known. Raises Refused where lengths
+        differ, or are large."""
         lengths = {t.type.length for t in targets if isinstance(t.type, Array)}
         if not called and isinstance(parameter.type, Array) and parameter.type.length:
             lengths = {parameter.type.length}

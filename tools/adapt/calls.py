@@ -5,41 +5,51 @@ from typing import Any, Iterator, Optional
 
 from . import kinds, tree
 from .bindings import key
+from .component import Component
 from .constants import is_offset
+from .declarators import Function, Variable
 from .effects import Object, may_be, objects, pointee
-from .initialisers import none_of
 from .heap import heap_call
+from .initialisers import none_of
 from .kinds import Int, Pointer, Struct
 from .library import OUTPUT
-from .declarators import Function, Variable
 from .places import Place, arguments
 from .refusals import Refused
 from .regions import INDEX
-from .wholes import Wholes
+
 from .values import PRIMARY, Value
 from .models import Model, model_of
 
 MOST_ELEMENTS = 1024
 
 
-class Calls(Wholes):
+class Calls(Component):
+    """The calls of one function (6.5.2.2)."""
+
     def called(self, node: Any) -> Function:
-        function = self.places.choosers.called(node)
+        """The function that a call calls. Raises Refused where it calls what is no function."""
+        function = self.writer.places.choosers.called(node)
         if not isinstance(function, Function):
-            self.pointer(node.name)
+            self.writer.pointers.pointer(node.name)
             raise Refused(node.coord, "a call of what is no function", "call functions by their names")
         return function
 
     def call(self, node: Any) -> tuple[str, list[str]]:
-        """A call's text, and the statements that must follow it."""
+        """A call's text, and the statements that must follow it. Raises Refused for a wrong number of arguments, and
+        for two names of one object."""
         function = self.called(node)
         model = model_of(function)
         if model is not None and self.takes_model(node, model):
-            return self.model_parts(node, model)[INDEX].text, []
+            return self.writer.models.model_parts(node, model)[INDEX].text, []
         if heap_call(function):
-            return self.heap.freed(node) if function.name == "free" else self.pointer(node)[INDEX].text, []
+            return (
+                self.writer.heap.freed(node)
+                if function.name == "free"
+                else self.writer.pointers.pointer(node)[INDEX].text,
+                [],
+            )
         if function.definition is None:
-            return self.outer_call(node, function)
+            return self.writer.outside.outer_call(node, function)
         given = arguments(node)
         if len(given) != len(function.parameters) and not function.variadic:
             raise Refused(
@@ -48,7 +58,7 @@ class Calls(Wholes):
                 "hand over as many as it takes",
             )
         own = [not isinstance(one.binding, Place) and one.binding != "lent" for one in function.parameters]
-        self.unsequenced(node, [argument for argument, wanted in zip(given, own) if wanted])
+        self.writer.order.unsequenced(node, [argument for argument, wanted in zip(given, own) if wanted])
         with self.else_apart(function.parameters):
             self.apart(node, function)
         texts = self.chosen_by(node, function)
@@ -56,15 +66,15 @@ class Calls(Wholes):
         for argument, parameter in zip(given, function.parameters):
             with self.else_apart([parameter]):
                 self.argument(argument, parameter, function, texts, after)
-        return f"{self.at(node)}{function.out}({', '.join(texts)})", after
+        return f"{self.writer.at(node)}{function.out}({', '.join(texts)})", after
 
     def chosen_by(self, node: Any, function: Function) -> list[str]:
         """Of a call by a pointer the number of the function, which is its first argument."""
-        if self.places.choosers.targets(function) is None:
+        if self.writer.places.choosers.targets(function) is None:
             return []
-        function.out = function.out or self.spelling.fresh(function.name)
-        self.unsequenced(node, [node.name, *arguments(node)])
-        return [self.pointer(node.name)[INDEX].text]
+        function.out = function.out or self.writer.spelling.fresh(function.name)
+        self.writer.order.unsequenced(node, [node.name, *arguments(node)])
+        return [self.writer.pointers.pointer(node.name)[INDEX].text]
 
     @contextmanager
     def else_apart(self, parameters: list[Variable]) -> Iterator[None]:
@@ -73,10 +83,12 @@ class Calls(Wholes):
             yield
         except Refused:
             bound = [one for one in parameters if one.is_bound and not isinstance(one.type, (Int, Struct))]
-            self.names.refusals.apart.update(key(one) for one in bound)
+            self.writer.names.refusals.apart.update(key(one) for one in bound)
             raise
 
     def takes_model(self, node: Any, model: Model) -> bool:
+        """Whether a call is one of a library's function by its model. Raises Refused where it is declared otherwise
+        than in the library."""
         if len(arguments(node)) != len(model.parameters):
             raise Refused(
                 node.coord, f"{model.name} is declared otherwise than in the library", "declare it as string.h does"
@@ -88,46 +100,51 @@ class Calls(Wholes):
     ) -> None:
         """What stands for an argument, and what follows the call for it."""
         if isinstance(parameter.type, Int):
-            texts.append(self.converted(self.value(argument), parameter.type).text)
+            texts.append(
+                self.writer.conversions.converted(self.writer.expressions.value(argument), parameter.type).text
+            )
         elif isinstance(parameter.type, Pointer) and not parameter.is_bound:
-            parts = self.pointer(argument)
+            parts = self.writer.pointers.pointer(argument)
             texts.extend(parts[name].text for name in parameter.type.region.parts())
         elif isinstance(parameter.binding, Place):
             return
         elif isinstance(parameter.type, Struct) and not isinstance(
             argument, (tree.ID, tree.StructRef, tree.ArrayRef, tree.UnaryOp)
         ):
-            local = Variable("whole", parameter.type, argument.coord, "local", out=self.spelling.fresh("whole"))
+            local = Variable("whole", parameter.type, argument.coord, "local", out=self.writer.spelling.fresh("whole"))
             place = Place(local, (), (), parameter.type)
             self.declared(local)
-            self.assign_whole(place, argument, argument)
+            self.writer.wholes.assign_whole(place, argument, argument)
             texts.extend(self.handed(place, argument, None))
         else:
-            place = self.effected.target(argument, parameter)
-            index = self.index(place, True, True)
+            place = self.writer.effected.target(argument, parameter)
+            index = self.writer.elements.index(place, True, True)
             texts.extend(self.handed(place, argument, index))
-            back = {leaf.path for one, leaf in self.outs(function) if one is parameter}
-            own = self.spelling.special(function, parameter.name, pointee(parameter), self.special)
-            for leaf, elements in self.integers(place, index):
+            back = {leaf.path for one, leaf in self.writer.order.outs(function) if one is parameter}
+            own = self.writer.spelling.special(function, parameter.name, pointee(parameter), self.writer.special)
+            for leaf, elements in self.writer.elements.integers(place, index):
                 if leaf.path in back:
-                    after.append(f"{elements[0]} = {self.spelling.leaf(own, leaf.path)};")
+                    after.append(f"{elements[0]} = {self.writer.spelling.leaf(own, leaf.path)};")
 
     def handed(self, place: Place, argument: Any, index: Optional[Value]) -> list[str]:
-        """An object's integers as arguments, its arrays lent whole."""
+        """An object's integers as arguments, its arrays lent whole. Raises Refused for an array within an element of
+        an array."""
         texts = []
-        for leaf, elements in self.integers(place, index):
+        for leaf, elements in self.writer.elements.integers(place, index):
             if leaf.dims and index is not None:
                 raise Refused(
                     argument.coord,
                     "an array within an element of an array is handed over",
                     "hand over the whole array and an index",
                 )
-            texts.append(self.spelling.leaf(place.variable, place.path + leaf.path) if leaf.dims else elements[0])
+            texts.append(
+                self.writer.spelling.leaf(place.variable, place.path + leaf.path) if leaf.dims else elements[0]
+            )
         return texts
 
     def apart(self, node: Any, function: Function) -> None:
-        """Refuses a call in which a copied object has a second name, and one of both is written."""
-        summary = self.effected.summary_of(function)
+        """Refuses a call in which a copied object has a second name, and one of both is written. Raises Refused then."""
+        summary = self.writer.effected.summary_of(function)
         seen: list[tuple[Object, bool, bool]] = []
         for argument, parameter in zip(arguments(node), function.parameters):
             if (
@@ -138,7 +155,7 @@ class Calls(Wholes):
                 continue
             by_value = isinstance(parameter.type, Struct)
             try:
-                place = self.effected.target(argument, parameter)
+                place = self.writer.effected.target(argument, parameter)
             except Refused:
                 continue
             own = objects(Place(parameter, (), (), pointee(parameter)))
@@ -167,10 +184,12 @@ class Calls(Wholes):
                 )
 
     def call_value(self, node: Any) -> Value:
+        """The value of a call; what follows the call is written before it is used. Raises Refused for one that gives
+        no integer."""
         if is_offset(node):
-            return Value(self.at(node) + f"{self.constants.value(node)}ul", kinds.SIZE, PRIMARY)
+            return Value(self.writer.at(node) + f"{self.writer.constants.value(node)}ul", kinds.SIZE, PRIMARY)
         function = self.called(node)
-        self.outer_used.add(function)
+        self.writer.outer_used.add(function)
         if not isinstance(function.result, Int):
             raise Refused(
                 node.coord, f"the value of {function.name} is no integer", "assign it whole, in a statement of its own"
@@ -178,19 +197,22 @@ class Calls(Wholes):
         text, after = self.call(node)
         made = Value(text, function.result, PRIMARY, function.result.boolean and function.definition is not None, True)
         if after:
-            made = Value(self.temporary(made.kind, made.text), made.kind, PRIMARY, made.truth)
+            made = Value(self.writer.temporary(made.kind, made.text), made.kind, PRIMARY, made.truth)
             for one in after:
-                self.emit(one)
-        return self.truth(made) if function.result.boolean else made
+                self.writer.emit(one)
+        return self.writer.conversions.truth(made) if function.result.boolean else made
 
     def call_effect(self, node: Any) -> None:
+        """Writes a call as a statement; calls that record nothing are left out, but not what their arguments do."""
         function = self.called(node)
         if function.name in ("assert", "assume") and function.definition is None:
-            self.emit(f"{self.at(node)}{function.name}({self.value(arguments(node)[0]).text});")
+            self.writer.emit(
+                f"{self.writer.at(node)}{function.name}({self.writer.expressions.value(arguments(node)[0]).text});"
+            )
             return
         if function.definition is None and function.name in OUTPUT:
-            for one in self.outer_call(node, function)[1]:
-                self.emit(one)
+            for one in self.writer.outside.outer_call(node, function)[1]:
+                self.writer.emit(one)
             return
         text, after = self.call(node)
         if (
@@ -199,13 +221,13 @@ class Calls(Wholes):
             or model_of(function)
             or heap_call(function)
         ):
-            self.emit(text + ";")
+            self.writer.emit(text + ";")
         for one in after:
-            self.emit(one)
+            self.writer.emit(one)
 
     @staticmethod
     def check_lengths(variable: Variable) -> None:
-        """Refuses arrays that are longer than the profile's."""
+        """Refuses arrays that are longer than the profile's. Raises Refused then."""
         for leaf in kinds.leaves(variable.type):
             if leaf.count > MOST_ELEMENTS:
                 raise Refused(
@@ -216,13 +238,13 @@ class Calls(Wholes):
 
     def declared(self, variable: Variable) -> None:
         """Writes a local's declaration without values; pointers are null, so that their use is seen."""
-        if self.places.columns.in_column(variable):
+        if self.writer.places.columns.in_column(variable):
             return
-        region = self.places.columns.home(variable)
+        region = self.writer.places.columns.home(variable)
         for leaf in kinds.leaves(variable.type):
-            if self.places.columns.is_apart(region, leaf.path):
+            if self.writer.places.columns.is_apart(region, leaf.path):
                 continue
             length = f"[{leaf.count}]" if leaf.dims else ""
             null = none_of(leaf)
             value = "" if null == "0" else f" = {{{', '.join([null] * leaf.count)}}}" if leaf.dims else f" = {null}"
-            self.emit(f"{leaf.kind.text} {self.spelling.leaf(variable, leaf.path)}{length}{value};")
+            self.writer.emit(f"{leaf.kind.text} {self.writer.spelling.leaf(variable, leaf.path)}{length}{value};")

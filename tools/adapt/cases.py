@@ -35,6 +35,7 @@ def leaves(node: Any, end: str) -> None:
 
 
 def put(node: Any, slot: str, made: list[Any]) -> None:
+    """Puts statements into a slot of a node, as a block where they are several."""
     name, _, rest = slot.partition("[")
     if rest:
         getattr(node, name)[int(rest[:-1])] = made[0] if len(made) == 1 else tree.Compound(made)
@@ -49,11 +50,13 @@ class Cases:
         self.fresh = fresh
 
     def function(self, body: Any) -> None:
+        """Rewrites the switches of a body, inner ones first."""
         switches = [one for one in walk(body) if isinstance(one, tree.Switch) and not is_plain(one)]
         for switch in reversed(switches):
             self.replaced(body, switch)
 
     def replaced(self, body: Any, switch: Any) -> None:
+        """Puts in place of a switch one that only jumps, and behind it its statements with labels."""
         end, heads = self.fresh("end"), list[tree.Node]()
         leaves(switch.stmt, end)
         default = end

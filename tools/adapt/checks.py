@@ -1,7 +1,8 @@
 """Refuses functions in which two names would be those of one object, or one name of two."""
 
 from .bindings import key
-from .column_items import ColumnItems
+from .component import Component
+
 from .declarators import Function
 from .effects import pointee
 from .kinds import Array, Int, Pointer, Struct, Type
@@ -18,12 +19,15 @@ def within(of: Type, part: Type) -> bool:
     return isinstance(of, Struct) and any(within(member, part) for _, member in of.members or [])
 
 
-class Checks(ColumnItems):
+class Checks(Component):
+    """The checks of names, before a function is written."""
+
     def check_names(self, function: Function) -> None:
-        """Refuses what would make two names of one object, or one name of two."""
+        """Refuses what would make two names of one object, or one name of two. Raises Refused for a parameter whose
+        object has the name of another one there."""
         locals_of = {
             variable.name
-            for variable in self.names.variables
+            for variable in self.writer.names.variables
             if variable.function is function and variable.home == "local"
         }
         for parameter in function.parameters:
@@ -39,8 +43,9 @@ class Checks(ColumnItems):
             self.check_uncalled(function)
 
     def check_uncalled(self, function: Function) -> None:
-        """Refuses a function that nothing calls, where two of its names may be those of one object."""
-        summary = self.effected.of_function[function]
+        """Refuses a function that nothing calls, where two of its names may be those of one object. Raises Refused
+        then, and lets the parameters be pointers in the next reading."""
+        summary = self.writer.effected.of_function[function]
         copies = [one for one in function.parameters if one.binding == "copy" and isinstance(one.type, Pointer)]
         for at, one in enumerate(copies):
             written = any(found[0] is one for found in summary.writes)
@@ -50,7 +55,7 @@ class Checks(ColumnItems):
                 if found[0] is not None and found[0].shared
             ]
             if any((written or too) and within(found[0].type, pointee(one)) for found, too in shared if found[0]):
-                self.names.refusals.apart.add(key(one))  # (a pointer as any other, which has objects of its own)
+                self.writer.names.refusals.apart.add(key(one))  # (a pointer as any other, which has objects of its own)
                 raise Refused(
                     one.coord,
                     f"nothing calls {function.name}, and {one.name} may point to an object that it uses",
@@ -59,7 +64,7 @@ class Checks(ColumnItems):
             for two in copies[at + 1 :]:
                 too = any(found[0] is two for found in summary.writes)
                 if (written or too) and (within(pointee(one), pointee(two)) or within(pointee(two), pointee(one))):
-                    self.names.refusals.apart.add(key(two))
+                    self.writer.names.refusals.apart.add(key(two))
                     raise Refused(
                         two.coord,
                         f"nothing calls {function.name}, and {one.name} and {two.name} may point to one object",

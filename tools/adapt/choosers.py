@@ -45,6 +45,7 @@ class Choosers:
 
     @staticmethod
     def made(of: Signature, node: Any) -> Function:
+        """A function that chooses, for pointers to a type."""
         listed = []
         for at, one in enumerate(of.parameters, 1):
             listed.append(Variable(f"a{at}", one, node.coord, "parameter"))
@@ -70,7 +71,7 @@ def definition(writer: Any, chooser: Function, targets: list[Function]) -> str:
     for number, one in enumerate(targets):
         outer = one.definition is None
         if outer:
-            writer.check_outer(one, chooser.coord)
+            writer.outside.check_outer(one, chooser.coord)
         text = f"{one.out}({'' if outer else given})"
         if isinstance(chooser.result, kinds.Int):
             cases.append(f"case {number}: return {text};")
@@ -88,7 +89,7 @@ def definition(writer: Any, chooser: Function, targets: list[Function]) -> str:
 
 def heading(writer: Any, chooser: Function) -> str:
     """The head of a function that chooses: a function's, with the number in front."""
-    before, after = writer.heading(chooser).split("(", 1)
+    before, after = writer.units.heading(chooser).split("(", 1)
     return f"{before}(int chosen{', ' + after if after != 'void)' else ')'}"
 
 

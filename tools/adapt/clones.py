@@ -1,42 +1,14 @@
 """Functions with `void *` that calls use for objects of different types: each such call gets a copy of its own (6.3.2.3p1), and so does a
-call by a pointer that meets one of them alone. What is copied is learned by a first reading, in which the types meet."""
+call by a pointer that meets one of them alone. What is copied is learned by a first reading, in which the types meet (learning.py)."""
 
 import copy
 from typing import Any, Callable
 
-from . import kinds, tree
-from .declarators import Function
-from .tree import walk
-from .kinds import Pointer
-from .names import Names
+from . import tree
 from .reading import Unit
+from .tree import walk
 
 MOST_COPIES, MOST_NODES = 8, 400
-
-
-def copied_key(function: Function) -> tuple[str, str, str]:
-    return ("copied", str(function.coord.file), function.name)
-
-
-def direct_key(node: Any, name: str) -> tuple[str, ...]:
-    return ("direct", str(node.coord.file), str(node.coord.line), str(node.coord.column), name)
-
-
-def learn(names: Names, points: Any, learned: set[Any]) -> None:
-    """Learns which functions are copied, where pointers to different types meet in them."""
-
-    def meets(function: Function) -> bool:
-        types = [function.result, *(one.type for one in function.parameters)]
-        return any(isinstance(of, Pointer) and of.to == kinds.VOID and of.region.root().fault for of in types)
-
-    for function in names.functions:
-        if function.definition is not None and function.calls and meets(function):
-            learned.add(copied_key(function))
-    for _, node in points.pointer_calls:
-        targets = points.value(node.name).region.root().targets
-        if len(targets) == 1 and targets[0].definition is not None and meets(targets[0]) and node.coord:
-            learned.add(direct_key(node, targets[0].name))
-            learned.add(copied_key(targets[0]))
 
 
 class Clones:
@@ -67,6 +39,7 @@ class Clones:
         )
 
     def copied(self, unit: Unit, item: Any) -> None:
+        """Copies a function for each call of it, with its first declaration."""
         name = item.decl.name
         calls: list[Any] = [
             node
@@ -90,6 +63,7 @@ class Clones:
 
     @staticmethod
     def renamed(item: Any, name: str) -> Any:
+        """A copy of a declaration or a function by another name, which is static."""
         made = copy.deepcopy(item)
         decl = made.decl if isinstance(made, tree.FuncDef) else made
         decl.storage = ["static"]

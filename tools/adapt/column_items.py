@@ -6,6 +6,7 @@ from typing import Any
 from . import kinds
 from .bindings import key
 from .calls import MOST_ELEMENTS
+from .component import Component
 from .declarators import Function, Variable
 from .effects import pointee
 from .initialisers import Part, filled, none_of
@@ -15,49 +16,48 @@ from .places import Place
 from .pointers import MOST
 from .refusals import Refused
 from .regions import Region
-from .statements import Statements
 
 
 def product(lengths: tuple[int, ...]) -> int:
+    """How many elements arrays of these lengths have."""
     made = 1
     for one in lengths:
         made *= one
     return made
 
 
-class ColumnItems(Statements):
-    files: dict[str, File]
-    begin: tuple[str, int, int]
-
-    @staticmethod
-    def check_type(variable: Variable) -> None:
-        raise NotImplementedError
+class ColumnItems(Component):
+    """What stands of columns in front of all else, and at the begin of functions."""
 
     def write_columns(self) -> None:
         """Writes the columns, before all else; those that have the name of a file's object with its own words."""
-        columns = self.places.columns
-        columns.named(self.spelling)
+        columns = self.writer.places.columns
+        columns.named(self.writer.spelling)
         given = self.column_values()
-        path = next((unit.files[0] for unit, _ in self.names.items if unit.files), "")
-        self.original, self.closings = path, {}
-        self.line = min((item.coord.line for _, item in self.names.items if str(item.coord.file) == path), default=1)
-        self.begin = (path, self.line, len(columns.made))
+        path = next((unit.files[0] for unit, _ in self.writer.names.items if unit.files), "")
+        self.writer.original, self.writer.closings = path, {}
+        self.writer.line = min(
+            (item.coord.line for _, item in self.writer.names.items if str(item.coord.file) == path), default=1
+        )
+        self.writer.begin = (path, self.writer.line, len(columns.made))
         if not columns.made:
             return
-        self.file = self.files.setdefault(path, File(path))
+        self.writer.file = self.writer.files.setdefault(path, File(path))
         for region in columns.made:
-            self.names.refusals.go(region.column.coord)
-            with self.names.refusals.gathered():
+            self.writer.names.refusals.go(region.column.coord)
+            with self.writer.names.refusals.gathered():
                 self.write_column(region, given)
-        self.begin = (path, self.line, len(self.file.pieces))
+        self.writer.begin = (path, self.writer.line, len(self.writer.file.pieces))
 
     def write_column(self, region: Region, given: dict[tuple[Variable, Path], dict[int, str]]) -> None:
+        """Writes one column, an array for each integer of its elements. Raises Refused where its objects can't lie in
+        one, or are too many."""
         column = region.column
         if region.fault:
             raise Refused(*region.fault)
-        self.check_type(column)
+        self.writer.units.check_type(column)
         for leaf in kinds.leaves(column.type):
-            if self.places.columns.is_apart(region, leaf.path):
+            if self.writer.places.columns.is_apart(region, leaf.path):
                 continue
             values = [none_of(leaf)] * leaf.count
             for at, text in given.get((column, leaf.path), {}).items():
@@ -66,33 +66,39 @@ class ColumnItems(Statements):
                 advice = f"at most {MOST + 1}, of all objects together that one pointer meets"
                 raise Refused(column.coord, f"{column.out} has {leaf.count} elements", advice)
             if leaf.count > MOST_ELEMENTS:
-                name = self.spelling.leaf(column, leaf.path)
-                self.emit(self.large.declared(name, leaf.kind, leaf.count, values, column.const, column.coord))
+                name = self.writer.spelling.leaf(column, leaf.path)
+                self.writer.emit(
+                    self.writer.large.declared(name, leaf.kind, leaf.count, values, column.const, column.coord)
+                )
                 continue
             while len(values) > 1 and values[-1] == "0":
                 values.pop()
             first = "" if values == ["0"] else f" = {{{', '.join(values)}}}"
             words = "static const " if column.const else "static "
-            self.emit(f"{words}{leaf.kind.text} {self.spelling.leaf(column, leaf.path)}[{leaf.count}]{first};")
+            self.writer.emit(
+                f"{words}{leaf.kind.text} {self.writer.spelling.leaf(column, leaf.path)}[{leaf.count}]{first};"
+            )
 
     def column_values(self) -> dict[tuple[Variable, Path], dict[int, str]]:
         """The first values that lie in columns, by the column, the members and the number of the element."""
         found: dict[tuple[Variable, Path], dict[int, str]] = {}
-        for variable in [*self.names.variables, *self.places.columns.points.texts.values()]:
+        for variable in [*self.writer.names.variables, *self.writer.places.columns.points.texts.values()]:
             if variable.init is None or variable.home in ("local", "parameter"):
                 continue
-            region = self.places.columns.home(variable)
-            if not self.places.columns.in_column(variable) and not self.places.columns.any_apart(region, variable.type):
+            region = self.writer.places.columns.home(variable)
+            if not self.writer.places.columns.in_column(variable) and not self.writer.places.columns.any_apart(
+                region, variable.type
+            ):
                 continue
-            self.names.refusals.go(variable.coord)
-            with self.names.refusals.gathered():
-                made = filled(self.constants, variable.type, variable.init)
+            self.writer.names.refusals.go(variable.coord)
+            with self.writer.names.refusals.gathered():
+                made = filled(self.writer.constants, variable.type, variable.init)
                 for leaf in kinds.leaves(variable.type):
                     for at, node in made.of(leaf).items():
                         spot = [at // product(leaf.dims[n + 1 :]) % length for n, length in enumerate(leaf.dims)]
-                        place = self.placed(variable, leaf.path, tuple(spot))
-                        index = self.index(place, False)
-                        if self.places.is_raw(place) and index is not None and isinstance(place.type, Int):
+                        place = self.writer.pointer_effects.placed(variable, leaf.path, tuple(spot))
+                        index = self.writer.elements.index(place, False)
+                        if self.writer.places.is_raw(place) and index is not None and isinstance(place.type, Int):
                             word = int(self.first_number(node, place.type))
                             for byte in range(place.type.bits // 8):
                                 spot_at = int(index.text) + byte
@@ -103,32 +109,35 @@ class ColumnItems(Statements):
         return found
 
     def first_number(self, node: Any, kind: Int) -> str:
-        """A first value as a number."""
+        """A first value as a number. Raises Refused where it is no constant."""
         if isinstance(node, Part):
-            text = unmarked(self.value(node).text)
+            text = unmarked(self.writer.expressions.value(node).text)
             if not re.fullmatch(r"-?\d+", text):
                 raise Refused(node.coord, "a first value that is no constant", "assign it")
             return text
-        known = self.constants.value(node)
+        known = self.writer.constants.value(node)
         if known is None:
             raise Refused(node.coord, "a first value that is no constant", "give a number")
         return str(kinds.fit(known, kind))
 
     def into_columns(self, function: Function) -> None:
-        """Writes that what parameters have goes into the columns in which they lie."""
+        """Writes that what parameters have goes into the columns in which they lie. Raises Refused for the address of
+        what a copied parameter stands for."""
         for one in function.parameters:
             if isinstance(one.binding, Place) or one.binding == "lent":
                 continue
-            region, of = self.places.columns.home(one), pointee(one)
-            place = self.places.of_variable(one)
-            if place.variable.home != "column" and not self.places.columns.any_apart(region, of):
+            region, of = self.writer.places.columns.home(one), pointee(one)
+            place = self.writer.places.of_variable(one)
+            if place.variable.home != "column" and not self.writer.places.columns.any_apart(region, of):
                 continue
-            with self.names.refusals.gathered():
+            with self.writer.names.refusals.gathered():
                 if one.is_bound and isinstance(one.type, Pointer):
-                    self.names.refusals.apart.add(key(one))
+                    self.writer.names.refusals.apart.add(key(one))
                     raise Refused(one.coord, f"the address of what {one.name} points to", "hand over the object itself")
-                for leaf, texts in self.each_integer(place, self.index(place, True) if place.shifted() else None):
-                    if place.variable.home == "column" or self.places.columns.is_apart(region, leaf.path):
-                        name = self.spelling.leaf(one, leaf.path)
+                for leaf, texts in self.writer.pointer_effects.each_integer(
+                    place, self.writer.elements.index(place, True) if place.shifted() else None
+                ):
+                    if place.variable.home == "column" or self.writer.places.columns.is_apart(region, leaf.path):
+                        name = self.writer.spelling.leaf(one, leaf.path)
                         for at, text in enumerate(texts):
-                            self.emit(f"{text} = {name}{f'[{at}]' if leaf.dims else ''};")
+                            self.writer.emit(f"{text} = {name}{f'[{at}]' if leaf.dims else ''};")

@@ -3,10 +3,10 @@
 from typing import Any, Optional, Union
 
 from . import kinds
-from .clones import learn
 from .declarators import Variable
 from .heap import bytes_asked, call_key, heap_call
 from .kinds import Array, Path, Pointer, Type
+from .learning import learn
 from .names import Names
 from .points_to import PointsTo
 from .refusals import Refused
@@ -17,6 +17,9 @@ Owner = Union[Variable, tuple[Region, str]]  # an object, or the member of all e
 
 
 class Columns:
+    """The columns of all regions to which pointers are made. `begins` has where each object begins in its own,
+    `counts` how many elements they have."""
+
     def __init__(self, names: Names, learned: set[Any]) -> None:
         self.names, self.points = names, PointsTo(names, learned)
         self.pools = {pool.variable: pool for pool in self.points.pools.values()}
@@ -56,12 +59,14 @@ class Columns:
 
     @staticmethod
     def is_function(region: Region) -> bool:
+        """Whether a region is that of pointers to functions, which has no column."""
         return region.is_code
 
     # ---- layout
 
     def lay_out(self, region: Region) -> int:
-        """Gives each object of a region its begin; how many elements there are."""
+        """Gives each object of a region its begin; how many elements there are. Raises Refused for an object that
+        lies within itself by a pointer."""
         if region in self.counts:
             count = self.counts[region]
             if count is None:
@@ -110,6 +115,7 @@ class Columns:
         return count * self.points.count(of, outer.member(name, kinds.element(of))), count
 
     def column(self, region: Region, count: int, alone: Optional[Variable]) -> None:
+        """Makes the variable of a region's column."""
         coord = region.objects[0].coord if region.objects else None
         made = Variable(alone.name if alone else "r", Array(region.elem, count), coord, "column", defined=True)
         made.const = bool(region.objects) and all(one.const for one in region.objects) and not self.inner.get(region)
@@ -124,6 +130,7 @@ class Columns:
                     self.names.refusals.add(one.coord, cause, "hand over an object of the caller")
 
     def recurs(self, function: Any) -> bool:
+        """Whether a function may be called while it runs."""
         seen, rest = set(), [function]
         while rest:
             one = rest.pop()
@@ -136,15 +143,17 @@ class Columns:
     # ---- what others ask
 
     def home(self, variable: Variable) -> Optional[Region]:
+        """The region in which a variable lies; none of a column itself."""
         return self.points.home(variable) if variable.home != "column" else None
 
     def begin(self, region: Region, owner: Owner) -> int:
+        """The number of the element with which an object begins in its column."""
         if not isinstance(owner, Variable):
             owner = next(one for one in self.inner[region] if one[0] is owner[0] and one[1] == owner[1])
         return self.begins[(region, owner)]
 
     def pointer(self, node: Any) -> Pointer:
-        """The type of a pointer's value, with its region."""
+        """The type of a pointer's value, with its region. Raises Refused for what is no pointer."""
         of = self.points.value(node)
         if not isinstance(of, Pointer):
             raise Refused(node.coord, "what is no pointer", "use a pointer")
@@ -187,6 +196,7 @@ class Columns:
         return variable, inside, factor, add
 
     def any_apart(self, region: Optional[Region], of: Type) -> bool:
+        """Whether some integer of an object lies in a column of its own, or all of them as bytes."""
         if region is not None and region.root().raw:
             return True
         return any(self.is_apart(region, leaf.path) for leaf in kinds.leaves(of))

@@ -7,16 +7,16 @@ import tempfile
 from typing import Any, Iterator
 
 from . import kinds
+from .declarators import Function, Variable
 from .heap import heap_call
 from .kinds import Array, Int, Path, Struct, Type
 from .library import OUTPUT, Spot
-from .declarators import Function, Variable
+from .models import model_of
+from .output import FELL, unmarked
+from .parsing import printed
 from .reading import compiler, is_system
 from .refusals import Stop
-from .models import model_of
-from .parsing import printed
-from .output import FELL, unmarked
-from .units import Units
+from .writer import Writer
 
 CALLS, ANSWERS, SECONDS = 6, 40, 5
 TIME_IS_UP = 14  # (SIGALRM)
@@ -88,7 +88,7 @@ def plain(function: Function) -> bool:
     )
 
 
-def undefined(writer: Units) -> list[Function]:
+def undefined(writer: Writer) -> list[Function]:
     """The functions that are called and that no source defines."""
     known = ("assert", "assume", "__assert_fail")
     found = [one for one in writer.names.functions if one.definition is None and one.calls and one.name not in known]
@@ -101,7 +101,7 @@ def is_in_library(function: Function) -> bool:
     return is_system(str(function.coord.file))
 
 
-def answering(writer: Units, function: Function, answer: str) -> str:
+def answering(writer: Writer, function: Function, answer: str) -> str:
     """The definition of an input function, as the original declares it."""
     node: Any = function.declaration
     result = f"return ({kinds.c_words(function.result)}) {answer};" if isinstance(function.result, Int) else ""
@@ -112,7 +112,7 @@ def answering(writer: Units, function: Function, answer: str) -> str:
 class Comparison:
     """The two programs of what was adapted, in a folder."""
 
-    def __init__(self, writer: Units, sources: list[str], made: dict[str, str], flags: list[str], folder: str) -> None:
+    def __init__(self, writer: Writer, sources: list[str], made: dict[str, str], flags: list[str], folder: str) -> None:
         self.writer, self.folder = writer, folder
         functions = [one for one in writer.names.functions if one.definition is not None and not one.static]
         functions = [one for one in functions if not isinstance(one.coord, Spot)]
@@ -143,6 +143,7 @@ class Comparison:
         self.adapted(made, outer)
 
     def text(self, path: str) -> str:
+        """The directives that include a source, whose main gets another name."""
         return f'#define main adapt_own_main\n#include "{os.path.abspath(path)}"\n#undef main\n'
 
     def copied(self, made: dict[str, str]) -> str:
@@ -160,7 +161,7 @@ class Comparison:
         lines = []
         for variable in variables:
             for text, path, index, kind in parts(variable.type):
-                own = unmarked(self.writer.leaf(self.writer.placed(variable, path, index))[0])
+                own = unmarked(self.writer.elements.leaf(self.writer.pointer_effects.placed(variable, path, index))[0])
                 own = self.writer.large.rewritten(own)
                 lines.append(
                     f"  adapt_tell((long long) {f'({kinds.c_words(kind)}) {own}' if ours else variable.name + text});"
@@ -168,6 +169,7 @@ class Comparison:
         return "\n".join(lines)
 
     def calls(self) -> str:
+        """The cases that call each entry with arguments of the command line."""
         lines = []
         for number, one in enumerate(self.entries):
             words = "".join(f" long long adapt_{at} = adapt_word();" for at in range(len(one.parameters)))
@@ -178,11 +180,13 @@ class Comparison:
         return "\n".join(lines)
 
     def declared(self, function: Function) -> str:
+        """A declaration of an entry, for the file that calls it."""
         types = [function.result, *(one.type for one in function.parameters)]
         words = ["_Bool" if isinstance(of, Int) and of.boolean else getattr(of, "text", "void") for of in types]
         return f"{words[0]} {function.out}({', '.join(words[1:]) or 'void'});"
 
     def original(self, sources: list[str], flags: list[str], outer: list[Function]) -> None:
+        """Compiles the original under sanitizers, with guards around its objects."""
         texts, dumps = [], ""
         for number, path in enumerate(sources):
             own = [one for one in self.shared if one.unit.path == path]
@@ -198,6 +202,7 @@ class Comparison:
         self.compile("original", [*texts, head + DRIVER % (self.calls(), dumps)], flags + WATCHED)
 
     def adapted(self, made: dict[str, str], outer: list[Function]) -> None:
+        """Compiles what was written."""
         own = [
             one.out for one in self.writer.names.functions if isinstance(one.coord, Spot) and one.definition is not None
         ]
@@ -214,10 +219,12 @@ class Comparison:
         self.compile("adapted", [text + DRIVER % (self.calls(), self.dump(self.in_order(), True))], [])
 
     def in_order(self) -> list[Variable]:
+        """The compared objects in the order of their sources."""
         units = list(dict.fromkeys(unit.path for unit, _ in self.writer.names.items))
         return sorted(self.shared, key=lambda one: units.index(one.unit.path))
 
     def compile(self, name: str, texts: list[str], flags: list[str]) -> None:
+        """Compiles texts to one program. Raises Stop where the compiler refuses them."""
         paths = []
         for number, text in enumerate(texts):
             paths.append(os.path.join(self.folder, f"{name}_{number}.c"))
@@ -234,6 +241,7 @@ class Comparison:
             raise Stop(f"the {name} can't be compiled: {(told or ended.stderr.splitlines() or ['?'])[0]}")
 
     def run(self, name: str, words: list[str]) -> tuple[int, list[str]]:
+        """The status and the lines of a run; -14 where its time is up."""
         try:
             ended = subprocess.run(
                 [os.path.join(self.folder, name), *words],
@@ -283,7 +291,7 @@ class Comparison:
 
 
 def compared(
-    writer: Units, sources: list[str], made: dict[str, str], flags: list[str], count: int
+    writer: Writer, sources: list[str], made: dict[str, str], flags: list[str], count: int
 ) -> tuple[list[str], int]:
     """The differences of some runs on random inputs, and how many runs have no meaning from some call on."""
     with tempfile.TemporaryDirectory(prefix="adapt-") as folder:

@@ -52,7 +52,8 @@ def codes(text: str) -> list[int]:
 
 
 def number(node: Any) -> tuple[int, Int]:
-    """The value and the type of an integer or a character constant (6.4.4.1p5)."""
+    """The value and the type of an integer or a character constant (6.4.4.1p5). Raises Refused for a constant that is
+    no integer, or needs more than 64 bits."""
     text = node.value
     if "char" in node.type:
         found = codes(text)
@@ -83,13 +84,12 @@ def is_offset(node: Any) -> bool:
 
 
 class Constants:
-    """Values and types, by what names stand for. `place_type` is set where places are known."""
+    """Values and types, by what names stand for."""
 
     def __init__(self, names: Any) -> None:
         self.names = names
-        self.place_type: Callable[[Any], Type] = self.simple_place
 
-    def simple_place(self, node: Any) -> Type:
+    def place_type(self, node: Any) -> Type:
         """The type of a name, an element or a member."""
         if isinstance(node, tree.ID):
             meaning = self.names.meaning.get(node)
@@ -156,6 +156,7 @@ class Constants:
         return of if isinstance(of, kinds.Signature) else kinds.Signature(kinds.VOID, [])
 
     def type_of_unary(self, node: Any) -> Type:
+        """The type of a unary expression (6.5.3)."""
         if node.op == "sizeof":
             return kinds.SIZE
         if node.op == "!":
@@ -169,7 +170,8 @@ class Constants:
         return kinds.promoted(of) if isinstance(of, Int) and node.op in "+-~" else of
 
     def size_of(self, node: Any) -> int:
-        """What `sizeof` gives of a type or an expression."""
+        """What `sizeof` gives of a type or an expression. The number is one of bytes (6.5.3.4p2). Raises Refused
+        where it isn't known."""
         meaning = self.names.meaning.get(node) if isinstance(node, tree.ID) else None
         if getattr(meaning, "home", "") == "parameter" and not isinstance(meaning.type, (Int, Struct)):
             return 8
@@ -180,9 +182,11 @@ class Constants:
         return known
 
     def offset(self, node: Any, of: Type) -> tuple[int, Type]:
-        """Where a member lies in a struct, and its type (7.19p3)."""
+        """Where a member lies in a struct, and its type (7.19p3). Raises Refused where it isn't known."""
         at, inner = 0, of
-        if isinstance(node, tree.StructRef):
+        if isinstance(node, tree.StructRef) and node.type == "->":
+            inner, node = getattr(self.type_of(node.name), "to", of), node.field
+        elif isinstance(node, tree.StructRef):
             at, inner = self.offset(node.name, of)
             node = node.field
         elif isinstance(node, tree.ArrayRef):
@@ -195,8 +199,19 @@ class Constants:
             raise Refused(node.coord, "an offset that isn't known", "write its number")
         return at + own[node.name], dict(getattr(inner, "members", None) or [])[node.name]
 
+    def is_null_offset(self, node: Any) -> bool:
+        """Whether an expression is the address of a member of a struct at a null pointer, as offsetof was written once."""
+        inner = node.expr if isinstance(node, tree.UnaryOp) and node.op == "&" else None
+        while isinstance(inner, tree.ArrayRef) or (isinstance(inner, tree.StructRef) and inner.type == "."):
+            inner = inner.name
+        pointer = inner.name if isinstance(inner, tree.StructRef) else None
+        while isinstance(pointer, tree.Cast):
+            pointer = pointer.expr
+        return pointer is not None and isinstance(pointer, tree.Constant) and self.value(pointer) == 0
+
     def length_of(self, init: Any, of: Type) -> int:
-        """The length of an array that has none of its own, by its initialiser (6.7.9p22)."""
+        """The length of an array that has none of its own, by its initialiser (6.7.9p22). The number is one of
+        elements. Raises Refused for elements without braces of their own, unless they are integers."""
         if isinstance(init, tree.Constant):
             return len(codes(init.value)) + 1
         at, most = 0, 0
@@ -218,11 +233,15 @@ class Constants:
         return None if known is None else known[0]
 
     def known(self, node: Any) -> Optional[tuple[int, Int]]:
+        """The value of a constant expression with its type (6.6); None where it is none."""
         if isinstance(node, tree.Constant) and node.type != "string":
             return number(node)
         if isinstance(node, tree.ID):
             value = getattr(self.names.meaning.get(node), "value", None)
             return None if value is None else (value, kinds.INT)
+        if isinstance(node, tree.Cast) and self.is_null_offset(node.expr):
+            to, member = self.names.types.get(node.to_type), getattr(node.expr, "expr")
+            return (fit(self.offset(member, kinds.VOID)[0], to), to) if isinstance(to, Int) else None
         if isinstance(node, tree.Cast):
             to, one = self.names.types.get(node.to_type), self.known(node.expr)
             return (fit(one[0], to), to) if one and isinstance(to, Int) else None
@@ -237,6 +256,7 @@ class Constants:
         return self.known_binary(node) if isinstance(node, tree.BinaryOp) else None
 
     def known_unary(self, node: Any) -> Optional[tuple[int, Int]]:
+        """The same of a unary expression."""
         if node.op == "sizeof":
             return self.size_of(node.expr), kinds.SIZE
         one = self.known(node.expr)
@@ -248,6 +268,7 @@ class Constants:
         return fit({"+": one[0], "-": -one[0], "~": ~one[0]}[node.op], kind), kind
 
     def known_binary(self, node: Any) -> Optional[tuple[int, Int]]:
+        """The same of a binary one; of && and || the left operand may be enough, and a division by 0 has no value."""
         left, right = self.known(node.left), self.known(node.right)
         if node.op in LOGICAL and left and bool(left[0]) == (node.op == "||"):
             return int(bool(left[0])), kinds.INT

@@ -1,14 +1,14 @@
 """What names stand for, and the type that a declarator or a type name gives (6.7.2, 6.7.6)."""
 
-from collections import ChainMap
 from dataclasses import dataclass, field
-from typing import Any, Optional
+from typing import TYPE_CHECKING, Any, Optional
 
 from . import kinds, tree
-from .constants import Constants
 from .kinds import Array, Int, Other, Pointer, Signature, Struct, Type
-from .reading import Unit
-from .refusals import Refusals, Refused
+from .refusals import Refused
+
+if TYPE_CHECKING:
+    from .names import Names
 
 
 @dataclass(eq=False)
@@ -38,6 +38,7 @@ class Variable:
 
     @property
     def shared(self) -> bool:
+        """Whether several functions may name it."""
         return self.home in ("file", "static", "column")
 
     @property
@@ -48,6 +49,9 @@ class Variable:
 
 @dataclass(eq=False)
 class Function:
+    """A function of the sources, declared or defined. `calls` are its calls with who calls, `taken` says that its
+    address is taken."""
+
     name: str
     result: Type
     parameters: list[Variable]
@@ -80,7 +84,7 @@ class Enumerator:
 
 
 def bit_field(declared: Int, width: int) -> Int:
-    """The type of a bit-field."""
+    """The kind that holds a bit-field of so many bits (6.7.2.1p10): of 8, 16 or 32 bits, signed where it was or where int holds it."""
     if declared.boolean:
         return declared
     bits = 8 if width <= 8 else 16 if width <= 16 else 32
@@ -89,31 +93,14 @@ def bit_field(declared: Int, width: int) -> Int:
 
 
 class Declarators:
-    """The names that are known so far. `meaning` has what names, declarations and calls stand for, `types` what types' names give."""
+    """The types that declarators, types' names and tags give, in the scopes that are open."""
 
-    def __init__(self, refusals: Refusals) -> None:
-        self.refusals = refusals
-        self.linked: dict[Any, Any] = {}
-        self.meaning: dict[tree.Node, Any] = {}
-        self.types: dict[tree.Node, Type] = {}
-        self.functions: list[Function] = []
-        self.variables: list[Variable] = []
-        self.enumerators: dict[str, Any] = {}
-        self.constants = Constants(self)
-        self.function: Optional[Function] = None
-        self.structs: list[Struct] = []
-        self.named_members: set[str] = set()
-        self.initialised: list[Type] = []  # types of objects that have lists of first values
-        self.pool = (4, 16)  # the slots of a call of malloc, and the elements of one whose number isn't constant
-        self.scope: ChainMap[str, Any] = ChainMap()
-        self.tags: ChainMap[str, Any] = ChainMap()
-        self.items: list[tuple[Unit, Any]] = []
-
-    def expression(self, node: Any) -> None:
-        raise NotImplementedError
+    def __init__(self, names: "Names") -> None:
+        self.names = names
 
     def type_of(self, node: Any) -> Type:
-        """The type that a declarator or a Typename gives."""
+        """The type that a declarator or a Typename gives. Raises Refused for a type that no object of the profile
+        has."""
         if isinstance(node, (tree.Typename, tree.TypeDecl)):
             return self.type_of(node.type)
         if isinstance(node, tree.IdentifierType):
@@ -124,8 +111,8 @@ class Declarators:
             of = self.type_of(node.type)
             if node.dim is None:
                 return Array(of, None)
-            self.expression(node.dim)
-            length = self.constants.value(node.dim)
+            self.names.expression(node.dim)
+            length = self.names.constants.value(node.dim)
             if length is None or length < 1:
                 raise Refused(node.coord, "an array whose length is no positive constant", "give it a constant length")
             return Array(of, length)
@@ -145,8 +132,8 @@ class Declarators:
         if isinstance(node.of, tree.Typename):
             return self.type_of(node.of.type)
         if not node.known:
-            self.expression(node.of)
-        return kinds.renewed(self.constants.type_of(node.of))
+            self.names.expression(node.of)
+        return kinds.renewed(self.names.constants.type_of(node.of))
 
     def signature(self, node: Any) -> Signature:
         """The type of a function (6.7.6.3); its parameters are what they are adjusted to."""
@@ -163,7 +150,8 @@ class Declarators:
             return Other(refused.cause, refused.advice)
 
     def named(self, node: Any) -> Type:
-        found = self.scope.get(node.names[0]) if len(node.names) == 1 else None
+        """The type that words or a typedef's name give (6.7.2p2, 6.7.8); pointers in it get regions of their own."""
+        found = self.names.scope.get(node.names[0]) if len(node.names) == 1 else None
         if isinstance(found, (Int, Array, Struct, Pointer, Signature, Other)):
             return kinds.renewed(found)
         if {"float", "double", "_Complex"} & set(node.names):
@@ -173,13 +161,14 @@ class Declarators:
         )
 
     def struct(self, node: Any) -> Struct:
+        """The struct or union of a tag, or one without a tag (6.7.2.3); a member that can't be written is its fault."""
         tag = node.name or f"at line {node.coord.line}"
-        made = self.tags.get(tag) if node.name else None
-        if made is None or (node.decls is not None and node.name and tag not in self.tags.maps[0]):
+        made = self.names.tags.get(tag) if node.name else None
+        if made is None or (node.decls is not None and node.name and tag not in self.names.tags.maps[0]):
             made = Struct(tag, union=isinstance(node, tree.Union))
-            self.structs.append(made)
+            self.names.structs.append(made)
             if node.name:
-                self.tags[tag] = made
+                self.names.tags[tag] = made
         if node.decls is None or made.members is not None:
             return made
         members = []
@@ -201,8 +190,8 @@ class Declarators:
     def bit_field(self, made: Struct, node: Any) -> list[tuple[str, Type]]:
         """A bit-field, which is an integer of its own; one without a name only takes place (6.7.2.1p9 to p12)."""
         of = self.usable(node.type)
-        self.expression(node.bitsize)
-        width = self.constants.value(node.bitsize)
+        self.names.expression(node.bitsize)
+        width = self.names.constants.value(node.bitsize)
         if not isinstance(of, Int) or width is None or 32 < width < of.bits:
             cause = (
                 "a bit-field of more than 32 bits" if isinstance(of, Int) and width else "a bit-field of no known width"
@@ -215,13 +204,15 @@ class Declarators:
         return [(node.name, of if width == of.bits else bit_field(of, width))]
 
     def enum(self, node: Any) -> Type:
+        """The type of an enum, whose constants come into scope (6.7.2.2, gcc's choice of the type). Raises Refused
+        for one that is no int."""
         if node.values is None:
-            return self.tags.get(node.name, kinds.UINT)
+            return self.names.tags.get(node.name, kinds.UINT)
         last, least = -1, 0
         for one in node.values.enumerators:
             if one.value is not None:
-                self.expression(one.value)
-                known = self.constants.value(one.value)
+                self.names.expression(one.value)
+                known = self.names.constants.value(one.value)
                 if known is None:
                     raise Refused(
                         one.coord, f"the value of {one.name} is no constant that is known", "give it a number"
@@ -233,12 +224,14 @@ class Declarators:
             if kinds.fit(last, kinds.INT) != last:
                 raise Refused(one.coord, f"{one.name} is no int", "use a macro or a const object")
             taken = (
-                self.function is not None or one.name in self.enumerators and self.enumerators[one.name] != one.coord
+                self.names.function is not None
+                or one.name in self.names.enumerators
+                and self.names.enumerators[one.name] != one.coord
             )
-            self.scope[one.name] = Enumerator(one.name, last, str(last) if taken else one.name)
-            self.enumerators.setdefault(one.name, one.coord)
-            self.meaning[one] = self.scope[one.name]
+            self.names.scope[one.name] = Enumerator(one.name, last, str(last) if taken else one.name)
+            self.names.enumerators.setdefault(one.name, one.coord)
+            self.names.meaning[one] = self.names.scope[one.name]
         kind = kinds.INT if least < 0 else kinds.UINT
         if node.name:
-            self.tags[node.name] = kind
+            self.names.tags[node.name] = kind
         return kind

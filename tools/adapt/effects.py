@@ -6,8 +6,8 @@ from typing import Any, Optional
 from . import tree
 from .changed import changed
 from .constants import is_offset
-from .kinds import Array, Int, Pointer, Struct, leaves
 from .declarators import Function, Variable
+from .kinds import Array, Int, Pointer, Struct, leaves
 from .models import Model, model_of
 from .names import Names
 from .places import Place, Places, arguments
@@ -27,6 +27,7 @@ class Effects:
     writes: dict[Object, bool] = field(default_factory=dict)
 
     def add(self, other: "Effects", called: bool = False) -> None:
+        """Adds what another one has, as done by a call with `called`."""
         for ours, theirs in ((self.reads, other.reads), (self.writes, other.writes)):
             for one, by_call in theirs.items():
                 ours[one] = ours.get(one, False) or by_call or called
@@ -51,6 +52,7 @@ def may_be(one: Object, two: Object) -> bool:
 
 
 def objects(place: Place) -> list[Object]:
+    """The integers of a place as objects."""
     inner = bool(place.indexes) or place.variable.home == "column"
     if place.view is not None:
         return [(place.variable, place.path, inner)]
@@ -100,16 +102,20 @@ class Effected:
 
     @staticmethod
     def parts(effects: Effects) -> tuple[dict[Object, bool], dict[Object, bool]]:
+        """What is read, and what is written."""
         return effects.reads, effects.writes
 
     def is_own(self, one: Object, function: Function) -> bool:
         """Whether a column has objects of this function alone, which end with its call."""
         region = self.places.columns.of_column.get(one[0]) if one[0] and one[0].home == "column" else None
-        objects_of = region.objects if region else []
+        if region is None or self.places.columns.inner.get(region):
+            return False  # (members of other objects lie in it too)
+        objects_of = region.objects
         return bool(objects_of) and all(v.function is function and v.home in ("local", "parameter") for v in objects_of)
 
     @staticmethod
     def outlives(one: Object) -> bool:
+        """Whether what a parameter stands for is there behind the call."""
         of = one[0].type if one[0] else None
         if one[0] is not None and not one[0].is_bound:
             return False
@@ -122,6 +128,7 @@ class Effected:
         return self.kept[node]
 
     def made(self, node: Any) -> Effects:
+        """The effects of a node, from those of its parts."""
         found = Effects()
         if isinstance(node, tree.UnaryOp) and node.op == "sizeof" or is_offset(node):
             return found
@@ -145,6 +152,7 @@ class Effected:
         return found
 
     def named(self, node: Any, found: Effects, written: bool, read: bool) -> None:
+        """Adds those of naming an object, with its indexes; of what is no named object those of its parts."""
         try:
             place = self.places.place(node)
         except Refused:
@@ -165,6 +173,7 @@ class Effected:
             found.add(Effects({}, {one: False for one in objects(place)}))
 
     def called(self, node: Any, found: Effects) -> None:
+        """Adds those of a call: of its arguments, and what the function may read and write (6.5.2.2p10)."""
         function = self.places.choosers.called(node)
         model = model_of(function)
         if not isinstance(function, Function) or function.definition is None:

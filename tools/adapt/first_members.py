@@ -32,10 +32,12 @@ def path_to(of: Type, first: Type) -> Optional[list[str]]:
 
 
 def first_name(of: Struct) -> str:
+    """The name of a struct's first member."""
     return of.members[0][0] if of.members else ""
 
 
 def alike(one: Int, other: Int) -> bool:
+    """Whether two integer types are one but for their sign, which a pointer to one may read as the other (6.5p7)."""
     plain = not one.width and not other.width and one.boolean == other.boolean
     return plain and one.bits == other.bits and one.bits != 8  # (a pointer to characters leads to all bytes)
 
@@ -65,7 +67,7 @@ def related(points: Any, node: Any, to: Type) -> Optional[Type]:
 
 
 def regions(points: Any) -> list[Region]:
-    """The regions of structs."""
+    """Each region once that a home or a pointer leads to, with those of its members and elements."""
     found: dict[Region, None] = {}
     rest = [*points.homes.values(), *(of.region for of in points.values.values() if isinstance(of, Pointer))]
     while rest:
@@ -101,16 +103,18 @@ def join(points: Any) -> int:
 
 
 def same_struct(one: Any, other: Any) -> bool:
+    """Whether two structs are one, of several sources."""
     if one is other or not isinstance(one, Struct) or not isinstance(other, Struct):
         return one is other
     return one.tag == other.tag and [name for name, _ in one.members or []] == [name for name, _ in other.members or []]
 
 
 def cast(writer: Any, node: Any, first: FirstMember) -> dict[str, Value]:
-    """The integers of the pointer that a cast gives. A pointer that isn't to a first member becomes -1, which ends a run where it is
-    used; null, and what leads nowhere, stay as they are."""
+    """The integers of the pointer that a cast gives. A pointer that isn't to a first member becomes -1, which ends a
+    run where it is used; null, and what leads nowhere, stay as they are. Raises Refused where the member's column has
+    other objects too."""
     outer, columns = first.outer.root(), writer.places.columns
-    parts = writer.pointer(node.expr)
+    parts = writer.pointers.pointer(node.expr)
     inner, begin = outer, 0
     for name in first.path:
         own = inner.members[name].root()
@@ -121,7 +125,7 @@ def cast(writer: Any, node: Any, first: FirstMember) -> dict[str, Value]:
         raise Refused(node.coord, fault[1], fault[2])
     if outer.raw or inner.raw or outer.column is None or inner.column is None:
         raise Refused(node.coord, "a cast to a first member that stands as its bytes", "name the member")
-    index = writer.steady_value(parts[INDEX])
+    index = writer.elements.steady_value(parts[INDEX])
     if first.inwards:
         return inwards(index, begin)
     if END in outer.parts():
@@ -130,12 +134,14 @@ def cast(writer: Any, node: Any, first: FirstMember) -> dict[str, Value]:
 
 
 def inwards(index: Value, begin: int) -> dict[str, Value]:
+    """A pointer to a struct as one to its first member: its number in the column of that."""
     text = f"{index.within(9)} + ({begin} & -({index.within(8)} >= 0))" if begin else index.text
     made = Value(text, kinds.INT, 9 if begin else index.level)
     return {INDEX: made, BEGIN: made, END: plus(made, Value("1", kinds.INT, PRIMARY))}
 
 
 def outwards(index: Value, begin: int, count: int) -> dict[str, Value]:
+    """A pointer to a first member as one to its struct."""
     moved = f"{index.within(9)} - ({begin} & -({index.within(8)} >= 0))" if begin else index.within(4)
     at = f"{index.within(9)} - {begin}" if begin else index.text
     text = f"{moved} | -(({index.within(8)} >= 0) & ((unsigned int) ({at}) >= {count}))"

@@ -23,7 +23,8 @@ def placed(texts: dict[str, str], folder: str) -> dict[str, str]:
 
 
 def check(texts: dict[str, str], refusals: Refusals) -> None:
-    """Adds the program's refusal of the texts, if it refuses them."""
+    """Adds the program's refusal of the texts, if it refuses them. Raises Stop where the program can't be run, or
+    answers what isn't known."""
     with tempfile.TemporaryDirectory(prefix="adapt-") as folder:
         try:
             names = placed(texts, folder)

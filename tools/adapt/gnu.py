@@ -51,12 +51,14 @@ class Lifter:
     is_body: bool = False
 
     def text(self, text: str) -> str:
+        """The text with names in place of the forms, and their types in front."""
         for found in TOKEN.finditer(text):
             self.token(found.group())
         heads = [f"typedef int {name};" for name in self.types]
         return "\n".join(['# 1 "<typeof>"', *heads, "".join(self.made)])
 
     def token(self, token: str) -> None:
+        """Takes one token over; a bracket that closes may end a form."""
         marker = MARKER.fullmatch(token) if token.startswith("#") else None
         if marker:
             self.made.append(token)
@@ -80,6 +82,7 @@ class Lifter:
             self.flush()
 
     def go(self, token: str) -> None:
+        """Goes on behind a token."""
         lines = token.split("\n")
         self.line += len(lines) - 1
         self.column = len(lines[-1]) + (self.column if len(lines) == 1 else 1)
@@ -136,6 +139,7 @@ class Settled:
         self.bodies: dict[str, Any] = {}
 
     def unit(self, unit: tree.FileAST) -> None:
+        """Puts the nodes into a unit's tree, and takes the functions out in which their parts stood."""
         names = re.compile(r"\$\d+f")
         for item in unit.ext:
             name = str(item.decl.name) if isinstance(item, tree.FuncDef) else ""
@@ -147,6 +151,7 @@ class Settled:
             self.inside(item)
 
     def is_lifted(self, item: Any) -> bool:
+        """Whether an item was made for a form."""
         if isinstance(item, tree.FuncDef):
             return str(item.decl.name).startswith("$")
         return isinstance(item, tree.Typedef) and str(item.name).startswith("$")
@@ -173,6 +178,7 @@ class Settled:
                 one.type.type = tree.Typeof(one.init, one.coord)
 
     def made(self, node: Any) -> Any:
+        """The node that stands for another one, or that one itself."""
         if isinstance(node, tree.ID) and node.name in self.bodies:
             body = self.bodies[node.name]
             self.leaves(body)

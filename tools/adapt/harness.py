@@ -14,7 +14,7 @@ from .compare import answering, plain, undefined
 from .declarators import Function
 from .kinds import Array, Int, Pointer, Type, c_words
 from .refusals import Stop
-from .units import Units
+from .writer import Writer
 
 
 def words_of(kind: Type) -> str:
@@ -24,7 +24,7 @@ def words_of(kind: Type) -> str:
     return "const void *" if isinstance(kind, (Pointer, Array)) else "void"
 
 
-def answered(writer: Units, function: Function, home: str) -> str:
+def answered(writer: Writer, function: Function, home: str) -> str:
     """The definition of an input function: as the source of the entry declares it, or else in C's own words, since the types of
     another source aren't known there."""
     if _declares(writer, home, function.name):
@@ -41,7 +41,7 @@ def answered(writer: Units, function: Function, home: str) -> str:
     return f"{result} {function.name}({given or 'void'}) {{ {unused}{back}}}\n"
 
 
-def _declares(writer: Units, path: str, name: str) -> bool:
+def _declares(writer: Writer, path: str, name: str) -> bool:
     """Whether a source, or a header that it includes, declares a function."""
     nodes = [item for unit, item in writer.names.items if unit.path == path]
     return any(
@@ -49,14 +49,15 @@ def _declares(writer: Units, path: str, name: str) -> bool:
     )
 
 
-def own_main(writer: Units, home: str) -> bool:
+def own_main(writer: Writer, home: str) -> bool:
     """Whether a source that is compiled beside the tests defines a main of its own."""
     found = [one for one in writer.names.functions if one.name == "main" and one.definition is not None]
     return any(writer.names.items[one.number][0].path != home for one in found)
 
 
-def text_of(writer: Units, made: list[str], entry: str, given: str, folder: str) -> tuple[str, str]:
-    """The file's text, for inputs of a file, and the source that it includes."""
+def text_of(writer: Writer, made: list[str], entry: str, given: str, folder: str) -> tuple[str, str]:
+    """The file's text, for inputs of a file, and the source that it includes. Raises Stop for an entry that can't be
+    called, and for inputs that the original hasn't."""
     function = next((one for one in writer.names.functions if one.name == entry and one.definition is not None), None)
     if function is None or not plain(function):
         raise Stop(f"{entry} is no function of the sources that takes integers alone and gives one or nothing")
@@ -81,7 +82,7 @@ def text_of(writer: Units, made: list[str], entry: str, given: str, folder: str)
     return f"{head}\n#include {named}\n{heads}#undef main\n{text}", home
 
 
-def how_to_compile(writer: Units, sources: Sequence[str], home: str, flags: list[str]) -> str:
+def how_to_compile(writer: Writer, sources: Sequence[str], home: str, flags: list[str]) -> str:
     """The compiler's words behind the file."""
     others = [source for source in sources if source != home]
     mains = ["-Dmain=fshell_main"] if own_main(writer, home) else []

@@ -66,9 +66,11 @@ class Heap:
 
     @property
     def columns(self) -> Any:
+        """The columns, in which the pools lie."""
         return self.writer.places.columns
 
     def name(self, key: Any, stem: str) -> str:
+        """A name for what a key stands for, always the same."""
         if key not in self.names:
             self.names[key] = self.writer.spelling.fresh(stem)
         return self.names[key]
@@ -98,24 +100,26 @@ class Heap:
         return self.name(key, "heap_size")
 
     def has_pool(self, region: Region) -> bool:
+        """Whether memory of the heap lies in a region."""
         return any(one.home == "pool" for one in region.objects)
 
     # ---- calls
 
     def allocated(self, node: Any, called: str) -> dict[str, Value]:
-        """Writes a call that gives memory; the pointer's integers."""
+        """Writes a call that gives memory; the pointer's integers. Raises Refused where its objects can't lie in one
+        column."""
         writer = self.writer
         region = self.columns.pointer(node).region.root()
         if region.fault:
             raise Refused(node.coord, region.fault[1], region.fault[2])
-        writer.unsequenced(node, arguments(node))
+        writer.order.unsequenced(node, arguments(node))
         pool = self.columns.points.pools[node]
         given = arguments(node)
-        old = [writer.pointer(given[0])[INDEX].text] if called == "realloc" else []
+        old = [writer.pointers.pointer(given[0])[INDEX].text] if called == "realloc" else []
         values = []
         for one in given[len(old) :]:
             known = writer.constants.value(one)
-            value = writer.value(one) if known is None else Value(str(known), kinds.SIZE, PRIMARY)
+            value = writer.expressions.value(one) if known is None else Value(str(known), kinds.SIZE, PRIMARY)
             values.append(
                 value
                 if number(value) is not None
@@ -176,14 +180,14 @@ class Heap:
         return f"if (p != {NIL}) {{ assert({sizes}[p] > 0); {loop} {sizes}[p] = 0; }} "
 
     def freed(self, node: Any) -> str:
-        """The text of a call of free."""
+        """The text of a call of free. Raises Refused where its objects can't lie in one column."""
         writer, given = self.writer, arguments(node)[0]
-        if writer.is_null(given):
+        if writer.pointers.is_null(given):
             return ""
         region = self.columns.pointer(given).region.root()
         if region.fault:
             raise Refused(node.coord, region.fault[1], region.fault[2])
-        index, sizes = writer.pointer(given)[INDEX], self.sizes(region)
+        index, sizes = writer.pointers.pointer(given)[INDEX], self.sizes(region)
         if not sizes:
             if index.calls:
                 writer.temporary(kinds.INT, index.text)

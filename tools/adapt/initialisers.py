@@ -60,6 +60,8 @@ class Filled:
         return found
 
     def fill(self, of: Type, spot: Spot, init: Any) -> None:
+        """Gives an object its first value: a list, a string, an expression, or a struct's value. Raises Refused for
+        more than one value of an integer."""
         if isinstance(of, Other):
             return  # (what has no integers gets no value)
         if isinstance(of, Struct) and of.union and of.is_parts() and isinstance(init, tree.InitList):
@@ -81,7 +83,8 @@ class Filled:
             self.wholes.append((spot, of, init))
 
     def fill_parts(self, of: Struct, spot: Spot, init: Any) -> None:
-        """The first value of a union that is one integer: that of its first or of a named member."""
+        """The first value of a union that is one integer: that of its first or of a named member. Raises Refused
+        where it is no constant."""
         items: list[Any] = list(init.exprs or [])
         member, carrier = (of.members or [])[0][1], of.type_of(of.path_of(""))
         if items and isinstance(items[0], tree.NamedInitializer):
@@ -105,7 +108,7 @@ class Filled:
         self.given[place] = tree.Constant("int", f"{word}u" if word < 1 << 32 else f"{word}ul", init.coord)
 
     def part(self, of: Type, spot: Spot, at: int, init: Any) -> tuple[Type, Spot]:
-        """The element or member of a number."""
+        """The element or member of a number. Raises Refused where there is none."""
         if isinstance(of, Array) and at < (of.length or 0):
             return of.of, (spot[0], spot[1] + (at,))
         if isinstance(of, Struct) and at < len(of.members or []):
@@ -114,7 +117,8 @@ class Filled:
         raise Refused(init.coord, "more values than there are members or elements", "leave them out")
 
     def number(self, of: Type, designator: Any) -> int:
-        """The number of the element or member that a designator names."""
+        """The number of the element or member that a designator names. Raises Refused for a designator that is no
+        constant, or leads through a member without a name."""
         if isinstance(of, Struct):
             path = unions.found(of, designator.name) or []
             if len(path) != 1:
@@ -126,6 +130,8 @@ class Filled:
         return known
 
     def listed(self, of: Type, spot: Spot, items: list[Any]) -> None:
+        """Fills the parts of an array or a struct by the items of a list, in order or by their designators (6.7.9p17
+        to p20)."""
         at = taken = 0
         while taken < len(items):
             item = items[taken]
@@ -142,7 +148,8 @@ class Filled:
             at += 1
 
     def next(self, part: Type, spot: Spot, items: list[Any], taken: int) -> int:
-        """Fills a part by the next items, of which it takes several where it has no braces of its own."""
+        """Fills a part by the next items, of which it takes several where it has no braces of its own. Gives the
+        number of the item behind those."""
         item = items[taken]
         string = isinstance(item, tree.Constant) and item.type == "string"
         one = string or isinstance(part, (Int, Other, Pointer)) or isinstance(item, tree.InitList)
@@ -160,6 +167,7 @@ class Filled:
 
 
 def filled(constants: Constants, of: Type, init: Any) -> Filled:
+    """The first values of an object of a type. Raises Refused where the list doesn't fit it."""
     made = Filled(constants)
     if init is not None:
         made.fill(of, ((), ()), init)

@@ -11,6 +11,7 @@ from .tree import LEFT_BY_BREAK, LOOPS, walk
 
 
 def goto_names(node: Any) -> set[str]:
+    """The labels to which jumps in a tree go."""
     return {one.name for one in walk(node) if isinstance(one, tree.Goto)}
 
 
@@ -31,7 +32,7 @@ def parameters_of(item: tree.FuncDef) -> set[str]:
 
 
 class Jumps:
-    """The jumps of one function."""
+    """Rewrites each `goto` of one function (6.8.6.1) as `break`, flags and, where it goes back, a state."""
 
     def __init__(self, fresh: Callable[[str], str], refusals: Refusals) -> None:
         self.fresh, self.refusals = fresh, refusals
@@ -76,6 +77,7 @@ class Jumps:
 
     @staticmethod
     def end(item: Any) -> Any:
+        """The last place in a statement."""
         found = [one.coord for one in walk(item) if one.coord]
         return max(found, key=lambda coord: int(coord.line))
 

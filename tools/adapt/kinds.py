@@ -21,6 +21,8 @@ class Int:
 
 @dataclass(frozen=True)
 class Array:
+    """An array type; `length` is None where it has none of its own."""
+
     of: "Type"
     length: Optional[int]
 
@@ -150,6 +152,7 @@ def plain(words: list[str]) -> Optional[Int]:
 
 
 def promoted(kind: Int) -> Int:
+    """The type of the integer promotions (6.3.1.1p2)."""
     return kind if kind.bits >= 32 else INT
 
 
@@ -193,6 +196,7 @@ def is_mixed(of: Type) -> bool:
 
 
 def alignment(of: Type) -> int:
+    """To how many bytes gcc aligns a type on x86-64: the number divides each address."""
     if isinstance(of, Struct):
         return max((alignment(member) for name, member, width in of.declared if name or width is None), default=1)
     if isinstance(of, Other):
@@ -251,6 +255,7 @@ class Leaf:
 
     @property
     def count(self) -> int:
+        """How many integers the arrays on the way make of it."""
         product = 1
         for one in self.dims:
             product *= one

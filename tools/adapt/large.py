@@ -24,12 +24,15 @@ class Large:
 
 
 class LargeArrays:
+    """The arrays so far that are too large, by their names."""
+
     def __init__(self, fresh: Callable[..., str]) -> None:
         self.fresh = fresh
         self.known: dict[str, Large] = {}
 
     def declared(self, name: str, kind: Int, count: int, values: list[str], const: bool, coord: Any) -> str:
-        """The arrays and the functions that stand for one array; `values` are the first ones, as numbers."""
+        """The arrays and the functions that stand for one array; `values` are the first ones, as numbers. Raises
+        Refused where all objects of the profile together have fewer cells."""
         each = 64 // kind.bits
         words = -(-count // each)
         if words > MOST_CELLS:
@@ -69,6 +72,7 @@ class LargeArrays:
 
     @staticmethod
     def switched(parts: list[str], shift: int, reads: bool) -> str:
+        """What chooses among the arrays of words by an index."""
         if len(parts) == 1:
             return parts[0]
         listed = [f"case {at}: {one}{'' if reads else ' break;'}" for at, one in enumerate(parts)]
@@ -107,7 +111,7 @@ class LargeArrays:
 
 
 def closed(text: str, at: int, close: str) -> int:
-    """Where the bracket that was opened before is closed."""
+    """Where the bracket that was opened before is closed. It is the number of that character."""
     depth = 0
     while depth or text[at] != close:
         depth += (text[at] in "([{") - (text[at] in ")]}")
@@ -116,7 +120,7 @@ def closed(text: str, at: int, close: str) -> int:
 
 
 def ended(text: str, at: int) -> int:
-    """Where the statement ends."""
+    """Where the statement ends. It is the number of the character behind."""
     depth = 0
     while text[at] != ";" and (depth or text[at] != ")"):
         depth += (text[at] in "([{") - (text[at] in ")]}")

@@ -7,10 +7,10 @@ from functools import cache
 from typing import Any
 
 from . import tree
-from .tree import walk
 from .parsing import parsed
 from .reading import Unit
 from .sorting import SORTING, Sorted, written_for
+from .tree import walk
 
 FOLDER = os.path.join(os.path.dirname(os.path.abspath(__file__)), "models")
 FILES = ("ctype.c", "stdlib.c", "builtin.c", "sort.c")
@@ -32,6 +32,7 @@ class Spot(tree.Coord):
 
 
 def without_comments(text: str) -> str:
+    """What is left of C text (6.4.9); a comment that isn't closed goes to the end."""
     while "/*" in text:
         begin, _, rest = text.partition("/*")
         text = begin + rest.partition("*/")[2]
@@ -51,10 +52,12 @@ def models() -> dict[str, Any]:
 
 @cache
 def known() -> dict[str, Any]:
+    """The declarations of the functions that models use, by name."""
     return {str(item.name): item for item in parsed(KNOWN).ext if isinstance(item, tree.Decl)}
 
 
 def has_pointers(model: Any) -> bool:
+    """Whether a model takes or gives pointers, so that each call gets one of its own."""
     return any(isinstance(one, tree.PtrDecl) for one in walk(model.decl.type))
 
 
@@ -90,9 +93,11 @@ class Library:
 
     @staticmethod
     def is_function(node: Any) -> bool:
+        """Whether a declaration is one of a function."""
         return isinstance(node.type, tree.FuncDecl)
 
     def is_defined(self, name: str) -> bool:
+        """Whether a source defines an object of a name."""
         items = [
             item for unit in self.units for item in unit.tree.ext if isinstance(item, tree.Decl) and item.name == name
         ]
@@ -160,6 +165,7 @@ class Library:
         self.add(name, model)
 
     def add(self, name: str, model: Any) -> None:
+        """Adds a model by a name, with those that it uses itself."""
         made = copy.deepcopy(model)
         if isinstance(made, tree.FuncDef):
             tree.rename(made.decl, name)

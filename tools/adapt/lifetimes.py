@@ -5,7 +5,6 @@ the file or of the heap have it then, they become -1 at the end of the function,
 from typing import Any, Iterator, Optional
 
 from . import kinds, tree
-from .tree import with_parents
 from .declarators import Function, Variable
 from .initialisers import filled
 from .kinds import Array, Pointer, Struct
@@ -13,6 +12,7 @@ from .models import model_of
 from .places import Place, arguments
 from .refusals import Refused
 from .regions import INDEX, Region
+from .tree import with_parents
 
 MOST_ENDED = 16  # so many pointers may become -1 where a function ends
 Node = tuple[Any, ...]  # the pointers in a region, what a function gives, or a local
@@ -54,6 +54,7 @@ class Lifetimes:
     # ---- what flows
 
     def gather(self) -> None:
+        """Gathers all flows of the sources."""
         for variable in self.names.variables:
             if isinstance(variable.init, tree.InitList):
                 self.listed(variable)
@@ -66,6 +67,7 @@ class Lifetimes:
                     pass  # (told where it is written)
 
     def visit(self, node: Any) -> None:
+        """Gathers those of one node."""
         if isinstance(node, tree.Decl) and node.init is not None and not isinstance(node.init, tree.InitList):
             variable = self.names.meaning.get(node)
             if isinstance(variable, Variable):
@@ -88,6 +90,7 @@ class Lifetimes:
             self.flows.append((found, ("in", inner_region(region, of, path)[1]), at))
 
     def listed(self, variable: Variable) -> None:
+        """Gathers those of a list of first values."""
         try:
             given = filled(self.names.constants, variable.type, variable.init).given
         except Refused:
@@ -97,6 +100,7 @@ class Lifetimes:
             self.put(of, region, source, variable.coord)
 
     def called(self, node: Any) -> None:
+        """Gathers those of a call: from arguments to parameters."""
         model = model_of(self.names.meaning.get(node))
         given = arguments(node)
         if model is not None and len(given) > 1:
@@ -118,6 +122,7 @@ class Lifetimes:
             self.flows += [(nodes[:1], nodes[1], at), (nodes[1:], nodes[0], at)]
 
     def targets(self, node: Any) -> list[Function]:
+        """The functions that a call may call."""
         known = self.names.meaning.get(node)
         if isinstance(known, Function):
             return [known] if known.definition is not None else []
@@ -224,6 +229,7 @@ class Lifetimes:
         return found
 
     def within(self, region: Region, seen: set[Region]) -> Iterator[Region]:
+        """The pointers that lie in an object."""
         if region not in seen:
             seen.add(region)
             yield region
@@ -246,6 +252,7 @@ class Lifetimes:
                 self.ended.setdefault(local.function, []).append((local, node[1]))
 
     def outlives(self, holder: Variable, function: Function) -> bool:
+        """Whether a pointer is there when a function has ended."""
         if holder.home in ("local", "parameter"):
             return (
                 holder.function is not None
@@ -267,6 +274,7 @@ class Lifetimes:
         return False
 
     def refuse(self, local: Variable, node: Node) -> None:
+        """Tells that the address of a local stays behind."""
         function = local.function.name if local.function else ""
         cause = f"the address of the local {local.name} may be kept where it outlives {function}"
         self.names.refusals.add(self.place(local, node), cause, "make it static")
@@ -279,6 +287,7 @@ class Lifetimes:
         return local.coord
 
     def leads(self, one: Node, other: Node) -> bool:
+        """Whether a local's address may reach a pointer."""
         seen, rest = {one}, [one]
         while rest and other not in seen:
             for target in self.behind.get(rest.pop(), []):
@@ -309,8 +318,8 @@ class Lifetimes:
         if not self.outlives(variable, None):  # type: ignore[arg-type]
             return
         place: Place = writer.places.of_variable(variable)
-        index = writer.index(place, True) if place.shifted() else None
-        for leaf, texts in writer.each_integer(place, index):
+        index = writer.elements.index(place, True) if place.shifted() else None
+        for leaf, texts in writer.pointer_effects.each_integer(place, index):
             if leaf.path and leaf.path[-1] == INDEX:
                 if inner_region(self.points.home(variable), variable.type, leaf.path[:-1])[1] is region:
                     yield from texts

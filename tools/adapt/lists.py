@@ -10,13 +10,15 @@ MOST_LISTED = 64
 
 
 def target_name(node: Any) -> str:
+    """The name of the object of which a target is an element."""
     while isinstance(node, tree.ArrayRef):
         node = node.name
     return str(node.name)
 
 
 def listed(of: Any, target: Any, init: Any, at: Any) -> list[Any]:
-    """The assignments that a list of first values is."""
+    """The assignments that a list of first values is. Raises Refused for a list whose elements aren't plainly
+    counted."""
     if isinstance(of, tree.TypeDecl):
         if isinstance(init, tree.InitList):
             whole = tree.TypeDecl(None, [], None, of.type, at)

@@ -12,20 +12,20 @@ from .compare import compared
 from .output import FELL
 from .pipeline import adapt, flags_of
 from .refusals import Refusals, Stop
-from .units import Units
+from .writer import Writer
 
 FIRST = "adapt is no part of what is proved: read and compare what it writes"
 
 
 def count(word: str) -> int:
-    """How many runs are compared."""
+    """How many runs are compared. Raises ArgumentTypeError for another word."""
     if not word.isdecimal():
         raise argparse.ArgumentTypeError(f"{word} is no number from 0 on")
     return int(word)
 
 
 def parser_of_words() -> usage.Parser:
-    """What reads the words."""
+    """The options and the statuses of bin/adapt; argparse ends with status 2 where the words are wrong."""
     about = f"Writes C sources again in the profile of C that FShell reads, every statement on its line. {FIRST}."
     done = "the sources are written, and with --compare all runs agree"
     refused = "sources are refused, with a line for each cause"
@@ -73,11 +73,12 @@ def parser_of_words() -> usage.Parser:
 
 
 def words(given: Optional[list[str]]) -> argparse.Namespace:
+    """The words of the command line."""
     return parser_of_words().parse_args(given)
 
 
 def pool(word: str) -> tuple[int, int]:
-    """How many slots a call of malloc has, and of how many elements."""
+    """How many slots a call of malloc has, and of how many elements. Raises ArgumentTypeError for other words."""
     slots, _, elements = word.partition(",")
     if not slots.isdecimal() or not (elements or "16").isdecimal() or not 1 <= int(slots) * int(elements or 16) <= 1024:
         raise argparse.ArgumentTypeError(f"{word} is no SLOTS[,ELEMENTS] of 1 to 1024 elements together")
@@ -85,7 +86,8 @@ def pool(word: str) -> tuple[int, int]:
 
 
 def put(folder: str, texts: dict[str, str]) -> list[str]:
-    """Writes the files into the folder, each whole or not at all; their paths."""
+    """Writes the files into the folder, each whole or not at all; their paths. Raises Stop where a file would be the
+    original, two have one name, or it can't be written."""
     paths = []
     os.makedirs(folder, exist_ok=True)
     for original, text in texts.items():
@@ -102,8 +104,9 @@ def put(folder: str, texts: dict[str, str]) -> list[str]:
     return paths
 
 
-def put_map(folder: str, texts: dict[str, str], writer: Units) -> None:
-    """Writes the map beside the files, by which tools show what the user wrote."""
+def put_map(folder: str, texts: dict[str, str], writer: Writer) -> None:
+    """Writes the map beside the files, by which tools show what the user wrote. Raises Stop where it can't be
+    written."""
     units = list({unit.path: unit for unit, _ in writer.names.items}.values())
     mapped = {path: text for path, text in texts.items() if path in writer.files}
     try:
@@ -112,8 +115,9 @@ def put_map(folder: str, texts: dict[str, str], writer: Units) -> None:
         raise Stop(str(failure)) from None
 
 
-def write_harness(asked: argparse.Namespace, writer: Units, paths: list[str]) -> None:
-    """Writes the tests of the original beside what was written."""
+def write_harness(asked: argparse.Namespace, writer: Writer, paths: list[str]) -> None:
+    """Writes the tests of the original beside what was written. Raises Stop where the entry, or the inputs, can't be
+    taken."""
     entry, given = asked.harness
     try:
         text, home = harness.text_of(writer, paths, entry, given, asked.out)
@@ -124,7 +128,7 @@ def write_harness(asked: argparse.Namespace, writer: Units, paths: list[str]) ->
     print(f"wrote {name}: compile it with {harness.how_to_compile(writer, asked.sources, home, flags_of(asked))}")
 
 
-def compare(asked: argparse.Namespace, writer: Units, texts: dict[str, str]) -> int:
+def compare(asked: argparse.Namespace, writer: Writer, texts: dict[str, str]) -> int:
     """Says how many runs agree; the status."""
     differences, ended = compared(writer, asked.sources, texts, flags_of(asked), asked.compare)
     apart = f", of {ended} C gives the end no meaning" if ended else ""
@@ -133,6 +137,8 @@ def compare(asked: argparse.Namespace, writer: Units, texts: dict[str, str]) -> 
 
 
 def main(given: Optional[list[str]] = None) -> int:
+    """Runs the command; its status: 0, 1 where runs of --compare differ, 3 where sources are refused, 2 where a Stop
+    ended it."""
     asked = words(given)
     sys.setrecursionlimit(20000)
     refusals = Refusals()

@@ -15,12 +15,12 @@ from tools.sources import CLOSING, OPENING, Source, plain
 
 from . import tree
 from .declarators import Variable
-from .tree import walk
 from .kinds import Pointer
 from .output import FELL, File
 from .reading import Unit
 from .regions import INDEX
-from .units import Units
+from .tree import walk
+from .writer import Writer
 
 MACRO = "\x00"
 Span = tuple[int, int, str]  # the first and the last token, and the text
@@ -181,7 +181,7 @@ def shown(variable: Variable, path: Sequence[str]) -> str:
     return variable.name + "".join(("->" if arrow and at == 0 else ".") + one for at, one in enumerate(members))
 
 
-def names(writer: Units) -> dict[str, str]:
+def names(writer: Writer) -> dict[str, str]:
     """What names stand for: the member or the object behind each cell, and the functions that have another name."""
     found = {one.out: one.name for one in writer.names.functions}
     columns = {region.column: region for region in writer.places.columns.made}
@@ -194,7 +194,7 @@ def names(writer: Units) -> dict[str, str]:
     return {name: text for name, text in sorted(found.items()) if text and name != text}
 
 
-def text_of(writer: Units, units: Sequence[Unit], texts: dict[str, str], folder: str) -> str:
+def text_of(writer: Writer, units: Sequence[Unit], texts: dict[str, str], folder: str) -> str:
     """The map of all files that are written."""
     cells = names(writer)
     rows = []

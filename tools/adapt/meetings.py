@@ -14,6 +14,7 @@ from .refusals import Refused
 
 
 def visit(points: Any, node: Any) -> None:
+    """What a node brings together. What is refused in it is told where it is written."""
     try:
         if isinstance(node, tree.Decl) and node.init is not None:
             variable = points.names.meaning.get(node)
@@ -41,6 +42,7 @@ def visit(points: Any, node: Any) -> None:
 
 
 def assigned(points: Any, node: Any) -> None:
+    """An assignment: the value becomes one of the target's type, or the target moves."""
     to = points.value(node.lvalue)
     if isinstance(to, Pointer) and node.op in ("+=", "-="):
         points.moves(to.region, node.rvalue, node.op == "-=")
@@ -49,6 +51,7 @@ def assigned(points: Any, node: Any) -> None:
 
 
 def compared(points: Any, node: Any) -> None:
+    """A comparison of pointers, which meet the same objects (6.5.8p5, 6.5.9p6)."""
     if node.op in ("==", "!=", "<", ">", "<=", ">="):
         if points.is_null(node.left) or points.is_null(node.right):
             return
@@ -60,6 +63,7 @@ def compared(points: Any, node: Any) -> None:
 
 
 def called(points: Any, node: Any) -> None:
+    """A call: arguments become parameters."""
     function = points.names.meaning.get(node)
     if is_offset(node):
         return
@@ -84,6 +88,7 @@ def called(points: Any, node: Any) -> None:
 
 
 def called_by_pointer(points: Any, node: Any) -> None:
+    """A call by a pointer, whose functions are known at the end. Raises Refused where it is none to a function."""
     of = points.value(node.name)
     if not isinstance(of, Pointer) or not isinstance(of.to, Signature):
         raise Refused(node.coord, "a call of what is no function", "call a function")
@@ -132,6 +137,7 @@ def differ(one: Type, other: Type) -> bool:
 
 
 def called_heap(points: Any, node: Any, name: str) -> None:
+    """A call of the heap. Raises Refused where it is declared otherwise than in the library."""
     if len(arguments(node)) != TAKES[name]:
         raise Refused(node.coord, f"{name} is declared otherwise than in the library", "declare it as stdlib.h does")
     of = points.value(arguments(node)[0] if name == "free" else node)

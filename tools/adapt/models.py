@@ -1,33 +1,22 @@
-"""The library's functions on memory and strings: their models stand in models/string.c, and are written for each pair of columns
-that their calls meet."""
+"""The models of the library's functions on memory and strings, which stand in models/string.c, and who calls them."""
 
 import os
 import re
 from functools import cache
 from typing import Any, NamedTuple, Optional
 
-from . import kinds, tree
+from . import tree
 from .declarators import Function
-from .initialisers import none_of
-from .kinds import Int, Pointer, Struct
-from .places import arguments
 from .refusals import Refused
-from .regions import BEGIN, END, INDEX, NIL, Region
-from .values import PRIMARY, UNARY, Value
 
 FOLDER = os.path.join(os.path.dirname(os.path.abspath(__file__)), "models")
 HEAD = re.compile(r"^(\w+ \*?)(\w+)\(([^()]*)\) \{(.*)\}$")
-ACCESS = re.compile(r"\$([ab])\[([^\]]+)\]")
-SET = re.compile(r"\$([ab])\[([^\]]+)\] = (?:\$([ab])\[([^\]]+)\]|([$\w]+));")
-OWN = re.compile(
-    r"\b(a|b|c|i|j|n|last)\b"
-)  # the names of models; `$` stands before them until they have their own ones
-OPEN = "\x04"  # the bracket of an access that is written already
 WHOLE = ("memcpy", "memmove", "memset")  # those that may take elements of any type
-MOST_LEAVES = 64
 
 
 class Model(NamedTuple):
+    """A library's function by its model: the words of its result, its name, its parameters and its body."""
+
     result: str
     name: str
     parameters: list[str]
@@ -35,6 +24,7 @@ class Model(NamedTuple):
 
     @property
     def gives_pointer(self) -> bool:
+        """Whether a call of it is an index, by the type that its head has."""
         return "*" in self.result
 
 
@@ -58,11 +48,13 @@ def model_of(function: Any) -> Optional[Model]:
 
 
 def letter(parameter: str) -> str:
+    """The name of a parameter."""
     return parameter.split()[-1].lstrip("*")
 
 
 def element_count(constants: Any, node: Any, size: int) -> Any:
-    """A number of bytes as one of elements: a number, or the expression that it is."""
+    """A number of bytes as one of elements: a number, or the expression that it is. Raises Refused where they may be
+    no whole number of elements."""
     if size == 1:
         return node
     known = constants.value(node)
@@ -77,131 +69,3 @@ def element_count(constants: Any, node: Any, size: int) -> Any:
     raise Refused(
         node.coord, f"a number of bytes that may be no whole number of elements of {size}", "multiply by sizeof"
     )
-
-
-class Written:
-    """One model for the regions of its pointers."""
-
-    def __init__(self, model: Model, name: str, regions: dict[str, Region], own: Any, count: str) -> None:
-        self.model, self.name, self.regions, self.count = model, name, regions, count
-        self.leaf, self.names = own.model_leaf, own.model_word
-
-    def text(self) -> str:
-        heads = []
-        for one in self.model.parameters:
-            at = letter(one)
-            if "*" in one:
-                heads += [f"int ${at}{'_' + part[1:] if part != INDEX else ''}" for part in self.regions[at].parts()]
-            else:
-                heads.append(f"{self.count} $n" if at == "n" else "int $c")
-        result = "int" if self.model.gives_pointer else "size_t" if "size_t" in self.model.result else "int"
-        body = SET.sub(self.set_elements, OWN.sub(r"$\1", self.model.body))
-        body = ACCESS.sub(lambda found: self.access(found.group(1), found.group(2), ()), body)
-        body = body.replace("$i < $n", f"({self.count}) $i < $n").replace("NULL", str(NIL)).replace(OPEN, "[")
-        whole = f"static {result} {self.name}({', '.join(heads)}) {{ {body} }}"
-        named: str = re.sub(r"\$(\w+)", lambda found: str(self.names(found.group(1))), whole)
-        return named
-
-    def access(self, at: str, index: str, path: tuple[str, ...], element: int = 0) -> str:
-        whole, parts = f"${at} + {index}", self.regions[at].parts()
-        tests = [f" | -({whole} >= ${at}_e)"] * (END in parts) + [f" | -({whole} < ${at}_b)"] * (BEGIN in parts)
-        name, factor, add = self.leaf(self.regions[at], path)
-        checked = f"{whole}{''.join(tests)}"
-        if factor != 1 or add + element:
-            checked = f"({checked}) * {factor} + {add + element}"
-        return f"{name}{OPEN}{checked}]"
-
-    def set_elements(self, found: "re.Match[str]") -> str:
-        to, index, of, other, value = found.groups()
-        elem, made = self.regions[to].elem, []
-        if isinstance(elem, Int):
-            right = self.access(of, other, ()) if of else f"({elem.text}) {value}" if value == "$c" else value
-            return f"{self.access(to, index, ())} = {right};"
-        for leaf in kinds.leaves(elem):
-            for at in range(leaf.count):
-                right = self.access(of, other, leaf.path, at) if of else none_of(leaf)
-                made.append(f"{self.access(to, index, leaf.path, at)} = {right};")
-        return " ".join(made)
-
-
-class ModelCalls:
-    """What a writer does with calls of the library's functions. `written_models` has each by its name and columns."""
-
-    places: Any
-    spelling: Any
-    constants: Any
-
-    def model_parts(self, node: Any, model: Model) -> dict[str, Value]:
-        """The call of a model, with what else a pointer that it gives has: that of its first argument."""
-        own: Any = self
-        own.unsequenced(node, arguments(node))
-        texts: list[str] = []
-        first: dict[str, Value] = {}
-        regions: dict[str, Region] = {}
-        for argument, parameter in zip(arguments(node), model.parameters):
-            if "*" in parameter:
-                regions[letter(parameter)] = region = self.model_region(argument)
-                parts = {name: own.steady_value(one) for name, one in own.pointer(argument).items()}
-                texts += [parts[name].text for name in region.parts()]
-                first = first or parts
-        count = "unsigned int"
-        for argument, parameter in zip(arguments(node), model.parameters):
-            if "*" not in parameter:
-                value, count = self.number_argument(argument, letter(parameter), regions["a"], model, count)
-                texts.append(value)
-        text = f"{own.at(node)}{self.model_name(node, model, regions, count)}({', '.join(texts)})"
-        return {**first, INDEX: Value(text, kinds.INT, PRIMARY, calls=True)}
-
-    def number_argument(self, node: Any, at: str, region: Region, model: Model, count: str) -> tuple[str, str]:
-        own: Any = self
-        if at != "n":
-            narrow = isinstance(region.elem, Int) and region.elem.bits == 8
-            if model.name == "memset" and not narrow and self.constants.value(node) != 0:
-                raise Refused(node.coord, "memset of what is no array of bytes", "assign the elements")
-            return own.value(node).text, count
-        size = kinds.size(region.elem)
-        if size is None or (not isinstance(region.elem, Int) or region.elem.bits != 8) and model.name not in WHOLE:
-            raise Refused(node.coord, f"{model.name} of what are no bytes", "use the elements")
-        try:
-            whole = element_count(self.constants, node, size)
-        except Refused:  # (a part of an element, which is no whole number of them, ends the run)
-            given = own.steady_value(own.value(node))
-            text = given.within(UNARY)
-            return f"{text} / {size} | -({text} % {size} != 0)", "size_t"
-        if isinstance(whole, int):
-            return str(whole), count
-        value = own.value(whole)
-        return value.text, "unsigned int" if value.kind.bits <= 32 else "size_t"
-
-    def model_region(self, node: Any) -> Region:
-        of = self.places.columns.pointer(node)
-        region: Region = of.region.root()
-        fault = region.fault
-        if fault:
-            raise Refused(node.coord, fault[1], fault[2])
-        leaves = list(kinds.leaves(region.elem)) if isinstance(region.elem, (Int, Struct, Pointer)) else []
-        if region.column is None or not leaves or sum(leaf.count for leaf in leaves) > MOST_LEAVES:
-            raise Refused(node.coord, "memory whose objects aren't known, or are large", "assign the elements")
-        return region
-
-    def model_leaf(self, region: Region, path: tuple[str, ...]) -> tuple[str, int, int]:
-        variable, inside, factor, add = self.places.columns.leaf_at(region, path)
-        return self.spelling.leaf(variable, inside), factor, add
-
-    def model_word(self, word: str) -> str:
-        """A name within models that nothing else has."""
-        own: Any = self
-        if word not in own.model_words:
-            own.model_words[word] = self.spelling.fresh(word)
-        found: str = own.model_words[word]
-        return found
-
-    def model_name(self, node: Any, model: Model, regions: dict[str, Region], count: str) -> str:
-        own: Any = self
-        key = (model.name, *regions.values(), count)
-        if key not in own.written_models:
-            name = self.spelling.fresh(model.name)
-            made = Written(model, name, regions, self, count)
-            own.written_models[key] = (name, made.text())
-        found: str = own.written_models[key][0]
-        return found

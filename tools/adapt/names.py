@@ -1,22 +1,44 @@
 """What each name of the units stands for: scopes as C has them (6.2.1)."""
 
 from collections import ChainMap
-from typing import Any
+from typing import Any, Optional
 
 
 from . import kinds, tree
-from .constants import is_offset
+from .constants import Constants, is_offset
 from .declarators import Declarators, Function, Variable
-from .kinds import Array, Other
+from .kinds import Array, Other, Struct, Type
 from .parsing import printed
 from .reading import Unit, is_system
-from .refusals import Refused
+from .refusals import Refusals, Refused
 
 
-class Names(Declarators):
-    """Reads the units, and ties each name to what it stands for."""
+class Names:
+    """Reads the units, and ties each name to what it stands for: `meaning` has what names, declarations and calls stand for, `types`
+    what types' names give. `pool` is how many slots a call of malloc has, and how many elements where their number isn't constant.
+    """
+
+    def __init__(self, refusals: Refusals, pool: tuple[int, int]) -> None:
+        self.refusals = refusals
+        self.linked: dict[Any, Any] = {}
+        self.meaning: dict[tree.Node, Any] = {}
+        self.types: dict[tree.Node, Type] = {}
+        self.functions: list[Function] = []
+        self.variables: list[Variable] = []
+        self.enumerators: dict[str, Any] = {}
+        self.constants, self.declarators = Constants(self), Declarators(self)
+        self.function: Optional[Function] = None
+        self.structs: list[Struct] = []
+        self.named_members: set[str] = set()
+        self.initialised: list[Type] = []  # types of objects that have lists of first values
+        self.pool = pool
+        self.scope: ChainMap[str, Any] = ChainMap()
+        self.tags: ChainMap[str, Any] = ChainMap()
+        self.items: list[tuple[Unit, Any]] = []
+        self.current: Any = None  # the unit that is read
 
     def unit(self, unit: Unit) -> None:
+        """Reads one source; what is refused in an item is gathered."""
         self.scope, self.tags, self.current = ChainMap(), ChainMap(), unit
         for item in unit.tree.ext:
             self.refusals.go(item.coord)
@@ -27,6 +49,7 @@ class Names(Declarators):
     # ---- declarations
 
     def item(self, item: Any) -> None:
+        """A declaration or a definition of the file or of a block."""
         if isinstance(item, tree.Typedef):
             self.typedef(item)
         elif isinstance(item, tree.Decl):
@@ -35,12 +58,14 @@ class Names(Declarators):
             self.definition(item)
 
     def typedef(self, node: Any) -> None:
+        """The name of a type; the library's own of known widths are kept as they are."""
         fixed = kinds.FIXED.get(node.name) if is_system(str(node.coord.file)) else None
-        self.scope[node.name] = fixed or self.usable(node.type)
+        self.scope[node.name] = fixed or self.declarators.usable(node.type)
 
     def declaration(self, node: Any) -> None:
+        """A declaration of a type alone, of a function, or of an object."""
         if isinstance(node.type, (tree.Struct, tree.Enum, tree.Union)) and node.name is None:
-            self.type_of(node.type)
+            self.declarators.type_of(node.type)
         elif isinstance(node.type, tree.FuncDecl):
             self.meaning[node] = self.declared_function(node)
         else:
@@ -51,7 +76,9 @@ class Names(Declarators):
         return (node.name, node.coord.file) if static else node.name
 
     def variable(self, node: Any) -> Variable:
-        of = self.usable(node.type)
+        """The object that a declaration declares, which may be known already (6.2.2). Raises Refused for static ones
+        that differ from source to source."""
+        of = self.declarators.usable(node.type)
         if isinstance(of, Array) and of.length is None and node.init is not None:
             self.initialiser(node.init)
             of = Array(of.of, self.constants.length_of(node.init, of.of))
@@ -102,6 +129,7 @@ class Names(Declarators):
         return list(getattr(node, "quals", None) or [])
 
     def initialiser(self, node: Any) -> None:
+        """Ties the names in a first value."""
         if isinstance(node, tree.InitList):
             for one in node.exprs or []:
                 self.initialiser(one)
@@ -117,6 +145,7 @@ class Names(Declarators):
             self.expression(node)
 
     def declared_function(self, node: Any) -> Function:
+        """The function that a declaration declares, which may be known already (6.2.2p5)."""
         result = node.type.type
         old = self.scope.maps[-1].get(node.name)
         static = "static" in node.storage or (isinstance(old, Function) and old.static)
@@ -124,7 +153,9 @@ class Names(Declarators):
         made = old if isinstance(old, Function) else self.linked.get(key)
         parameters = self.parameters(node)
         if not isinstance(made, Function):
-            made = Function(node.name, self.usable(result), parameters, node.coord, static=static, declaration=node)
+            made = Function(
+                node.name, self.declarators.usable(result), parameters, node.coord, static=static, declaration=node
+            )
             self.linked[key] = made
             self.functions.append(made)
         elif made.definition is None and (parameters or not made.parameters):
@@ -135,14 +166,16 @@ class Names(Declarators):
 
     @staticmethod
     def written(node: Any) -> list[Any]:
+        """The declarations in the brackets of a function's declarator, also a lone `void`; none where there are none."""
         return list(node.type.args.params) if node.type.args else []
 
     def parameters(self, node: Any) -> list[Variable]:
+        """The parameters as objects; an ellipsis and void are none."""
         made = []
         for one in self.written(node):
             if isinstance(one, tree.EllipsisParam):
                 continue
-            of = self.usable(one.type)
+            of = self.declarators.usable(one.type)
             if of == kinds.VOID:
                 continue
             of = kinds.Pointer(of) if isinstance(of, kinds.Signature) else of
@@ -152,6 +185,7 @@ class Names(Declarators):
         return made
 
     def definition(self, node: Any) -> None:
+        """The definition of a function, with the scopes of its body."""
         self.prototyped(node)
         made = self.declared_function(node.decl)
         self.meaning[node] = made
@@ -184,7 +218,7 @@ class Names(Declarators):
         node.param_decls = None
 
     def same_again(self, made: Function, node: Any) -> None:
-        """A second definition must be that of a header, read anew."""
+        """A second definition must be that of a header, read anew. Raises Refused where it is another one."""
         if any(one.function is made and one.home == "static" and not one.const for one in self.variables):
             raise Refused(
                 node.decl.coord, f"{made.name} has another static object in each source", "define it in one source"
@@ -198,6 +232,7 @@ class Names(Declarators):
     # ---- statements and expressions
 
     def statement(self, node: Any) -> None:
+        """Ties the names of a statement; a block has a scope of its own (6.2.1p4)."""
         self.refusals.go(node.coord)
         with self.refusals.gathered():
             if isinstance(node, tree.DeclList):
@@ -213,10 +248,12 @@ class Names(Declarators):
                 self.expression(node)
 
     def children(self, node: Any) -> None:
+        """Ties the names of all parts of a node."""
         for _, child in node.children():
             self.statement(child)
 
     def expression(self, node: Any) -> None:
+        """Ties the names of an expression, and gives types' names their types."""
         if isinstance(node, tree.ID):
             self.meaning[node] = self.scope.get(node.name)
             if isinstance(self.meaning[node], Function):
@@ -235,7 +272,7 @@ class Names(Declarators):
         elif isinstance(node, tree.StatementExpr):
             self.statement(node.body)
         elif isinstance(node, tree.Typename):
-            self.types[node] = self.type_of(node.type)
+            self.types[node] = self.declarators.type_of(node.type)
         elif isinstance(node, tree.InitList):
             self.initialiser(node)
         elif isinstance(node, tree.CompoundLiteral):
@@ -245,6 +282,7 @@ class Names(Declarators):
             self.children(node)
 
     def call(self, node: Any) -> None:
+        """Ties a call to its function where it is called by its name."""
         if is_offset(node):
             self.expression(node.args.exprs[0])
             return

@@ -21,6 +21,7 @@ STEPS = ("++", "p++", "--", "p--")
 
 
 def name_of(call: Any) -> str:
+    """The name by which a call calls; nothing of one by a pointer."""
     return str(call.name.name) if isinstance(call.name, tree.ID) else ""
 
 
@@ -32,9 +33,11 @@ class Asked:
 
     @property
     def total(self) -> int:
+        """The number of all answers."""
         return sum(self.counts.values())
 
     def plus(self, other: "Asked", times: int = 1) -> "Asked":
+        """These answers and so many times those of another."""
         names = dict.fromkeys([*self.counts, *other.counts])
         return Asked({one: self.counts.get(one, 0) + times * other.counts.get(one, 0) for one in names})
 
@@ -67,6 +70,7 @@ class Written:
         self.handed = self.arguments()
 
     def enumerated(self, node: Any) -> None:
+        """Learns the constants of an enum."""
         last = -1
         for one in node.values.enumerators if isinstance(node, tree.Enum) and node.values is not None else []:
             known = self.value(one.value, {}) if one.value is not None else last + 1
@@ -74,10 +78,12 @@ class Written:
             self.constants[one.name] = last
 
     def calls(self, function: str) -> list[Any]:
+        """Where this function, by what is written, calls another or itself; nothing where its body isn't there."""
         nodes = tree.walk(self.functions[function].body) if function in self.functions else []
         return [one for one in nodes if isinstance(one, tree.FuncCall)]
 
     def parameters(self, function: str) -> list[str]:
+        """The names of a function's parameters."""
         listed = self.functions[function].decl.type.args
         return [str(one.name) for one in listed.params] if listed else []
 
@@ -124,6 +130,7 @@ class Written:
 
 
 def blank(found: "re.Match[str]") -> str:
+    """Blanks in place of a text, on its lines."""
     return re.sub(r"[^\n]", " ", found.group())
 
 
@@ -143,7 +150,7 @@ def stepped(node: Any, name: str) -> Optional[int]:
 
 
 def changes(node: Any, name: str) -> list[Any]:
-    """What changes a variable."""
+    """The assignments, `++` and `--` in a tree whose target is the variable of this name."""
     found = []
     for one in tree.walk(node):
         target = (
@@ -301,6 +308,7 @@ class Needed:
         return 1 + max(inner, default=0)
 
     def recursive(self, entry: str) -> list[str]:
+        """The functions below an entry that call themselves."""
         found = self.reached(entry)
         return [
             one
@@ -311,6 +319,7 @@ class Needed:
     # ---- what is said
 
     def place(self, node: Any) -> str:
+        """The file and the line of a node."""
         return f"{os.path.basename(str(node.coord.file))}:{node.coord.line}"
 
     def entries(self, files: set[str]) -> list[str]:

@@ -86,6 +86,7 @@ def leftmost(node: Any, op: str) -> tuple[Any, int]:
 
 
 def word_of(node: Any) -> str:
+    """The text of a name or a constant."""
     return str(node.name if isinstance(node, tree.ID) else getattr(node, "value", ""))
 
 

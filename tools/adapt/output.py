@@ -13,12 +13,13 @@ def mark(line: int, column: int = 0) -> str:
 
 
 def unmarked(text: str) -> str:
+    """A text without the marks of places."""
     return LINE.sub("", text)
 
 
 @dataclass
 class File:
-    """One file that is written."""
+    """What goes to one path: pieces, each with the line of the source on which it begins."""
 
     path: str
     pieces: list[tuple[int, str]] = field(default_factory=list)
@@ -26,6 +27,7 @@ class File:
     marks: list[tuple[int, int, int, int]] = field(default_factory=list)
 
     def emit(self, line: int, text: str) -> None:
+        """Adds a piece that begins on a line."""
         self.pieces.append((line, text))
 
     def text(self, original: list[str]) -> str:

@@ -1,7 +1,7 @@
 """Writes each signed operation that can overflow as a call of a small function with an assert (--check-overflow), and each
 implicit conversion that may lose a value (--check-conversions).
 
-It stands before the rest of the writer: what it doesn't check, that writes. An operation whose operands leave no room for an
+checked.py asks it before an operation is written. An operation whose operands leave no room for an
 overflow, by their kinds or as constants, stays as it is. Divisions and remainders trap in the profile itself. Each call carries a mark in its text
 until the files are laid out; then the table of overflow.json tells of each call which operation of the original it is.
 """
@@ -10,17 +10,20 @@ import json
 import os
 import re
 from dataclasses import dataclass
-from typing import Any, Optional
+from typing import TYPE_CHECKING, Any, Optional
 
 from tools import program
 
 from . import kinds, overflow_texts
+from .component import Component
 from .kinds import Int
 from .operators import Original, spot
+from .output import FELL
 from .parsing import printed
-from .output import FELL, unmarked
-from .units import Units
-from .values import LEVELS, PRIMARY, UNARY, Value, number
+from .values import LEVELS, PRIMARY, Value, number
+
+if TYPE_CHECKING:
+    from .writer import Writer
 
 HEADER, TABLE = "overflow.h", "overflow.json"
 MARK = re.compile("\x04(\\d+)\x05")
@@ -39,6 +42,7 @@ def span_of(kind: Int) -> Span:
 
 
 def within(span: Span, kind: Int) -> bool:
+    """Whether a kind has all numbers between two."""
     low, high = span_of(kind)
     return low <= span[0] and span[1] <= high
 
@@ -108,28 +112,29 @@ class Site:
     text: str
 
 
-class Checked(Units):
-    """Writes with checks. `overflows` and `conversions` say of what."""
+class Overflow(Component):
+    """The calls of checked operations so far, with what each stands for. `overflows` and `conversions` say of what."""
 
-    overflows, conversions = True, False
-
-    def write(self) -> Any:
+    def __init__(self, writer: "Writer", overflows: bool, conversions: bool) -> None:
+        super().__init__(writer)
+        self.overflows, self.conversions = overflows, conversions
         self.helpers: dict[tuple[Any, ...], tuple[str, str]] = {}
         self.sites: list[Site] = []
         self.originals: dict[str, Original] = {}
-        self.last: tuple[Any, Optional[Value]] = None, None
-        return super().write()
+        self.last: tuple[Any, Optional[Value]] = None, None  # the expression that was written last, and its value
+        self.rows: list[dict[str, Any]] = []
 
     # ---- calls
 
     def helper(self, key: tuple[Any, ...], stem: str, text: Any) -> str:
         """The name of a function of the header, which is written where it is used."""
         if key not in self.helpers:
-            name = self.spelling.fresh(stem, True)
+            name = self.writer.spelling.fresh(stem, True)
             self.helpers[key] = name, text(name)
         return self.helpers[key][0]
 
     def original_of(self, file: str) -> Original:
+        """The tokens of a file, which is read once."""
         if file not in self.originals:
             with open(file, encoding="utf-8", errors="surrogateescape") as opened:
                 self.originals[file] = Original(opened.read())
@@ -157,30 +162,10 @@ class Checked(Units):
         )
         words = [one.text for one in (left, right) if one is not None]
         text = self.site_text(function, "shift" if op == "<<" else "overflow", node, words)
-        return Value(self.at(node) + text, kind, PRIMARY, calls=True)
-
-    # ---- what is written otherwise
-
-    def inner_value(self, node: Any) -> Value:
-        made = super().inner_value(node)
-        known = None if isinstance(made, Ranged) or made.kind.boolean else self.constants.value(node)
-        if known is not None:
-            made = Ranged(**vars(made), low=known, high=known)
-        self.last = node, made
-        return made
-
-    def binary(self, node: Any) -> Value:
-        is_size = self.is_size(node.left) and self.is_size(node.right)
-        both = (node.left, node.right) if node.op in CHECKED + KNOWN and not is_size else ()
-        if not both or self.function is None or any(self.is_pointer(one) for one in both):
-            return super().binary(node)
-        self.unsequenced(node, list(both))
-        left, right = self.value(node.left), self.value(node.right)
-        made = self.checked(node, node.op, left, right) if node.op in CHECKED else None
-        return made or self.unchecked(node.op, left, right)
+        return Value(self.writer.at(node) + text, kind, PRIMARY, calls=True)
 
     def unchecked(self, op: str, left: Value, right: Value) -> Value:
-        """The operation as it is."""
+        """A sum, product or shift without a call, with the least and greatest number that it may have where these fit."""
         level = LEVELS[op]
         kind = kinds.promoted(left.kind) if op in ("<<", ">>") else kinds.common(left.kind, right.kind)
         text, calls = f"{left.within(level)} {op} {right.within(level + 1)}", left.calls or right.calls
@@ -189,71 +174,14 @@ class Checked(Units):
             return Value(text, kind, level, calls=calls)
         return Ranged(text, kind, level, calls=calls, low=found[0], high=found[1])
 
-    def unary(self, node: Any) -> Value:
-        if node.op != "-" or self.function is None:
-            return super().unary(node)
-        one = self.value(node.expr)
-        made = self.checked(node, "-", one, None)
-        if made is not None:
-            return made
-        inner, kind = one.within(UNARY), kinds.promoted(one.kind)
-        text = f"{self.at(node)}-{' ' if unmarked(inner).startswith('-') else ''}{inner}"
-        return Value(text, kind, UNARY, calls=one.calls)
-
-    def assign(self, node: Any, stable: bool = False) -> tuple[str, Int]:
-        return super().assign(node, stable or node.op != "=")
-
-    def assignment(self, node: Any, target: str, kind: Int, given: Value, other: bool) -> str:
-        op = node.op[:-1]
-        if not op or kind.boolean and not self.overflows:
-            return super().assignment(node, target, kind, given, other)
-        own = Value(f"({kind.text}) {target}" if other else target, kind, UNARY if other else PRIMARY)
-        whole = self.checked(node, op, own, given) if op in CHECKED else None
-        if whole is None and not self.narrows(self.unchecked(op, own, given), kind):
-            return super().assignment(node, target, kind, given, other)
-        whole = whole or self.unchecked(op, own, given)
-        self.last = node, whole
-        return f"{target} = {self.converted(whole, kind).text};"
-
-    def operated(self, node: Any, op: str, own: Value, given: Value) -> Value:
-        made = self.checked(node, op, own, given) if op in CHECKED else None
-        made = self.unchecked(op, own, given) if made is None else made
-        self.last = node, made
-        return made
-
-    def step(self, node: Any, stable: bool = False) -> tuple[str, Int]:
-        return super().step(node, True)
-
-    def stepping(self, node: Any, target: str, kind: Int) -> str:
-        one = Value("1", kinds.INT, PRIMARY)
-        own, op = Value(target, kind, PRIMARY), node.op[-1]
-        whole = self.checked(node, op, own, one)
-        if whole is None and not self.narrows(self.unchecked(op, own, one), kind):
-            return super().stepping(node, target, kind)
-        whole = whole or self.unchecked(op, own, one)
-        self.last = node, whole
-        return f"{target} = {self.converted(whole, kind).text};"
-
     def narrows(self, value: Value, kind: Int) -> bool:
         """Whether a conversion that is asked about may lose the value."""
         return self.conversions and not kind.boolean and not within(span(value), kind)
-
-    def converted(self, value: Value, kind: Int) -> Value:
-        node = self.last[0] if self.last[1] is value else None
-        if node is None or node.coord is None or self.function is None or not self.narrows(value, kind):
-            return super().converted(value, kind)
-        function = self.helper(
-            ("to", value.kind.bits == 64 and not value.kind.signed, kind.bits, kind.signed, span_of(kind)),
-            overflow_texts.conversion_stem(value.kind, kind),
-            lambda called: overflow_texts.conversion(called, value.kind, kind),
-        )
-        return Value(self.site_text(function, "conversion", node, [value.text]), kind, PRIMARY, calls=True)
 
     # ---- what is written at last
 
     def finished(self, texts: dict[str, str]) -> dict[str, str]:
         """The files without marks, and the header before them; their sites are kept for the table."""
-        self.rows: list[dict[str, Any]] = []
         made = {path: self.unmarked_file(path, text) for path, text in texts.items()}
         if not self.helpers:
             return made
@@ -262,7 +190,7 @@ class Checked(Units):
 
     def unmarked_file(self, path: str, text: str) -> str:
         """A file's text without marks. The places that the file notes for the map are those without them too."""
-        lines, file = [], self.files[path]
+        lines, file = [], self.writer.files[path]
         kept = text.replace(FELL, "").split("\n")
         file.marks = [(at, column - marked(kept[at - 1], column), line, of) for at, column, line, of in file.marks]
         for number_of, line in enumerate(text.split("\n"), 1):
@@ -286,11 +214,3 @@ class Checked(Units):
             names = [name for name, _ in self.helpers.values()]
             value = json.dumps({"functions": names, "calls": self.rows}, indent=1)
             program.write_whole(os.path.join(folder, TABLE), value + "\n")
-
-
-def writer_of(given: Any) -> type[Units]:
-    """The writer that the words ask for."""
-    if not (given.check_overflow or given.check_conversions):
-        return Units
-    asked = {"overflows": given.check_overflow, "conversions": given.check_conversions}
-    return type("Asked", (Checked,), asked)

@@ -33,13 +33,14 @@ def stem(op: str, bits: int) -> str:
 
 
 def operation(name: str, op: str, bits: int) -> str:
-    """The function of an operation."""
+    """The C text of the helper that asserts that a result is in its range, then computes it in so many bits."""
     parameters, asserted = OPERATIONS[op, bits]
     result = RESULTS.get(op, f"a {op} b")
     return f"static {WORDS[bits]} {name}({parameters}) {{\n  assert({asserted});\n  return {result};\n}}\n"
 
 
 def word(kind: Int) -> str:
+    """A kind as a part of names."""
     if kind.width:
         return f"{'' if kind.below_zero else 'u'}int{kind.width}"
     return f"{'' if kind.signed else 'u'}int{kind.bits}"

@@ -1,14 +1,14 @@
-"""The way of C sources through bin/adapt, stage by stage. Each stage is a module or a few, and knows those before it alone.
+"""The way of C sources through bin/adapt, stage by stage. Each stage is a module or a few (STAGES), and knows those before it alone.
 
-    read      the text of each source, by the machine's preprocessor and compiler, as a tree          reading, gnu, parsing
-    expand    copies of functions, models of the library, switches and jumps: trees as they were      clones, library, cases, jumps
-    names     what each name stands for, and the types of declarations and expressions                names, declarators, constants
-    bind      which parameters stand for objects                                                      bindings
-    points-to which objects each pointer may meet                                                     points_to, meetings, settling
-    layout    where these objects lie in arrays, the columns                                          columns, places, choosers
-    effects   what expressions and calls read and write                                               effects
-    write     each statement in the profile, on its line                                              units and what it stands on
-    judge     the program reads what would be written                                                 gate
+    read        the text of each source, by the machine's preprocessor and compiler, as a tree of our own (tree.py)
+    expand      copies of functions, models of the library, switches and jumps: trees as they were, written otherwise
+    names       what each name stands for, and the types of declarations and expressions
+    bind        which parameters stand for objects
+    points-to   which objects each pointer may meet
+    layout      where these objects lie in arrays, the columns, and how long they live
+    effects     what expressions and calls read and write
+    write       each statement in the profile, on its line
+    judge       the program reads what would be written
 
 What a later stage learns, that parameters can't stand for objects or that functions need copies, begins the whole anew.
 """
@@ -30,21 +30,37 @@ from .library import OUTPUT, Library
 from .lifetimes import Lifetimes
 from .names import Names
 from .output import File
-from .overflow import writer_of
 from .places import Places
 from .reading import Unit, read
 from .refusals import Refusals
 from .sorting import check_sizes
 from .spelling import Spelling
 from .unions import settle
-from .units import Units
+from .writer import Analysis, Checking, Writer
+
+
+STAGES = {
+    "common": "refusals tree parsing kinds regions output",
+    "read": "gnu reading",
+    "expand": "lists states jumps cases sorting library clones",
+    "names": "unions constants declarators names",
+    "bind": "values initialisers places bindings",
+    "points-to": "heap models first_members unification meetings settling points_to",
+    "layout": "learning spelling columns choosers lifetimes",
+    "effects": "changed effects",
+    "write": "large raw component order conversions elements pointers pointer_effects outside model_calls calls wholes assignments "
+    "expressions statement_exprs operators overflow_texts overflow checked statements column_items checks uses units writer",
+    "judge": "gate",
+    "pipeline": "pipeline",
+    "command": "compare harness mapping needed main",
+}
 
 
 class Adapted(NamedTuple):
     """The text of each file that is written, by its original, and who wrote it."""
 
     texts: dict[str, str]
-    writer: Units
+    writer: Writer
 
 
 def adapt(given: Namespace, refusals: Refusals) -> Optional[Adapted]:
@@ -74,17 +90,15 @@ def written(given: Namespace, refusals: Refusals, apart: set[Any]) -> Optional[A
     taken = {word for unit in units for word in unit.words}
     library = expanded(units, taken, apart, refusals)
     names = named(units, library, given, refusals, taken)
-    places = Places(names)
-    Bindings(places, apart).bind()
-    places.columns = Columns(names, apart)
-    places.choosers = Choosers(names, places.columns)
-    lifetimes = Lifetimes(names, places.columns)
+    Bindings(Places(names), apart).bind()
+    columns = Columns(names, apart)
+    places = Places(names, columns, Choosers(names, columns))
+    lifetimes = Lifetimes(names, columns)
     inputs = set(given.inputs) | OUTPUT
     effected = Effected(names, places, inputs)
-    writer = writer_of(given)(names, places, effected, Spelling(names, taken), given.check)
-    writer.inputs, writer.lifetimes = inputs, lifetimes
-    files = writer.write()
-    texts = writer.finished(laid_out(files, units, given.sources))
+    known = Analysis(names, places, effected, lifetimes, inputs)
+    writer = Writer(known, Spelling(names, taken), Checking(given.check, given.check_overflow, given.check_conversions))
+    texts = writer.finished(laid_out(writer.units.write(), units, given.sources))
     if not refusals.found:
         check(texts, refusals)
     return Adapted(texts, writer)
@@ -114,8 +128,7 @@ def expanded(units: list[Unit], taken: set[str], apart: set[Any], refusals: Refu
 
 def named(units: list[Unit], library: Library, given: Namespace, refusals: Refusals, taken: set[str]) -> Names:
     """What the names stand for. The names that jumps got become taken."""
-    names = Names(refusals)
-    names.pool = given.pool
+    names = Names(refusals, given.pool)
     for unit in units:
         taken.update(node.name for node in tree.walk(unit.tree) if isinstance(node, tree.ID))
         names.unit(unit)
@@ -134,6 +147,6 @@ def laid_out(files: dict[str, File], units: list[Unit], sources: list[str]) -> d
 
 
 def lines_of(path: str) -> list[str]:
-    """The lines of a file."""
+    """A source as it stands, split at line feeds; bytes that aren't UTF-8 are kept. Raises OSError."""
     with open(path, encoding="utf-8", errors="surrogateescape") as file:
         return file.read().split("\n")

@@ -5,8 +5,8 @@ from dataclasses import dataclass, field, replace
 from typing import Any, NamedTuple, Optional
 
 from . import kinds, tree, unions
-from .kinds import Array, Int, Other, Path, Pointer, Struct, Type, fault_of
 from .declarators import Variable
+from .kinds import Array, Int, Other, Path, Pointer, Struct, Type, fault_of
 from .names import Names
 from .refusals import Refused
 from .regions import Region
@@ -63,18 +63,11 @@ class Place:
 
 
 class Places:
-    def __init__(self, names: Names) -> None:
-        self.names = names
-        self.columns: Any = None  # set once regions have columns
-        self.choosers: Any = None
-        names.constants.place_type = self.type_at
-        self.zero = tree.Constant("int", "0")
+    """The objects that expressions name, by the columns where these are known."""
 
-    def type_at(self, node: Any) -> Type:
-        try:
-            return self.place(node).type
-        except Refused:
-            return self.names.constants.simple_place(node)
+    def __init__(self, names: Names, columns: Any = None, choosers: Any = None) -> None:
+        self.names, self.columns, self.choosers = names, columns, choosers
+        self.zero = tree.Constant("int", "0")
 
     def of_variable(self, variable: Variable) -> Place:
         """The place of a variable, which may lie in a column."""
@@ -87,7 +80,7 @@ class Places:
         return Place(variable, (), (), variable.type, 0, region)
 
     def member(self, base: Place, name: str, node: Any) -> Place:
-        """The place of a member."""
+        """The place of a member. Raises Refused for a member that there isn't, or that can't be written."""
         path = unions.found(base.type, name)
         if path is None or not isinstance(base.type, Struct):
             if isinstance(base.type, Struct) and base.type.carrier and base.type.carrier[0] == name:
@@ -140,7 +133,7 @@ class Places:
         return found
 
     def element(self, base: Place, index: Any) -> Place:
-        """The place of an array's element."""
+        """The place of an array's element. Raises Refused for what is no array."""
         if not isinstance(base.type, Array) or base.type.length is None:
             raise Refused(index.coord, "what is no array", USE)
         if base.row and isinstance(base.type.of, Array):
@@ -157,6 +150,8 @@ class Places:
         return replace(base, indexes=base.indexes + ((index, length),), type=base.type.of, around=around, row=False)
 
     def place(self, node: Any) -> Place:
+        """The object that an expression names (6.5.1 to 6.5.3.2). Raises Refused where it names none, or one that
+        can't be written."""
         if isinstance(node, tree.ID):
             meaning = self.names.meaning.get(node)
             if not isinstance(meaning, Variable):
@@ -180,7 +175,7 @@ class Places:
         raise Refused(node.coord, "what is no named object", "use a variable")
 
     def pointed(self, node: Any, index: Any = None) -> Place:
-        """The object at a pointer, or at an index from it."""
+        """The object at a pointer, or at an index from it. Raises Refused for arithmetic that leads to no object."""
         if isinstance(node, tree.BinaryOp) and node.op == "+" and index is None:
             if not isinstance(self.names.constants.type_of(node.left), Int):
                 return self.pointed(node.left, node.right)
@@ -210,7 +205,8 @@ class Places:
         return self.element(self.place(node), index or self.zero)
 
     def at_pointer(self, node: Any, index: Any) -> Place:
-        """The object at a pointer that is an index into a column."""
+        """The object at a pointer that is an index into a column. Raises Refused where its objects have no type, or
+        can't lie in one column."""
         of = self.columns.pointer(node)
         region = of.region.root()
         if region.fault:
@@ -230,6 +226,7 @@ class Places:
     # ---- arguments
 
     def whole_array(self, node: Any) -> Place:
+        """The array that an argument is. Raises Refused for a part of one."""
         if not isinstance(node, (tree.ID, tree.StructRef, tree.ArrayRef)):
             raise Refused(
                 node.coord,
@@ -239,7 +236,7 @@ class Places:
         return self.place(node)
 
     def handed(self, node: Any) -> Place:
-        """The object whose address an argument is."""
+        """The object whose address an argument is. Raises Refused for a null pointer and for one that is converted."""
         if self.names.constants.value(node) is not None:
             raise Refused(node.coord, "a null pointer is handed over", "hand over the address of a named object")
         if isinstance(node, tree.Cast):
@@ -248,4 +245,5 @@ class Places:
 
 
 def arguments(call: Any) -> list[Any]:
+    """The expressions between the brackets of a call (6.5.2.2), in order."""
     return list(call.args.exprs) if call.args else []

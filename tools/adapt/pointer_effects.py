@@ -4,66 +4,66 @@ from dataclasses import replace
 from typing import Any, Optional
 
 from . import kinds, tree
+from .component import Component
 from .declarators import Function, Variable
 from .effects import objects
 from .kinds import Array, Pointer
 from .output import unmarked
 from .places import Place
-from .pointers import Parts, Pointers
+from .pointers import Parts
 from .refusals import Refused
 from .regions import INDEX
 from .values import PRIMARY, UNARY, Known, Value, plus, times
 
 
-class PointerEffects(Pointers):
-    def hand_back(self) -> None:
-        raise NotImplementedError
-
-    def hands_back(self) -> bool:
-        raise NotImplementedError
+class PointerEffects(Component):
+    """What is done with pointers, and with objects part by part."""
 
     def compared(self, node: Any) -> Value:
-        """A comparison of pointers."""
-        self.unsequenced(node, [node.left, node.right])
-        left, right = self.pointer(node.left)[INDEX], self.pointer(node.right)[INDEX]
+        """`==`, `<` and the like of two pointers by their indexes in one column (6.5.8p5, 6.5.9p6)."""
+        self.writer.order.unsequenced(node, [node.left, node.right])
+        left, right = self.writer.pointers.pointer(node.left)[INDEX], self.writer.pointers.pointer(node.right)[INDEX]
         text = f"{left.within(7 if node.op in ('==', '!=') else 8)} {node.op} {right.within(8)}"
         level = 6 if node.op in ("==", "!=") else 7
         return Value(text, kinds.INT, level, truth=True, calls=left.calls or right.calls)
 
     def difference(self, node: Any) -> Value:
-        self.unsequenced(node, [node.left, node.right])
-        left, right = self.pointer(node.left)[INDEX], self.pointer(node.right)[INDEX]
-        stride = self.stride(node.left)
+        """The difference of two pointers in elements (6.5.6p9)."""
+        self.writer.order.unsequenced(node, [node.left, node.right])
+        left, right = self.writer.pointers.pointer(node.left)[INDEX], self.writer.pointers.pointer(node.right)[INDEX]
+        stride = self.writer.pointers.stride(node.left)
         text = f"{left.within(9)} - {right.within(10)}"
         text = f"({text})" if stride == 1 else f"(({text}) / {stride})"
         return Value(f"(long) {text}", kinds.LONG, UNARY, calls=left.calls or right.calls)
 
     def assign_pointer(self, node: Any) -> None:
-        place = self.places.place(node.lvalue)
+        """Writes an assignment to a pointer (6.5.16.1). Raises Refused for an operator that pointers haven't."""
+        place = self.writer.places.place(node.lvalue)
         if node.op in ("+=", "-="):
             parts = self.moved_in_place(node, place)
             return
         if node.op != "=":
             raise Refused(node.coord, "arithmetic with a pointer", "use + and -")
-        self.unsequenced(node, [tree.ExprList([one for one, _ in place.indexes]), node.rvalue])
-        self.not_twice(node, place, node.rvalue)
-        target = self.parts_at(place, self.index(place, True))
-        parts = self.pointer(node.rvalue)
+        self.writer.order.unsequenced(node, [tree.ExprList([one for one, _ in place.indexes]), node.rvalue])
+        self.writer.assignments.not_twice(node, place, node.rvalue)
+        target = self.writer.pointers.parts_at(place, self.writer.elements.index(place, True))
+        parts = self.writer.pointers.pointer(node.rvalue)
         self.set_parts(target, parts, self.reads(node.rvalue, place))
 
     def moved_in_place(self, node: Any, place: Place) -> Parts:
-        self.unsequenced(node, [node.lvalue, node.rvalue])
-        target = self.parts_at(place, self.index(place, True))
-        step = times(self.wide(self.steady_value(self.value(node.rvalue))), self.stride(node.lvalue))
-        self.emit(f"{target[INDEX].text} {node.op} {step.text};")
+        """Writes that a pointer moves by `+=` or `-=`; its integers."""
+        self.writer.order.unsequenced(node, [node.lvalue, node.rvalue])
+        target = self.writer.pointers.parts_at(place, self.writer.elements.index(place, True))
+        step = times(
+            self.writer.pointers.wide(self.writer.elements.steady_value(self.writer.expressions.value(node.rvalue))),
+            self.writer.pointers.stride(node.lvalue),
+        )
+        self.writer.emit(f"{target[INDEX].text} {node.op} {step.text};")
         return target
-
-    def not_twice(self, node: Any, place: Place, value: Any) -> None:
-        raise NotImplementedError
 
     def reads(self, node: Any, place: Place) -> bool:
         """Whether an expression reads an object."""
-        reads = self.effected.of(node).reads
+        reads = self.writer.effected.of(node).reads
         return any(one in reads for one in objects(place))
 
     def set_parts(self, target: Parts, parts: Parts, read: bool) -> None:
@@ -71,37 +71,43 @@ class PointerEffects(Pointers):
         changed = [name for name in reversed(list(target)) if unmarked(target[name].text) != unmarked(parts[name].text)]
         texts = {name: parts[name].text for name in changed}
         if read and len(changed) > 1:
-            texts = {name: self.temporary(kinds.INT, texts[name], "pointer") for name in changed}
+            texts = {name: self.writer.temporary(kinds.INT, texts[name], "pointer") for name in changed}
         for name in changed:
-            self.emit(f"{target[name].text} = {texts[name]};")
+            self.writer.emit(f"{target[name].text} = {texts[name]};")
 
     def placed(self, variable: Variable, path: tuple[str, ...], spot: tuple[int, ...]) -> Place:
         """The place of a part of a variable, by its members and the numbers of its elements."""
-        place, names, numbers = self.places.of_variable(variable), list(path), list(spot)
+        place, names, numbers = self.writer.places.of_variable(variable), list(path), list(spot)
         return self.stepped_into(place, names, numbers)
 
     def stepped_into(self, place: Place, names: list[str], numbers: list[int]) -> Place:
+        """The place of a part of a place."""
         while names or numbers:
             if isinstance(place.type, Array) and numbers:
-                place = self.places.element(place, tree.Constant("int", str(numbers.pop(0))))
-            elif names and isinstance(place.type, kinds.Struct) and self.places.is_raw(place) and place.type.is_parts():
+                place = self.writer.places.element(place, tree.Constant("int", str(numbers.pop(0))))
+            elif (
+                names
+                and isinstance(place.type, kinds.Struct)
+                and self.writer.places.is_raw(place)
+                and place.type.is_parts()
+            ):
                 place = replace(place, type=place.type.type_of(names.pop(0)))
             elif names and names[0].startswith("@"):
                 return replace(place, path=place.path + (names.pop(0),), type=kinds.INT)
             else:
-                place = self.places.member(place, names.pop(0), None)
+                place = self.writer.places.member(place, names.pop(0), None)
         return place
 
     def each_integer(self, place: Place, index: Optional[Value]) -> list[tuple[Any, list[str]]]:
         """The integers of an object of which some lie in columns of their own."""
         base = place
-        if self.places.is_raw(place) and kinds.is_mixed(place.type):
-            begin, column = index or self.raw.index(place, True), self.spelling.leaf(place.variable, ())
+        if self.writer.places.is_raw(place) and kinds.is_mixed(place.type):
+            begin, column = index or self.writer.raw.index(place, True), self.writer.spelling.leaf(place.variable, ())
             count = kinds.size(place.type) or 0
             ends = [plus(begin, Value(str(at), kinds.INT, PRIMARY)).text for at in range(count)]
             return [(kinds.Leaf((), (count,), kinds.Int(8, False, "")), [f"{column}[{unmarked(one)}]" for one in ends])]
-        if self.places.is_raw(place):
-            base = self.raw.known(place, index or self.raw.index(place, True))
+        if self.writer.places.is_raw(place):
+            base = self.writer.raw.known(place, index or self.writer.raw.index(place, True))
         elif index is not None:
             base = replace(place, indexes=((Known(index, None), 1),), shift=0)
         found = []
@@ -112,30 +118,33 @@ class PointerEffects(Pointers):
                 for length in reversed(leaf.dims):
                     spot.insert(0, at % length)
                     at //= length
-                texts.append(unmarked(self.leaf(self.stepped_into(base, list(leaf.path), spot))[0]))
+                texts.append(unmarked(self.writer.elements.leaf(self.stepped_into(base, list(leaf.path), spot))[0]))
             found.append((leaf, texts))
         return found
 
     def lies_apart(self, variable: Variable) -> bool:
-        return bool(self.places.columns.any_apart(self.places.columns.home(variable), variable.type))
+        """Whether a part of a variable lies in a column of its own."""
+        return bool(self.writer.places.columns.any_apart(self.writer.places.columns.home(variable), variable.type))
 
     def pointer_begun(self, variable: Variable, node: Any) -> None:
         """Writes a local pointer with its first value."""
-        parts = self.pointer(node.init)
-        if self.places.columns.in_column(variable):
-            place = self.places.of_variable(variable)
-            self.set_parts(self.parts_at(place, self.index(place, True)), parts, False)
+        parts = self.writer.pointers.pointer(node.init)
+        if self.writer.places.columns.in_column(variable):
+            place = self.writer.places.of_variable(variable)
+            self.set_parts(self.writer.pointers.parts_at(place, self.writer.elements.index(place, True)), parts, False)
             return
         for leaf in kinds.leaves(variable.type):
-            self.emit(f"{leaf.kind.text} {self.spelling.leaf(variable, leaf.path)} = {parts[leaf.path[-1]].text};")
+            self.writer.emit(
+                f"{leaf.kind.text} {self.writer.spelling.leaf(variable, leaf.path)} = {parts[leaf.path[-1]].text};"
+            )
 
     def return_pointer(self, function: Function, of: Pointer, expr: Any) -> None:
         """Writes the return of a pointer: its index, and what else it has in objects of the file."""
-        parts = self.pointer(expr)
+        parts = self.writer.pointers.pointer(expr)
         text = parts[INDEX].text
-        if parts[INDEX].calls and len(of.region.parts()) > 1 or self.hands_back():
-            text = self.temporary(kinds.INT, text)
+        if parts[INDEX].calls and len(of.region.parts()) > 1 or self.writer.statements.hands_back():
+            text = self.writer.temporary(kinds.INT, text)
         for part in of.region.parts()[1 if function.calls else 0 :]:  # (what nothing calls gives no number)
-            self.emit(f"{self.result_part(function, part)} = {parts[part].text};")
-        self.hand_back()
-        self.emit(f"return {text};" if function.calls else "return;")
+            self.writer.emit(f"{self.writer.pointers.result_part(function, part)} = {parts[part].text};")
+        self.writer.statements.hand_back()
+        self.writer.emit(f"return {text};" if function.calls else "return;")

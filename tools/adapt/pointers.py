@@ -4,17 +4,18 @@ its object. An access outside of the object becomes the index -1, which ends a r
 from typing import Any, Optional
 
 from . import first_members, kinds, statement_exprs, tree
+from .component import Component
 from .declarators import Function, Variable
 from .effects import STEPS
 from .heap import heap_call
 from .kinds import Array, Pointer, Signature
-from .models import Model, model_of
-from .places import At, Place
+from .models import model_of
 from .output import unmarked
+from .places import At, Place
 from .refusals import Refused
 from .regions import BEGIN, END, INDEX, NIL
 from .values import PRIMARY, UNARY, Value, minus, number, plus, times
-from .writer import Writer
+
 
 MOST = 16383  # no index of a column is greater
 NONE = {
@@ -25,60 +26,45 @@ NONE = {
 Parts = dict[str, Value]
 
 
-class Pointers(Writer):
-    special: dict[Any, Variable] = {}
-
-    def call(self, node: Any) -> tuple[str, list[str]]:
-        raise NotImplementedError
-
-    def called(self, node: Any) -> Function:
-        raise NotImplementedError
-
-    def effect(self, node: Any) -> None:
-        raise NotImplementedError
-
-    def either(self, node: Any, do: Any) -> None:
-        raise NotImplementedError
-
-    def model_parts(self, node: Any, model: Model) -> Parts:
-        raise NotImplementedError
-
-    def test(self, node: Any) -> Value:
-        raise NotImplementedError
+class Pointers(Component):
+    """Writes expressions with pointer types as integers: an index, and an end and a begin where they are needed."""
 
     def is_null(self, node: Any) -> bool:
+        """Whether an expression is a null pointer constant (6.3.2.3p3)."""
         while isinstance(node, tree.Cast):
             node = node.expr
-        return self.constants.value(node) == 0
+        return self.writer.constants.value(node) == 0
 
     def is_pointer(self, node: Any) -> bool:
         """Whether an expression is a pointer or an array that is one, but for parameters that stand for objects."""
-        of = self.constants.type_of(node)
-        meaning = self.names.meaning.get(node) if isinstance(node, tree.ID) else None
+        of = self.writer.constants.type_of(node)
+        meaning = self.writer.names.meaning.get(node) if isinstance(node, tree.ID) else None
         return isinstance(of, (Pointer, Array, Signature)) and not (isinstance(meaning, Variable) and meaning.is_bound)
 
     # ---- values
 
     def pointer(self, node: Any) -> Parts:
         """The integers of a pointer's value; its effects are written before."""
-        self.within += 1
+        self.writer.within += 1
         try:
             return self.parts_of(node)
         finally:
-            self.within -= 1
+            self.writer.within -= 1
 
     def parts_of(self, node: Any) -> Parts:
+        """The integers of a pointer's value by its form. Raises Refused where the pointer may meet objects that can't
+        lie in one column."""
         if self.is_null(node):
             return NONE
-        of = self.places.columns.pointer(node)
+        of = self.writer.places.columns.pointer(node)
         fault = of.region.root().fault
         if fault:
             raise Refused(node.coord, fault[1], fault[2])
-        if isinstance(self.constants.type_of(node), Signature):
+        if isinstance(self.writer.constants.type_of(node), Signature):
             return self.code(node, of)
         if isinstance(node, tree.Cast):
-            first = self.places.columns.points.firsts.get(node)
-            return first_members.cast(self, node, first) if first else self.pointer(node.expr)
+            first = self.writer.places.columns.points.firsts.get(node)
+            return first_members.cast(self.writer, node, first) if first else self.pointer(node.expr)
         if isinstance(node, tree.UnaryOp) and node.op == "&":
             return self.address(node)
         if isinstance(node, tree.UnaryOp) and node.op in STEPS:
@@ -87,43 +73,45 @@ class Pointers(Writer):
             left = self.is_pointer(node.left)
             return self.moved(node, node.left if left else node.right, node.right if left else node.left, node.op)
         if isinstance(node, tree.Assignment):
-            self.effect(node)
+            self.writer.assignments.effect(node)
             return self.loaded(node.lvalue)
         if isinstance(node, tree.TernaryOp):
             return self.chosen_pointer(node, of)
         if isinstance(node, tree.ExprList):
             for one in node.exprs[:-1]:
-                self.effect(one)
+                self.writer.assignments.effect(one)
             return self.pointer(node.exprs[-1])
         if isinstance(node, tree.FuncCall):
             return self.given_back(node, of)
         if isinstance(node, tree.StatementExpr):
-            return statement_exprs.pointer(self, node, of.region.parts())
-        if isinstance(self.constants.type_of(node), Array):
+            return statement_exprs.pointer(self.writer, node, of.region.parts())
+        if isinstance(self.writer.constants.type_of(node), Array):
             return self.pointing_at_first(self.array(node))
         return self.loaded(node)
 
     def code(self, node: Any, of: Pointer) -> Parts:
         """A function's name, or what a pointer to one leads to, as a pointer."""
-        meaning = self.names.meaning.get(node) if isinstance(node, tree.ID) else None
+        meaning = self.writer.names.meaning.get(node) if isinstance(node, tree.ID) else None
         if not isinstance(meaning, Function):
             return self.pointer(node.expr)
-        return {INDEX: Value(str(self.places.choosers.number(of.region, meaning)), kinds.INT, PRIMARY)}
+        return {INDEX: Value(str(self.writer.places.choosers.number(of.region, meaning)), kinds.INT, PRIMARY)}
 
     def array(self, node: Any) -> Place:
+        """The place of an array or of a string."""
         if isinstance(node, tree.Constant):
-            return self.places.of_variable(self.places.columns.points.texts[node])
-        return self.places.place(node)
+            return self.writer.places.of_variable(self.writer.places.columns.points.texts[node])
+        return self.writer.places.place(node)
 
     def loaded(self, node: Any) -> Parts:
         """The value of a pointer that is an object."""
-        place = self.places.place(node)
-        return self.parts_at(place, self.index(place, True))
+        place = self.writer.places.place(node)
+        return self.parts_at(place, self.writer.elements.index(place, True))
 
     def parts_at(self, place: Place, index: Optional[Value]) -> Parts:
+        """The integers of a pointer that lies at a place."""
         found = {}
         for part in place.type.region.parts():  # type: ignore[union-attr]
-            name = self.spelling.leaf(place.variable, place.path + (part,))
+            name = self.writer.spelling.leaf(place.variable, place.path + (part,))
             text = name if index is None else f"{name}[{index.text}]"
             found[part] = Value(text, kinds.INT, PRIMARY, calls=index is not None and index.calls)
         return found
@@ -133,35 +121,41 @@ class Pointers(Writer):
         return self.pointing(self.first_element(place), place.around or place)
 
     def first_element(self, place: Place) -> Place:
+        """The place of an array's first element, through all its lengths."""
         while isinstance(place.type, Array):
-            place = self.places.element(place, self.places.zero)
+            place = self.writer.places.element(place, self.writer.places.zero)
         return place
 
     def pointing(self, place: Place, around: Place) -> Parts:
-        """A pointer to a place within an object."""
+        """A pointer to a place within an object. Raises Refused for an object that lies in no column."""
         if place.variable.home != "column" or place.path:
             raise Refused(None, f"the address of {place.variable.name}", "name the object itself")
-        raw = self.places.is_raw(place)
-        index = self.raw.index(place, True, False) if raw else self.index(place, True)
+        raw = self.writer.places.is_raw(place)
+        index = self.writer.raw.index(place, True, False) if raw else self.writer.elements.index(place, True)
         assert index is not None
         begin = index
         if isinstance(around.type, Array):
             first = self.first_element(around)
-            begin = self.raw.index(first, True, False) if raw else self.index(first, True) or index
-        count = self.places.columns.points.count(around.type, place.region) if raw else kinds.elements(around.type)
+            begin = (
+                self.writer.raw.index(first, True, False) if raw else self.writer.elements.index(first, True) or index
+            )
+        count = (
+            self.writer.places.columns.points.count(around.type, place.region) if raw else kinds.elements(around.type)
+        )
         end = plus(begin, Value(str(count), kinds.INT, PRIMARY))
         return {INDEX: index, END: end, BEGIN: begin}
 
     def address(self, node: Any) -> Parts:
+        """The address of an object or a function (6.5.3.2p3)."""
         inner = node.expr
-        if isinstance(self.constants.type_of(inner), Signature):
+        if isinstance(self.writer.constants.type_of(inner), Signature):
             return self.pointer(inner)
         if isinstance(inner, tree.UnaryOp) and inner.op == "*" and self.is_pointer(inner.expr):
             return self.pointer(inner.expr)
-        if isinstance(inner, tree.ArrayRef) and isinstance(self.constants.type_of(inner.name), Pointer):
+        if isinstance(inner, tree.ArrayRef) and isinstance(self.writer.constants.type_of(inner.name), Pointer):
             if self.is_pointer(inner.name):
                 return self.moved(node, inner.name, inner.subscript, "+")
-        place = self.places.place(inner)
+        place = self.writer.places.place(inner)
         return self.pointing(self.first_element(place), place.around or place)
 
     def wide(self, value: Value) -> Value:
@@ -183,14 +177,15 @@ class Pointers(Writer):
         )
 
     def stride(self, node: Any) -> int:
-        of = self.places.columns.pointer(node)
+        """By how many elements of its column, or bytes, a pointer moves: the number of those in what it points to."""
+        of = self.writer.places.columns.pointer(node)
         return (kinds.size(of.to) or 1) if of.region.root().raw else kinds.elements(of.to)
 
     def moved(self, node: Any, base: Any, by: Any, op: str) -> Parts:
         """A pointer moved by a number of elements."""
-        self.unsequenced(node, [base, by])
+        self.writer.order.unsequenced(node, [base, by])
         parts = dict(self.pointer(base))
-        step = times(self.wide(self.steady_value(self.value(by))), self.stride(base))
+        step = times(self.wide(self.writer.elements.steady_value(self.writer.expressions.value(by))), self.stride(base))
         if op == "-":
             known = number(step)
             made = f"{parts[INDEX].within(9)} - {step.within(10)}"
@@ -201,83 +196,87 @@ class Pointers(Writer):
 
     def stepped_pointer(self, node: Any) -> Parts:
         """`++` and `--`: the old value, which is kept, or the new one."""
-        place = self.places.place(node.expr)
-        parts = self.parts_at(place, self.index(place, True))
+        place = self.writer.places.place(node.expr)
+        parts = self.parts_at(place, self.writer.elements.index(place, True))
         target = parts[INDEX].text
         step, before = self.step_text(node, target), not node.op.startswith("p")
-        if before or node in self.behind:
-            self.emit(step) if before else self.after.append(step)
+        if before or node in self.writer.behind:
+            self.writer.emit(step) if before else self.writer.after.append(step)
             return parts
-        old = self.temporary(kinds.INT, target)
-        self.emit(step)
+        old = self.writer.temporary(kinds.INT, target)
+        self.writer.emit(step)
         return {**parts, INDEX: Value(old, kinds.INT, PRIMARY)}
 
     def step_text(self, node: Any, target: str) -> str:
+        """The statement of a step of a pointer."""
         stride = self.stride(node.expr)
         return f"{target}{node.op[-2:]};" if stride == 1 else f"{target} {node.op[-1]}= {stride};"
 
     def chosen_pointer(self, node: Any, of: Pointer) -> Parts:
+        """?: of pointers, each integer by itself, or by a branch."""
         names = of.region.parts()
-        yes = self.inline(node.iftrue, lambda: self.pointer(node.iftrue))
-        no = self.inline(node.iffalse, lambda: self.pointer(node.iffalse))
+        apart = self.writer.order.needs_statements(node.iffalse)
+        yes = None if apart else self.writer.order.inline(node.iftrue, lambda: self.pointer(node.iftrue))
+        no = None if yes is None else self.writer.order.inline(node.iffalse, lambda: self.pointer(node.iffalse))
         if yes is not None and no is not None:
-            test = self.test(node.cond)
+            test = self.writer.expressions.test(node.cond)
             if not any(one.calls for one in [test, *yes.values(), *no.values()]) or len(names) == 1:
                 texts = {name: f"{test.within(1)} ? {yes[name].text} : {no[name].within(0)}" for name in names}
                 return {name: Value(text, kinds.INT, 0, calls=test.calls) for name, text in texts.items()}
-        made = {name: self.temporary(kinds.INT, "0", "pointer") for name in names}
+        made = {name: self.writer.temporary(kinds.INT, "0", "pointer") for name in names}
 
         def set_all(one: Any) -> None:
             values = self.pointer(one)
             for name in names:
-                self.emit(f"{made[name]} = {values[name].text};")
+                self.writer.emit(f"{made[name]} = {values[name].text};")
 
-        self.either(node, set_all)
+        self.writer.expressions.either(node, set_all)
         return {name: Value(text, kinds.INT, PRIMARY) for name, text in made.items()}
 
     def given_back(self, node: Any, of: Pointer) -> Parts:
-        """What a call gives."""
-        function = self.called(node)
+        """What a call gives. Raises Refused where no source defines the function."""
+        function = self.writer.calls.called(node)
         if heap_call(function):
-            return self.heap.allocated(node, function.name)
+            return self.writer.heap.allocated(node, function.name)
         model = model_of(function)
         if model is not None:
-            parts = self.model_parts(node, model)
+            parts = self.writer.models.model_parts(node, model)
             several = len(of.region.parts()) > 1
-            return {**parts, INDEX: self.steady_value(parts[INDEX])} if several else parts
+            return {**parts, INDEX: self.writer.elements.steady_value(parts[INDEX])} if several else parts
         if function.definition is None:
             raise Refused(
                 node.coord,
                 f"no source defines {function.name}, which gives a pointer",
                 "give the source that defines it",
             )
-        text, after = self.call(node)
+        text, after = self.writer.calls.call(node)
         names = of.region.parts()
         if len(names) == 1 and not after:
             return {INDEX: Value(text, kinds.INT, PRIMARY, calls=True)}
-        found = {INDEX: Value(self.temporary(kinds.INT, text, "pointer"), kinds.INT, PRIMARY)}
+        found = {INDEX: Value(self.writer.temporary(kinds.INT, text, "pointer"), kinds.INT, PRIMARY)}
         for name in names[1:]:
             found[name] = Value(
-                self.temporary(kinds.INT, self.result_part(function, name), "pointer"), kinds.INT, PRIMARY
+                self.writer.temporary(kinds.INT, self.result_part(function, name), "pointer"), kinds.INT, PRIMARY
             )
         for one in after:
-            self.emit(one)
+            self.writer.emit(one)
         return found
 
     def result_part(self, function: Function, part: str) -> str:
-        own = self.spelling.special(function, "result", function.result, self.special)
-        return self.spelling.leaf(own, (part,))
+        """The name of the object in which a function hands a part of its pointer back."""
+        own = self.writer.spelling.special(function, "result", function.result, self.writer.special)
+        return self.writer.spelling.leaf(own, (part,))
 
     # ---- accesses
 
     def element_at(self, node: At) -> Value:
         """The number of the element at a pointer, or -1 where it is outside of the pointer's object."""
         if node.index is not None:
-            self.unsequenced(node, [node.pointer, node.index])
-        parts = {name: self.steady_value(one) for name, one in self.pointer(node.pointer).items()}
+            self.writer.order.unsequenced(node, [node.pointer, node.index])
+        parts = {name: self.writer.elements.steady_value(one) for name, one in self.pointer(node.pointer).items()}
         index, tests = parts[INDEX], []
-        if node.index is not None and self.constants.value(node.index) != 0:
-            by = self.steady_value(self.value(node.index))
+        if node.index is not None and self.writer.constants.value(node.index) != 0:
+            by = self.writer.elements.steady_value(self.writer.expressions.value(node.index))
             if number(by) is None and by.kind.bits > 8 and by.kind != kinds.Int(16, True, ""):
                 bad = (
                     f"(unsigned long) {by.within(UNARY)} + 16384 > 32767"
@@ -288,7 +287,7 @@ class Pointers(Writer):
             if by.kind.bits == 64:
                 by = Value(f"(int) {by.within(UNARY)}", kinds.INT, UNARY)
             index = plus(index, times(by, node.stride))
-        region = self.places.columns.pointer(node.pointer).region
+        region = self.writer.places.columns.pointer(node.pointer).region
         wanted = region.parts()
         if node.raw:
             node.tests, node.ends = tests, {name: parts[name] for name in wanted if name != INDEX}

@@ -3,7 +3,6 @@
 from typing import Any, Optional
 
 from . import kinds, tree, unions
-from .tree import with_parents
 from .declarators import Function, Variable
 from .first_members import FirstMember, related
 from .heap import GIVES, Pool, heap_call, known_call
@@ -16,10 +15,13 @@ from .places import Place, arguments
 from .refusals import Refused
 from .regions import Region
 from .settling import settle
+from .tree import with_parents
 from .unification import Unification
 
 
 class PointsTo(Unification):
+    """The regions of all objects and of the pointers' values."""
+
     def __init__(self, names: Names, learned: set[Any]) -> None:
         self.names, self.constants, self.learned = names, names.constants, learned
         self.pools: dict[tree.Node, Pool] = {}
@@ -47,7 +49,8 @@ class PointsTo(Unification):
     # ---- types of expressions, with their regions
 
     def place(self, node: Any) -> tuple[Type, Region]:
-        """The type of what an expression names, and the region in which it lies."""
+        """The type of what an expression names, and the region in which it lies. Raises Refused for what is no named
+        object."""
         meaning = self.names.meaning.get(node) if isinstance(node, tree.ID) else None
         if isinstance(meaning, Variable):
             return meaning.type, self.home(meaning)
@@ -97,7 +100,7 @@ class PointsTo(Unification):
         return inner, own.root()
 
     def pointee(self, node: Any) -> tuple[Type, Region]:
-        """What a pointer, or an array, leads to."""
+        """What a pointer, or an array, leads to. Raises Refused for what is no pointer."""
         meaning = self.names.meaning.get(node) if isinstance(node, tree.ID) else None
         if isinstance(meaning, Variable) and meaning.is_bound and not isinstance(meaning.type, (Int, Struct)):
             return self.bound(meaning)
@@ -134,6 +137,7 @@ class PointsTo(Unification):
         return self.values[node]
 
     def made(self, node: Any) -> Type:
+        """The type of a value by its form."""
         if isinstance(node, tree.Constant) and node.type == "string":
             return self.text(node)
         if isinstance(self.constants.type_of(node), Signature):
@@ -193,6 +197,7 @@ class PointsTo(Unification):
         return of
 
     def address(self, node: Any) -> Type:
+        """What `&` gives (6.5.3.2p3): a pointer into the region of its operand, which is now pointed to."""
         if isinstance(self.constants.type_of(node.expr), Signature):
             return self.value(node.expr)
         of, region = self.place(node.expr)
@@ -232,6 +237,7 @@ class PointsTo(Unification):
         return Pointer(kinds.element(made.type), region)
 
     def sum(self, node: Any) -> Type:
+        """The type of a sum or a difference, by which a pointer moves (6.5.6p8)."""
         left, right = self.value(node.left), self.value(node.right)
         if isinstance(left, Pointer) and isinstance(right, Pointer):
             self.unify(left.region, right.region, node.coord)
@@ -254,6 +260,7 @@ class PointsTo(Unification):
             root.moved, root.down = True, root.down or (known < 0) != back
 
     def is_null(self, node: Any) -> bool:
+        """Whether an expression is a null pointer constant (6.3.2.3p3)."""
         while isinstance(node, tree.Cast):
             node = node.expr
         return self.constants.value(node) == 0
@@ -278,6 +285,7 @@ class PointsTo(Unification):
             self.same_type(to, of, node.coord, Region())
 
     def first_values(self, of: Type, init: Any) -> None:
+        """First values flow into an object of a type."""
         try:
             made = filled(self.constants, of, init)
         except Refused:
@@ -289,6 +297,7 @@ class PointsTo(Unification):
             self.tried(node, part)
 
     def tried(self, node: Any, to: Type) -> None:
+        """A value becomes one of a type; what is refused in it is told where it is written."""
         try:
             self.flow(node, to)
         except Refused:

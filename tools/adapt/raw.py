@@ -42,6 +42,7 @@ class Raw:
 
     @staticmethod
     def functions(column: str, kind: Int, reads: str, sets: str, const: bool) -> str:
+        """The functions that read and set an integer of several bytes."""
         count = kind.bits // 8
 
         word = {32: "unsigned int", 64: "unsigned long"}.get(kind.bits, "unsigned int")
@@ -55,6 +56,7 @@ class Raw:
         return f"{text} static void {sets}(long i, {kind.text} v) {{ {' '.join(steps)} }}"
 
     def front(self) -> list[str]:
+        """What stands in front of all else."""
         return list(self.texts.values())
 
     # ---- indexes
@@ -66,15 +68,17 @@ class Raw:
         at = place.indexes[0][0] if len(place.indexes) == 1 and isinstance(place.indexes[0][0], At) else None
         base = Value("0", kinds.INT, PRIMARY)
         for node, length in place.shifted():
-            one = writer.value(node)
+            one = writer.expressions.value(node)
             if not isinstance(node, At):
-                one = self.narrow(writer.steady_value(one), tests)
+                one = self.narrow(writer.elements.steady_value(one), tests)
             base = plus(times(base, length), one)
         if at is not None and at.tests is not None:
             tests += at.tests
         inner = Value(str(place.offset), kinds.INT, PRIMARY)
         for node, step in place.inside:
-            inner = plus(inner, times(self.narrow(writer.steady_value(writer.value(node)), tests), step))
+            inner = plus(
+                inner, times(self.narrow(writer.elements.steady_value(writer.expressions.value(node)), tests), step)
+            )
         total, size = plus(base, inner), kinds.size(place.type) or 1
         if at is not None and at.ends:
             last = plus(total, Value(str(size - 1), kinds.INT, PRIMARY))
@@ -83,7 +87,7 @@ class Raw:
         elif place.whole and number(inner) is None:
             tests.append(f"(unsigned int) ({inner.text}) > {place.whole - size}")
         if tests and checked:
-            text = " | ".join([total.within(4), *(f"-({writer.plain(one)})" for one in tests)])
+            text = " | ".join([total.within(4), *(f"-({writer.elements.plain(one)})" for one in tests)])
             total = Value(text, kinds.INT, 3, calls=total.calls)
         if stable and number(total) is None:
             total = Value(writer.temporary(kinds.INT, total.text, "index"), kinds.INT, PRIMARY)

@@ -5,11 +5,13 @@ import re
 import shutil
 import subprocess
 from dataclasses import dataclass, field
+from functools import cache
 from typing import Any, Optional
 
 from . import gnu, parsing, tree
 from .refusals import JUDGED, Refusals, Stop
 
+MODELS = os.path.join(os.path.dirname(os.path.abspath(__file__)), "models")
 HEADERS = os.path.join(os.path.dirname(os.path.abspath(__file__)), "headers")
 ERRORS = (
     "implicit-function-declaration",
@@ -95,6 +97,7 @@ class Unit:
 
 
 def compiler() -> str:
+    """The path of gcc, or of clang. Raises Stop where neither is there."""
     found = shutil.which("gcc") or shutil.which("clang")
     if not found:
         raise Stop("neither gcc nor clang is there, whose preprocessor reads the sources (Debian's package gcc)")
@@ -102,20 +105,40 @@ def compiler() -> str:
 
 
 def is_system(file: str) -> bool:
+    """Whether a file is one of adapt's own headers."""
     return file.startswith((HEADERS, "<"))
 
 
 def run_compiler(path: str, flags: list[str], more: list[str]) -> subprocess.CompletedProcess[str]:
+    """Runs the compiler on a source with our headers alone."""
     words = [compiler(), "-std=gnu11", "-nostdinc", *more, *flags, "-isystem", HEADERS, "-x", "c", path]
     plain = {**os.environ, "LC_ALL": "C"}
     return subprocess.run(words, capture_output=True, text=True, errors="replace", check=False, env=plain)
 
 
+@cache
+def modelled() -> set[str]:
+    """The library's functions that have models; compilers know their types where no header declares them."""
+    found = set("malloc calloc realloc free printf puts putchar".split())
+    for name in os.listdir(MODELS):
+        with open(os.path.join(MODELS, name), encoding="utf-8") as file:
+            found.update(re.findall(r"(?m)^[a-z][\w ]*[ *](\w+)\(", file.read()))
+    return found
+
+
+def is_known(told: str) -> bool:
+    """Whether an error is that a function of the library isn't declared."""
+    found = re.match(r"implicit declaration of function '(\w+)'", told)
+    return bool(found and found.group(1) in modelled())
+
+
 def told_errors(path: str, told: str, refusals: Refusals) -> None:
-    """The compiler's errors as refusals."""
-    for line in told.splitlines():
-        found = re.match(r"(.*?):(\d+):(?:\d+:)? (?:fatal )?error: (.*)", line)
-        if found:
+    """The compiler's errors as refusals, but for functions of the library that have models. Raises Stop where it told none."""
+    errors = [re.match(r"(.*?):(\d+):(?:\d+:)? (?:fatal )?error: (.*)", line) for line in told.splitlines()]
+    if any(errors) and all(is_known(found.group(3)) for found in errors if found):
+        return
+    for found in errors:
+        if found and not is_known(found.group(3)):
             header = "correct it"
             if "No such file" in found.group(3):
                 header = HEADERS_LEFT_OUT.get(found.group(3).split(":")[0], "leave it out, or name its folder (-I)")
@@ -233,7 +256,8 @@ def scanned(unit: Unit, text: str, refusals: Refusals) -> str:
 
 
 def read(path: str, flags: list[str], refusals: Refusals) -> Unit:
-    """The unit of a source. What is no C, and what pycparser can't read, is refused."""
+    """The unit of a source. What is no C, and what pycparser can't read, is refused. Raises Stop where it can't be
+    opened."""
     if not os.path.isfile(path):
         raise Stop(f"{path} can't be read")
     unit = Unit(path, None)

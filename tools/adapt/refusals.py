@@ -32,6 +32,7 @@ class Refusals:
         self.at_hand = coord if coord and coord.file else self.at_hand
 
     def add(self, coord: Any, cause: str, advice: str) -> None:
+        """Adds a refusal; one without a place stands where the statement at hand does."""
         placed = coord if coord and coord.file else self.at_hand
         file, line = (placed.file, placed.line) if placed else ("", 0)
         self.found.add((str(file), int(line or 0), f"{cause}; {advice}"))

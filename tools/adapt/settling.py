@@ -40,11 +40,13 @@ def settle(points: Any) -> None:
 
 
 def raws(points: Any) -> int:
+    """How many regions stand as bytes, or can't be written."""
     regions = {one.root() for one in points.homes.values()} | {of.region.root() for of in pointers(points)}
     return sum(1 for one in regions if one.raw or one.fault)
 
 
 def pointers(points: Any) -> list[Pointer]:
+    """The pointers among the values."""
     return [of for of in points.values.values() if isinstance(of, Pointer)]
 
 
@@ -69,6 +71,7 @@ def by_bytes(points: Any, node: Any, model: Model) -> None:
 
 
 def is_whole(points: Any, node: Any, model: Model, size: int) -> bool:
+    """Whether a call takes whole elements of a size."""
     try:
         element_count(points.constants, arguments(node)[-1], size)
     except Refused:

@@ -80,7 +80,7 @@ def written_for(call: Any, model: Any, name: str, functions: set[str]) -> Sorted
 def check_sizes(names: Any, calls: list[Sorted]) -> None:
     """Refuses calls whose elements aren't those to which their pointers lead."""
     for one in calls:
-        of, at = names.type_of(one.element), one.size.coord
+        of, at = names.declarators.type_of(one.element), one.size.coord
         if of == kinds.VOID or kinds.size(of) is None:
             names.refusals.add(at, f"{one.called} of what has no type", "hand over a pointer to the elements")
         elif isinstance(of, kinds.Array):

@@ -3,15 +3,17 @@
 import os
 from typing import Any
 
+from .declarators import Function, Variable
 from .kinds import Path
 from .names import Names
-from .declarators import Function, Variable
 from .regions import INDEX
 
 KEPT = {"assert", "assume"}
 
 
 class Spelling:
+    """The names of all that is written; `taken` are those that nothing else may have."""
+
     def __init__(self, names: Names, words: set[str]) -> None:
         self.taken = set(words) | KEPT
         self.leaves: dict[tuple[str, Path], str] = {}

@@ -18,7 +18,7 @@ def block(writer: Any, node: tree.StatementExpr, do: Callable[[Any], object]) ->
     behind, writer.after = writer.after, []
     writer.emit("{")
     for one in node.items:
-        writer.statement(one)
+        writer.statements.statement(one)
     if node.last is not None:
         writer.go(node.last)
         do(node.last)
@@ -29,21 +29,21 @@ def block(writer: Any, node: tree.StatementExpr, do: Callable[[Any], object]) ->
 
 
 def value(writer: Any, node: tree.StatementExpr) -> Value:
-    """The value of an integer."""
+    """The value of an integer. Raises Refused where they give none."""
     of = writer.constants.type_of(node)
     if not isinstance(of, Int):
         raise Refused(node.coord, "statements within an expression that give no integer", "end them with an integer")
     made = writer.temporary(kinds.promoted(of), "0")
-    block(writer, node, lambda one: writer.emit(f"{made} = {writer.value(one).text};"))
+    block(writer, node, lambda one: writer.emit(f"{made} = {writer.expressions.value(one).text};"))
     return Value(made, kinds.promoted(of), PRIMARY)
 
 
 def pointer(writer: Any, node: tree.StatementExpr, names: list[str]) -> dict[str, Value]:
-    """The integers of a pointer."""
+    """What `({ .. })` gives where its last expression points: a temporary for each integer of the pointer."""
     made = {name: writer.temporary(kinds.INT, "0", "pointer") for name in names}
 
     def keep(one: Any) -> None:
-        parts = writer.pointer(one)
+        parts = writer.pointers.pointer(one)
         for name in names:
             writer.emit(f"{made[name]} = {parts[name].text};")
 
@@ -53,20 +53,21 @@ def pointer(writer: Any, node: tree.StatementExpr, names: list[str]) -> dict[str
 
 def effect(writer: Any, node: tree.StatementExpr) -> None:
     """Writes them for their effect alone."""
-    block(writer, node, writer.statement)
+    block(writer, node, writer.statements.statement)
 
 
 def whole(writer: Any, target: Place, node: tree.StatementExpr, at: Any) -> None:
     """Writes that a struct gets their value, which is kept first: within the block names may be other ones."""
     local = Variable("whole", target.type, node.coord, "local", out=writer.spelling.fresh("whole"))
     place = Place(local, (), (), target.type)
-    writer.declared(local)
-    block(writer, node, lambda one: writer.assign_whole(place, one, one))
-    writer.assign_whole(target, writer.named_as(local, at), at)
+    writer.calls.declared(local)
+    block(writer, node, lambda one: writer.wholes.assign_whole(place, one, one))
+    writer.wholes.assign_whole(target, writer.wholes.named_as(local, at), at)
 
 
 def ranged(constants: Any, node: tree.CaseRange) -> list[str]:
-    """The cases of a range (gcc: none where it is empty)."""
+    """The cases of a range (gcc: none where it is empty). Raises Refused where it is empty, isn't constant, or has
+    too many."""
     low, high = constants.value(node.low), constants.value(node.high)
     if low is None or high is None or high < low or high - low >= MOST_CASES:
         cause = f"a range of cases that is empty, isn't constant, or has more than {MOST_CASES}"

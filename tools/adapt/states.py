@@ -4,10 +4,10 @@ one loop over a state, in which a jump sets the state and goes on (6.8.6.1)."""
 from typing import Any, Callable
 
 from . import tree
-from .parsing import snippet
-from .tree import LEFT_BY_BREAK, LOOPS, walk
 from .lists import listed
+from .parsing import snippet
 from .refusals import Refused
+from .tree import LEFT_BY_BREAK, LOOPS, walk
 
 
 def holds(node: Any, names: set[str]) -> bool:
@@ -16,6 +16,7 @@ def holds(node: Any, names: set[str]) -> bool:
 
 
 def jump(name: str, coord: Any) -> Any:
+    """A `goto` of this name at a place, as it goes into a tree (6.8.6.1)."""
     return tree.Goto(name, coord)
 
 
@@ -69,17 +70,20 @@ class States:
 
     @staticmethod
     def last(node: Any) -> Any:
+        """The last place in a node."""
         found = [one.coord for one in walk(node) if one.coord]
         return max(found, key=lambda coord: int(coord.line)) if found else node.coord
 
     def label(self) -> str:
+        """A label that no source has."""
         self.labels += 1
         return f"?{self.labels}"  # (no name of C)
 
     # ---- taking apart
 
     def flat(self, node: Any, top: bool = False) -> list[Any]:
-        """The statements of one that may hold labels; a label is its name."""
+        """The statements of one that may hold labels; a label is its name. Raises Refused for a goto into a statement
+        that can't be taken apart."""
         if isinstance(node, tree.Label) and node.name in self.names:
             return [node.name, *self.flat(node.stmt, top)]
         if top and isinstance(node, tree.DeclList):
@@ -113,9 +117,11 @@ class States:
         return [tree.Assignment("=", tree.ID(node.name, at), init, at)]
 
     def flat_Label(self, node: Any) -> list[Any]:
+        """A label to which nothing goes."""
         return self.flat(node.stmt)  # (nothing goes to it)
 
     def flat_Compound(self, node: Any) -> list[Any]:
+        """A block, whose names become those of the function."""
         for at, one in enumerate(node.block_items or []):
             if isinstance(one, tree.Decl) and one.name:
                 self.renamed(node.block_items[at:], one)
@@ -158,6 +164,7 @@ class States:
                     self.rename([child], name, other)
 
     def flat_If(self, node: Any) -> list[Any]:
+        """A branch as jumps."""
         behind, end = self.label(), self.label()
         made = [unless(node.cond, behind, node.coord), *self.flat(node.iftrue)]
         if node.iffalse is None:
@@ -170,15 +177,18 @@ class States:
         return self.flat(node.stmt)
 
     def flat_While(self, node: Any) -> list[Any]:
+        """A loop as tests and jumps (6.8.5.1)."""
         again, end = self.label(), self.label()
         return [again, unless(node.cond, end, node.coord), *self.turn(node, again, end), jump(again, node.coord), end]
 
     def flat_DoWhile(self, node: Any) -> list[Any]:
+        """The same with the test behind the body (6.8.5.2)."""
         begin, again, end = self.label(), self.label(), self.label()
         back = tree.If(node.cond, jump(begin, node.cond.coord), None, node.cond.coord)
         return [begin, *self.turn(node, again, end), again, back, end]
 
     def flat_For(self, node: Any) -> list[Any]:
+        """The same with what stands in the head (6.8.5.3)."""
         begin, again, end = self.label(), self.label(), self.label()
         first: list[Any] = [] if node.init is None else [node.init]
         if isinstance(node.init, tree.DeclList):
@@ -190,6 +200,7 @@ class States:
         return [*first, begin, *test, *self.turn(node, again, end), again, *step, jump(begin, node.coord), end]
 
     def flat_Switch(self, node: Any) -> list[Any]:
+        """A switch that jumps to its cases (6.8.4.2). Raises Refused for statements before its first case."""
         end, heads, made = self.label(), list[tree.Node](), list[Any]()
         default = end
         self.left(node.stmt, "", end)
@@ -220,6 +231,7 @@ class States:
 
     @staticmethod
     def put(node: Any, slot: str, made: Any) -> None:
+        """Puts a node into a slot."""
         name, _, rest = slot.partition("[")
         if rest:
             getattr(node, name)[int(rest[:-1])] = made

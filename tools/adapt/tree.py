@@ -58,7 +58,7 @@ class Node:
 
 @dataclass(eq=False)
 class ID(Node):
-    """A name."""
+    """An identifier that is used (6.4.2.1)."""
 
     name: str
     coord: Optional[Coord] = None
@@ -320,7 +320,7 @@ class ArrayDecl(Node):
 
 @dataclass(eq=False)
 class ParamList(Node):
-    """The parameters of a function."""
+    """What stands between the brackets of a function's declarator (6.7.6.3): declarations, and maybe an ellipsis."""
 
     SLOTS = ("params",)
     params: list[Node]
@@ -329,7 +329,7 @@ class ParamList(Node):
 
 @dataclass(eq=False)
 class EllipsisParam(Node):
-    """`...` behind the parameters."""
+    """The mark of a function with variable arguments (6.7.6.3p9)."""
 
     coord: Optional[Coord] = None
 
@@ -416,7 +416,7 @@ class Compound(Node):
 
 @dataclass(eq=False)
 class EmptyStatement(Node):
-    """`;` alone."""
+    """A null statement (6.8.3p3)."""
 
     coord: Optional[Coord] = None
 

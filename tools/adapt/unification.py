@@ -20,6 +20,8 @@ def words(of: Type) -> str:
 
 
 class Unification:
+    """The regions of variables, and what makes two regions one."""
+
     def __init__(self) -> None:
         self.homes: dict[Variable, Region] = {}
 
@@ -33,6 +35,7 @@ class Unification:
         return self.homes[variable].root()
 
     def unify(self, one: Region, other: Region, at: Any) -> None:
+        """Makes two regions one, with those of their members."""
         a, b = one.root(), other.root()
         if a is b:
             return
@@ -121,6 +124,7 @@ class Unification:
                 self.fault(region, one, other, at)
 
     def fault(self, region: Region, one: Type, other: Type, at: Any) -> None:
+        """Objects of two types meet: they stand as bytes where both may, else the region has a fault."""
         root = region.root()
         if kinds.has_bytes(one) and kinds.has_bytes(other):
             self.as_bytes(root, [one, other], at)

@@ -5,12 +5,12 @@ from typing import Any
 from . import tree
 from .declarators import Function, Variable
 from .heap import heap_call
-from .tree import walk
 from .kinds import Int
 from .library import OUTPUT
 from .models import model_of
 from .places import Place, arguments
 from .reading import is_system
+from .tree import walk
 
 
 def first_uses(writer: Any) -> dict[Variable, int]:

@@ -62,6 +62,7 @@ def plus(one: Value, other: Value) -> Value:
 
 
 def minus(known: int) -> Value:
+    """The negative of a number."""
     return Value(str(-known), kinds.INT, UNARY)
 
 

@@ -3,61 +3,47 @@
 from typing import Any, Optional
 
 from . import kinds, statement_exprs, tree
+from .component import Component
+from .declarators import Variable
 from .effects import Effects, objects
 from .initialisers import filled
 from .kinds import Leaf
-from .declarators import Function, Variable
 from .output import unmarked
 from .places import Place
 from .refusals import Refused
 from .values import Value
-from .models import ModelCalls
-from .outside import OutsideCalls
 
 
 MOST_COPIED = 256
 
 
-class Wholes(ModelCalls, OutsideCalls):
-    def effect(self, node: Any) -> None:
-        raise NotImplementedError
-
-    def either(self, node: Any, do: Any) -> None:
-        raise NotImplementedError
-
-    def called(self, node: Any) -> Function:
-        raise NotImplementedError
-
-    def call(self, node: Any) -> tuple[str, list[str]]:
-        raise NotImplementedError
-
-    def declared(self, variable: Variable) -> None:
-        raise NotImplementedError
+class Wholes(Component):
+    """Writes copies, arguments and results of a struct type (6.5.16.1, 6.5.2.2), member by member."""
 
     def assign_whole(self, target: Place, source: Any, node: Any) -> None:
-        """Writes the assignment of a struct, member by member."""
+        """Writes the assignment of a struct, member by member. Raises Refused for more than 256 integers."""
         if isinstance(source, tree.TernaryOp):
-            self.either(source, lambda one: self.assign_whole(target, one, node))
+            self.writer.expressions.either(source, lambda one: self.assign_whole(target, one, node))
             return
         if isinstance(source, tree.StatementExpr):
-            statement_exprs.whole(self, target, source, node)
+            statement_exprs.whole(self.writer, target, source, node)
             return
         if isinstance(source, tree.ExprList):
             for one in source.exprs[:-1]:
-                self.effect(one)
+                self.writer.assignments.effect(one)
             self.assign_whole(target, source.exprs[-1], node)
             return
         if sum(leaf.count for leaf in kinds.leaves(target.type)) > MOST_COPIED:
             raise Refused(node.coord, f"a struct of more than {MOST_COPIED} integers is copied", "copy what is needed")
-        self.unsequenced(node, [tree.ExprList([one for one, _ in target.indexes]), source])
-        index = self.index(target, True)
+        self.writer.order.unsequenced(node, [tree.ExprList([one for one, _ in target.indexes]), source])
+        index = self.writer.elements.index(target, True)
         if isinstance(source, tree.CompoundLiteral):
             values = self.literal(target, source)
         else:
-            values = self.integers(*self.whole(source, target))
-        for (_, to), (_, of) in zip(self.integers(target, index), values):
+            values = self.writer.elements.integers(*self.whole(source, target))
+        for (_, to), (_, of) in zip(self.writer.elements.integers(target, index), values):
             for text, value in zip(to, of):
-                self.emit(f"{text} = {value};")
+                self.writer.emit(f"{text} = {value};")
 
     def kept_whole(self, node: Any) -> Any:
         """A member of a struct that is no object (6.5.2.3p3), as one of an object that is written before and has it."""
@@ -66,23 +52,24 @@ class Wholes(ModelCalls, OutsideCalls):
             if isinstance(node, tree.ArrayRef):
                 return tree.ArrayRef(base, node.subscript, node.coord)
             return tree.StructRef(base, ".", node.field, node.coord)
-        of = self.constants.type_of(node)
-        local = Variable("whole", of, node.coord, "local", out=self.spelling.fresh("whole"))
-        self.declared(local)
+        of = self.writer.constants.type_of(node)
+        local = Variable("whole", of, node.coord, "local", out=self.writer.spelling.fresh("whole"))
+        self.writer.calls.declared(local)
         self.assign_whole(Place(local, (), (), of), node, node)
         return self.named_as(local, node)
 
     def named_as(self, local: Variable, node: Any) -> Any:
         """A name for a local that is written without one of the sources."""
         made = tree.ID(local.out, node.coord)
-        self.names.meaning[made] = local
+        self.writer.names.meaning[made] = local
         return made
 
     def whole(self, source: Any, target: Place) -> tuple[Place, Optional[Value]]:
-        """The object in which a struct's value stands."""
+        """The object in which a struct's value stands. Raises Refused where no source defines the function that gives
+        it."""
         if isinstance(source, tree.FuncCall):
-            function = self.called(source)
-            text, after = self.call(source)
+            function = self.writer.calls.called(source)
+            text, after = self.writer.calls.call(source)
             if function.definition is None:
                 raise Refused(
                     source.coord,
@@ -90,29 +77,36 @@ class Wholes(ModelCalls, OutsideCalls):
                     "give the source that defines it",
                 )
             for one in [text + ";", *after]:
-                self.emit(one)
-            own = self.spelling.special(function, "result", function.result, self.special)
+                self.writer.emit(one)
+            own = self.writer.spelling.special(function, "result", function.result, self.writer.special)
             return Place(own, (), (), function.result), None
         if isinstance(source, tree.Assignment) and source.op == "=":
-            self.assign_whole(self.places.place(source.lvalue), source.rvalue, source)
+            self.assign_whole(self.writer.places.place(source.lvalue), source.rvalue, source)
             source = source.lvalue
-        place = self.places.place(source)
-        reads = self.effected.of(tree.ExprList([one for one, _ in place.indexes])).reads
-        return place, self.index(place, True, any(one in reads for one in objects(target)))
+        place = self.writer.places.place(source)
+        reads = self.writer.effected.of(tree.ExprList([one for one, _ in place.indexes])).reads
+        return place, self.writer.elements.index(place, True, any(one in reads for one in objects(target)))
 
     def literal(self, target: Place, source: Any) -> list[tuple[Leaf, list[str]]]:
-        """The values of a compound literal, kept where the target itself may be among what they read."""
-        made = filled(self.constants, target.type, source.init)
+        """The values of a compound literal, kept where the target itself may be among what they read. Raises Refused
+        for a struct within it."""
+        made = filled(self.writer.constants, target.type, source.init)
         if made.wholes:
             raise Refused(source.coord, "a struct within a compound literal", "give its members one by one")
-        self.unsequenced(source, list(made.given.values()))
-        reads: Effects = self.effected.of(source)
+        self.writer.order.unsequenced(source, list(made.given.values()))
+        reads: Effects = self.writer.effected.of(source)
         apart = not any(one in reads.reads for one in objects(target)) and not any(reads.reads.values())
         found = []
         for leaf in kinds.leaves(target.type):
             inits, texts = made.of(leaf), []
             for at in range(leaf.count):
-                value = unmarked(self.converted(self.value(inits[at]), leaf.kind).text) if at in inits else "0"
-                texts.append(value if apart or at not in inits else self.temporary(leaf.kind, value))
+                value = (
+                    unmarked(
+                        self.writer.conversions.converted(self.writer.expressions.value(inits[at]), leaf.kind).text
+                    )
+                    if at in inits
+                    else "0"
+                )
+                texts.append(value if apart or at not in inits else self.writer.temporary(leaf.kind, value))
             found.append((leaf, texts))
         return found

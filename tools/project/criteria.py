@@ -47,17 +47,3 @@ def query(text: str, functions: Sequence[str], graph: Graph) -> str:
         return text
     scope = "" if len(functions) == len(graph.functions) else f"in {union(functions)} "
     return f"{scope}cover {COVER[text]}"
-
-
-def reached(graph: Graph, entry: str) -> list[str]:
-    """The functions that runs of an entry may call, and the entry, in the order of the automaton."""
-    calls: dict[str, set[str]] = {}
-    for edge in graph.edges:
-        if edge.operation == "call":
-            calls.setdefault(graph.owner(edge), set()).add(edge.name)
-    found, waiting = {entry}, [entry]
-    while waiting:
-        for name in sorted(calls.get(waiting.pop(), set()) - found):
-            found.add(name)
-            waiting.append(name)
-    return [one.name for one in graph.functions if one.name in found]

@@ -4,10 +4,11 @@ import re
 import xml.etree.ElementTree as ET
 from collections.abc import Sequence
 
-from tools.project.findings import RULES, Finding
+from tools.project.findings import RULES
 from tools.project.facts import Test
 from tools.project.results import Results
 from tools.project.since import Difference
+from tools.sarif import Finding
 from tools.sarif import text_of as sarif_text
 
 _NO_XML = re.compile(r"[^\t\n\r\x20-\ud7ff\ue000-\ufffd\U00010000-\U0010ffff]")

@@ -1,12 +1,12 @@
 """What is to be looked at in a module, each at its place: for SARIF and as lines that editors know from gcc."""
 
 from collections.abc import Iterator
-from dataclasses import dataclass
 
 from tools import order, originals
 from tools.program import Failure
 from tools.project.facts import NONE_WITHIN, OPEN
 from tools.project.results import GOOD, Results, state_of
+from tools.sarif import Finding
 from tools.verdicts import Verdict
 
 RULES = {
@@ -34,27 +34,6 @@ OF_VERDICT = {
 }
 
 
-@dataclass(frozen=True)
-class Finding:
-    """A finding at a place of a file of the module's own; `rule` is a key of RULES, lines and columns count from 1."""
-
-    rule: str
-    file: str
-    line: int
-    column: int
-    text: str
-
-    @property
-    def level(self) -> str:
-        """SARIF's level of its rule: error, warning or note."""
-        return RULES[self.rule][0]
-
-    @property
-    def gcc_line(self) -> str:
-        """The line that gcc would write: FILE:LINE:COLUMN: LEVEL: TEXT [RULE]."""
-        return f"{self.file}:{self.line}:{self.column}: {self.level}: {self.text} [{self.rule}]"
-
-
 class Finder:
     """Gathers the findings of a module, each kind by a method that gives them in any order."""
 
@@ -64,7 +43,7 @@ class Finder:
     def at(self, rule: str, file: str, line: int, column: int, text: str) -> Finding:
         """A finding at a place of a file of the unit, for which the module's own stands; a line or a column of 0 counts
         as 1."""
-        return Finding(rule, self.results.own(file), max(line, 1), max(column, 1), text)
+        return Finding(rule, RULES[rule][0], self.results.own(file), max(line, 1), max(column, 1), text)
 
     def placed(self, rule: str, place: str, text: str) -> Finding:
         """The same at a place in words, FILE:LINE:COLUMN. ValueError where it isn't one."""
@@ -120,7 +99,8 @@ class Finder:
             state = state_of(one, self.results)[0]
             if state not in GOOD:
                 text = f"requirement {one.id} ({one.text}): {state}"
-                yield Finding("open-requirement", settings.requirements or settings.path, one.line, 1, text)
+                file = settings.requirements or settings.path
+                yield Finding("open-requirement", RULES["open-requirement"][0], file, one.line, 1, text)
 
     def orders(self) -> Iterator[Finding]:
         """Where C leaves an order of evaluation open that matters (C11 6.5, paragraphs 2 and 3), as bin/order tells of

@@ -9,7 +9,6 @@ from tools import named, program
 from tools.items import variables
 from tools.named import Signature
 from tools.program import Failure
-from tools.project import criteria
 from tools.project import unit as units
 from tools.project.settings import Gate, Module, Settings
 from tools.project.unit import Unit
@@ -65,7 +64,7 @@ class Draft:
     def kept(self, name: str) -> list[str]:
         """The variables of the file that runs of a function read and some function writes, so that runs hang on what
         was before; sorted."""
-        reached = criteria.reached(self.graph, name)
+        reached = self.graph.reached(name)
         read = {one for edge in self.graph.edges if self.graph.owner(edge) in reached for one in edge.reads}
         written = {one for edge in self.graph.edges for one in edge.writes}
         return sorted(read & written & self.state)

@@ -26,14 +26,6 @@ from tools.project.work import NAME, Work
 FILE = "fshell.toml"
 
 
-def jobs(word: str) -> int:
-    """The number of jobs side by side that a word of digits is, at least 1. Raises argparse.ArgumentTypeError for any
-    other word, which ends the tool with status 2."""
-    if not word.isdecimal() or int(word) < 1:
-        raise argparse.ArgumentTypeError(f"{word} is no number from 1 on")
-    return int(word)
-
-
 def parser_of_words() -> usage.Parser:
     """What reads the words of bin/project and of its four commands; a wrong word ends the tool with status 2."""
     parser = usage.parser(
@@ -55,7 +47,9 @@ def parser_of_words() -> usage.Parser:
         if name != "check":
             one.add_argument("--since", metavar="FOLDER", help="tells the difference to the report in this folder")
         if name == "run":
-            one.add_argument("--jobs", type=jobs, default=os.cpu_count() or 1, metavar="N", help="jobs side by side")
+            one.add_argument(
+                "--jobs", type=program.jobs, default=os.cpu_count() or 1, metavar="N", help="jobs side by side"
+            )
             one.add_argument("--entry", metavar="FUNCTION", help="does the tasks of this entry alone, without a report")
             one.add_argument("--sshloginfile", metavar="FILE", help="the machines, as GNU parallel reads them")
     return parser

@@ -1,19 +1,19 @@
 """Writes the report of a module: pages for people, and files for other tools."""
 
-import importlib.util
 import json
 import os
 import time
 from typing import Any
 
-from tools import program
+from tools import html, program
 from tools.project import coverage, exchange, gate, matrix, since
-from tools.project.findings import Finder, Finding
+from tools.project.findings import Finder
 from tools.project.facts import Row
 from tools.project.results import Results, bounds_line
 from tools.project.since import Difference
 from tools.project.unit import sum_of_file, sum_of_text
 from tools.project.work import Place
+from tools.sarif import Finding
 from tools.verdicts import Tally, percentage
 
 FORMAT = "fshell report 1"
@@ -128,8 +128,9 @@ def key_of(results: Results, folder: str | None) -> str:
     names += [os.path.join(folder, "report.json")] if folder else []
     here = os.path.dirname(__file__)
     names += [os.path.join(here, name) for name in sorted(os.listdir(here))]
-    jinja = importlib.util.find_spec("jinja2") is not None
-    return sum_of_text(json.dumps([done, [sum_of_file(name) for name in names], results.context.given_key(), jinja]))
+    return sum_of_text(
+        json.dumps([done, [sum_of_file(name) for name in names], results.context.given_key(), html.is_there()])
+    )
 
 
 def write(results: Results, folder: str | None) -> list[str]:
@@ -160,7 +161,7 @@ def write(results: Results, folder: str | None) -> list[str]:
         "report.json": json.dumps(value, indent=1, ensure_ascii=False) + "\n",
     }
     os.makedirs(place.path, exist_ok=True)
-    if importlib.util.find_spec("jinja2"):
+    if html.is_there():
         texts |= pages(value)
     else:
         told.append("skipped: the pages need jinja2, which isn't there (Debian: apt-get install python3-jinja2)")
@@ -177,9 +178,8 @@ def tests_text(results: Results) -> str:
 
 
 def pages(value: dict[str, Any]) -> dict[str, str]:
-    """The pages by their files' names, of the report's value; jinja2 is there."""
-    import jinja2
-
-    loader = jinja2.FileSystemLoader(os.path.dirname(__file__))
-    made = jinja2.Environment(loader=loader, autoescape=True, undefined=jinja2.StrictUndefined, trim_blocks=True)
-    return {name: made.get_template(name).render(report=value) + "\n" for name in ("index.html", "matrix.html")}
+    """The pages by their files' names, of the report's value. Raises Failure where jinja2 isn't there."""
+    folder = os.path.dirname(__file__)
+    return {
+        name: html.rendered(os.path.join(folder, name), report=value) + "\n" for name in ("index.html", "matrix.html")
+    }

@@ -165,7 +165,7 @@ class Results:
     @cached_property
     def unreached(self) -> list[str]:
         """The module's functions that no entry reaches and that the settings don't leave out."""
-        reached = {name for entry in self.entries for name in criteria.reached(self.graph, entry.function)}
+        reached = {name for entry in self.entries for name in self.graph.reached(entry.function)}
         left_out = self.context.settings.module.left_out
         return [name for name in self.functions if name not in reached and name not in left_out]
 

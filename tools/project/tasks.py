@@ -54,7 +54,7 @@ class Context:
 
     def reached(self, entry: Entry) -> list[str]:
         """The functions that runs of an entry may call, and the entry, in the order of the automaton."""
-        return criteria.reached(self.graph, entry.function)
+        return self.graph.reached(entry.function)
 
     def arity(self, entry: Entry) -> int:
         """The number of an entry's parameters."""

@@ -37,11 +37,9 @@ const CLOCK: &str = "int f(int a) {
   return a > 0 && a % 60 == 59 && a / 60 % 60 == 59 && a / 3600 % 24 == 23;
 }";
 
-const NEAR: &str = "int f(int a, unsigned char b) { return a + b; }";
+const NEAR: &str = "int f(int a, int b) { return a + b; }";
 
-const FAR: &str = "int f(short a, long b) { return a < b; }";
-
-const LONE: &str = "int f(short a) { return a; }";
+const LONE: &str = "int f(int a) { return a; }";
 
 const ASKED: &str =
     "unsigned char rx(void); short adc(void); int f(void) { int a = rx(); return a + adc(); }";
@@ -83,11 +81,10 @@ fn each_number_has_an_input(rt: HostRuntime) -> Result<(), Fail> {
     Ok(())
 }
 
-// Whether an input whose number is below `most` has these words and answers, for parameters of these kinds.
+// Whether an input whose number is below `most` has these words, for parameters of kind int, and these answers.
 fn has_input(
     alloc: Global,
     source: &str,
-    kinds: &[Kind],
     words: &[u64],
     answers: &[u64],
     most: u64,
@@ -95,7 +92,7 @@ fn has_input(
     let graph = automaton_of(alloc, source)?;
     let row = Candidates::new(alloc, &graph, 0)?;
     for number in 0..most {
-        let input = row.input(alloc, kinds, 16, number)?;
+        let input = input(alloc, &row, words.len(), 16, number)?;
         if input.words.as_slice() == words && input.answers.as_slice() == answers {
             return Ok(true);
         }
@@ -103,17 +100,9 @@ fn has_input(
     Ok(false)
 }
 
-// Whether one has these words, for parameters that are of kind int, and no answers.
+// Whether one has these words and no answers.
 fn is_there(alloc: Global, source: &str, words: &[u64], most: u64) -> Result<bool, Fail> {
-    let kinds = [Kind::INT, Kind::INT, Kind::INT];
-    has_input(
-        alloc,
-        source,
-        &kinds[..words.len().min(3)],
-        words,
-        &[],
-        most,
-    )
+    has_input(alloc, source, words, &[], most)
 }
 
 // What a person sees at once is among the first 5,000, or among 50,000.
@@ -134,68 +123,36 @@ fn spare_parameters(rt: HostRuntime) -> Result<(), Fail> {
     Ok(())
 }
 
-// A row of the table: a source, the kinds of its parameters, and the words and answers of an input.
-#[derive(Clone, Copy)]
-struct Row<'a> {
-    source: &'a str,
-    kinds: &'a [Kind],
-    words: &'a [u64],
-    answers: &'a [u64],
-}
-
-// An input with words and no answers.
-const fn words<'a>(source: &'a str, kinds: &'a [Kind], words: &'a [u64]) -> Row<'a> {
-    Row {
-        source,
-        kinds,
-        words,
-        answers: &[],
-    }
-}
-
-// An input of a function without parameters.
-const fn answers<'a>(source: &'a str, answers: &'a [u64]) -> Row<'a> {
-    Row {
-        source,
-        kinds: &[],
-        words: &[],
-        answers,
-    }
-}
-
 // Among the first 500 each place has the ends of its kind's range (6.2.5), and the numbers beside them, while the other places
 // are small. A pattern is that of 64 bits in two's complement.
 #[test]
 fn ends_of_ranges(rt: HostRuntime) -> Result<(), Fail> {
-    let near = [Kind::INT, Kind::UNSIGNED_CHAR];
-    let far = [Kind::SHORT, Kind::LONG];
-    let rows = [
-        words(NEAR, &near, &[0x7fff_ffff, 0]),
-        words(NEAR, &near, &[0xffff_ffff_8000_0000, 0]),
-        words(NEAR, &near, &[0, 255]),
-        words(NEAR, &near, &[1, 255]),
-        words(NEAR, &near, &[0x7fff_fffe, 1]),
-        words(NEAR, &near, &[1, 254]),
-        words(FAR, &far, &[0xffff_ffff_ffff_8000, 0]),
-        words(FAR, &far, &[0xffff_ffff_ffff_8001, 0xffff_ffff_ffff_ffff]),
-        words(FAR, &far, &[0, 0x8000_0000_0000_0000]),
-        words(FAR, &far, &[1, 0x7fff_ffff_ffff_fffe]),
-        words(LONE, &[Kind::SHORT], &[32_766]),
-        words(LONE, &[Kind::SHORT], &[0xffff_ffff_ffff_8001]),
-        answers(ASKED, &[255, 0]),
-        answers(ASKED, &[0, 0xffff_ffff_ffff_8000]),
-        answers(ASKED, &[1, 32_767]),
+    let near: [[u64; 2]; 6] = [
+        [0x7fff_ffff, 0],
+        [0xffff_ffff_8000_0000, 0],
+        [0, 0x7fff_ffff],
+        [1, 0x7fff_ffff],
+        [0x7fff_fffe, 1],
+        [1, 0x7fff_fffe],
     ];
-    for row in &rows {
-        let found = has_input(
-            rt.alloc(),
-            row.source,
-            row.kinds,
-            row.words,
-            row.answers,
-            500,
-        )?;
-        assert!(rt; found, "{} {:?} {:?}", row.source, row.words, row.answers);
+    for words in &near {
+        assert!(rt; is_there(rt.alloc(), NEAR, words, 500)?, "{words:?}");
+    }
+    for word in [0x7fff_fffe, 0xffff_ffff_8000_0001] {
+        assert!(rt; is_there(rt.alloc(), LONE, &[word], 500)?, "{word}");
+    }
+    Ok(())
+}
+
+// So have the answers.
+#[test]
+fn ends_of_answers(rt: HostRuntime) -> Result<(), Fail> {
+    let asked: [[u64; 2]; 3] = [[255, 0], [0, 0xffff_ffff_ffff_8000], [1, 32_767]];
+    for answers in &asked {
+        assert!(rt;
+            has_input(rt.alloc(), ASKED, &[], answers, 500)?,
+            "{answers:?}"
+        );
     }
     Ok(())
 }

@@ -62,9 +62,15 @@ module _ (texts : List SourceText) (graph : GraphParts) (a : IsAutomatonOf texts
   are_events given starts said text = record { text = text; trees = λ k d within. of_trees _ (starts k d within) }
 
 -- the same of an equal automaton
-pub events_at : (texts : List SourceText) (graph : GraphParts) (a : IsAutomatonOf texts graph) (entry : EntryFunction) (steps : ℕ) (h : GraphParts) → h ≡ graph → slice_get h.functions entry.number ≡ Some entry.function
+events_of_texts : (texts : List SourceText) (graph : GraphParts) (a : IsAutomatonOf texts graph) (entry : EntryFunction) (steps : ℕ) (h : GraphParts) → h ≡ graph → slice_get h.functions entry.number ≡ Some entry.function
     → (given : List Input) → All (λ (input : Input). CanStart entry.function input.words) given → (said : Said) → IsEventful h entry steps given said → AreEvents h (typed_of a.items) entry steps given said
-events_at texts graph a entry steps h is there given starts said text =
+events_of_texts texts graph a entry steps h is there given starts said text =
     subst (λ (g : GraphParts). AreEvents g (typed_of a.items) entry steps given said) (sym is)
     (are_events texts graph a entry (subst (λ (g : GraphParts). slice_get g.functions entry.number ≡ Some entry.function) is there) steps given starts said
     (subst (λ (g : GraphParts). IsEventful g entry steps given said) is text))
+
+-- and of sources, by the typed tree that they have
+pub events_at : (holds : List ℕ → Option (List ℕ)) (names : List Text) (graph : GraphParts) (have : HaveAutomaton holds names graph) (entry : EntryFunction) (steps : ℕ) (h : GraphParts) → h ≡ graph → slice_get h.functions entry.number ≡ Some entry.function
+    → (given : List Input) → All (λ (input : Input). CanStart entry.function input.words) given → (said : Said) → IsEventful h entry steps given said → AreEvents h (with_tree holds names graph have).0 entry steps given said
+unfolding with_tree
+events_at holds names graph have entry steps h is there given starts said text = events_of_texts have.texts graph have.automaton entry steps h is there given starts said text

@@ -1,11 +1,12 @@
-//! The program: the top call over the system's files and standard streams.
+//! The program: its core over the system's files and standard streams.
 #![tactic(auto)]
 
-use command::{Status, run};
+use command::Status;
 use fq_io::{RealFiles, RealSink};
-use search::NoWatch;
+use fshell_core::{answer, read_named};
 use std::process::ExitCode;
 use std::{env, io};
+use told_io::ToldSink;
 
 // The words after the program's name, or none where one of them isn't UTF-8, so that they are no command.
 fn words(rt: &HostRuntime) -> Result<Vec<String>, io::Error> {
@@ -20,16 +21,11 @@ fn main(rt: HostRuntime) -> ExitCode {
     let Ok(words) = words(&rt) else {
         return ExitCode::from(Status::Memory.exit_status());
     };
-    let mut files = RealFiles::new(&rt);
-    let mut out = RealSink::new(rt.stdout());
-    let mut err = RealSink::new(rt.stderr());
-    let status = run(
-        rt.alloc(),
-        &words,
-        &mut files,
-        &mut out,
-        &mut err,
-        &mut NoWatch,
-    );
+    let Ok(mut files) = read_named(rt.alloc(), &words, &mut RealFiles::new(&rt)) else {
+        return ExitCode::from(Status::Memory.exit_status());
+    };
+    let mut out = ToldSink::new(RealSink::new(rt.stdout()));
+    let mut err = ToldSink::new(RealSink::new(rt.stderr()));
+    let status = answer(rt.alloc(), &words, &mut files, &mut out, &mut err);
     ExitCode::from(status.exit_status())
 }

@@ -59,4 +59,4 @@ returns g c =
     tells_map (IsEventful e.graph.now (seen e) m.steps inputs) (OfTrees _ m.sources (IsDueOfEvents _ m)) m.sources c.list.result
     (λ said text. at_trees _ m.sources (IsDueOfEvents _ m) graph t.0 said t.1
     (at_entry graph m.entry (EventsThen _ m t.0) e c.in_ok-entry.ensures said
-    (inr (inputs, given, events_at have.texts graph have.automaton (seen e) m.steps e.graph.now c.in_ok-entry.ensures.0 e.there inputs c.in_ok-inputs.ensures.start said text)))) (rw c.deref-2.ensures.value at (c.list.ensures m.sources))
+    (inr (inputs, given, events_at _ m.sources graph have (seen e) m.steps e.graph.now c.in_ok-entry.ensures.0 e.there inputs c.in_ok-inputs.ensures.start said text)))) (rw c.deref-2.ensures.value at (c.list.ensures m.sources))

@@ -1,0 +1,206 @@
+"""The stages of bin/adapt, each by itself: on a tree that the parser makes of a few lines, with what is due by hand.
+
+No stage knows a later one: a module imports from its own stage and from those before it alone, by the table of tools/adapt/pipeline.py.
+"""
+
+import ast
+import glob
+import os
+import sys
+from collections.abc import Iterable, Iterator
+from typing import Any
+
+import programs
+
+FOLDER = os.path.join(programs.ROOT, "tools", "adapt")
+NEEDS = ("pycparser",)
+sys.path.insert(0, programs.ROOT)
+
+
+def parsed(text: str) -> Any:
+    """The unit of a text, which nothing has preprocessed."""
+    from tools.adapt.parsing import parsed as tree_of
+    from tools.adapt.reading import Unit
+
+    return Unit("a.c", tree_of(text, "a.c"), ["a.c"])
+
+
+def named(text: str) -> Any:
+    """What the names of a text stand for."""
+    from tools.adapt.names import Names
+    from tools.adapt.refusals import Refusals
+
+    names = Names(Refusals(), (4, 16))
+    names.unit(parsed(text))
+    return names
+
+
+def bound(text: str) -> Any:
+    """The same with its parameters bound."""
+    from tools.adapt.bindings import Bindings
+    from tools.adapt.places import Places
+
+    names = named(text)
+    Bindings(Places(names), set()).bind()
+    return names
+
+
+def of_name(things: Iterable[Any], name: str) -> Any:
+    """The variable or the function of the sources that is called so."""
+    return next(one for one in things if one.name == name)
+
+
+def no_stage_knows_a_later_one(folder: str) -> Iterator[bool]:
+    """By the imports; and the parser's nodes are known to one module."""
+    from tools.adapt.pipeline import STAGES
+
+    ranks = {module: rank for rank, modules in enumerate(STAGES.values()) for module in modules.split()}
+    paths = sorted(glob.glob(os.path.join(FOLDER, "*.py")))
+    yield {os.path.basename(path)[:-3] for path in paths} - {"__init__"} == set(ranks)
+    for path in paths:
+        with open(path, encoding="utf-8") as file:
+            text = file.read()
+        own = ranks.get(os.path.basename(path)[:-3], 99)
+        found = [one for one in ast.parse(text).body if isinstance(one, ast.ImportFrom) and one.level == 1]
+        known = [
+            name for one in found for name in ([one.module] if one.module else [alias.name for alias in one.names])
+        ]
+        later = [name for name in known if ranks[name] > own]
+        print(*(f"{path} knows {name}" for name in later), sep="\n", end="\n" if later else "")
+        yield not later
+        modules = [one.module for one in ast.walk(ast.parse(text)) if isinstance(one, ast.ImportFrom)]
+        yield ("pycparser" in modules) is path.endswith("parsing.py")
+
+
+def the_tree_is_our_own(folder: str) -> Iterator[bool]:
+    """What is read is a tree without nodes of the parser, which prints as it was."""
+    from tools.adapt import parsing, tree
+
+    unit = parsed("int f(int x) { return g(2, x + 1); }").tree
+    nodes = tree.walk(unit)
+    yield all(type(one).__module__ == "tools.adapt.tree" for one in nodes)
+    yield [one.name for one in nodes if isinstance(one, tree.ID)] == ["g", "x"]
+    yield parsing.printed(unit.ext[0].body.block_items[0]) == "return g(2, x + 1);"
+    yield unit.ext[0].coord == tree.Coord("a.c", 1, 5)
+
+
+def jumps_become_breaks(folder: str) -> Iterator[bool]:
+    """A goto out of a loop to a label behind it, and a switch with a case within a statement."""
+    from tools.adapt import parsing, tree
+    from tools.adapt.cases import Cases, is_plain
+    from tools.adapt.jumps import Jumps
+    from tools.adapt.pipeline import free_names
+    from tools.adapt.refusals import Refusals
+
+    item = parsed("void f(int x) { while (x) { if (x == 3) goto out; x--; } out: x = 0; }").tree.ext[0]
+    Jumps(free_names(set()), Refusals()).function(item)
+    text = " ".join(parsing.printed(item).split())
+    yield text == "void f(int x) { while (x) { if (x == 3) break; x--; } out: x = 0; }"
+    item = parsed("void f(int x) { switch (x) { case 1: while (x) { case 2: x--; } } }").tree.ext[0]
+    Cases(free_names(set())).function(item.body)
+    switches = [one for one in tree.walk(item) if isinstance(one, tree.Switch)]
+    yield [is_plain(one) for one in switches] == [True]
+
+
+def names_have_their_scopes(folder: str) -> Iterator[bool]:
+    """C11 6.2.1p4: the inner x is another object; 6.5.3.4 and 6.6: sizes and constants."""
+    from tools.adapt import tree
+
+    names = named("enum { K = 5 }; int a[3 * K]; int x; int f(void) { char x = 1; { long x = 2; x = K; } return x; }")
+    objects = [one for one in names.variables if one.name == "x"]
+    yield [one.type.bits for one in objects] == [32, 8, 64]
+    used = [
+        names.meaning[node]
+        for _, item in names.items
+        for node in tree.walk(item)
+        if isinstance(node, tree.ID) and node.name == "x"
+    ]
+    yield used == [objects[2], objects[1]]
+    yield of_name(names.variables, "a").type.length == 15
+    yield names.refusals.found == set()
+
+
+def parameters_are_bound(folder: str) -> Iterator[bool]:
+    """One object of the file, a copy of several, a whole array, and a pointer that moves."""
+    names = bound(
+        "int a, b, c[4]; void one(int *p) { *p = 1; } void two(int *p) { *p = 1; } int all(int *p) { return p[1]; }\n"
+        "void on(int *p) { p++; *p = 2; } void f(void) { one(&a); two(&a); two(&b); all(c); on(c); }"
+    )
+    way = {function.name: function.parameters[0].binding for function in names.functions if function.parameters}
+    yield (way["two"], way["all"], way["on"]) == ("copy", "lent", "pointer")
+    yield way["one"].variable is of_name(names.variables, "a")
+
+
+def pointers_meet_their_objects(folder: str) -> Iterator[bool]:
+    """By assignments p meets a and b, q meets c; they come together where p is compared with q."""
+    from tools.adapt.points_to import PointsTo
+
+    text = "int a, b, c, *p, *q; void f(void) { p = &a; p = &b; q = &c; %s }"
+    for more, together in (("", False), ("if (p == q) a = 1;", True)):
+        names = bound(text % more)
+        points = PointsTo(names, set())
+        homes = [points.home(of_name(names.variables, name)) for name in "abc"]
+        yield homes[0] is homes[1] and (homes[1] is homes[2]) is together
+
+
+def objects_lie_behind_each_other(folder: str) -> Iterator[bool]:
+    """Each object of a column with one element between it and the next, which no pointer into either may reach."""
+    from tools.adapt.columns import Columns
+
+    names = bound("int a, b[3], c, *p; void f(int x) { p = x ? &a : b; p++; p = &c; *p = x; }")
+    columns = Columns(names, set())
+    region = columns.home(of_name(names.variables, "a"))
+    assert region is not None
+    yield [columns.begin(region, of_name(names.variables, name)) for name in "abc"] == [0, 2, 6]
+    yield (columns.counts[region], region.parts()) == (7, ["@p", "@e"])
+
+
+def effects_are_told(folder: str) -> Iterator[bool]:
+    """What a call of f reads and writes, through g."""
+    from tools.adapt.choosers import Choosers
+    from tools.adapt.columns import Columns
+    from tools.adapt.effects import Effected
+    from tools.adapt.places import Places
+
+    names = bound("int a, b, c; int g(void) { return a; } void f(int x) { b = g() + x; }")
+    columns = Columns(names, set())
+    effected = Effected(names, Places(names, columns, Choosers(names, columns)), set())
+    found = effected.of_function[of_name(names.functions, "f")]
+    read, written = ({one[0].name for one in places if one[0]} for places in (found.reads, found.writes))
+    yield (read, written) == ({"a"}, {"b"})
+
+
+def a_function_is_written(folder: str) -> Iterator[bool]:
+    """The pieces of a function, each with its line."""
+    from tools.adapt.choosers import Choosers
+    from tools.adapt.columns import Columns
+    from tools.adapt.effects import Effected
+    from tools.adapt.lifetimes import Lifetimes
+    from tools.adapt.output import FELL, unmarked
+    from tools.adapt.places import Places
+    from tools.adapt.spelling import Spelling
+    from tools.adapt.writer import Analysis, Checking, Writer
+
+    names = bound("static int n;\nint f(int x)\n{\n  n += x++;\n  return n;\n}\n")
+    columns = Columns(names, set())
+    places = Places(names, columns, Choosers(names, columns))
+    known = Analysis(names, places, Effected(names, places, set()), Lifetimes(names, columns), set())
+    files = Writer(known, Spelling(names, {"n", "f", "x"}), Checking()).units.write()
+    pieces = [(line, unmarked(text)) for line, text in files["a.c"].pieces]
+    due = [(1, "static int n;"), (2, "int f(int x) {"), (4, "n += x;"), (4, "x++;"), (5, "return n;"), (5, FELL + "}")]
+    yield pieces == due
+
+
+def what_the_program_refuses_is_told(folder: str) -> Iterator[bool]:
+    from tools.adapt.gate import check
+    from tools.adapt.refusals import Refusals
+
+    for text, count in (("int f(int x) { return x; }\n", 0), ("int f(int x) { return y; }\n", 1)):
+        refusals = Refusals()
+        check({"a.c": text}, refusals)
+        yield len(refusals.found) == count
+
+
+STAGES = (no_stage_knows_a_later_one, the_tree_is_our_own, jumps_become_breaks, names_have_their_scopes, parameters_are_bound, pointers_meet_their_objects,
+          objects_lie_behind_each_other, effects_are_told, a_function_is_written, what_the_program_refuses_is_told)  # fmt: skip
+TRIED = [(NEEDS, one) for one in STAGES]
