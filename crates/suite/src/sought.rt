@@ -125,7 +125,7 @@ impl<'a> Sought<'a> {
     }
 
     /// The goal.
-    pub(crate) fn goal(&self) -> Goal<'a>
+    pub fn goal(&self) -> Goal<'a>
         ensures { result ≡ self.now.goal }
     {
         self.goal
@@ -139,7 +139,11 @@ impl<'a> Sought<'a> {
     }
 
     /// The formula of the goal.
-    pub(crate) fn formula(&mut self, alloc: Global) -> Result<GoalFormula, Memory>
+    ///
+    /// # Errors
+    ///
+    /// Want of memory alone.
+    pub fn formula(&mut self, alloc: Global) -> Result<GoalFormula, Memory>
         ensures exact { IfOk result (IsFormulaFor self.old.goal) }
         ensures same { self.new ≡ self.old }
     {
