@@ -1,3 +1,4 @@
+pub mod Bounded
 pub mod Laws
 pub mod Leaving
 pub mod Parts

@@ -7,11 +7,12 @@
 //! said to suffice; a search that spent its budget is handed out with its formula. [`bounds_formula`] in formula.rt gives that
 //! formula alone, for whoever checks a derivation over it.
 //!
-//! The definitions are in specs/: `Leaving` (when a formula is exact for leaving the bounds), `Sufficing` (what is said of each
-//! answer), `Laws` (where no input leaves the bounds, a goal that is refuted within them is unreachable), and for the parts
-//! below `Parts`.
+//! The definitions are in specs/: `Bounded` (what the calls promise of an entry and bounds), `Leaving` (when a formula is exact
+//! for leaving the bounds), `Sufficing` (what is said of each answer), `Laws` (where no input leaves the bounds, a goal that is
+//! refuted within them is unreachable), and for the parts below `Parts`.
 #![tactic(auto)]
 
+mod bounded;
 mod formula;
 pub mod laws;
 mod leaving;
@@ -19,6 +20,7 @@ mod staying;
 mod suffice;
 mod sufficing;
 
+pub use bounded::Bounded;
 pub use formula::bounds_formula;
 pub use suffice::Suffice;
 pub use sufficing::bounds_suffice;

@@ -1,44 +1,36 @@
 // Bounds that suffice.
-ghost use Rattle.std.specs.Prelude.{◌≡◌, ◌≤◌, ◌^◌, [], IfErr, IfOk, Some, slice_get};
-ghost use Rattle.std.specs.Option.{IsSomeAnd};
-ghost use Rattle.cfa.specs.Contexts.{IsOnce};
-ghost use Rattle.cfa.specs.declared.parts.Function.{Function as OneFunction};
-ghost use Rattle.unwinder.specs.Unwinding.{IsUnwindFault};
-ghost use Rattle.bounds_check.specs.Leaving.{IsExactForLeaving, no_predicates};
-ghost use Rattle.bounds_check.specs.Sufficing.{IsOpenWhereShort, IsSuffice, IsWithinLimits};
+ghost use Rattle.std.specs.Prelude.{◌≤◌, ◌^◌, IfErr, IfOk};
+ghost use Rattle.bounds_check.specs.Bounded.{CannotUnwind, IsExactFor, IsOpenFor, IsSufficeFor, IsWithin};
 
+use crate::bounded::Bounded;
 use crate::leaving::left_input;
 use crate::staying::open_formula;
 use crate::suffice::Suffice;
 use c_meaning::Ends;
-use cfa::{Graph, Predicates};
+use cfa::Predicates;
 use confirmation::{Outcome, outcome};
 use containers::Vector;
 use fq_core::{Fault, Memory};
 use goal_formula::GoalFormula;
-use reached::Bounds;
 use std::alloc::Global;
 use unwinder::unwind;
 
 /// What the search of the formula finds.
 fn searched(
     alloc: Global,
-    graph: &Graph,
-    entry: u32,
-    bounds: Bounds,
+    bounded: &Bounded,
     formula: GoalFormula,
     budget: u64,
 ) -> Result<Suffice, Memory>
-    requires entry { IsSomeAnd (slice_get graph.now.functions entry) (λ f. f.arrays ≡ []) }
-    requires exact { (f : OneFunction) → slice_get graph.now.functions entry ≡ Some f → IsExactForLeaving graph.now f bounds formula }
+    requires exact { IsExactFor bounded.now formula }
     requires small { formula.formula.variables ≤ 2 ^ 30 }
-    ensures { IfOk result (λ suffice. (f : OneFunction) → slice_get graph.now.functions entry ≡ Some f → IsSuffice graph.now f bounds budget suffice) }
+    ensures { IfOk result (IsSufficeFor bounded.now budget) }
 {
     match outcome(alloc, &formula.formula, budget)? {
         Outcome::Model(model) => {
-            graph.well_formed();
-            let function = &graph.functions()[entry as usize];
-            let input = left_input(alloc, &formula, &model, &function.parameters)?;
+            let entry = bounded.entry;
+            entry.graph.well_formed();
+            let input = left_input(alloc, &formula, &model, &entry.function.parameters)?;
             Ok(Suffice::Left(input))
         }
         Outcome::Refuted(derivation) => Ok(Suffice::Yes {
@@ -53,29 +45,20 @@ fn searched(
 }
 
 /// The formula of the inputs that leave the bounds.
-pub(crate) fn leaving_formula(
-    alloc: Global,
-    graph: &Graph,
-    entry: u32,
-    bounds: Bounds,
-) -> Result<GoalFormula, Fault>
-    requires once { IsOnce graph.now }
-    requires entry { IsSomeAnd (slice_get graph.now.functions entry) (λ f. f.arrays ≡ []) }
-    requires frames { 1 ≤ bounds.frames }
-    requires answers { bounds.answers ≤ 256 }
-    ensures exact { IfOk result (λ formula. (f : OneFunction) → slice_get graph.now.functions entry ≡ Some f → IsExactForLeaving graph.now f bounds formula) }
+pub(crate) fn leaving_formula(alloc: Global, bounded: &Bounded) -> Result<GoalFormula, Fault>
+    ensures exact { IfOk result (IsExactFor bounded.now) }
     ensures small { IfOk result (λ formula. formula.formula.variables ≤ 2 ^ 30) }
-    ensures limits { IfOk result (λ _. (f : OneFunction) → slice_get graph.now.functions entry ≡ Some f → IsWithinLimits graph.now f bounds) }
-    ensures refused { IfErr result (λ fault. (f : OneFunction) → slice_get graph.now.functions entry ≡ Some f → IsUnwindFault graph.now no_predicates bounds f fault) }
+    ensures limits { IfOk result (λ _. IsWithin bounded.now) }
+    ensures refused { IfErr result (CannotUnwind bounded.now) }
 {
     let none = Predicates {
         texts: Vector::new(alloc),
         meanings: Vector::new(alloc),
     };
-    let unwound = unwind(alloc, graph, entry, &none, bounds, Ends::Any)?;
-    graph.well_formed();
-    let function = &graph.functions()[entry as usize];
-    match open_formula(alloc, unwound, &function.parameters) {
+    let entry = bounded.entry;
+    let unwound = unwind(alloc, entry.graph, entry.number, &none, bounded.bounds, Ends::Any)?;
+    entry.graph.well_formed();
+    match open_formula(alloc, unwound, &entry.function.parameters) {
         Ok(formula) => Ok(formula),
         Err(Memory) => Err(Fault::Memory),
     }
@@ -95,24 +78,14 @@ pub(crate) fn leaving_formula(
 /// # Errors
 ///
 /// Codes 80 and 81 are those of the unwinding, without predicates. Each comes wherever it is so, unless memory runs out first.
-pub fn bounds_suffice(
-    alloc: Global,
-    graph: &Graph,
-    entry: u32,
-    bounds: Bounds,
-    budget: u64,
-) -> Result<Suffice, Fault>
-    requires once { IsOnce graph.now }
-    requires entry { IsSomeAnd (slice_get graph.now.functions entry) (λ f. f.arrays ≡ []) }
-    requires frames { 1 ≤ bounds.frames }
-    requires answers { bounds.answers ≤ 256 }
-    ensures suffice { IfOk result (λ suffice. (f : OneFunction) → slice_get graph.now.functions entry ≡ Some f → IsSuffice graph.now f bounds budget suffice) }
-    ensures enough { IfOk result (λ suffice. (f : OneFunction) → slice_get graph.now.functions entry ≡ Some f → IsOpenWhereShort graph.now f bounds budget suffice) }
-    ensures limits { IfOk result (λ _. (f : OneFunction) → slice_get graph.now.functions entry ≡ Some f → IsWithinLimits graph.now f bounds) }
-    ensures refused { IfErr result (λ fault. (f : OneFunction) → slice_get graph.now.functions entry ≡ Some f → IsUnwindFault graph.now no_predicates bounds f fault) }
+pub fn bounds_suffice(alloc: Global, bounded: &Bounded, budget: u64) -> Result<Suffice, Fault>
+    ensures suffice { IfOk result (IsSufficeFor bounded.now budget) }
+    ensures enough { IfOk result (IsOpenFor bounded.now budget) }
+    ensures limits { IfOk result (λ _. IsWithin bounded.now) }
+    ensures refused { IfErr result (CannotUnwind bounded.now) }
 {
-    let formula = leaving_formula(alloc, graph, entry, bounds)?;
-    match searched(alloc, graph, entry, bounds, formula, budget) {
+    let formula = leaving_formula(alloc, bounded)?;
+    match searched(alloc, bounded, formula, budget) {
         Ok(suffice) => Ok(suffice),
         Err(Memory) => Err(Fault::Memory),
     }

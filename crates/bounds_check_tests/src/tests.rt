@@ -3,16 +3,16 @@ ghost use Rattle.std.specs.Prelude.{IfOk};
 ghost use Rattle.cfa.specs.Contexts.{IsOnce};
 
 use bounds_check::laws::{derivations_suffice, unhit_is_unreachable};
-use bounds_check::{Suffice, bounds_suffice};
+use bounds_check::{Bounded, Suffice, bounds_suffice};
 use c_front::automaton_of_texts;
 use c_meaning::Input;
 use cfa::Graph;
 use fq_core::{Fault, Place};
+use given::Entry;
 use reached::Bounds;
 use std::alloc::{AllocError, Global};
 use std::test::Fail;
 use test_programs::texts_of;
-use test_unwindings::entry_of;
 
 // A program, the turns, the frames and the answers, the budget, and whether they suffice for `f`.
 type Row = (&'static str, u32, u32, u32, u64, &'static str);
@@ -101,13 +101,23 @@ fn suffice_in(
     budget: u64,
 ) -> Result<Result<Suffice, Fault>, Fail> {
     let graph = automaton_of(alloc, source)?;
-    let Some(entry) = entry_of(&graph) else {
+    let Some(number) = graph.function_named(b"f") else {
         return Err(Fail::from("no function"));
     };
+    let function = &graph.functions()[number as usize];
+    if function.arrays.len() > 0 {
+        return Err(Fail::from("no entry"));
+    }
     if bounds.frames == 0 || bounds.answers > 256 {
         return Err(Fail::from("no bounds"));
     }
-    Ok(bounds_suffice(alloc, &graph, entry, bounds, budget))
+    let entry = Entry {
+        graph: &graph,
+        number,
+        function,
+    };
+    let bounded = Bounded { entry, bounds };
+    Ok(bounds_suffice(alloc, &bounded, budget))
 }
 
 fn text_of(alloc: Global, suffice: &Result<Suffice, Fault>) -> Result<String, AllocError> {

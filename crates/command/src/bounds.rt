@@ -14,7 +14,7 @@ use crate::entry::entry_named;
 use crate::generate::within;
 use crate::reply::Reply;
 use crate::sources::automaton;
-use bounds_check::{Suffice, bounds_suffice};
+use bounds_check::{Bounded, Suffice, bounds_suffice};
 use certificate::write_certificate;
 use cnf::{Derivation, Formula};
 use command_words::Suffice as Asked;
@@ -111,13 +111,8 @@ pub fn bounds<F: Files, W: Watch>(
     let automaton = automaton(alloc, files, &request.sources)?;
     let entry = entry_named(&automaton, request.entry)?;
     let bounds = within(request.bounds);
-    let suffice = bounds_suffice(
-        alloc,
-        entry.graph,
-        entry.number,
-        bounds,
-        request.budget as u64,
-    )?;
+    let bounded = Bounded { entry, bounds };
+    let suffice = bounds_suffice(alloc, &bounded, request.budget as u64)?;
     let reply = said_of(alloc, form, &entry, bounds, suffice, watch)?;
     Ok(reply)
 }

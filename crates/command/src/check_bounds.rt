@@ -11,7 +11,7 @@ use crate::entry::entry_named;
 use crate::generate::within;
 use crate::reply::Reply;
 use crate::sources::automaton;
-use bounds_check::bounds_formula;
+use bounds_check::{Bounded, bounds_formula};
 use command_words::CheckBounds;
 use fq_core::Fault;
 use fq_io::Files;
@@ -32,7 +32,8 @@ pub fn check_bounds<F: Files>(
     let entry = entry_named(&automaton, request.entry)?;
     let theirs = read_certificate_file(alloc, files, request.certificate)?;
     let bounds = within(request.bounds);
-    let ours = bounds_formula(alloc, entry.graph, entry.number, bounds)?;
+    let bounded = Bounded { entry, bounds };
+    let ours = bounds_formula(alloc, &bounded)?;
     let text = suffice_text(alloc, bounds)?;
     compared(alloc, text, &theirs, &ours)
 }

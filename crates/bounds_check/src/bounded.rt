@@ -1,0 +1,14 @@
+// How far runs go.
+ghost use Rattle.std.specs.Prelude.{◌≤◌};
+
+use given::Entry;
+use reached::Bounds;
+
+/// An entry, and bounds of the runs from it.
+#[derive(Clone, Copy)]
+pub struct Bounded<'a> {
+    pub entry: Entry<'a>,
+    pub bounds: Bounds,
+    ghost some_frame: { 1 ≤ bounds.frames },
+    ghost few_answers: { bounds.answers ≤ 256 },
+}
