@@ -33,8 +33,10 @@ pub(crate) fn left_input(
     requires kinds { All IsKind kinds.now }
     requires words { map length formula.now.words ≡ map (λ (kind : OneKind). kind.width) kinds.now }
     requires answers { All (λ row. length row ≡ 64) formula.now.answers }
-    ensures words { IfOk result (λ input. input.words ≡ (input_from (assignment model.now) kinds.now formula.now).words) }
-    ensures answers { IfOk result (λ input. IsCut (input_from (assignment model.now) kinds.now formula.now).answers input.answers) }
+    ensures words { IfOk result (λ input.
+        input.words ≡ (input_from (assignment model.now) kinds.now formula.now).words) }
+    ensures answers { IfOk result (λ input.
+        IsCut (input_from (assignment model.now) kinds.now formula.now).answers input.answers) }
 {
     let input = input_of(alloc, formula, model, kinds)?;
     Ok(Input {

@@ -22,7 +22,8 @@ fn some_ended(circuit: &mut Circuit, entries: &[Entry]) -> Result<Lit, NoGate>
     requires room { length circuit.old + 2 * length entries.now ≤ 2 ^ 30 }
     ensures grows { Grows circuit.old circuit.new (2 * length entries.now) }
     ensures wire { IfOk result (λ l. IsWire circuit.new l) }
-    ensures value { IfOk result (λ l. (w : World) → lit_holds circuit.new l w ≡ list_any (λ e. lit_holds circuit.old e.guard w && lit_holds circuit.old e.ended w) entries.now) }
+    ensures value { IfOk result (λ l. (w : World) → lit_holds circuit.new l w ≡ list_any
+        (λ e. lit_holds circuit.old e.guard w && lit_holds circuit.old e.ended w) entries.now) }
 {
     let mut some = Lit::NO;
     for entry in entries {
@@ -51,7 +52,8 @@ pub(crate) fn open_formula(
     parameters: &[Kind],
 ) -> Result<GoalFormula, Memory>
     requires { CanSay parameters.now unwound }
-    ensures { IfOk result (SaysOpen unwound.circuit unwound.entries parameters.now unwound.bounds.answers) }
+    ensures { IfOk result
+        (SaysOpen unwound.circuit unwound.entries parameters.now unwound.bounds.answers) }
 {
     let mut circuit = unwound.circuit;
     match none_ended(&mut circuit, &unwound.entries) {

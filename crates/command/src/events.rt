@@ -40,7 +40,8 @@ fn list(alloc: Global, entry: &Entry, steps: u32, inputs: &[Input]) -> Result<Re
 
 /// What is due of `events`. The edges of the automaton's runs tell what happens by the trees.
 pub fn events<F: Files>(alloc: Global, request: &Runs, files: &mut F) -> Result<Reply, Fault>
-    ensures { IsTold (reads F.Files files.old files.new) (asks.events (running request.now)) result }
+    ensures { IsTold (reads F.Files files.old files.new)
+        (asks.events (running request.now)) result }
 {
     let automaton = automaton(alloc, files, &request.sources)?;
     let entry = entry_named(&automaton, request.entry)?;
