@@ -38,6 +38,10 @@ module _ (due : Said → Type 0) (names : List Text) where
   gives_refused w (fault.Refused x) is none = (is, none)
   gives_refused w fault.Memory is none = tt
 
+  -- memory ran out
+  pub gives_nothing : (w : Watched) (r : Result Reply Fault) → (f : Fault) × (r ≡ Err f) × (f ≡ fault.Memory) → Gives due names w r
+  gives_nothing w r (f, is, memory) = rw (is, memory) tt
+
   pub tells_refused : (f : Fault) → IfRefused f (λ x. due (said_by names x)) → Tells due names (Err f)
   tells_refused (fault.Refused x) is = is
   tells_refused fault.Memory is = tt

@@ -4,7 +4,7 @@ use Rattle.given.specs.declared.goal.Goal.{Goal}
 use Rattle.least_input.specs.AtGoal.{IsAnsweredAt, IsOpenAt}
 use Rattle.command.specs.Entries.{seen}
 use Rattle.command.specs.Least.{IsLowered}
-use Rattle.command.proofs.GivesLaws.{gives_refused}
+use Rattle.command.proofs.GivesLaws.{gives_nothing, gives_refused}
 use Rattle.command.proofs.ReadsLaws.{refused_map}
 use Rattle.command.proofs.least.lowered.Goals as goal
 
@@ -15,6 +15,20 @@ returns-in_err-sought g c = λ names one is.
     rw (p.1, p.2) (gives_refused (IsLowered x.given.now.planned.entry.graph.now (seen x.given.now.planned.entry) x.given.now.planned.predicates x.given.now.planned.plan x.given.now.bounds x.given.now.ends x.number one names c.args.budget)
     names _ c.in_err-sought.field-0.0
     (refused_map c.in_err-sought.field-0.0 c.in_err-sought.ensures.refused (λ y why. inl (y, why one is, refl))) refl)
+
+pub returns-in_err-least : goal.returns-in_err-least
+returns-in_err-least g c = λ names one is.
+    let x = c.args.goal.now in
+    let p = err_from_is_err_and c.from_residual-in_err-least.result c.from_residual-in_err-least.ensures.1 in
+    gives_nothing (IsLowered x.given.now.planned.entry.graph.now (seen x.given.now.planned.entry) x.given.now.planned.predicates x.given.now.planned.plan x.given.now.bounds x.given.now.ends x.number one names c.args.budget)
+    names _ _ p
+
+pub returns-in_err-reply : goal.returns-in_err-reply
+returns-in_err-reply g c = λ names one is.
+    let x = c.args.goal.now in
+    let p = err_from_is_err_and c.from_residual-in_err-reply.result c.from_residual-in_err-reply.ensures.1 in
+    gives_nothing (IsLowered x.given.now.planned.entry.graph.now (seen x.given.now.planned.entry) x.given.now.planned.predicates x.given.now.planned.plan x.given.now.bounds x.given.now.ends x.number one names c.args.budget)
+    names _ _ p
 
 pub returns : goal.returns
 returns g c = λ names one is.

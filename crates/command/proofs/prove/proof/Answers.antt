@@ -6,7 +6,7 @@ use Rattle.command.specs.Entries.{seen}
 use Rattle.command.specs.Parts.{IsSaidFor}
 use Rattle.command.specs.Prove.{IsProved}
 use Rattle.command.specs.Replies.{IsReply}
-use Rattle.command.proofs.GivesLaws.{gives_refused}
+use Rattle.command.proofs.GivesLaws.{gives_nothing, gives_refused}
 use Rattle.command.proofs.ReadsLaws.{refused_map}
 use Rattle.command.proofs.StageLaws.{goal_found}
 use Rattle.command.proofs.prove.proof.Goals as goal
@@ -26,6 +26,20 @@ said_of-requires g c =
     let at : c.decide.new.sought.goal ≡ x = ap (λ (s : Seeking). s.goal) c.in_ok-decided.ensures.same ∙ c.in_ok-sought.ensures.goal in
     let decided : IsDecidedAt x c.args.budget c.in_ok-decided.decided = subst (λ (y : Goal). IsDecidedAt y c.args.budget c.in_ok-decided.decided) c.in_ok-sought.ensures.goal c.in_ok-decided.ensures.decided in
     (found.0, (c.args.budget, subst (λ (y : Goal). IsDecidedAs y found.0 c.args.budget c.in_ok-decided.decided) (sym at) (decided found.0 found.1)))
+
+pub returns-in_err-decided : goal.returns-in_err-decided
+returns-in_err-decided g c = λ names one is.
+    let x = c.args.goal.now in
+    let p = err_from_is_err_and c.from_residual-in_err-decided.result c.from_residual-in_err-decided.ensures.1 in
+    gives_nothing (IsProved x.given.now.planned.entry.graph.now (seen x.given.now.planned.entry) x.given.now.planned.predicates x.given.now.planned.plan x.given.now.bounds x.given.now.ends x.number one names c.args.budget)
+    names _ _ p
+
+pub returns-in_err-reply : goal.returns-in_err-reply
+returns-in_err-reply g c = λ names one is.
+    let x = c.args.goal.now in
+    let p = err_from_is_err_and c.from_residual-in_err-reply.result c.from_residual-in_err-reply.ensures.1 in
+    gives_nothing (IsProved x.given.now.planned.entry.graph.now (seen x.given.now.planned.entry) x.given.now.planned.predicates x.given.now.planned.plan x.given.now.bounds x.given.now.ends x.number one names c.args.budget)
+    names _ _ p
 
 pub returns : goal.returns
 returns g c = λ names one is.

@@ -16,4 +16,4 @@ returns-in_ok-text-in-Refuted g c = λ one budget decided.
 
 pub returns-in_ok-shown-in-Undecided : goal.returns-in_ok-shown-in-Undecided
 returns-in_ok-shown-in-Undecided g c = λ one budget decided.
-    ((c.args.sought.now.goal.number, c.in-Undecided.formula.formula, c.in-Undecided.history) ∷ [], rw c.in-Undecided.is (same_open _ _ _ (rw c.goal.ensures at c.in_ok-text-in-Undecided.ensures)), rw c.goal.ensures at c.in_ok-shown-in-Undecided.ensures.ok)
+    ((c.args.sought.now.goal.number, c.in-Undecided.formula.formula, c.in-Undecided.history) ∷ [], rw c.in-Undecided.is (same_open _ _ _ (rw c.goal-number.ensures at c.in_ok-text-in-Undecided.ensures)), rw c.goal-number.ensures at c.in_ok-shown-in-Undecided.ensures.ok)
