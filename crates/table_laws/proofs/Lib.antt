@@ -1,4 +1,4 @@
 mod Flows
 mod Values
 mod Rows
-mod Whole
+pub mod Whole
