@@ -58,14 +58,14 @@ one_answer Undecided Undecided x y small other e = (refl, same_word (codes "unde
 -- ---- the line of a goal
 
 -- parts of a line, and what stands behind it
-grouped : (front number said word end rest : List ℕ) → (front ++ number ++ (32 ∷ said) ++ (32 ∷ word) ++ end) ++ rest ≡ front ++ (number ++ (32 ∷ (said ++ (32 ∷ (word ++ (end ++ rest))))))
-grouped front number said word end rest = simp append_assoc
+grouped : (front number space said word end rest : List ℕ) → (front ++ number ++ space ++ said ++ space ++ word ++ end) ++ rest ≡ front ++ (number ++ (space ++ (said ++ (space ++ (word ++ (end ++ rest))))))
+grouped front number space said word end rest = simp append_assoc
 
 one_line : (number word : List ℕ) (a b : Answer) (x y : List ℕ) → IsSmall a → IsSmall b
     → (codes "goal " ++ number ++ codes " " ++ answer_text a ++ codes " " ++ word ++ codes "\n") ++ x ≡ (codes "goal " ++ number ++ codes " " ++ answer_text b ++ codes " " ++ word ++ codes "\n") ++ y
     → (a ≡ b) × (x ≡ y)
 one_line number word a b x y small other e =
-    let told = sym (grouped (codes "goal ") number (answer_text a) word (codes "\n") x) ∙ e ∙ grouped (codes "goal ") number (answer_text b) word (codes "\n") y in
+    let told = sym (grouped (codes "goal ") number (codes " ") (answer_text a) word (codes "\n") x) ∙ e ∙ grouped (codes "goal ") number (codes " ") (answer_text b) word (codes "\n") y in
     let front = append_cancel_left (codes "goal ") (number ++ (32 ∷ Said a (word ++ (10 ∷ x)))) (number ++ (32 ∷ Said b (word ++ (10 ∷ y)))) told in
     let behind = append_cancel_left number (32 ∷ Said a (word ++ (10 ∷ x))) (32 ∷ Said b (word ++ (10 ∷ y))) front in
     let both = one_answer a b (word ++ (10 ∷ x)) (word ++ (10 ∷ y)) small other (tails 32 32 (Said a (word ++ (10 ∷ x))) (Said b (word ++ (10 ∷ y))) behind) in

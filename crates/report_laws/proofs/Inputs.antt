@@ -1,5 +1,5 @@
 -- The lines of the inputs that were made.
-use Rattle.std.proofs.Common.{◌≡◌, ℕ, suc, ◌+◌, ◌<◌, ◌≤◌, ◌^◌, List, [], ◌∷◌, ◌++◌, All, length, refl, sym, ap, ◌∙◌, append_assoc, arith, length-append}
+use Rattle.std.proofs.Common.{◌≡◌, ℕ, suc, ◌+◌, ◌<◌, ◌≤◌, ◌^◌, List, [], ◌∷◌, ◌++◌, All, length, refl, arith, length-append}
 use Rattle.std.specs.Prelude.{codes}
 use Rattle.std.specs.Fmt.{decimal}
 use Rattle.std.specs.List.{AllZip, flat_map}
@@ -23,7 +23,7 @@ behind_words kinds number [] rest = []
 behind_words kinds number (input ∷ inputs) [] = []
 
 one_line : (kinds : List Kind) (number : ℕ) (input : Input) (taken : List (Kind × ℕ)) → made_line kinds number input taken ≡ line_of_input (behind_word kinds number input taken)
-one_line kinds number input taken = ap (λ (text : List ℕ). codes "input " ++ text) (sym (append_assoc (decimal number) (made_text kinds input taken) (codes "\n")))
+one_line kinds number input taken = refl
 
 pub lines_are : (kinds : List Kind) (number : ℕ) (inputs : List Input) (all : List (List (Kind × ℕ))) → made_lines kinds number inputs all ≡ flat_map line_of_input (behind_words kinds number inputs all)
 lines_are kinds number [] all = refl
