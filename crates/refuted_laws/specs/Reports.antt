@@ -16,7 +16,8 @@ use Rattle.suite.specs.Generated.{IsGenerated, Shown}
 use Rattle.suite.specs.Suite.{kept_of}
 use Rattle.suite.specs.declared.generated.Generated.{Generated}
 use Rattle.unwinder.specs.Lists.{IsInputFor}
-use Rattle.ending_laws.specs.Asking.{AsksFor, AsksForEachEnd}
+use Rattle.asked_ends.specs.Laws.{asking_for_ends}
+use Rattle.ending_laws.specs.Asking.{AsksFor}
 use Rattle.ending_laws.specs.Ends.{EndsSoon}
 use Rattle.report_laws.specs.Laws.{HasAnswers}
 use Rattle.command_words.specs.Request.{generate, Generating}
@@ -53,14 +54,14 @@ ReportsAreTrue = (r : Reads) (m : Generating) (said : Said) → m.json ≡ false
 abbrev pub OtherGoalsAreRefuted : Function → Plan → List Answer → Type 0
 OtherGoalsAreRefuted f plan answers = (place : ℕ) (goal : GoalForm) → slice_get plan.goals place ≡ Some goal → ¬ AsksFor f.exit goal → slice_get answers place ≡ Some Refuted
 
--- The lines of a report say of each goal but that of the entry's exit that it is refuted, its query asks whether runs end at each node, and
--- a line of the same entry, sources and bounds says that these suffice.
+-- The query of a report is `cover NODES(ID)$`, its lines say of each goal but that of the entry's exit that it is refuted, and a line of
+-- the same entry, sources and bounds says that these suffice.
 pub record RefutesOtherEnds (before after : Reads) (m : Generating) (said other : Said) : Type 0 where
   pub report : WritesReport before m said
   pub short : length said.out < 2 ^ 64
   pub answers : List Answer
   pub lines : HasAnswers report.of.graph report.plan (generated_head (length report.plan.goals) (within m.bounds) m.budget m.ends) said.out answers
-  pub asks : AsksForEachEnd report.of.graph report.of.entry.function report.plan
+  pub query : m.query ≡ asking_for_ends
   pub others : OtherGoalsAreRefuted report.of.entry.function report.plan answers
   pub same : HoldTheSame before after m.sources
   pub suffices : SaysSuffice after m.sources m.entry (within m.bounds) other

@@ -9,6 +9,7 @@
 ghost use Rattle.refuted_laws.specs.Laws.{RefutedIsUnreachable};
 ghost use Rattle.refuted_laws.specs.Reports.{ReportsAreTrue, ReportsLetReturn, ReportsRefuteTraps};
 
+use asked_ends::all_ends_are_asked;
 use bounds_check::laws::unhit_is_unreachable;
 use c_front::laws::one_outcome;
 use made_laws::{each_returns, none_traps};
@@ -33,6 +34,7 @@ pub fn reports_refute_traps()
     ensures { ReportsRefuteTraps }
 {
     one_outcome();
+    all_ends_are_asked();
     answers_are_read();
     none_traps();
 }
@@ -42,6 +44,7 @@ pub fn reports_let_return()
     ensures { ReportsLetReturn }
 {
     one_outcome();
+    all_ends_are_asked();
     answers_are_read();
     each_returns();
 }
