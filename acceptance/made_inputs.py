@@ -78,7 +78,7 @@ def answered(example: Example, folder: str, *budget: str) -> tuple[int, dict[str
 
 
 def measured(example: Example, folder: str, inputs: list[dict[str, object]]) -> list[dict[str, object]]:
-    """What `measure` says of the goals of an example, asked about printed inputs."""
+    """What `measure` says of the goals of an example, asked about printed inputs. Raises ValueError where it is refused."""
     with open(os.path.join(folder, "made.json"), "w", encoding="ascii") as file:
         json.dump(inputs, file)
     words = ["measure", "--json", "--ends", example.ends, "--steps", STEPS, example.entry, example.query, "made.json"]
@@ -137,8 +137,12 @@ def turned_round() -> Outcome:
     def in_folder(folder: str) -> list[str]:
         status, report = answered(lock, folder)
         inputs = [report["inputs"][int(str(goal["input"])) - 1] for goal in report["goals"] if "input" in goal]
-        wrong = [] if status == 0 and len(inputs) == len(report["goals"]) == 6 else [f"status {status}: {report['goals']}"]
-        wrong += [] if inputs[-1:] == [{"answers": [], "args": decrypted(0x00C0FFEE, 0x0BADCAFE)}] else [f"{inputs[-1:]}"]
+        wrong = (
+            [] if status == 0 and len(inputs) == len(report["goals"]) == 6 else [f"status {status}: {report['goals']}"]
+        )
+        wrong += (
+            [] if inputs[-1:] == [{"answers": [], "args": decrypted(0x00C0FFEE, 0x0BADCAFE)}] else [f"{inputs[-1:]}"]
+        )
         status, report = answered(lock, folder, "--budget", "1000")
         wrong += [] if status == 1 and report["goals"][-1]["answer"] == "undecided" else ["1,000 moves are enough"]
         return wrong
