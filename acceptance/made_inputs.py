@@ -19,7 +19,7 @@ from dataclasses import dataclass
 import programs
 from side_by_side import Outcome
 
-BUDGETS = (["--budget", "1000"], ["--budget", "20000"], [])
+BUDGETS: tuple[list[str], ...] = (["--budget", "1000"], ["--budget", "20000"], [])
 STEPS = "50000"  # a run within the bounds has fewer edges
 EXAMPLES = os.path.join(programs.ROOT, "examples")
 
