@@ -13,3 +13,4 @@ pub mod Exactness
 pub mod Models
 pub mod HitBits
 pub mod Reading
+pub mod Worlds

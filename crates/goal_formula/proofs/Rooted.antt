@@ -13,7 +13,7 @@ use Rattle.circuit.specs.declared.lit.Gate.{Gate}
 use Rattle.circuit.specs.declared.lit.Lit.{Lit}
 use Rattle.clause_form.specs.Cone.{IsInCone}
 use Rattle.clause_form.specs.Encoding.{cone_clauses, is_over, variable_of}
-use Rattle.clause_form.specs.Worlds.{AgreesOnInputs, AgreesOnWires, assignment_of}
+use Rattle.clause_form.specs.Worlds.{AgreesOnInputs, AgreesOnWires, assignment_of, world_of}
 use Rattle.cnf.specs.Formulas.{Satisfies}
 use Rattle.input_words.specs.Worlds.{total_width, world_length}
 use Rattle.goal_formula.specs.Bits.{Gives, IsShaped, input_variables}
@@ -100,6 +100,9 @@ module _ (gates : List Gate) (root : Lit) (parameters : List Kind) (answers : �
     (inputs : AreInputVariables gates variable (length gates) bits) (all : input_variables g ≡ bits) (shape : IsShaped parameters answers g) (count : input_count gates ≡ world_length parameters answers)
     (size : length variable ≡ length gates) (cone : (wire : ℕ) → 0 < wire → IsSome (variable_of variable wire) ↔ IsInCone gates root wire)
     (numbers : filter_map (λ v. v) variable ≡ range_with_len 1 g.formula.variables)
+    (listed : g.variable ≡ variable)
+    (world : (value : ℕ → Bool) → AgreesOnInputs gates variable value (world_of gates variable value))
+    (determined : (value : ℕ → Bool) (w : World) → Satisfies value g.formula → AgreesOnInputs gates variable value w → AgreesOnWires gates variable value w)
     (sound : (value : ℕ → Bool) (w : World) → Satisfies value g.formula → AgreesOnInputs gates variable value w → lit_holds gates root w ≡ true)
     (assigned : (w : World) → AgreesOnWires gates variable (assignment_of gates variable w) w)
     (complete : (value : ℕ → Bool) (w : World) → lit_holds gates root w ≡ true → AgreesOnWires gates variable value w → Satisfies value g.formula) where
@@ -137,6 +140,9 @@ module _ (gates : List Gate) (root : Lit) (parameters : List Kind) (answers : �
         let value = assignment_of gates variable w in
         let size : length w ≡ length bits = long ∙ sym count ∙ sym (count_is gates variable bits inputs) in
         (value, from_bits value w (bits_given gates variable bits inputs value w size (assigned w)), complete value w holds (assigned w));
+    worlds = λ value own.
+        let w = world_of gates variable value in
+        (w, λ at n low has. determined value w own (world value) at n (subst (λ (vs : List (Option ℕ)). variable_of vs at ≡ Some n) listed has));
     variable = variable;
     form = cone_form wire few clauses;
     inputs_over = λ n has. inputs_over gates root variable bits g.formula.variables inputs size cone numbers n (subst (λ vs. Contains vs (Some n)) all has);

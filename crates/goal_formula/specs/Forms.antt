@@ -1,9 +1,9 @@
 -- The formula of a literal of a circuit: the clause form of its cone of influence, with the variables of the input bits.
-use Rattle.std.specs.Prelude.{◌≡◌, ◌⊎◌, ℕ, ◌+◌, ◌*◌, ◌<◌, ◌≤◌, ◌↔◌, Bool, true, List, [], ◌∷◌, length, Option, Some, IsSome}
+use Rattle.std.specs.Prelude.{◌≡◌, ◌⊎◌, ℕ, ◌+◌, ◌*◌, ◌<◌, ◌≤◌, ◌↔◌, Bool, true, false, List, [], ◌∷◌, length, slice_index_or, Option, Some, IsSome}
 use Rattle.std.specs.List.{Contains, filter_map, flat_map, list_all, range_with_len}
 use Rattle.c_values.specs.declared.kinds.Kind.{Kind}
 use Rattle.circuit.specs.Truth.{World}
-use Rattle.circuit.specs.Wires.{IsCircuit, IsWire, lit_holds}
+use Rattle.circuit.specs.Wires.{IsCircuit, IsWire, held, lit_holds}
 use Rattle.circuit.specs.declared.lit.Gate.{Gate}
 use Rattle.circuit.specs.declared.lit.Gate.TheVariants.{Input, And}
 use Rattle.circuit.specs.declared.lit.Lit.{Lit}
@@ -50,6 +50,15 @@ pub record IsConeForm (gates : List Gate) (root : Lit) (variable : List (Option 
   pub determined : (value other : ℕ → Bool) → AgreesWithGates gates variable value → AgreesWithGates gates variable other → AgreeOnInputs value other g
       → (n : ℕ) → 0 < n → n ≤ g.formula.variables → value n ≡ other n
 
+-- an assignment gives each variable of a wire of these gates what the wire holds in a world; `variable` may list more wires
+abbrev pub AgreesBelow : List Gate → List (Option ℕ) → (ℕ → Bool) → World → Type 0
+AgreesBelow gates variable value w =
+    (wire n : ℕ) → wire ≤ length gates → variable_of variable wire ≡ Some n → value n ≡ slice_index_or (held gates w) wire false
+
+-- in each assignment that satisfies a formula, the wires of these gates that have variables are what they are in some world
+abbrev pub HasWorlds : List Gate → GoalFormula → Type 0
+HasWorlds gates g = (value : ℕ → Bool) → Satisfies value g.formula → (w : World) × AgreesBelow gates g.variable value w
+
 -- A formula with its input bits says that a literal of a circuit holds: where an assignment satisfies it, the literal holds
 -- in each world that has the input bits of the assignment, and each world in which it holds gives its bits to an assignment
 -- that does. It is the clause form of the literal's cone.
@@ -57,6 +66,7 @@ pub record IsFormulaOf (gates : List Gate) (root : Lit) (parameters : List Kind)
   pub shape : IsShaped parameters answers g
   pub sound : (value : ℕ → Bool) (w : World) → Satisfies value g.formula → Gives value (input_variables g) w → lit_holds gates root w ≡ true
   pub complete : (w : World) → length w ≡ world_length parameters answers → lit_holds gates root w ≡ true → (value : ℕ → Bool) × Gives value (input_variables g) w × Satisfies value g.formula
+  pub worlds : HasWorlds gates g
   pub variable : List (Option ℕ)
   pub form : IsConeForm gates root variable g
   pub inputs_over : AreInputsOver g

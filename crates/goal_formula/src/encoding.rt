@@ -112,6 +112,7 @@ pub fn literal_formula(
     let answers = answer_rows(alloc, &bits, from, answers)?;
     Ok(GoalFormula {
         formula: form.formula,
+        variable: form.variable,
         words,
         answers,
     })

@@ -12,6 +12,7 @@ ghost use Rattle.input_words.specs.Worlds.{world_length};
 ghost use Rattle.patterns.specs.Letters.{form};
 ghost use Rattle.unwinder.specs.Unwinding.{IsUnwound};
 ghost use Rattle.goal_formula.specs.Exact.{IsExact};
+ghost use Rattle.goal_formula.specs.Forms.{HasWorlds};
 ghost use Rattle.goal_formula.specs.Parts.{CanSay, SaysHit, most_hit_gates};
 ghost use Rattle.goal_formula.specs.Sizes.{IsFormulaFault, goal_size, size_of};
 ghost use Rattle.goal_formula.specs.Steps.{HasWires};
@@ -112,6 +113,7 @@ pub fn formula(
     requires there { goal ≤ length plan.now.goals }
     ensures accepted { IfOk result (λ formula. (f : OneFunction) (g : GoalForm) → slice_get graph.now.functions unwound.old.entry ≡ Some f → slice_get plan.now.goals (goal - 1) ≡ Some g → IsExact graph.now predicates.now f unwound.old.bounds unwound.old.ends plan.now g formula) }
     ensures small { IfOk result (λ formula. formula.formula.variables < 2 ^ 30) }
+    ensures worlds { IfOk result (HasWorlds unwound.old.circuit) }
     ensures size { IfOk result (λ _. (g : GoalForm) → slice_get plan.now.goals (goal - 1) ≡ Some g → goal_size plan.now g unwound.old.pairs ≤ 8388608) }
     ensures refused { IfErr result (λ fault. (g : GoalForm) → slice_get plan.now.goals (goal - 1) ≡ Some g → IsFormulaFault (goal_size plan.now g unwound.old.pairs) fault) }
     ensures unwound { unwound.new ≡ unwound.old }

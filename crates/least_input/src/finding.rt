@@ -60,6 +60,7 @@ fn searched(alloc: Global, goal: Goal, whole: GoalFormula, budget: u64) -> Resul
         Outcome::Open(history) => {
             let GoalFormula {
                 formula,
+                variable: _variable,
                 words: _words,
                 answers: _answers,
             } = whole;

@@ -80,6 +80,7 @@ pub(crate) fn lowest_model(
     let variables = variables_in_order(alloc, &whole)?;
     let GoalFormula {
         formula,
+        variable,
         words,
         answers,
     } = whole;
@@ -102,6 +103,7 @@ pub(crate) fn lowest_model(
         None => Ok(Lowest::Model {
             formula: GoalFormula {
                 formula: cut(formula, count),
+                variable,
                 words,
                 answers,
             },

@@ -11,3 +11,4 @@ pub mod Refuted
 pub mod Trimming
 pub mod PoolLaws
 pub mod Early
+pub mod Lent

@@ -6,3 +6,4 @@ pub mod Pool
 pub mod Progress
 pub mod Seeking
 pub mod Standing
+pub mod Told

@@ -17,7 +17,7 @@ use std::alloc::Global;
 
 /// The input of a model of a goal's formula, with the answers alone that its run reads, each as a value of the kind as which
 /// it is read.
-fn made_input(
+pub(crate) fn made_input(
     alloc: Global,
     sought: &Sought,
     formula: &GoalFormula,
@@ -108,20 +108,18 @@ fn later_found(
     sought.first_input(alloc)
 }
 
-/// What is found of a goal before its whole search, beside a pool: by a short search, by the candidates that weren't tried so
-/// far, and by a short search from the highest variables back, in this order. With a budget below 1,000 nothing is.
-pub(crate) fn found_early(
+/// What is found of a goal before its whole search, beside a pool: by a short search of its formula, by the candidates that
+/// weren't tried so far, and by a short search from the highest variables back, in this order.
+pub(crate) fn found_by_parts(
     alloc: Global,
     sought: &mut Sought,
+    formula: GoalFormula,
     budget: u64,
 ) -> Result<Option<Decided>, Memory>
+    requires { IsFormulaFor sought.old.goal formula }
     ensures decided { IfOk result (λ found. IfSome found (IsDecidedAt sought.old.goal budget)) }
     ensures same { sought.new ≡ sought.old }
 {
-    if budget < LEAST {
-        return Ok(None);
-    }
-    let formula = sought.formula(alloc)?;
     if let Some(found) = search_lowest_part(alloc, &formula.formula, budget)? {
         let decided = answered(alloc, sought, formula, found)?;
         return Ok(Some(decided));
@@ -134,6 +132,18 @@ pub(crate) fn found_early(
         return Ok(Some(decided));
     }
     Ok(None)
+}
+
+/// What is found so of a goal. With a budget below 1,000 nothing is.
+fn found_early(alloc: Global, sought: &mut Sought, budget: u64) -> Result<Option<Decided>, Memory>
+    ensures decided { IfOk result (λ found. IfSome found (IsDecidedAt sought.old.goal budget)) }
+    ensures same { sought.new ≡ sought.old }
+{
+    if budget < LEAST {
+        return Ok(None);
+    }
+    let formula = sought.formula(alloc)?;
+    found_by_parts(alloc, sought, formula, budget)
 }
 
 /// What is found of a goal of which nothing was found early, beside a pool: by the whole search, whose history isn't made, and

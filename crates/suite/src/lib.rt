@@ -13,6 +13,7 @@
 //! [`reduce`] and its laws are those of `reduction`.
 #![tactic(auto)]
 
+mod by_lessons;
 mod decided;
 mod deciding;
 mod first_round;

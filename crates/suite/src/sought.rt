@@ -2,14 +2,19 @@
 ghost use Rattle.std.specs.Prelude.{◌≡◌, IfErr, IfOk, IfSome, IsTrue, length};
 ghost use Rattle.fq_core.specs.Refusals.{IfRefused, refusal};
 ghost use Rattle.fq_core.specs.declared.refusal.Place.TheVariants as place;
+ghost use Rattle.cnf.specs.Checks.{Checks};
+ghost use Rattle.goal_formula.specs.Forms.{HasWorlds};
 ghost use Rattle.goals.specs.GoalForm.{GoalForm};
+ghost use Rattle.lessons.specs.Giving.{SaysTheSame};
 ghost use Rattle.suite.specs.Seeking.{CanTurn, CannotUnwind, HasRun, IsFormulaFor, IsMadeAs, IsMadeFrom, IsNoneFrom, IsRecordOf, IsRefused, IsSmall, IsTurned, IsUnwindingOf, IsWithin};
 
 use crate::pool::Pool;
 use c_meaning::Input;
+use cnf::{Derivation, Formula};
 use fq_core::{Fault, Memory, Place, Refusal};
 use given::{Given, Goal};
 use goal_formula::{GoalFormula, formula, is_goal_too_large};
+use lessons::{Given as WithLessons, Lessons};
 use path_runner::{PathRecord, trace_run};
 use std::alloc::Global;
 use std::marker::Model;
@@ -21,6 +26,7 @@ pub struct Sought<'a> {
     pub(crate) goal: Goal<'a>,
     pub(crate) unwound: Unwound,
     pub(crate) pool: Pool,
+    pub(crate) lessons: Lessons,
 }
 
 impl<'a> Model for Sought<'a> {
@@ -45,7 +51,7 @@ impl<'a> Model for Sought<'a> {
 
     ghost view = { λ s. record { goal = s.goal; pairs = s.unwound.pairs } };
 
-    ghost invariant = { λ s. IsSought s.goal s.unwound s.pool };
+    ghost invariant = { λ s. IsSought s.goal s.unwound s.pool s.lessons };
 }
 
 /// Says that a goal is too large.
@@ -73,6 +79,31 @@ pub(crate) fn unwinding(alloc: Global, given: &Given) -> Result<Unwound, Fault>
         given.bounds,
         given.ends,
     )
+}
+
+/// The formula of a goal over an unwinding.
+fn formula_over(alloc: Global, goal: Goal, unwound: &mut Unwound) -> Result<GoalFormula, Memory>
+    requires unwound { IsUnwindingOf goal.given.now unwound.old }
+    requires small { IsSmall goal unwound.old.pairs }
+    ensures exact { IfOk result (IsFormulaFor goal.entry) }
+    ensures worlds { IfOk result (HasWorlds unwound.old.circuit) }
+    ensures same { unwound.new ≡ unwound.old }
+{
+    let planned = &goal.given.planned;
+    let graph = planned.entry.graph;
+    match formula(
+        alloc,
+        graph,
+        &planned.predicates,
+        unwound,
+        &planned.plan,
+        goal.number,
+    ) {
+        Ok(formula) => Ok(formula),
+        Err(Fault::Memory) => Err(Memory),
+        // The size was tested where the goal began to be sought, before anything was shown of it.
+        Err(Fault::Refused(_)) => unreachable!(),
+    }
 }
 
 impl<'a> Sought<'a> {
@@ -112,6 +143,7 @@ impl<'a> Sought<'a> {
             goal,
             unwound,
             pool,
+            lessons: Lessons::new(alloc),
         })
     }
 
@@ -147,23 +179,38 @@ impl<'a> Sought<'a> {
         ensures exact { IfOk result (IsFormulaFor self.old.goal) }
         ensures same { self.new ≡ self.old }
     {
-        let goal = self.goal;
-        let planned = &goal.given.planned;
-        let graph = planned.entry.graph;
-        let unwound = &mut self.unwound;
-        match formula(
-            alloc,
-            graph,
-            &planned.predicates,
-            unwound,
-            &planned.plan,
-            goal.number,
-        ) {
-            Ok(formula) => Ok(formula),
-            Err(Fault::Memory) => Err(Memory),
-            // The size was tested where the goal began to be sought, before anything was shown of it.
-            Err(Fault::Refused(_)) => unreachable!(),
-        }
+        formula_over(alloc, self.goal, &mut self.unwound)
+    }
+
+    /// The formula of the goal, and the same with lessons, if there are any over its wires.
+    pub(crate) fn formula_given(
+        &mut self,
+        alloc: Global,
+    ) -> Result<(GoalFormula, Option<WithLessons>), Memory>
+        ensures exact { IfOk result (λ made. IsFormulaFor self.old.goal made.0) }
+        ensures given { IfOk result (λ made. IfSome made.1 (λ given. SaysTheSame made.0.formula given.formula)) }
+        ensures same { self.new ≡ self.old }
+    {
+        let formula = formula_over(alloc, self.goal, &mut self.unwound)?;
+        let given = self.lessons.given(alloc, &self.unwound.circuit, &formula)?;
+        Ok((formula, given))
+    }
+
+    /// Learns from the refutation of the formula of a goal, behind whose own clauses stand the lessons of these places.
+    pub(crate) fn learn(
+        &mut self,
+        alloc: Global,
+        variable: &[Option<u32>],
+        formula: &Formula,
+        places: &[usize],
+        derivation: &Derivation,
+    ) -> Result<(), Memory>
+        requires { Checks formula.now derivation.now }
+        ensures { self.new ≡ self.old }
+    {
+        let circuit = &self.unwound.circuit;
+        self.lessons
+            .learn(alloc, circuit, variable, formula, places, derivation)
     }
 
     /// The run of an input that stays within the bounds, recorded whole. No such run has more edges than the unwinding has

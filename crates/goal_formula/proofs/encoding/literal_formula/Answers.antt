@@ -18,6 +18,6 @@ returns c =
     let all = all_rows bits c.in_ok-words.words c.in_ok-answers.answers (total_width parameters) c.args.answers (length bits - 64 * c.args.answers) long refl
     (c.in_ok-words.ensures.bits ∙ ap (take (total_width parameters)) c.deref-2.ensures.value)
     (c.in_ok-answers.ensures.bits ∙ (λ i. take (64 * c.args.answers) (drop (count i - 64 * c.args.answers) (c.deref-3.ensures.value i)))) in
-    rooted gates c.args.literal parameters c.args.answers variable bits (record { formula = c.in_ok-form.form.formula; words = c.in_ok-words.words; answers = c.in_ok-answers.answers })
-    inputs all (record { words = c.in_ok-words.ensures.widths; answers_are = c.in_ok-answers.ensures.widths }) c.requires.inputs form.wires form.cone form.numbers form.sound form.assignment form.complete
+    rooted gates c.args.literal parameters c.args.answers variable bits (record { formula = c.in_ok-form.form.formula; variable = c.in_ok-form.form.variable; words = c.in_ok-words.words; answers = c.in_ok-answers.answers })
+    inputs all (record { words = c.in_ok-words.ensures.widths; answers_are = c.in_ok-answers.ensures.widths }) c.requires.inputs form.wires form.cone form.numbers refl form.world form.determined form.sound form.assignment form.complete
     c.requires.literal c.requires.few form.clauses form.few_variables form.over form.few_clauses

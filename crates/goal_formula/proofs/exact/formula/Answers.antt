@@ -12,6 +12,7 @@ use Rattle.goal_formula.specs.Sizes.{size_of}
 use Rattle.goal_formula.proofs.Exactness.{exact}
 use Rattle.goal_formula.proofs.Reading.{read_goal}
 use Rattle.goal_formula.proofs.Rooms.{can_say, few_says}
+use Rattle.goal_formula.proofs.Worlds.{worlds_below}
 use Rattle.goal_formula.proofs.exact.formula.Goals as goal
 
 pub kept-requires : goal.kept-requires
@@ -60,3 +61,11 @@ returns-in-Ok-clause-small c =
     let says = c.in-Ok.ensures.formula it.0 it.1 in
     few_says c.args.graph.now c.args.predicates.now it.0 u c.args.plan.now p it.2 says.0 c.in-Ok.formula says.1
     (can_say c.args.graph.now c.args.predicates.now it.0 u c.args.plan.now p it.2 c.well_formed-2.ensures it.1 c.requires.predicates small)
+
+pub returns-in-Ok-clause-worlds : goal.returns-in-Ok-clause-worlds
+returns-in-Ok-clause-worlds c =
+    let u = c.args.unwound.now in
+    let Own : Function → Type 0 = λ f. IsUnwound c.args.graph.now c.args.predicates.now f u.entry u.bounds u.ends u in
+    let it = taken Own (slice_get c.args.graph.now.functions u.entry) c.requires.unwound in
+    let says = c.in-Ok.ensures.formula it.0 it.1 in
+    worlds_below u.circuit says.0 c.in-Ok.formula says.1.grows.older says.1.says.worlds

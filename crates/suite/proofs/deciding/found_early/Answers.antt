@@ -1,28 +1,12 @@
-use Rattle.std.proofs.Common.{◌∙◌, Option, sym, subst}
-use Rattle.std.specs.Prelude.{IfSome}
-use Rattle.search.specs.Nexts.{IsEnd}
-use Rattle.search.specs.declared.found.Found.{Found}
+use Rattle.std.proofs.Common.{Option, sym, subst}
+use Rattle.std.specs.Prelude.{IfOk, IfSome}
 use Rattle.suite.specs.Seeking.{IsDecidedAt, IsFormulaFor, Seeking}
-use Rattle.suite.proofs.Early.{end_found}
+use Rattle.suite.specs.declared.decided.Decided.{Decided}
 use Rattle.suite.proofs.deciding.found_early.Goals as goal
 
-pub answered-requires-clause-exact : goal.answered-requires-clause-exact
-answered-requires-clause-exact c = subst (λ (s : Seeking). IsFormulaFor s.goal c.in_ok-formula.formula) (sym c.in_ok-formula.ensures.same) c.in_ok-formula.ensures.exact
+pub found_by_parts-requires : goal.found_by_parts-requires
+found_by_parts-requires c = subst (λ (s : Seeking). IsFormulaFor s.goal c.in_ok-formula.formula) (sym c.in_ok-formula.ensures.same) c.in_ok-formula.ensures.exact
 
-pub returns-in-Some-clause-decided : goal.returns-in-Some-clause-decided
-returns-in-Some-clause-decided c =
-    let formula = c.in_ok-formula.formula.formula in
-    let ended = subst (λ (o : Option Found). IfSome o (IsEnd formula c.args.budget)) c.in-Some.is c.in_ok-found.ensures in
-    let decided = c.in_ok-decided.ensures c.args.budget (end_found formula c.args.budget c.in-Some.found ended) in
-    subst (λ (s : Seeking). IsDecidedAt s.goal c.args.budget c.in_ok-decided.decided) c.in_ok-formula.ensures.same decided
-
-pub answered-requires-in-Some-3-clause-exact : goal.answered-requires-in-Some-3-clause-exact
-answered-requires-in-Some-3-clause-exact c =
-    subst (λ (s : Seeking). IsFormulaFor s.goal c.in_ok-formula.formula) (sym (c.in_ok-input.ensures.same ∙ c.in_ok-formula.ensures.same)) c.in_ok-formula.ensures.exact
-
-pub returns-in-Some-3-clause-decided : goal.returns-in-Some-3-clause-decided
-returns-in-Some-3-clause-decided c =
-    let formula = c.in_ok-formula.formula.formula in
-    let ended = subst (λ (o : Option Found). IfSome o (IsEnd formula c.args.budget)) c.in-Some-3.is c.in_ok-found-2.ensures in
-    let decided = c.in_ok-decided-2.ensures c.args.budget (end_found formula c.args.budget c.in-Some-3.found ended) in
-    subst (λ (s : Seeking). IsDecidedAt s.goal c.args.budget c.in_ok-decided-2.decided) (c.in_ok-input.ensures.same ∙ c.in_ok-formula.ensures.same) decided
+pub returns-clause-decided : goal.returns-clause-decided
+returns-clause-decided c =
+    subst (λ (s : Seeking). IfOk c.found_by_parts.result (λ (o : Option Decided). IfSome o (IsDecidedAt s.goal c.args.budget))) c.in_ok-formula.ensures.same c.found_by_parts.ensures.decided

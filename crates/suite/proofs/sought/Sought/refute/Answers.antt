@@ -11,4 +11,5 @@ invariant_of-self c =
       unwound = c.self.invariant.unwound;
       small = c.self.invariant.small;
       pool_is = c.refute.ensures e.graph.now e.function.now g.planned.predicates g.planned.plan g.bounds g.ends c.self.invariant.pool_is none;
+      lessons_hold = c.self.invariant.lessons_hold;
     }

@@ -1,0 +1,9 @@
+use Rattle.std.proofs.Common.{◌≡◌, length, take}
+use Rattle.lessons.specs.Known.{AreKnown}
+use Rattle.lessons.proofs.known.known_clauses.Given as goal
+
+abbrev pub invariant-loop-place : goal.invariant-loop-place
+invariant-loop-place l = record {
+  size : length l.marks.items ≡ l.place;
+  known : AreKnown l.circuit l.wires (take l.place l.formula.clauses) l.marks.items;
+}

@@ -1,0 +1,11 @@
+use Rattle.std.proofs.Common.{◌≡◌, ◌+◌, ℕ, List, Option, length}
+use Rattle.circuit.specs.declared.lit.Gate.{Gate}
+use Rattle.cnf.specs.Checks.{clauses_before}
+use Rattle.lessons.specs.Known.{AreKnown}
+use Rattle.lessons.proofs.known.mark_lines.Given as goal
+
+abbrev pub invariant-loop-line : goal.invariant-loop-line
+invariant-loop-line l = record {
+  size : length l.marks.items ≡ length l.formula.clauses + l.line-index;
+  known : (gates : List Gate) (wires : List (Option ℕ)) → AreKnown gates wires l.formula.clauses l.initial.marks.items → AreKnown gates wires (clauses_before l.formula l.derivation l.line-index) l.marks.items;
+}

@@ -1,0 +1,5 @@
+pub mod Holding
+pub mod Naming
+pub mod Known
+pub mod Store
+pub mod Giving
