@@ -143,7 +143,9 @@ class Outcome:
         count = sum(self.without_meaning.values())
         apart = f", of {count} C gives the end no meaning" if count else ""
         lines.append(f"compared {len(self.trials)} runs, {len(self.differences)} differ{apart}")
-        lines.append("built by " + ", ".join(one.name for one in self.builds) + "; half of the inputs random, half boundaries")
+        lines.append(
+            "built by " + ", ".join(one.name for one in self.builds) + "; half of the inputs random, half boundaries"
+        )
         lines += [f"not built by {name}: {why}" for name, why in self.missing.items()]
         for build in self.builds:
             lacks = [one for one in ("address", "undefined") if one not in build.watches]
