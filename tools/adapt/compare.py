@@ -129,7 +129,7 @@ class Outcome:
 
     @property
     def differences(self) -> list[Trial]:
-        """The trials that differ."""
+        """What is found of inputs on which builds don't agree."""
         return [one for one in self.trials if one.told]
 
     @property
