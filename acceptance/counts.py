@@ -18,6 +18,7 @@ import certificates
 import corpus
 import documents
 import launcher
+import made_inputs
 import programs
 import replays
 import told_events
@@ -46,6 +47,7 @@ def rows() -> Iterator[tuple[str, str]]:
     yield "all_inputs", f"{bounds} bounds and all goals of {queries} queries within bounds, of {len(all_inputs.TABLE)} programs"
     yield "tree_ends", f"{len(list(tree_ends.sources()))} sources"
     yield "told_events", f"{len(list(told_events.sources()))} sources"
+    yield "made_inputs", f"{len(made_inputs.TABLE)} queries with {len(made_inputs.BUDGETS)} budgets each, and the cipher"
     yield "corpus", f"{corpus.COUNT + 1} sources"
     yield "launcher", f"{len(launcher.CASES)} cases"
     for name, module in TOOLS.items():

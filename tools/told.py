@@ -4,6 +4,7 @@ import dataclasses
 import json
 from collections.abc import Iterator
 
+from tools import compared
 from tools import graph as graphs
 from tools import inputs, leaving, program, verdicts
 from tools.asked import Asked
@@ -77,6 +78,7 @@ class Told:
         yield f"bounds {bounds}, ends {asked.ends}, budget {asked.budget}"
         yield from map(self.line, self.report.goals, self.verdicts)
         given = len(self.folder.given())
+        yield from compared.lines(asked.sources, asked.place)
         yield f"inputs {len(self.made)}, of which {given} were given; the reduced suite has {len(self.report.suite)}"
         yield self.tally.text()
         yield self.tally.line()
@@ -118,6 +120,8 @@ class Told:
         counts: dict[str, object] = {one: self.tally.counts[one] for one in Verdict}
         if self.conditions:
             counts["mcdc"] = {one: self.conditions.tally.counts[one] for one in Verdict}
+        rests = compared.values(asked.sources, asked.place)
+        named |= {"compared": rests} if rests else {}
         return (
             json.dumps(named | self.limits_value() | {"goals": goals, "counts": counts, "suite": self.report.suite})
             + "\n"

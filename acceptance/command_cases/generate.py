@@ -1,8 +1,28 @@
 """The cases of `generate`."""
 
-from command_cases import A, BOTH, COUNT, ELEMENT, NESTED, RECURSION, SEVEN, case, refused
+from command_cases import A, BOTH, COUNT, ELEMENT, NESTED, RECURSION, SEVEN, Case, case, refused
+
+
+def at_ends(name: str, ends: str, divisor: int, node: int) -> Case:
+    """A case of where the one run of a function ends: at its exit, n1, or at n2, where it divides."""
+    source = f"int f(void) {{\n  int x = {divisor};\n  return 10 / x;\n}}\n"
+    said = ["covered 1" if node == number else "refuted" for number in range(3)]
+    return case(
+        name,
+        ["generate", "--ends", ends, "f", "cover NODES(ID)$", "d.c"],
+        {"d.c": source},
+        (
+            f"goals 3 turns 4 frames 8 answers 16 budget 5000000 ends {ends}\ninput 1 args\n"
+            f"goal 1 {said[0]} n0@d.c:1\ngoal 2 {said[1]} n1@d.c:4\ngoal 3 {said[2]} n2@d.c:3\n"
+            "suite 1\ncovered 1 refuted 2 undecided 0 of 3\n"
+        ),
+    )
+
 
 CASES = [
+    at_ends("no run traps", "trapped", 2, 1),
+    at_ends("every run returns", "any", 2, 1),
+    at_ends("a run traps", "trapped", 0, 2),
     case(
         "a loop's last turn",
         ["generate", "--turns", "3", "f", "cover @LINE(7)", "e.c"],

@@ -16,6 +16,7 @@ import subprocess
 import sys
 import time
 from collections.abc import Callable, Iterator, Sequence
+from unittest import mock
 
 import programs
 from tool_tests import Case, is_there, put, run
@@ -34,27 +35,12 @@ CASES = [
          3, FIRST, "a.c:1: f: a floating point number; use integers in fixed point\n"
          "a.c:3: p: a floating point number; use integers in fixed point\n"
          "2 refused, nothing is written\n", needs=NEEDS),
-    Case("adapt: runs that are compared", ["adapt", "a.c", "-o", "new", "--compare", "3"], SOURCE, 0,
-         FIRST + "wrote new/a.c\ncompared 3 runs, 0 differ\n", "", None, NEEDS),
     Case("adapt: sources without code", ["adapt", "a.c", "b.c", "-o", "new"], {"a.c": "/* nothing */\n", "b.c": ""}, 0,
          FIRST + "wrote new/a.c new/b.c\n", "", None, NEEDS),
     Case("adapt: a source by another name", ["adapt", "a", "-o", "new"], {"a": "int f(int x) { return y; }\n"}, 3, FIRST,
          "a:1: the compiler says: 'y' undeclared (first use in this function); correct it\n1 refused, nothing is written\n", needs=("pycparser", "gcc")),
     Case("adapt: a source whose name has a line feed", ["adapt", "a\nb.c"], {"a\nb.c": "int f(int x) { return x; }\n"}, 2, "",
          "adapt: the name of a source has a line feed\n", needs=NEEDS),
-    Case("adapt: a number of runs below 0", ["adapt", "a.c", "-o", "new", "--compare", "-5"], SOURCE, 2, "", None, needs=NEEDS),
-    Case("adapt: a main among the sources", ["adapt", "a.c", "-o", "new", "--compare", "3"],
-         {"a.c": "int main(void) { return 3; }\nint f(int x) { return main() + x; }\n"}, 0,
-         FIRST + "wrote new/a.c\ncompared 3 runs, 0 differ\n", "", None, NEEDS),
-    Case("adapt: nothing to compare", ["adapt", "a.c", "-o", "new", "--compare", "3"], {"a.c": "static int f(int x) { return x; }\n"}, 2, None,
-         "adapt: there is no function that isn't static, takes integers alone and gives one or nothing, so nothing can be compared\n", None, NEEDS),
-    Case("adapt: runs that C gives no meaning", ["adapt", "a.c", "-o", "new", "--compare", "3"],
-         {"a.c": "static int g(int x) { if (x == 2000000) return 4; }\nint f(int x) { return g(x); }\n"}, 0,
-         FIRST + "wrote new/a.c\ncompared 3 runs, 0 differ, of 3 C gives the end no meaning\n", "", None, NEEDS),
-    Case("adapt: runs that read outside of an array", ["adapt", "a.c", "-o", "new", "--compare", "2"],
-         {"a.c": "static unsigned char a[4];\nstatic int get(const unsigned char *p, int i) { return p[i]; }\n"
-                 "int f(void) { return get(a, -1); }\nint g(void) { return get(a, 4); }\n"}, 0,
-         FIRST + "wrote new/a.c\ncompared 2 runs, 0 differ, of 2 C gives the end no meaning\n", "", None, NEEDS),
     Case("adapt: a harness of an entry that isn't there", ["adapt", "a.c", "-o", "new", "--harness", "g", "in"], {**SOURCE, "in": "1\n"}, 2, None,
          "adapt: g is no function of the sources that takes integers alone and gives one or nothing\n", None, NEEDS),
     Case("adapt: inputs that are refused", ["adapt", "a.c", "-o", "new", "--harness", "f", "in"], {**SOURCE, "in": "1 2\n"}, 2, None,
@@ -186,11 +172,20 @@ def adapted(words: list[str]) -> tuple[int, str, str]:
     return status, out.getvalue(), err.getvalue()
 
 
+def one_build() -> contextlib.AbstractContextManager[object]:
+    """Within, --compare builds by gcc at -O0 alone, which takes seconds less for each row of the tables."""
+    sys.path.insert(0, programs.ROOT)
+    from tools.adapt import compare_builds
+
+    return mock.patch.object(compare_builds, "EVERY", compare_builds.EVERY[:1])
+
+
 def outcome(words: Sequence[str], files: dict[str, str], folder: str, runs: int = 0) -> dict[str, str]:
     """What adapt makes of a case: what is written by file, or what is refused. Some runs may be compared with the original's."""
     put(folder, files)
     sources = [name for name in files if name.endswith(".c")]
-    status, out, err = adapted([*sources, *words, "-o", "out", *(["--compare", str(runs)] if runs else [])])
+    with one_build():
+        status, out, err = adapted([*sources, *words, "-o", "out", *(["--compare", str(runs)] if runs else [])])
     if status == 3:
         return {"refused": "".join(line + "\n" for line in err.splitlines()[:-1])}
     made = {} if not status or "nothing can be compared" in err else {"adapt": f"{status} {out} {err}"}

@@ -1,300 +1,161 @@
-"""Compiles the originals and what was written with gcc, and runs both on random inputs."""
+"""--compare: the original and what was written, built by each compiler that is there at each level, run on the same inputs.
 
-import os
-import random
-import subprocess
+A run has a meaning up to where a sanitizer of any build of the original ends it, or to the end of a function that should give
+something; up to there all builds must agree: what each call gives, all variables of the file behind it, and how the run ends.
+"""
+
 import tempfile
-from typing import Any, Iterator
+from collections import Counter
+from collections.abc import Iterator, Sequence
+from dataclasses import dataclass
 
-from . import kinds
-from .declarators import Function, Variable
-from .heap import heap_call
-from .kinds import Array, Int, Path, Struct, Type
-from .library import OUTPUT, Spot
-from .models import model_of
-from .output import FELL, unmarked
-from .parsing import printed
-from .reading import compiler, is_system
-from .refusals import Stop
+from .compare_builds import PATIENT, TIME_IS_UP, Build, Run, all_built
+from .compare_inputs import Given, Inputs
+from .compare_texts import FELL_OFF, Texts, parts
+from .kinds import Int
 from .writer import Writer
 
-CALLS, ANSWERS, SECONDS = 6, 40, 5
-TIME_IS_UP = 14  # (SIGALRM)
-DRIVER = """
-#include <stdio.h>
-#include <stdlib.h>
-#include <unistd.h>
-void adapt_fell(void) { _exit(77); }
-static FILE *adapt_told; /* (what the sources print goes nowhere) */
-void adapt_tell(long long value) { fprintf(adapt_told, " %%lld", value); }
-static void adapt_give(long long value) { fprintf(adapt_told, "%%lld", value); }
-static long long adapt_answers[64]; static int adapt_answer_count, adapt_answer_taken;
-long long adapt_answer(void) { return adapt_answer_taken < adapt_answer_count ? adapt_answers[adapt_answer_taken++] : 0; }
-static char **adapt_words;
-static long long adapt_word(void) { return strtoll(*adapt_words++, 0, 10); }
-int main(int adapt_argc, char **adapt_argv) {
-  alarm(2); adapt_told = stdout; setvbuf(adapt_told, 0, _IOLBF, 0); adapt_words = adapt_argv + 1;
-  stdout = fopen("/dev/null", "w");
-  adapt_answer_count = (int) adapt_word();
-  for (int adapt_i = 0; adapt_i < adapt_answer_count; adapt_i++) adapt_answers[adapt_i] = adapt_word();
-  while (adapt_words < adapt_argv + adapt_argc) {
-    switch (adapt_word()) {
-%s
-    }
-%s
-    fprintf(adapt_told, " %%d\\n", adapt_answer_taken);
-  }
-  return 0;
-}
-"""
-FLAGS = ["-std=gnu11", "-O0", "-w", "-fwrapv", "-ftrivial-auto-var-init=zero"]
-# what has no meaning ends the original's run: an index outside of its array, as far as the address sanitizer sees it , and what the other one sees
-WATCHED = [
-    "-fsanitize=address,shift-exponent,integer-divide-by-zero,bounds,null,signed-integer-overflow",
-    "-fsanitize-undefined-trap-on-error",
-]
-GUARDS = """void __asan_poison_memory_region(const volatile void *, unsigned long);
-char adapt_data_{0}_{1}[4096] = {{1}}, adapt_rest_{0}_{1}[4096]; const char adapt_const_{0}_{1}[4096] = {{1}};
-__attribute__((constructor)) static void adapt_poison_{0}_{1}(void) {{
-  __asan_poison_memory_region(adapt_data_{0}_{1}, 4096); __asan_poison_memory_region(adapt_rest_{0}_{1}, 4096);
-  __asan_poison_memory_region(adapt_const_{0}_{1}, 4096);
-}}
-"""
-QUIET = "max_malloc_fill_size=65536:malloc_fill_byte=0:detect_leaks=0:abort_on_error=0:exitcode=70:detect_stack_use_after_return=1"
-ENDED, FAILED, FELL_OFF = 0, -6, 77  # a run to its end, one whose assert failed, one off the end of a function
-TELLING = [0, 1, -1, 2, 3, 4, 5, 7, 8, 10, 16, 31, 64, 100, 127, 128, 200, 255, 256, -128, 32767, 65535]
-TELLING += [2**31 - 1, -(2**31), 2**32 - 1, 2**63 - 1]
+ENDED, FAILED = 0, -6  # a run to its end, and one whose assert failed
+# why a run has no meaning from some call on, by its status
+OUTSIDE, TRAPPED, FELL = "outside of an object", "a sanitizer's trap", "the end of a function without a value"
+STATUSES = {70: OUTSIDE, -11: OUTSIDE, -7: OUTSIDE, FELL_OFF: FELL}
 
 
-def parts(
-    of: Type, text: str = "", path: Path = (), index: tuple[int, ...] = ()
-) -> Iterator[tuple[str, Path, tuple[int, ...], Int]]:
-    """The integers of an object: how C reaches each, the members and indexes that lead to it, and its type."""
-    if isinstance(of, Int):
-        yield text, path, index, of
-    elif isinstance(of, Array):
-        for at in range(of.length or 0):
-            yield from parts(of.of, f"{text}[{at}]", path, index + (at,))
-    elif isinstance(of, Struct):
-        for name, member in of.held if not of.is_parts() else []:
-            own = text if name.startswith("?") else f"{text}.{name}"
-            yield from parts(member, own, path + (name,), index)
+@dataclass
+class Trial:
+    """An input with the calls that have a meaning in all builds so far, and why there are no more."""
 
+    number: int
+    given: Given
+    calls: int
+    why: str = ""
+    is_cut: bool = False
+    told: str = ""
 
-def plain(function: Function) -> bool:
-    """Whether a function takes integers alone and gives one or nothing."""
-    return all(isinstance(one.type, Int) for one in function.parameters) and (
-        isinstance(function.result, Int) or function.result == kinds.VOID
-    )
+    @property
+    def line(self) -> str:
+        """The words of these calls."""
+        return self.given.line(self.calls)
 
+    def cut(self, run: Run, why: str) -> None:
+        """The run has no meaning, or isn't known, behind the calls that came back."""
+        self.calls, self.is_cut = min(self.calls, run.whole), True
+        self.why = self.why or why
 
-def undefined(writer: Writer) -> list[Function]:
-    """The functions that are called and that no source defines."""
-    known = ("assert", "assume", "__assert_fail")
-    found = [one for one in writer.names.functions if one.definition is None and one.calls and one.name not in known]
-    found = [one for one in found if one.name not in OUTPUT or not is_in_library(one)]
-    return [one for one in found if model_of(one) is None and not heap_call(one)]
-
-
-def is_in_library(function: Function) -> bool:
-    """Whether a header of the system declares a function, so that the original is linked with the library's."""
-    return is_system(str(function.coord.file))
-
-
-def answering(writer: Writer, function: Function, answer: str) -> str:
-    """The definition of an input function, as the original declares it."""
-    node: Any = function.declaration
-    result = f"return ({kinds.c_words(function.result)}) {answer};" if isinstance(function.result, Int) else ""
-    node.storage, node.funcspec = [], []
-    return f"{printed(node)} {{ {result} }}\n"
+    def seen(self, run: Run) -> tuple[int, list[str]]:
+        """What is compared of a run."""
+        return (ENDED, run.lines[: self.calls]) if self.is_cut else (run.status, run.lines[: run.whole])
 
 
 class Comparison:
-    """The two programs of what was adapted, in a folder."""
+    """The builds of what was adapted, in a folder."""
 
     def __init__(self, writer: Writer, sources: list[str], made: dict[str, str], flags: list[str], folder: str) -> None:
-        self.writer, self.folder = writer, folder
-        functions = [one for one in writer.names.functions if one.definition is not None and not one.static]
-        functions = [one for one in functions if not isinstance(one.coord, Spot)]
-        # (main is the comparison's own)
-        self.entries = [one for one in functions if plain(one) and one.name != "main"]
-        if writer.registers:
-            raise Stop(
-                f"{writer.registers[0].name} is an input of what was written, and an object of the original, so nothing can be compared"
-            )
-        if writer.outer_values:
-            name = next(iter(writer.outer_values))[0].name
-            raise Stop(f"what {name} writes is an input of what was written, so nothing can be compared")
-        if not self.entries:
-            raise Stop(
-                "there is no function that isn't static, takes integers alone and gives one or nothing, so nothing can be compared"
-            )
-        outer = undefined(writer)
-        self.shared = [
-            one
-            for one in writer.names.variables
-            if one.home == "file"
-            and not isinstance(one.coord, Spot)
-            and one.defined
-            and not one.const
-            and not kinds.fault_of(one.type)
-        ]
-        self.original(sources, flags, outer)
-        self.adapted(made, outer)
+        """Raises Stop where nothing can be compared, or a program can't be built."""
+        texts = Texts(writer)
+        self.folder = folder
+        self.names = [one.name + text for one in texts.in_order() for text, *_ in parts(one.type)]
+        self.entries, self.inputs = texts.entries, Inputs(texts)
+        original, adapted = texts.original(sources), texts.adapted(made, folder)
+        self.builds, self.missing = all_built(original, adapted, flags, folder)
 
-    def text(self, path: str) -> str:
-        """The directives that include a source, whose main gets another name."""
-        return f'#define main adapt_own_main\n#include "{os.path.abspath(path)}"\n#undef main\n'
+    def compared(self, given: Sequence[Given]) -> list[Trial]:
+        """What is found of each input."""
+        trials = [Trial(number, one, len(one.calls)) for number, one in enumerate(given, 1)]
+        theirs = [self.originals(build, trials) for build in self.builds]
+        ours = [self.written(build, trials) for build in self.builds]
+        for trial in trials:
+            trial.told = next(self.differences(trial, theirs, ours), "")
+        return trials
 
-    def copied(self, made: dict[str, str]) -> str:
-        """What was written, with a call where a function that gives something ends without a return."""
-        whole = "void adapt_fell(void);\n"
-        for number, text in enumerate(made.values()):
-            path = os.path.join(self.folder, f"made_{number}.c")
-            with open(path, "w", encoding="utf-8", errors="surrogateescape") as file:
-                file.write(text.replace(FELL, "adapt_fell();"))
-            whole += self.text(path)
-        return whole
+    def originals(self, build: Build, trials: list[Trial]) -> list[Run]:
+        """The runs of the original by a build; each trial is cut where one has no meaning."""
+        runs = build.ran("original", [trial.line for trial in trials])
+        for trial, run in zip(trials, runs):
+            if run.status in TIME_IS_UP:
+                trial.cut(run, "")
+            elif run.status not in (ENDED, FAILED):
+                trial.cut(run, STATUSES.get(run.status, TRAPPED))
+        return runs
 
-    def dump(self, variables: list[Variable], ours: bool) -> str:
-        """Prints each integer of the variables."""
-        lines = []
-        for variable in variables:
-            for text, path, index, kind in parts(variable.type):
-                own = unmarked(self.writer.elements.leaf(self.writer.pointer_effects.placed(variable, path, index))[0])
-                own = self.writer.large.rewritten(own)
-                lines.append(
-                    f"  adapt_tell((long long) {f'({kinds.c_words(kind)}) {own}' if ours else variable.name + text});"
-                )
+    def written(self, build: Build, trials: list[Trial]) -> list[Run]:
+        """The same of what was written. A run that is slower than the original's is tried again, with more time."""
+        runs = build.ran("adapted", [trial.line for trial in trials])
+        late = [at for at, run in enumerate(runs) if run.status in TIME_IS_UP]
+        if late:
+            again = build.ran("adapted", [trials[at].line for at in late[:3]], PATIENT)
+            for at, run in zip(late, again):
+                runs[at] = run
+        for at, (trial, run) in enumerate(zip(trials, runs)):
+            if run.status == FELL_OFF or (run.status in TIME_IS_UP and at in late[3:]):
+                trial.cut(run, FELL if run.status == FELL_OFF else "")
+        return runs
+
+    def differences(self, trial: Trial, theirs: list[list[Run]], ours: list[list[Run]]) -> Iterator[str]:
+        """How the runs of an input differ: those of the original by its builds, and then those of what was written."""
+        at = trial.number - 1
+        due = trial.seen(theirs[0][at])
+        for what, programs in (("the original", theirs), ("what was written", ours)):
+            for build, runs in zip(self.builds, programs):
+                if trial.seen(runs[at]) != due:
+                    head = f"input {trial.number}, {what} by {build.name}: "
+                    yield head + self.told(trial, trial.seen(runs[at]), due)
+
+    def told(self, trial: Trial, seen: tuple[int, list[str]], due: tuple[int, list[str]]) -> str:
+        """How what is seen of a run differs from what is due: by the first call that does, or by the ends."""
+        base = f"by the original of {self.builds[0].name}"
+        for call, line, wanted in zip(trial.given.calls, seen[1], due[1]):
+            if line != wanted:
+                words = zip(self.labels(call), line.split(), wanted.split())
+                what, one, two = next(row for row in words if row[1] != row[2])
+                return f"{self.inputs.shown(call)}: {what} is {one}, {base} {two}"
+        ends = [f"status {status} behind {len(lines)} calls" for status, lines in (seen, due)]
+        return f"it ends with {ends[0]}, {base} with {ends[1]}"
+
+    def labels(self, call: list[int]) -> list[str]:
+        """What each number of a call's line is."""
+        result = ["the result"] if isinstance(self.entries[call[0]].result, Int) else []
+        return [*result, *self.names, "the number of answers"]
+
+
+@dataclass
+class Outcome:
+    """What --compare found."""
+
+    builds: list[Build]
+    missing: dict[str, str]
+    trials: list[Trial]
+    inputs: Inputs
+
+    @property
+    def differences(self) -> list[Trial]:
+        """What is found of inputs on which builds don't agree."""
+        return [one for one in self.trials if one.told]
+
+    @property
+    def without_meaning(self) -> Counter[str]:
+        """How many runs have no meaning from some call on, by why."""
+        return Counter(one.why for one in self.trials if one.why)
+
+    def text(self, report: str) -> str:
+        """The lines of the command, of which the last one has the numbers, where its report stands at a path."""
+        lines = [one.told for one in self.differences]
+        names = ", ".join(one.name for one in self.builds)
+        lines.append(f"built by {names}; half of the inputs random, half boundaries")
+        lines += [f"not built by {name}: {why}" for name, why in self.missing.items()]
+        for build in self.builds:
+            lacks = [one for one in ("address", "undefined") if one not in build.watches]
+            if lacks:
+                lines.append(f"{build.name} has no sanitizer {' and no '.join(lacks)}")
+        count = sum(self.without_meaning.values())
+        apart = f", of {count} C gives the end no meaning" if count else ""
+        lines += [f"wrote {report}", f"compared {len(self.trials)} runs, {len(self.differences)} differ{apart}"]
         return "\n".join(lines)
 
-    def calls(self) -> str:
-        """The cases that call each entry with arguments of the command line."""
-        lines = []
-        for number, one in enumerate(self.entries):
-            words = "".join(f" long long adapt_{at} = adapt_word();" for at in range(len(one.parameters)))
-            given = ", ".join(f"({getattr(p.type, 'text', '')}) adapt_{at}" for at, p in enumerate(one.parameters))
-            call = f"{one.out}({given})"
-            shown = f"adapt_give((long long) {call});" if isinstance(one.result, Int) else f"{call};"
-            lines.append(f"    case {number}: {{{words} {shown} break; }}")
-        return "\n".join(lines)
 
-    def declared(self, function: Function) -> str:
-        """A declaration of an entry, for the file that calls it."""
-        types = [function.result, *(one.type for one in function.parameters)]
-        words = ["_Bool" if isinstance(of, Int) and of.boolean else getattr(of, "text", "void") for of in types]
-        return f"{words[0]} {function.out}({', '.join(words[1:]) or 'void'});"
-
-    def original(self, sources: list[str], flags: list[str], outer: list[Function]) -> None:
-        """Compiles the original under sanitizers, with guards around its objects."""
-        texts, dumps = [], ""
-        for number, path in enumerate(sources):
-            own = [one for one in self.shared if one.unit.path == path]
-            defined = "".join(answering(self.writer, one, "adapt_answer()") for one in outer) if number == 0 else ""
-            texts.append(
-                f"{GUARDS.format(number, 'before')}{self.text(path)}{GUARDS.format(number, 'behind')}#include <stdio.h>\nlong long adapt_answer(void);\nvoid adapt_tell(long long);\n{defined}void adapt_dump_{number}(void) {{\n{self.dump(own, False)}\n}}\n"
-            )
-            dumps += f"    adapt_dump_{number}();\n"
-        head = "".join(f"void adapt_dump_{number}(void);\n" for number in range(len(sources)))
-        head += "#include <stdint.h>\n#include <stddef.h>\n" + "".join(
-            self.declared(one) + "\n" for one in self.entries
-        )
-        self.compile("original", [*texts, head + DRIVER % (self.calls(), dumps)], flags + WATCHED)
-
-    def adapted(self, made: dict[str, str], outer: list[Function]) -> None:
-        """Compiles what was written."""
-        own = [
-            one.out for one in self.writer.names.functions if isinstance(one.coord, Spot) and one.definition is not None
-        ]
-        apart, again = [
-            "".join(line.format(one) for one in own) for line in ("#define {0} adapt_own_{0}\n", "#undef {0}\n")
-        ]
-        text = f"#include <stdint.h>\n#include <stddef.h>\n#include <assert.h>\n{apart}{self.copied(made)}{again}"
-        text += "long long adapt_answer(void);\nvoid adapt_tell(long long);\n"
-        for one in outer:
-            if isinstance(one.result, Int):
-                text += f"{one.result.text} {one.out}(void) {{ return ({one.result.text}) adapt_answer(); }}\n"
-        if self.writer.heap.asked:
-            text += f"unsigned int {self.writer.heap.asked}(void) {{ return 0; }}\n"
-        self.compile("adapted", [text + DRIVER % (self.calls(), self.dump(self.in_order(), True))], [])
-
-    def in_order(self) -> list[Variable]:
-        """The compared objects in the order of their sources."""
-        units = list(dict.fromkeys(unit.path for unit, _ in self.writer.names.items))
-        return sorted(self.shared, key=lambda one: units.index(one.unit.path))
-
-    def compile(self, name: str, texts: list[str], flags: list[str]) -> None:
-        """Compiles texts to one program. Raises Stop where the compiler refuses them."""
-        paths = []
-        for number, text in enumerate(texts):
-            paths.append(os.path.join(self.folder, f"{name}_{number}.c"))
-            with open(paths[-1], "w", encoding="utf-8", errors="surrogateescape") as file:
-                file.write(text)
-        ended = subprocess.run(
-            [compiler(), *FLAGS, *flags, "-o", os.path.join(self.folder, name), *paths],
-            capture_output=True,
-            text=True,
-            check=False,
-        )
-        if ended.returncode:
-            told = [line for line in ended.stderr.splitlines() if "error:" in line or "undefined" in line]
-            raise Stop(f"the {name} can't be compiled: {(told or ended.stderr.splitlines() or ['?'])[0]}")
-
-    def run(self, name: str, words: list[str]) -> tuple[int, list[str]]:
-        """The status and the lines of a run; -14 where its time is up."""
-        try:
-            ended = subprocess.run(
-                [os.path.join(self.folder, name), *words],
-                capture_output=True,
-                text=True,
-                timeout=SECONDS,
-                check=False,
-                env={**os.environ, "ASAN_OPTIONS": QUIET},
-            )
-        except subprocess.TimeoutExpired:
-            return -TIME_IS_UP, [""]
-        return ended.returncode, ended.stdout.split("\n")
-
-    def difference(self, words: list[str]) -> str:
-        """How both runs differ; nothing where they agree, up to where C gives the original's no meaning."""
-        return self.beside(words)[0]
-
-    def beside(self, words: list[str]) -> tuple[str, bool]:
-        """How both runs differ, and whether C gives the run a meaning up to its end."""
-        (status, lines), (other, theirs) = self.run("original", words), self.run("adapted", words)
-        if -TIME_IS_UP in (status, other) or other == FELL_OFF:
-            both = min(len(lines), len(theirs)) - 1
-            lines, theirs = lines[: both + 1], theirs[: both + 1]
-            status = FELL_OFF if other == FELL_OFF else -TIME_IS_UP
-        if status in (ENDED, FAILED):
-            same = (status, lines) == (other, theirs)
-            return "" if same else f"original {status} {lines}, adapted {other} {theirs}", True
-        whole = lines[:-1]
-        same = theirs[: len(whole)] == whole
-        told = "" if same else f"original {status} {whole}, adapted {other} {theirs}"
-        return told, status == -TIME_IS_UP
-
-    def inputs(self, seed: int) -> list[str]:
-        """The words of one run: answers, and calls with their arguments."""
-        chance = random.Random(seed)
-
-        def small() -> int:
-            if chance.random() < 0.7:
-                return chance.choice(TELLING[:12])
-            return chance.choice(TELLING) if chance.random() < 0.8 else chance.randrange(-(2**63), 2**63)
-
-        words = [ANSWERS] + [small() for _ in range(ANSWERS)]
-        for _ in range(CALLS):
-            which = chance.randrange(len(self.entries))
-            words += [which] + [small() for _ in self.entries[which].parameters]
-        return [str(one) for one in words]
-
-
-def compared(
-    writer: Writer, sources: list[str], made: dict[str, str], flags: list[str], count: int
-) -> tuple[list[str], int]:
-    """The differences of some runs on random inputs, and how many runs have no meaning from some call on."""
+def compared(writer: Writer, sources: list[str], made: dict[str, str], flags: list[str], count: int) -> Outcome:
+    """What is found on so many random inputs, and as many at boundaries."""
     with tempfile.TemporaryDirectory(prefix="adapt-") as folder:
         both = Comparison(writer, sources, made, flags, folder)
-        told = [(seed, *both.beside(both.inputs(seed))) for seed in range(1, count + 1)]
-    return [f"input {seed}: {text}" for seed, text, _ in told if text], sum(not meant for _, _, meant in told)
+        trials = both.compared(both.inputs.all(count))
+        return Outcome(both.builds, both.missing, trials, both.inputs)

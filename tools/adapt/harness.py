@@ -10,7 +10,7 @@ from collections.abc import Sequence
 from tools import harness, inputs
 from tools.harness_text import FORK, HEAD, TESTS
 
-from .compare import answering, plain, undefined
+from .compare_texts import answering, plain, undefined
 from .declarators import Function
 from .kinds import Array, Int, Pointer, Type, c_words
 from .refusals import Stop

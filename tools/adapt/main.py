@@ -5,22 +5,24 @@ import os
 import sys
 from typing import Optional
 
+from tools import compared as reports
 from tools import program, source_map, usage
 
-from . import harness, mapping, needed
+from . import compare_report, harness, mapping, needed
 from .compare import compared
 from .output import FELL
 from .pipeline import adapt, flags_of
 from .refusals import Refusals, Stop
 from .writer import Writer
 
+MOST = 1_000_000  # inputs of each kind
 FIRST = "adapt is no part of what is proved: read and compare what it writes"
 
 
 def count(word: str) -> int:
-    """How many runs are compared. Raises ArgumentTypeError for another word."""
-    if not word.isdecimal():
-        raise argparse.ArgumentTypeError(f"{word} is no number from 0 on")
+    """How many inputs of each kind are compared. Raises ArgumentTypeError for another word."""
+    if not word.isdecimal() or not 1 <= int(word) <= MOST:
+        raise argparse.ArgumentTypeError(f"{word} is no number from 1 to {MOST}")
     return int(word)
 
 
@@ -67,7 +69,11 @@ def parser_of_words() -> usage.Parser:
         help="write DIR/tests.c, which runs the original's ENTRY on the inputs (bin/harness)",
     )
     parser.add_argument(
-        "--compare", type=count, default=0, metavar="N", help="compile both with gcc and run both on N random inputs"
+        "--compare",
+        type=count,
+        default=0,
+        metavar="N",
+        help="build both by gcc and clang at -O0 and -O2, run both on N random inputs and N at boundaries, and write DIR/compare.json",
     )
     return parser
 
@@ -128,12 +134,18 @@ def write_harness(asked: argparse.Namespace, writer: Writer, paths: list[str]) -
     print(f"wrote {name}: compile it with {harness.how_to_compile(writer, asked.sources, home, flags_of(asked))}")
 
 
-def compare(asked: argparse.Namespace, writer: Writer, texts: dict[str, str]) -> int:
-    """Says how many runs agree; the status."""
-    differences, ended = compared(writer, asked.sources, texts, flags_of(asked), asked.compare)
-    apart = f", of {ended} C gives the end no meaning" if ended else ""
-    print("\n".join([*differences, f"compared {asked.compare} runs, {len(differences)} differ{apart}"]))
-    return 1 if differences else 0
+def compare(asked: argparse.Namespace, writer: Writer, texts: dict[str, str], paths: list[str]) -> int:
+    """Says how many runs agree, and writes the report beside what was written; the status. Raises Stop where nothing can be
+    compared, or the report can't be written."""
+    outcome = compared(writer, asked.sources, texts, flags_of(asked), asked.compare)
+    units = list({unit.path: unit for unit, _ in writer.names.items}.values())
+    report = os.path.join(asked.out, reports.NAME)
+    try:
+        program.write_whole(report, compare_report.text_of(outcome, units, paths, flags_of(asked), asked.out))
+    except program.Failure as failure:
+        raise Stop(str(failure)) from None
+    print(outcome.text(report))
+    return 1 if outcome.differences else 0
 
 
 def main(given: Optional[list[str]] = None) -> int:
@@ -161,7 +173,7 @@ def main(given: Optional[list[str]] = None) -> int:
             print(needed.text_of(texts, set(asked.sources)))
         if asked.harness:
             write_harness(asked, writer, paths)
-        return compare(asked, writer, texts) if asked.compare else 0
+        return compare(asked, writer, texts, paths) if asked.compare else 0
     except RecursionError:
         print("adapt: a source is nested too deep", file=sys.stderr)
     except Stop as stop:

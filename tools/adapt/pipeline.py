@@ -52,7 +52,7 @@ STAGES = {
     "expressions statement_exprs operators overflow_texts overflow checked statements column_items checks uses units writer",
     "judge": "gate",
     "pipeline": "pipeline",
-    "command": "compare harness mapping needed main",
+    "command": "compare_texts compare_builds compare_inputs compare compare_report harness mapping needed main",
 }
 
 

@@ -56,7 +56,14 @@ pub(crate) fn leaving_formula(alloc: Global, bounded: &Bounded) -> Result<GoalFo
         meanings: Vector::new(alloc),
     };
     let entry = bounded.entry;
-    let unwound = unwind(alloc, entry.graph, entry.number, &none, bounded.bounds, Ends::Any)?;
+    let unwound = unwind(
+        alloc,
+        entry.graph,
+        entry.number,
+        &none,
+        bounded.bounds,
+        Ends::Any,
+    )?;
     entry.graph.well_formed();
     match open_formula(alloc, unwound, &entry.function.parameters) {
         Ok(formula) => Ok(formula),

@@ -20,7 +20,7 @@ use Rattle.reached.specs.declared.bounds.Bounds.{Bounds}
 use Rattle.report.specs.Made.{parameter_kinds}
 use Rattle.suite.specs.Generated.{IsGenerateFault, IsGenerated, Shown, seen_also}
 use Rattle.suite.specs.Seeking.{AreOpenWhereShort, CannotGenerate, IsGenerationOf}
-use Rattle.suite.specs.declared.generated.Generated.{Generated}
+use Rattle.given.specs.declared.generated.Generated.{Generated}
 use Rattle.command_words.specs.Reading.{Text}
 use Rattle.given.specs.declared.given.Given.{Given}
 use Rattle.command.specs.declared.reply.Reply.TheVariants as reply

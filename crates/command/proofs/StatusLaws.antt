@@ -32,7 +32,7 @@ use Rattle.sample.specs.Sample.{query_text}
 use Rattle.suite.specs.Generated.{IsGenerateFault}
 use Rattle.suite.specs.declared.decided.Decided.{Decided}
 use Rattle.suite.specs.declared.decided.Decided.TheVariants as decided
-use Rattle.suite.specs.declared.generated.Generated.{Generated}
+use Rattle.given.specs.declared.generated.Generated.{Generated}
 use Rattle.bounds_check.specs.declared.suffice.Suffice.{Suffice}
 use Rattle.bounds_check.specs.declared.suffice.Suffice.TheVariants as suffice
 use Rattle.least_input.specs.declared.least.Least.{Least}

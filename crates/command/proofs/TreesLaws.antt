@@ -7,7 +7,6 @@ use Rattle.fq_core.specs.declared.refusal.Fault.TheVariants as fault
 use Rattle.fq_core.specs.declared.refusal.Place.{Place}
 use Rattle.c_front.specs.Automata as automata
 use Rattle.c_lex.specs.declared.token.SourceText.{SourceText}
-use Rattle.typed_sources.specs.Trees as trees
 use Rattle.command_words.specs.Reading.{Text}
 use Rattle.command.specs.declared.types.Trees.{Trees}
 use Rattle.command.specs.Calls.{AreTreesAs, HaveTreesAs}
@@ -17,18 +16,6 @@ use Rattle.command.proofs.ReadsLaws.{refused_map}
 
 abbrev error : (T : Type 0) → Fault → Result T Fault
 error T f = Err f
-
--- texts that have no typed tree have no automaton, for the same cause
-no_automaton : (texts : List SourceText) (code : ℕ) (p : Place) → trees.IsRefused texts code p → automata.IsRefused texts code p
-no_automaton texts code p (trees.at_tokens r) = automata.at_tokens r
-no_automaton texts code p (trees.at_unit ts cut r) = automata.at_unit ts cut r
-no_automaton texts code p (trees.at_types items u r) = automata.at_types items u r
-
--- the refusal of a typed tree is one of the automaton
-pub tree_refused : (texts : List SourceText) (T : Type 0) (f : Fault) → ((code : ℕ) (p : Place) → IsErrOf (error T f) (refusal code p) → trees.IsRefused texts code p)
-    → IfRefused f (λ x. automata.IsRefused texts x.code x.place)
-tree_refused texts T (fault.Refused x) refused = no_automaton texts x.code x.place (refused x.code x.place refl)
-tree_refused texts T fault.Memory refused = tt
 
 pub text_refused : (texts : List SourceText) (T : Type 0) (f : Fault) → ((code : ℕ) (p : Place) → IsErrOf (error T f) (refusal code p) → automata.IsRefused texts code p)
     → IfRefused f (λ x. automata.IsRefused texts x.code x.place)

@@ -17,7 +17,7 @@ use Rattle.report.specs.GeneratedJson.{generated_json}
 use Rattle.suite.specs.Generated.{IsGenerateFault, IsGenerated, Shown}
 use Rattle.suite.specs.Made.{FallsShort}
 use Rattle.reduction.specs.Suite.{kept_of}
-use Rattle.suite.specs.declared.generated.Generated.{Generated}
+use Rattle.given.specs.declared.generated.Generated.{Generated}
 use Rattle.command_words.specs.Reading.{Text}
 use Rattle.command_words.specs.Request.{Generating}
 use Rattle.command.specs.Ranges.{within}

@@ -14,7 +14,7 @@ use Rattle.report.specs.Generated.{sample_text}
 use Rattle.report.specs.Made.{parameter_kinds}
 use Rattle.suite.specs.Generated.{IsGenerateFault, IsGenerated, Shown}
 use Rattle.suite.specs.declared.decided.Decided.{Decided}
-use Rattle.suite.specs.declared.generated.Generated.{Generated}
+use Rattle.given.specs.declared.generated.Generated.{Generated}
 use Rattle.command_words.specs.Reading.{Text}
 use Rattle.command.specs.declared.types.Certificate.{Certificate}
 use Rattle.given.specs.declared.given.Given.{Given}

@@ -17,13 +17,13 @@ use crate::sources::automaton;
 use command_words::Generate;
 use fq_core::{Fault, Memory};
 use fq_io::Files;
-use given::Given;
+use given::{Generated, Given};
 use goals::Answer;
 use reached::Bounds;
 use report::{generated_json, generated_text};
 use search::Watch;
 use std::alloc::Global;
-use suite::{Generated, reduce};
+use suite::reduce;
 
 /// The bounds that the words give.
 pub fn within(bounds: command_words::Bounds) -> Bounds

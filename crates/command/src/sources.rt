@@ -16,7 +16,7 @@ use containers::Vector;
 use fq_core::{Fault, Name, Place, Refusal};
 use fq_io::{FileFault, Files};
 use std::alloc::Global;
-use typed_sources::typed_of_texts;
+use typed_sources::lowered_of_texts;
 
 const MOST_SOURCE_BYTES: u64 = 4_194_304;
 
@@ -117,8 +117,7 @@ fn trees_of_texts(alloc: Global, texts: &[SourceText]) -> Result<Trees, Fault>
     ensures answer { AreTreesAs texts.now result }
     ensures fits { IfOk result (λ trees. FitUnit trees.typed) }
 {
-    let graph = automaton_of_texts(alloc, texts)?;
-    let typed = typed_of_texts(alloc, texts)?;
+    let (typed, graph) = lowered_of_texts(alloc, texts)?;
     Ok(Trees {
         automaton: Automaton { graph },
         typed,

@@ -76,15 +76,19 @@ not_out ends e h same = let ill : IsTrue (counts_tree ends tree.OutOfTurns) = su
 
 -- ---- an edge of a list is taken
 
+-- each of these edges is there, and tells an event that passes a test
+abbrev pub AllTell : GraphParts → List ℕ → (Event → Bool) → Type 0
+AllTell parts edges test = (k : ℕ) → is_among edges k ≡ true → (e : Edge) × (slice_get parts.edges k ≡ Some e) × IsTrue (tells_one test e)
+
 module _ (parts : GraphParts) (edges : List ℕ) (test : Event → Bool) (telling : AreTelling parts edges test) where
-  told_by : (k : ℕ) → is_among edges k ≡ true → (e : Edge) × (slice_get parts.edges k ≡ Some e) × IsTrue (tells_one test e)
+  pub told_by : AllTell parts edges test
   told_by k h = by (slice_get parts.edges k) refl (sym (telling k) ∙ h)
     where
       by : (o : Option Edge) → slice_get parts.edges k ≡ o → option_map_or (tells_one test) o false ≡ true → (e : Edge) × (slice_get parts.edges k ≡ Some e) × IsTrue (tells_one test e)
       by None is t = absurd cc
       by (Some e) is t = (e, is, t)
 
-  asked_by : (k : ℕ) (e : Edge) → slice_get parts.edges k ≡ Some e → IsTrue (tells_one test e) → is_among edges k ≡ true
+  pub asked_by : (k : ℕ) (e : Edge) → slice_get parts.edges k ≡ Some e → IsTrue (tells_one test e) → is_among edges k ≡ true
   asked_by k e there t = telling k ∙ ap (λ o. option_map_or (tells_one test) o false) there ∙ t
 
 module _ (parts : GraphParts) (entry : Function) (p : Predicates) (plan : Plan) (ends : Ends) (goal : GoalForm) (input : Input) (edges : List ℕ) (asks : AsksForEdges plan goal edges) where
@@ -129,9 +133,18 @@ module _ (parts : GraphParts) (entry : Function) (p : Predicates) (plan : Plan) 
 
 -- ---- the law
 
-module _ (t : Typed) (files : List (List ℕ)) (entry : ℕ) (f : TypedFunction) (input : Input) (p : Predicates) (plan : Plan) (ends : Ends) (goal : GoalForm) (edges : List ℕ) (test : Event → Bool)
-    (made : IsMade t (length files)) (there : slice_get t.functions entry ≡ Some f) (starts : CanStart (function_of entry f) input.words)
-    (asks : AsksForEdges plan goal edges) (telling : AreTelling (graph_of t files) edges test) where
+-- a run from an entry whose end is counted, and one of its edges that tells an event which passes a test
+pub record TakesOne (parts : GraphParts) (entry : Function) (input : Input) (ends : Ends) (test : Event → Bool) : Type 0 where
+  pub run : Run
+  pub is_run : IsRun parts entry input ends run
+  pub number : ℕ
+  pub less : number < length run.moves
+  pub edge : Edge
+  pub there : slice_get parts.edges (slice_index (edges_of run.moves) number) ≡ Some edge
+  pub tells : IsTrue (tells_one test edge)
+
+module _ (t : Typed) (files : List (List ℕ)) (entry : ℕ) (f : TypedFunction) (input : Input) (ends : Ends) (test : Event → Bool)
+    (made : IsMade t (length files)) (there : slice_get t.functions entry ≡ Some f) (starts : CanStart (function_of entry f) input.words) where
   abbrev parts : GraphParts
   parts = graph_of t files
 
@@ -188,26 +201,24 @@ module _ (t : Typed) (files : List (List ℕ)) (entry : ℕ) (f : TypedFunction)
             let long = states_length r.first r.moves in
             absurd (omega (arith, more, enough, within, long))
 
-  forth : InputHits parts (function_of entry f) p plan ends goal input → Happens t entry input ends test
-  forth h =
+  -- where it takes an edge that tells an event, that happens
+  pub so_happens : TakesOne parts (function_of entry f) input ends test → Happens t entry input ends test
+  so_happens h =
       let r = h.run in
       let is = h.is_run in
       let n = length r.moves in
-      let got = takes_one parts (function_of entry f) p plan ends goal input edges asks r h.hits in
-      let k = slice_index (edges_of r.moves) got.0 in
-      let move = edge_at parts input r.first r.moves is.begins.moves got.0 got.1 in
-      let e = told_by parts edges test telling k got.2 in
+      let move = edge_at parts input r.first r.moves is.begins.moves h.number h.less in
       let takes : Takes parts input first test n = record {
-        number = got.0;
-        less = got.1;
+        number = h.number;
+        less = h.less;
         from = move.0;
-        at = subst (λ s. state_from parts input s got.0 ≡ Some move.0) is.begins.start move.2;
-        edge = k;
+        at = subst (λ s. state_from parts input s h.number ≡ Some move.0) is.begins.start move.2;
+        edge = slice_index (edges_of r.moves) h.number;
         to = move.1;
         goes = move.3;
-        taken = e.0;
-        there = e.1;
-        tells = e.2;
+        taken = h.edge;
+        there = h.there;
+        tells = h.tells;
       } in
       let over = counted_over ends (next parts input (last_in r)) is.counted in
       record {
@@ -216,8 +227,9 @@ module _ (t : Typed) (files : List (List ℕ)) (entry : ℕ) (f : TypedFunction)
         event = (happens_where_taken t files entry f input n (last_in r) 0 test made there starts (path_to r is) over).1 takes;
       }
 
-  back : Happens t entry input ends test → InputHits parts (function_of entry f) p plan ends goal input
-  back h =
+  -- and where one happens, it takes such an edge
+  pub so_taken : Happens t entry input ends test → TakesOne parts (function_of entry f) input ends test
+  so_taken h =
       let enough = not_out ends (by_trees h.turns) h.counted in
       let to = told_to h.turns in
       let x = next parts input to.to in
@@ -231,9 +243,27 @@ module _ (t : Typed) (files : List (List ℕ)) (entry : ℕ) (f : TypedFunction)
       let takes = (happens_where_taken t files entry f input to.moves to.to 0 test made there starts to.path over).0 event in
       let at = subst (λ s. state_from parts input s takes.number ≡ Some takes.from) (sym is.begins.start) takes.at in
       let got = taken_at parts input r.first r.moves is.begins.moves (counted_over ends (next parts input (last_in r)) is.counted) takes.number takes.edge takes.from takes.to at takes.goes in
-      let among = ap (is_among edges) got.1 ∙ asked_by parts edges test telling takes.edge takes.taken takes.there takes.tells in
-      record { run = r; is_run = is; hits = hits_by parts (function_of entry f) p plan ends goal input edges asks r takes.number is.counted got.0 among }
+      record { run = r; is_run = is; number = takes.number; less = got.0; edge = takes.taken; there = ap (slice_get parts.edges) got.1 ∙ takes.there; tells = takes.tells }
+
+module _ (t : Typed) (files : List (List ℕ)) (entry : ℕ) (f : TypedFunction) (input : Input) (p : Predicates) (plan : Plan) (ends : Ends) (goal : GoalForm) (edges : List ℕ) (test : Event → Bool)
+    (made : IsMade t (length files)) (there : slice_get t.functions entry ≡ Some f) (starts : CanStart (function_of entry f) input.words) (asks : AsksForEdges plan goal edges) where
+  -- where a goal is hit whose edges all tell such an event, one happens
+  pub hit_happens : AllTell (graph_of t files) edges test → InputHits (graph_of t files) (function_of entry f) p plan ends goal input → Happens t entry input ends test
+  hit_happens all h =
+      let got = takes_one (graph_of t files) (function_of entry f) p plan ends goal input edges asks h.run h.hits in
+      let e = all (slice_index (edges_of h.run.moves) got.0) got.2 in
+      so_happens t files entry f input ends test made there starts (record { run = h.run; is_run = h.is_run; number = got.0; less = got.1; edge = e.0; there = e.1; tells = e.2 })
+
+  -- where the goal asks for the edge that was taken, it is hit
+  pub taken_hits : (h : TakesOne (graph_of t files) (function_of entry f) input ends test) → is_among edges (slice_index (edges_of h.run.moves) h.number) ≡ true → InputHits (graph_of t files) (function_of entry f) p plan ends goal input
+  taken_hits h among =
+      record { run = h.run; is_run = h.is_run; hits = hits_by (graph_of t files) (function_of entry f) p plan ends goal input edges asks h.run h.number h.is_run.counted h.less among }
 
 pub covered_where_happens : CoveredWhereHappens
-covered_where_happens t files entry f input p plan ends goal edges test made there starts asks telling =
-    (forth t files entry f input p plan ends goal edges test made there starts asks telling, back t files entry f input p plan ends goal edges test made there starts asks telling)
+covered_where_happens t files entry f input p plan ends goal edges test made there starts asks telling = (
+  hit_happens t files entry f input p plan ends goal edges test made there starts asks (told_by (graph_of t files) edges test telling),
+  λ h.
+      let one = so_taken t files entry f input ends test made there starts h in
+      taken_hits t files entry f input p plan ends goal edges test made there starts asks one
+      (asked_by (graph_of t files) edges test telling (slice_index (edges_of one.run.moves) one.number) one.edge one.there one.tells),
+)

@@ -13,7 +13,7 @@ use Rattle.edge_events.specs.declared.event.Event.{Event}
 use Rattle.fql_read.specs.declared.filter.Filter.{Filter}
 use Rattle.filters.specs.Kept.{kept_by}
 use Rattle.filters.specs.Parts.{edge_has, is_among, whole}
-use Rattle.applied_clauses.specs.Applied.{kept}
+use Rattle.applied_clauses.specs.Applied.{kept, numbers}
 use Rattle.covered_laws.specs.Conditions.{ConditionCovered, GuardCovered, decides_so, guards, guards_at, same_place}
 use Rattle.covered_laws.specs.Covered.{AreTelling, tells_one}
 use Rattle.covered_laws.specs.Filters.{FilterCovered, Selects}
@@ -65,7 +65,18 @@ no_edge parts property k le = by (slice_get parts.edges k) refl
     by None is = refl
     by (Some e) is = let lt = slice_get_within parts.edges k e is in absurd (omega (arith, lt, le))
 
-kept_tell : (parts : GraphParts) (f : Filter) (test : Event → Bool) → Selects parts f test → AreTelling parts (kept parts (whole parts) f).edges test
+-- those that have a property, by number
+pub numbers_tell : (parts : GraphParts) (property : Edge → Bool) (k : ℕ) → is_among (numbers (edge_has parts property) (length parts.edges)) k ≡ edge_has parts property k
+numbers_tell parts property k =
+    let p = edge_has parts property in
+    let n = length parts.edges in
+    among_filter p (range_with_len 0 n) k
+    ∙ ⊎_elim
+    (λ lt. ap (λ b. b && p k) (in_range n 0 k (omega arith) (omega arith)))
+    (λ le. ap (λ b. b && p k) (over_range n 0 k (omega arith)) ∙ sym (no_edge parts property k le))
+    (cases_lt k n)
+
+pub kept_tell : (parts : GraphParts) (f : Filter) (test : Event → Bool) → Selects parts f test → AreTelling parts (kept parts (whole parts) f).edges test
 kept_tell parts f test selects k =
     let p = (kept_by parts f (whole parts)).edge in
     let n = length parts.edges in
@@ -99,7 +110,7 @@ pub condition_covered : ConditionCovered
 condition_covered t files entry f input p plan ends goal edges place truth made there starts asks exact =
     covered_where_happens t files entry f input p plan ends goal edges (decides_so place truth) made there starts asks (λ k. exact k ∙ guards_tell (graph_of t files) place truth k)
 
-own_place : (a : Span) → same_place a a ≡ true
+pub own_place : (a : Span) → same_place a a ≡ true
 own_place a = λ i. eq-eqb a.file a.file refl i && (eq-eqb a.line a.line refl i && (eq-eqb a.column a.column refl i && (eq-eqb a.start a.start refl i && eq-eqb a.end a.end refl i)))
 
 alone : (parts : GraphParts) (k : ℕ) (e : Edge) (truth : Bool) → slice_get parts.edges k ≡ Some e → guards truth e.operation ≡ true

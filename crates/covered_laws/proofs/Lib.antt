@@ -5,3 +5,4 @@ pub mod Selects
 pub mod Goals
 pub mod Names
 pub mod Queries
+pub mod Edges

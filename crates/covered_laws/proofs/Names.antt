@@ -14,9 +14,12 @@ use Rattle.fql_read.specs.declared.filter.FilterForm.TheVariants as form
 use Rattle.filters.specs.Kept.{kept_by}
 use Rattle.filters.specs.Parts.{Part, keeping, whole}
 use Rattle.filters.specs.Properties.{has_name, is_name}
+use Rattle.graph_of.specs.GraphOf.{graph_of}
+use Rattle.table_laws.specs.Marks.{AllNamesStand, IsLabelled, NamesStand, WritesOne, is_label, is_skip, puts}
+use Rattle.table_laws.proofs.Whole.{names_stand_in_graphs}
 use Rattle.covered_laws.specs.Covered.{tells_one}
-use Rattle.covered_laws.specs.Filters.{filter_of}
-use Rattle.covered_laws.specs.Names.{DefinitionsSelect, IsLabelled, LabelsSelect, NamesStand, WritesOne, defines, is_done, is_label, is_skip, labels, puts}
+use Rattle.covered_laws.specs.Filters.{Selects, filter_of}
+use Rattle.covered_laws.specs.Names.{DefinitionsSelect, LabelsSelect, defines, is_done, labels}
 use Rattle.covered_laws.proofs.Selects.{selects_by}
 use Rattle.covered_laws.proofs.Tells.{first_passes}
 
@@ -134,10 +137,16 @@ labels_kept : (parts : GraphParts) (column : ℕ) (name : List ℕ) (a : Part) �
 unfolding kept_by
 labels_kept parts column name a = search (rules, filter_lemmas)
 
-pub definitions_select : DefinitionsSelect
-definitions_select parts column name stand =
+definitions_by : (parts : GraphParts) (column : ℕ) (name : List ℕ) → AllNamesStand parts → Selects parts (filter_of column (form.Writes name)) (defines name)
+definitions_by parts column name stand =
     selects_by parts (λ e. has_name e.writes name) (defines name) (λ k e is. defines_alike name e (stand k e is)) (filter_of column (form.Writes name)) (definitions_kept parts column name (whole parts))
 
-pub labels_select : LabelsSelect
-labels_select parts column name stand =
+labels_by : (parts : GraphParts) (column : ℕ) (name : List ℕ) → AllNamesStand parts → Selects parts (filter_of column (form.Label name)) (labels name)
+labels_by parts column name stand =
     selects_by parts (λ e. is_name e.label name) (labels name) (λ k e is. labels_alike name e (stand k e is)) (filter_of column (form.Label name)) (labels_kept parts column name (whole parts))
+
+pub definitions_select : DefinitionsSelect
+definitions_select t files column name = definitions_by (graph_of t files) column name (names_stand_in_graphs t files)
+
+pub labels_select : LabelsSelect
+labels_select t files column name = labels_by (graph_of t files) column name (names_stand_in_graphs t files)

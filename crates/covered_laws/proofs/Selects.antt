@@ -19,6 +19,8 @@ use Rattle.filters.specs.Kept.{kept_by}
 use Rattle.filters.specs.Kinds.{same_kind}
 use Rattle.filters.specs.Parts.{Part, both, edge_has, either, keeping, whole}
 use Rattle.filters.specs.Properties.{is_call, is_name}
+use Rattle.table_laws.specs.Marks.{OutcomesAreGuards}
+use Rattle.table_laws.proofs.Whole.{graphs_mark_guards}
 use Rattle.covered_laws.specs.Covered.{tells_one}
 use Rattle.covered_laws.specs.Filters.{Selects, LinesSelect, FilesSelect, KindsSelect, ConditionsSelect, DecisionsSelect, CallsSelect, UnionsSelect, IntersectionsSelect, at_line, calls, decides, filter_of, in_file, of_kinds, settles}
 use Rattle.covered_laws.proofs.Tells.{all_pass, both_told, called_of, either_told, first_passes, outcome_of, settled_of}
@@ -86,10 +88,13 @@ conditions_select parts column =
     selects_by parts (λ e. is_guard e.operation) decides (λ k e is. sym (first_passes decides e refl ∙ outcome_of e e.operation))
     (filter_of column form.ConditionEdge) (conditions_kept parts column (whole parts))
 
-pub decisions_select : DecisionsSelect
-decisions_select parts column guards =
+decisions_by : (parts : GraphParts) (column : ℕ) → OutcomesAreGuards parts → Selects parts (filter_of column form.DecisionEdge) settles
+decisions_by parts column guards =
     selects_by parts (λ e. e.outcome) settles (λ k e is. sym (first_passes settles e refl ∙ settled_of e e.operation (guards k e is)))
     (filter_of column form.DecisionEdge) (decisions_kept parts column (whole parts))
+
+pub decisions_select : DecisionsSelect
+decisions_select t files column = decisions_by (graph_of t files) column (graphs_mark_guards t files)
 
 pub calls_select : CallsSelect
 calls_select t files column name =

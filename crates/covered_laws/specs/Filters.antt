@@ -2,11 +2,9 @@
 use Rattle.std.specs.Prelude.{◌≡◌, ◌↔◌, ℕ, Bool, true, false, ◌==◌, ◌&&◌, ◌||◌, List, length, Some, slice_get, option_map}
 use Rattle.std.specs.List.{list_any}
 use Rattle.fq_core.specs.declared.statement_kind.StatementKind.{StatementKind}
-use Rattle.cfa.specs.declared.parts.Edge.{Edge}
 use Rattle.cfa.specs.declared.parts.GraphParts.{GraphParts}
 use Rattle.cfa.specs.declared.parts.InputFunction.{InputFunction}
 use Rattle.cfa.specs.declared.state.Predicates.{Predicates}
-use Rattle.cfa.specs.Graph.{is_guard}
 use Rattle.c_meaning.specs.declared.ends.Ends.{Ends}
 use Rattle.c_meaning.specs.declared.input.Input.{Input}
 use Rattle.c_meaning.specs.Starts.{CanStart}
@@ -98,14 +96,10 @@ KindsSelect = (parts : GraphParts) (column : ℕ) (kinds : List StatementKind) �
 abbrev pub ConditionsSelect : Type 0
 ConditionsSelect = (parts : GraphParts) (column : ℕ) → Selects parts (filter_of column form.ConditionEdge) decides
 
--- `@DECISIONEDGE`, where no edge but guards has the mark `outcome`
-abbrev pub OutcomesAreGuards : GraphParts → Type 0
-OutcomesAreGuards parts = (k : ℕ) (e : Edge) → slice_get parts.edges k ≡ Some e → e.outcome ≡ true → is_guard e.operation ≡ true
-
+-- `@DECISIONEDGE` and `@CALL`, in the automaton of a typed unit
 abbrev pub DecisionsSelect : Type 0
-DecisionsSelect = (parts : GraphParts) (column : ℕ) → OutcomesAreGuards parts → Selects parts (filter_of column form.DecisionEdge) settles
+DecisionsSelect = (t : Typed) (files : List (List ℕ)) (column : ℕ) → Selects (graph_of t files) (filter_of column form.DecisionEdge) settles
 
--- `@CALL`, in the automaton of a typed unit
 abbrev pub CallsSelect : Type 0
 CallsSelect = (t : Typed) (files : List (List ℕ)) (column : ℕ) (name : List ℕ) → Selects (graph_of t files) (filter_of column (form.Call name)) (calls t name)
 

@@ -4,3 +4,4 @@ pub mod Conditions
 pub mod Names
 pub mod Units
 pub mod Queries
+pub mod Edges

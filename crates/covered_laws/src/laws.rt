@@ -1,8 +1,16 @@
 //! Laws of the definitions in specs/. Each function does nothing: its contract is the law.
 ghost use Rattle.covered_laws.specs.Conditions.{ConditionCovered, GuardCovered};
 ghost use Rattle.covered_laws.specs.Covered.{CoveredWhereHappens};
+ghost use Rattle.covered_laws.specs.Edges.{
+  AlikeCovered,
+  CoveredHappens,
+  EdgeCovered,
+  FilterSomeCovered,
+  SameEvents,
+  SomeCovered,
+};
 ghost use Rattle.covered_laws.specs.Names.{DefinitionsSelect, LabelsSelect};
-ghost use Rattle.covered_laws.specs.Queries.{QuotedFilterAsks};
+ghost use Rattle.covered_laws.specs.Queries.{FilterAsks, QuotedFilterAsks};
 ghost use Rattle.covered_laws.specs.Units.{UnitsAreMade};
 ghost use Rattle.covered_laws.specs.Filters.{
   CallsSelect,
@@ -95,4 +103,40 @@ pub fn units_are_made()
 /// A query that covers a filter in quotation marks has one goal, which asks for the edges that the filter keeps.
 pub fn quoted_filter_asks()
     ensures { QuotedFilterAsks }
+{}
+
+/// One that covers a filter without quotation marks has a goal for each edge that the filter keeps, which asks for it alone.
+pub fn filter_asks()
+    ensures { FilterAsks }
+{}
+
+/// The test of one event passes it alone.
+pub fn same_events()
+    ensures { SameEvents }
+{}
+
+/// Of goals that ask for one edge each, of exactly the edges that tell an event which passes a test, some one is hit exactly where
+/// such an event happens by the trees.
+pub fn some_covered()
+    ensures { SomeCovered }
+{}
+
+/// So it is of the goals of the edges that a filter keeps, where the filter has a test.
+pub fn filter_some_covered()
+    ensures { FilterSomeCovered }
+{}
+
+/// Of the goals of all edges that tell an event some one is hit exactly where the event happens.
+pub fn alike_covered()
+    ensures { AlikeCovered }
+{}
+
+/// Where no other edge tells its event, the goal of an edge is hit exactly where this event happens.
+pub fn edge_covered()
+    ensures { EdgeCovered }
+{}
+
+/// Where the goal of an edge is hit, its event happens.
+pub fn covered_happens()
+    ensures { CoveredHappens }
 {}

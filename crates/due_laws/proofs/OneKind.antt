@@ -52,7 +52,7 @@ use Rattle.least_input.specs.declared.least.Least.TheVariants as least
 use Rattle.suite.specs.Generated.{Shown, HasTooLargeGoal, IsGenerateFault, IsWithinLimits}
 use Rattle.suite.specs.declared.decided.Decided.{Decided}
 use Rattle.suite.specs.declared.decided.Decided.TheVariants.{Covered, Refuted, Undecided}
-use Rattle.suite.specs.declared.generated.Generated.{Generated}
+use Rattle.given.specs.declared.generated.Generated.{Generated}
 use Rattle.unwinder.specs.Lists.{IsInputFor}
 use Rattle.unwinder.specs.Unwinding.{AreTooLarge, IsUnwindFault}
 use Rattle.unwinding_size.specs.Sizes.{size_sum}

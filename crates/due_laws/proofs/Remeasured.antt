@@ -26,7 +26,7 @@ use Rattle.reached.specs.declared.bounds.Bounds.{Bounds}
 use Rattle.suite.proofs.Firsts.{any_contains, contains_any}
 use Rattle.suite.specs.Generated.{IsAnswer, IsGenerated, IsMeasuredInput, Shown}
 use Rattle.suite.specs.Made.{IsMade}
-use Rattle.suite.specs.declared.generated.Generated.{Generated}
+use Rattle.given.specs.declared.generated.Generated.{Generated}
 use Rattle.unwinder.specs.Lists.{IsInputFor}
 use Rattle.command.specs.Measure.{AreAllHits, answer_of}
 use Rattle.command.specs.Runs.{run_of, runs_of}

@@ -26,8 +26,9 @@ use Rattle.command.specs.Stages.{OfEntry, Says, no_such_entry}
 use Rattle.command.specs.declared.bounds.Form.TheVariants as form
 use Rattle.command.specs.Bounds.{IsAskedOfBounds, said_of_bounds}
 use Rattle.command.proofs.AcceptedLaws.{at_sources, bounds_at_sources}
+use Rattle.printed_laws.specs.Unreachable.{IsUnreachable}
 use Rattle.due_laws.specs.Determined.{are_told}
-use Rattle.due_laws.specs.Unreachable.{AcceptedMeansUnreachable, IsUnreachable, bounds_asked_of, bounds_checked_of}
+use Rattle.due_laws.specs.Unreachable.{AcceptedMeansUnreachable, bounds_asked_of, bounds_checked_of}
 use Rattle.due_laws.proofs.Accepted.{no_text, still_have}
 use Rattle.due_laws.proofs.OneDue.{one_automaton}
 
@@ -48,7 +49,7 @@ module _ (front_law : (texts : List SourceText) → front.HasOneOutcome texts) (
 
   -- a goal that is refuted, at an entry of which no input leaves the bounds
   joined : (it : IsRefutedGoal before m) (graph : GraphParts) → HaveAutomaton after.holds m.sources graph → (entry : EntryFunction) → entry_of graph m.entry ≡ Some entry
-      → NoneLeaves graph entry.function (within m.bounds) → IsUnreachable after m
+      → NoneLeaves graph entry.function (within m.bounds) → IsUnreachable after m.sources m.entry m.query m.goal m.ends
   joined it graph have entry named none =
       let own = still_have before after m.sources it.graph same it.automaton in
       let graphs = one_graph graph it.graph have own in
@@ -57,15 +58,17 @@ module _ (front_law : (texts : List SourceText) → front.HasOneOutcome texts) (
       let stays : NoneLeaves it.graph it.entry.function (within m.bounds) =
       subst (λ (e : EntryFunction). NoneLeaves it.graph e.function (within m.bounds)) entries (subst (λ (g : GraphParts). NoneLeaves g entry.function (within m.bounds)) graphs none) in
       record {
-        graph = it.graph;
-        automaton = own;
-        entry = it.entry;
-        entry_is = it.entry_is;
-        predicates = it.predicates;
-        plan = it.plan;
-        planned = it.planned;
-        goal = it.goal;
-        goal_is = it.goal_is;
+        of = record {
+          graph = it.graph;
+          automaton = own;
+          entry = it.entry;
+          entry_is = it.entry_is;
+          predicates = it.predicates;
+          plan = it.plan;
+          planned = it.planned;
+          goal = it.goal;
+          goal_is = it.goal_is;
+        };
         none = unhit it.graph it.entry.function (within m.bounds) it.predicates it.plan m.ends it.goal stays it.none;
       }
 

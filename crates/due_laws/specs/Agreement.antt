@@ -18,7 +18,7 @@ use Rattle.report.specs.Texts.{covered_count}
 use Rattle.suite.specs.Generated.{IsGenerated, Shown}
 use Rattle.suite.specs.Made.{IsDecided, NoneHits}
 use Rattle.suite.specs.declared.decided.Decided.TheVariants as decided
-use Rattle.suite.specs.declared.generated.Generated.{Generated}
+use Rattle.given.specs.declared.generated.Generated.{Generated}
 use Rattle.command_words.specs.Reading.{Text}
 use Rattle.command.specs.Runs.{EntryFunction, entry_of}
 

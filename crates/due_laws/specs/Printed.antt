@@ -16,7 +16,7 @@ use Rattle.report.specs.GeneratedJson.{inputs_data}
 use Rattle.report.specs.Made.{arguments_text, parameter_kinds}
 use Rattle.serde_json.specs.View.{items_of}
 use Rattle.suite.specs.Generated.{IsGenerated, Shown}
-use Rattle.suite.specs.declared.generated.Generated.{Generated}
+use Rattle.given.specs.declared.generated.Generated.{Generated}
 use Rattle.command.specs.Runs.{EntryFunction}
 
 -- The value of the key `inputs` in the JSON report, read as an array of inputs to the entry, is what was made, word for word;

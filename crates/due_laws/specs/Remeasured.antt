@@ -13,7 +13,7 @@ use Rattle.goals.specs.declared.answer.Answer.TheVariants.{Covered, Missed, Refu
 use Rattle.goals.specs.declared.plan.Plan.{Plan}
 use Rattle.reached.specs.declared.bounds.Bounds.{Bounds}
 use Rattle.suite.specs.Generated.{IsGenerated, Shown}
-use Rattle.suite.specs.declared.generated.Generated.{Generated}
+use Rattle.given.specs.declared.generated.Generated.{Generated}
 use Rattle.command_words.specs.Reading.{Text}
 use Rattle.command.specs.Measure.{AreAllHits, answer_of}
 use Rattle.command.specs.Runs.{EntryFunction, entry_of, runs_of}

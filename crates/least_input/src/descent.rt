@@ -62,8 +62,10 @@ fn drop_unit(descent: &mut Descent)
 
 /// Keeps what shows that the last unit clause can't be.
 fn keep_part(alloc: Global, descent: &mut Descent, derivation: Derivation) -> Result<(), AllocError>
-    ensures { OnOk result (descent.new ≡ record descent.old { fixed = descent.old.fixed
-        ++ record { units = descent.old.units; derivation = derivation } ∷ [] }) }
+    ensures { OnOk result (descent.new ≡ record descent.old {
+      fixed = descent.old.fixed
+          ++ record { units = descent.old.units; derivation = derivation } ∷ [];
+    }) }
 {
     let units = Vec::from_slice(alloc, &descent.units)?;
     let units = Vector::from_vec(units);

@@ -47,12 +47,7 @@ fn descended(
 }
 
 /// What is found of a goal by its formula.
-fn searched(
-    alloc: Global,
-    goal: Goal,
-    whole: GoalFormula,
-    budget: u64,
-) -> Result<Least, Memory>
+fn searched(alloc: Global, goal: Goal, whole: GoalFormula, budget: u64) -> Result<Least, Memory>
     requires { IsFormulaFor goal whole }
     ensures { IfOk result (IsAnsweredAt goal.entry budget) }
 {

@@ -20,7 +20,7 @@ use Rattle.ending_laws.specs.Asking.{AsksFor, AsksForEachEnd, EndsAreRefuted, Re
 use Rattle.ending_laws.specs.Ends.{EndsSoon}
 use Rattle.bounds_check.specs.Leaving.{NoneLeaves}
 use Rattle.suite.specs.Generated.{IsGenerated, Shown}
-use Rattle.suite.specs.declared.generated.Generated.{Generated}
+use Rattle.given.specs.declared.generated.Generated.{Generated}
 
 -- ---- inputs
 

@@ -1,4 +1,5 @@
 pub mod Named
+pub mod Unreachable
 pub mod Bounds
 pub mod Goals
 pub mod Written

@@ -1,16 +1,13 @@
 -- What printed lines together say of all runs.
 use Rattle.std.specs.Prelude.{◌≡◌, ℕ, List, [], ◌∷◌, Some, map}
 use Rattle.c_meaning.specs.declared.ends.Ends.{Ends}
-use Rattle.c_meaning.specs.declared.input.Input.{Input}
-use Rattle.hits.specs.Inputs.{InputHits}
 use Rattle.reached.specs.declared.bounds.Bounds.{Bounds}
-use Rattle.unwinder.specs.Lists.{IsInputFor}
 use Rattle.command_words.specs.Reading.{Text}
 use Rattle.command.specs.Reads.{Reads}
 use Rattle.command.specs.Said.{Said}
 use Rattle.printed_laws.specs.Bounds.{SaysSuffice}
 use Rattle.printed_laws.specs.Goals.{SaysRefuted}
-use Rattle.printed_laws.specs.Named.{NamedGoal}
+use Rattle.printed_laws.specs.Unreachable.{IsUnreachable}
 
 -- ---- files
 
@@ -25,11 +22,6 @@ pub record HoldTheSame (before after : Reads) (files : List Text) : Type 0 where
   pub told : AreTold after files
 
 -- ---- goals
-
--- no input at all has a run from the entry, of whatever length, that hits the goal
-pub record IsUnreachable (r : Reads) (sources : List Text) (name query : Text) (number : ℕ) (ends : Ends) : Type 0 where
-  pub of : NamedGoal r sources name query number
-  pub none : (input : Input) → IsInputFor of.entry.function input → ¬ InputHits of.graph of.entry.function of.predicates of.plan ends of.goal input
 
 -- Where a line says that a goal is refuted, and a line of the same entry, sources and bounds that these suffice, the goal is unreachable.
 -- So the line of `check` or `least`, with that of `check-bounds` or `bounds`, is enough.

@@ -6,7 +6,7 @@ use Rattle.cfa.specs.declared.parts.GraphParts.{GraphParts}
 use Rattle.goals.specs.declared.plan.Plan.{Plan}
 use Rattle.serde_json.specs.Data.{Data}
 use Rattle.reached.specs.declared.bounds.Bounds.{Bounds}
-use Rattle.suite.specs.declared.generated.Generated.{Generated}
+use Rattle.given.specs.declared.generated.Generated.{Generated}
 use Rattle.report.specs.GeneratedJson.{bounds_data, found_data, generated_data, inputs_data}
 use Rattle.report.specs.Made.{parameter_kinds}
 

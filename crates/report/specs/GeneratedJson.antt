@@ -11,7 +11,7 @@ use Rattle.serde_json.specs.View.{items_of}
 use Rattle.serde_json.specs.Written.{compact_text}
 use Rattle.input_text.specs.Printed.{input_data}
 use Rattle.reached.specs.declared.bounds.Bounds.{Bounds}
-use Rattle.suite.specs.declared.generated.Generated.{Generated}
+use Rattle.given.specs.declared.generated.Generated.{Generated}
 use Rattle.report.specs.Generated.{refuted_count, undecided_count}
 use Rattle.report.specs.Json.{count_data, goals_data, with_ends}
 use Rattle.report.specs.Made.{parameter_kinds}

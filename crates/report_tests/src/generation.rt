@@ -10,6 +10,7 @@ use cfa::Graph;
 use containers::Vector;
 use fq_core::Fault;
 use fql_read::read_query;
+use given::Generated;
 use goals::{Answer, Plan, plan_of};
 use path_runner::Ends;
 use reached::Bounds;
@@ -18,7 +19,6 @@ use report::{
 };
 use std::alloc::{AllocError, Global};
 use std::test::Fail;
-use suite::Generated;
 use test_programs::graph_of;
 
 const INT: Kind = Kind {

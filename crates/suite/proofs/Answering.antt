@@ -25,7 +25,7 @@ use Rattle.path_runner.specs.Paths.{record_of}
 use Rattle.reached.specs.declared.bounds.Bounds.{Bounds}
 use Rattle.suite.specs.Generated.{AreAnswered, IsAnswer, IsCovered, IsMeasuredInput, IsShown, NoEarlierHits, Shown, seen_also, undecided_from}
 use Rattle.suite.specs.Progress.{AddsInput, AllAnswered, AnswersMore, IsNext, Tried, nothing}
-use Rattle.suite.specs.declared.generated.Generated.{Generated}
+use Rattle.given.specs.declared.generated.Generated.{Generated}
 use Rattle.suite.proofs.Firsts.{any_contains, contains_any, found, missing, none_at, rises_further, there_at}
 
 -- ---- undecided goals

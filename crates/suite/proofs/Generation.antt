@@ -13,7 +13,7 @@ use Rattle.unwinder.specs.Unwinding.{IsUnwound}
 use Rattle.unwinder.specs.declared.unwound.Unwound.{Unwound}
 use Rattle.suite.specs.Generated.{IsGenerateFault, IsGenerated, Shown, seen_also}
 use Rattle.suite.specs.Progress.{AllAnswered, AreSmall, IsSizeFault}
-use Rattle.suite.specs.declared.generated.Generated.{Generated}
+use Rattle.given.specs.declared.generated.Generated.{Generated}
 
 module _ (parts : GraphParts) (f : Function) (p : Predicates) (plan : Plan) (entry : ℕ) (bounds : Bounds) (ends : Ends) (u : Unwound) (h : IsUnwound parts p f entry bounds ends u) where
   -- a goal that is too large over the unwinding

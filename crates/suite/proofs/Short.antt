@@ -21,7 +21,7 @@ use Rattle.suite.specs.Generated.{IsGenerated, Shown, undecided_from}
 use Rattle.suite.specs.Made.{FallsShort, IsDecided, IsOpenWhereShort, IsSpent}
 use Rattle.suite.specs.declared.decided.Decided.{Decided}
 use Rattle.suite.specs.declared.decided.Decided.TheVariants as decided
-use Rattle.suite.specs.declared.generated.Generated.{Generated}
+use Rattle.given.specs.declared.generated.Generated.{Generated}
 
 -- ---- the numbers of undecided goals
 

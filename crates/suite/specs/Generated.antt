@@ -31,7 +31,7 @@ use Rattle.search.specs.declared.moves.History.{History}
 use Rattle.unwinder.specs.Unwinding.{IsUnwindFault}
 use Rattle.unwinding_size.specs.Sizes.{size_sum}
 use Rattle.suite.specs.Made.{IsMade, IsSpent, NoneHits}
-use Rattle.suite.specs.declared.generated.Generated.{Generated}
+use Rattle.given.specs.declared.generated.Generated.{Generated}
 
 -- a goal's number with the formula and the history of its search
 abbrev pub Shown : Type 0

@@ -22,7 +22,7 @@ use Rattle.path_runner.specs.Paths.{record_of}
 use Rattle.reached.specs.declared.bounds.Bounds.{Bounds}
 use Rattle.suite.specs.Generated.{AreAnswered, IsShown, Shown, seen_also}
 use Rattle.suite.specs.Made.{IsMade, NoneHits}
-use Rattle.suite.specs.declared.generated.Generated.{Generated}
+use Rattle.given.specs.declared.generated.Generated.{Generated}
 use Rattle.suite.specs.declared.making.Making.{Making}
 
 -- no goal is too large over so many pairs

@@ -23,7 +23,7 @@ use Rattle.suite.specs.Made.{FallsShort, HasRunWithin, IsDecided, IsMadeFor, IsO
 use Rattle.suite.specs.OneGoal.{IsGoalRefused, IsGoalWithin}
 use Rattle.suite.specs.Progress.{AddsInput, AllAnswered, IsNext}
 use Rattle.suite.specs.declared.decided.Decided.{Decided}
-use Rattle.suite.specs.declared.generated.Generated.{Generated}
+use Rattle.given.specs.declared.generated.Generated.{Generated}
 
 -- a goal of what is given, and how many pairs of node and context are reached within the bounds
 pub record Seeking : Type 0 where

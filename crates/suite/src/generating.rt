@@ -10,12 +10,11 @@ ghost use Rattle.suite.specs.Seeking.{AddsAs, AreAnsweredOf, AreOpenWhereShort, 
 use crate::decided::Decided;
 use crate::deciding::{decide_beside, fill_first};
 use crate::first_round::{Round, try_all};
-use crate::generated::Generated;
 use crate::making::{Making, nothing_made};
 use crate::sought::{Sought, too_large, unwinding};
 use c_meaning::Input;
 use fq_core::{Fault, Memory};
-use given::{Given, Goal};
+use given::{Generated, Given, Goal};
 use goal_formula::is_goal_too_large;
 use goals::{Answer, Plan};
 use search::Watch;

@@ -16,7 +16,6 @@
 mod decided;
 mod deciding;
 mod first_round;
-mod generated;
 mod generating;
 mod making;
 mod pool;
@@ -25,7 +24,6 @@ mod sought;
 
 pub use decided::Decided;
 pub use deciding::decide;
-pub use generated::Generated;
 pub use generating::generate;
 pub use reduction::{kept_are_needed, kept_hit_all, reduce};
 pub use replaying::replay;

@@ -1,4 +1,5 @@
 pub mod Found
+pub mod Often
 pub mod Read
 pub mod Says
 pub mod Times

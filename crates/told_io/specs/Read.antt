@@ -1,7 +1,10 @@
 -- Which of the files that are wanted were read, and what stands for them.
-use Rattle.std.specs.Prelude.{◌≡◌, ◌<◌, ◌≤◌, ℕ, List, Option, Some, IfSome, IsSome, length, slice_get}
+use Rattle.std.specs.Prelude.{◌≡◌, ◌<◌, ◌≤◌, ℕ, List, Option, Some, IfSome, IsSome, count_by, length, slice_get}
 use Rattle.std.specs.List.{All}
+use Rattle.std.specs.Str.{bytes_eq}
 use Rattle.fq_io.specs.MemoryFiles.{content_of}
+use Rattle.told_io.specs.HandedFiles.{times_of}
+use Rattle.told_io.specs.declared.handed_files.HandedFiles.{HandedFiles}
 use Rattle.told_io.specs.declared.wanted.Wanted.{Wanted}
 
 -- The bytes stand for this file: they are what it holds, where that is told, or both are longer than the limit.
@@ -20,3 +23,11 @@ pub record IsOfWanted (holds : List ℕ → Option (List ℕ)) (all : List Wante
 -- each of these was read
 abbrev pub AreThere : List (List ℕ × List ℕ) → List Wanted → Type 0
 AreThere texts all = All (λ (wanted : Wanted). IsSome (content_of texts wanted.name.now)) all
+
+-- how often a file of this name is wanted
+abbrev pub times_wanted : List ℕ → List Wanted → ℕ
+times_wanted name all = count_by (λ (wanted : Wanted). bytes_eq wanted.name.now name) all
+
+-- each name may be handed over as often as it is wanted
+abbrev pub AreAsOften : HandedFiles → List Wanted → Type 0
+AreAsOften files all = (name : List ℕ) → times_of files name ≡ times_wanted name all

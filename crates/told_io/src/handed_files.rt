@@ -40,7 +40,8 @@ impl HandedFiles {
 
     /// No files.
     pub fn new(alloc: Global) -> Self
-        ensures { texts result ≡ [] }
+        ensures told { texts result ≡ [] }
+        ensures none { (name : List ℕ) → file_of result name ≡ None }
     {
         HandedFiles {
             files: Vec::new(alloc),

@@ -1,11 +1,12 @@
 // Reads the files that are wanted.
-ghost use Rattle.std.specs.Prelude.{◌≡◌, ◌++◌, ◌⊎◌, List, ℕ, IfNone, IfOk, IfSome, IsFalse, IsSome, IsTrue, OnSome};
+ghost use Rattle.std.specs.Prelude.{◌≡◌, ◌≢◌, ◌++◌, ◌⊎◌, List, ℕ, IfNone, IfOk, IfSome, IsFalse, IsSome, IsTrue, OnSome};
 ghost use Rattle.std.specs.List.{All};
 ghost use Rattle.fq_io.specs.Counts.{Rose};
 ghost use Rattle.fq_io.specs.MemoryFiles.{content_of};
 ghost use Rattle.told_io.specs.Handed.{bytes_told};
-ghost use Rattle.told_io.specs.HandedFiles.{texts};
-ghost use Rattle.told_io.specs.Read.{AreThere, IsOfWanted, Stands};
+ghost use Rattle.told_io.specs.HandedFiles.{file_of, texts, times_of};
+ghost use Rattle.told_io.specs.Read.{AreAsOften, AreThere, IsOfWanted, Stands};
+ghost use Rattle.told_io.specs.Times.{times_with_one};
 
 use crate::handed::Text;
 use crate::handed_files::HandedFiles;
@@ -41,6 +42,8 @@ fn read_one<F: Files>(
     ensures there { IfOk result (λ read. IsTrue read → IsSome (content_of (texts files.new) wanted.now.name.now)) }
     ensures failed { IfOk result (λ read. IsFalse read → Rose (F.faults from.old) (F.faults from.new)) }
     ensures no_fault { IfOk result (λ read. IsTrue read → F.faults from.new ≡ F.faults from.old) }
+    ensures times { IfOk result (λ read. IsTrue read → times_of files.new wanted.now.name.now ≡ times_with_one (file_of files.old wanted.now.name.now)) }
+    ensures others { (other : List ℕ) → other ≢ wanted.now.name.now → file_of files.new other ≡ file_of files.old other }
     ensures same_files { F.holds from.new ≡ F.holds from.old }
 {
     if files.again(wanted.name) {
@@ -55,7 +58,7 @@ fn read_one<F: Files>(
     }
 }
 
-/// Reads files in order, each name once, up to the first that can't be read.
+/// Reads files in order, each name once, up to the first that can't be read. Each may be handed over as often as it is wanted.
 pub fn read_wanted<F: Files>(
     alloc: Global,
     from: &mut F,
@@ -63,6 +66,7 @@ pub fn read_wanted<F: Files>(
 ) -> Result<HandedFiles, Memory>
     ensures stand { IfOk result (λ files. All (IsOfWanted (F.holds from.old) all.now) (texts files)) }
     ensures there { IfOk result (λ files. Rose (F.faults from.old) (F.faults from.new) ⊎ AreThere (texts files) all.now) }
+    ensures times { IfOk result (λ files. Rose (F.faults from.old) (F.faults from.new) ⊎ AreAsOften files all.now) }
 {
     let mut files = HandedFiles::new(alloc);
     for wanted in all {

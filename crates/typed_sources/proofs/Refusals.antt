@@ -41,3 +41,6 @@ module _ (texts : List SourceText) (T : Type 0) (result : Result T Fault) (code 
 
   pub tokens_refused : Answers texts (Err e) → IsRefused texts code p
   tokens_refused answers = at_tokens (subst (λ f. Answers texts (Err f)) same_error answers)
+
+  pub handed_on : (S : Type 0) (earlier : Result S Fault) → earlier ≡ error S e → IsErrOf earlier (refusal code p)
+  handed_on S earlier was = was ∙ ap (error S) same_error

@@ -42,8 +42,7 @@ pub returns-in-Refuted : goal.returns-in-Refuted
 returns-in-Refuted c =
     let b = c.args.bounded.now in
     let exact = c.requires.exact in
-    let is = subst (IsOutcome c.args.formula.formula c.args.budget) c.in-Refuted.is c.in_ok-model.ensures in
-    (
+    let is = subst (IsOutcome c.args.formula.formula c.args.budget) c.in-Refuted.is c.in_ok-model.ensures in (
       none_leaves b.entry.graph.now b.entry.function.now b.bounds c.args.formula c.in-Refuted.derivation exact is.0.0,
       own_bits b.entry.graph.now b.entry.function.now b.bounds c.args.formula exact,
       is.0,

@@ -1,0 +1,4 @@
+mod Answers
+mod Inputs
+mod Lines
+mod Report

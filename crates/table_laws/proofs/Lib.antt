@@ -1,0 +1,4 @@
+mod Flows
+mod Values
+mod Rows
+pub mod Whole
