@@ -108,13 +108,15 @@ fn suffice_at(
     Ok(bounds_suffice(alloc, &bounded, budget))
 }
 
-fn suffice_in(
+// Whether bounds suffice for the function f of an automaton.
+fn suffice_over(
     alloc: Global,
-    source: &str,
+    graph: &Graph,
     bounds: Bounds,
     budget: u64,
-) -> Result<Result<Suffice, Fault>, Fail> {
-    let graph = automaton_of(alloc, source)?;
+) -> Result<Result<Suffice, Fault>, Fail>
+    requires { IsOnce graph.now }
+{
     let Some(number) = graph.function_named(b"f") else {
         return Err(Fail::from("no function"));
     };
@@ -123,11 +125,21 @@ fn suffice_in(
         return Err(Fail::from("no entry"));
     }
     let entry = Entry {
-        graph: &graph,
+        graph,
         number,
         function,
     };
     suffice_at(alloc, entry, bounds, budget)
+}
+
+fn suffice_in(
+    alloc: Global,
+    source: &str,
+    bounds: Bounds,
+    budget: u64,
+) -> Result<Result<Suffice, Fault>, Fail> {
+    let graph = automaton_of(alloc, source)?;
+    suffice_over(alloc, &graph, bounds, budget)
 }
 
 fn text_of(alloc: Global, suffice: &Result<Suffice, Fault>) -> Result<String, AllocError> {
