@@ -110,7 +110,13 @@ def labels_stand_before_statements(folder: str) -> Iterator[bool]:
     yield run(folder, ["adapt", "a.c", "-o", "new"]).returncode == 0
     with open(os.path.join(folder, "new", "a.c"), encoding="utf-8") as file:
         made = file.read()
-    due = ("case 1: ; int a = x; int b = 4;", "g_n++; return g_n;", "default: ; }", "case 3: ; int p = ", "default: ; int b[2] = {1, 2};")
+    due = (
+        "case 1: ; int a = x; int b = 4;",
+        "g_n++; return g_n;",
+        "default: ; }",
+        "case 3: ; int p = ",
+        "default: ; int b[2] = {1, 2};",
+    )
     yield all(text in made for text in due)
     for compiler in ("gcc", "clang") if is_there("clang") else ("gcc",):
         words = [compiler, "-std=c11", "-pedantic-errors", "-fsyntax-only", "-w", "-include", "assert.h", "new/a.c"]
