@@ -215,20 +215,6 @@ def boundaries_are_among_the_inputs(folder: str) -> Iterator[bool]:
     yield {word for one in given for word in one.answers} == {0, 1, 255, 254, 9, 10, 11}
 
 
-def labels_get_an_empty_statement(folder: str) -> Iterator[bool]:
-    """In the copy that is built, since C has no declaration behind a label (6.8.1p1) and clang refuses one."""
-    sys.path.insert(0, programs.ROOT)
-    from tools.adapt.compare_texts import LABEL
-
-    rows = [
-        ("case 'x': int a = 1;", "case 'x': ; int a = 1;"),
-        ("case ':': x; case -3L: y;", "case ':': ; x; case -3L: ; y;"),
-        ("default:\n  int b;", "default: ;\n  int b;"),
-        ("z ? a : b;", "z ? a : b;"),
-    ]
-    yield all(LABEL.sub(r"\1: ;", text) == due for text, due in rows)
-
-
 def a_campaign_names_the_report(folder: str) -> Iterator[bool]:
     """With its inputs and differences; that there is none, that it is of other files, or no report, is told too."""
     put(
@@ -264,6 +250,6 @@ def a_campaign_names_the_report(folder: str) -> Iterator[bool]:
 TRIED = [
     *((NEEDS, one) for one in (runs_without_a_meaning_are_counted_apart, a_loop_without_an_end_is_compared_up_to_there,
                                a_compiler_that_isnt_there, a_compiler_without_sanitizers, the_report_says_what_was_compared,
-                               a_wrong_word_in_what_was_written_is_found, boundaries_are_among_the_inputs, labels_get_an_empty_statement)),
+                               a_wrong_word_in_what_was_written_is_found, boundaries_are_among_the_inputs)),
     ((*NEEDS, "parallel"), a_campaign_names_the_report),
 ]  # fmt: skip

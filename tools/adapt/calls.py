@@ -254,4 +254,4 @@ class Calls(Component):
             length = f"[{leaf.count}]" if leaf.dims else ""
             null = none_of(leaf)
             value = "" if null == "0" else f" = {{{', '.join([null] * leaf.count)}}}" if leaf.dims else f" = {null}"
-            self.writer.emit(f"{leaf.kind.text} {self.writer.spelling.leaf(variable, leaf.path)}{length}{value};")
+            self.writer.declare(f"{leaf.kind.text} {self.writer.spelling.leaf(variable, leaf.path)}{length}{value};")

@@ -5,7 +5,6 @@ each call, in a line a call; behind a run stands `=STATUS`.
 """
 
 import os
-import re
 from typing import Any, Iterator
 
 from . import kinds
@@ -72,7 +71,6 @@ __attribute__((constructor)) static void adapt_poison_{0}_{1}(void) {{
   }}
 }}
 """
-LABEL = re.compile(r"\b(case\s+(?:'(?:\\.|[^'\\])+'|[^:'])+|default)\s*:")
 TELLING = "long long adapt_answer(void);\nvoid adapt_tell(long long);\n"
 
 
@@ -237,7 +235,6 @@ def copied(made: dict[str, str], folder: str) -> str:
     for number, text in enumerate(made.values()):
         path = os.path.join(folder, f"made_{number}.c")
         with open(path, "w", encoding="utf-8", errors="surrogateescape") as file:
-            # (the profile takes a declaration behind a label, and C doesn't, 6.8.1)
-            file.write(LABEL.sub(r"\1: ;", text.replace(FELL, "adapt_fell();")))
+            file.write(text.replace(FELL, "adapt_fell();"))
         whole += including(path)
     return whole
