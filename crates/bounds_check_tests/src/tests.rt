@@ -94,6 +94,20 @@ fn automaton_of(alloc: Global, source: &str) -> Result<Graph, Fail>
     }
 }
 
+// Whether bounds suffice for an entry, where they are in range.
+fn suffice_at(
+    alloc: Global,
+    entry: Entry,
+    bounds: Bounds,
+    budget: u64,
+) -> Result<Result<Suffice, Fault>, Fail> {
+    if bounds.frames == 0 || bounds.answers > 256 {
+        return Err(Fail::from("no bounds"));
+    }
+    let bounded = Bounded { entry, bounds };
+    Ok(bounds_suffice(alloc, &bounded, budget))
+}
+
 fn suffice_in(
     alloc: Global,
     source: &str,
@@ -108,16 +122,12 @@ fn suffice_in(
     if function.arrays.len() > 0 {
         return Err(Fail::from("no entry"));
     }
-    if bounds.frames == 0 || bounds.answers > 256 {
-        return Err(Fail::from("no bounds"));
-    }
     let entry = Entry {
         graph: &graph,
         number,
         function,
     };
-    let bounded = Bounded { entry, bounds };
-    Ok(bounds_suffice(alloc, &bounded, budget))
+    suffice_at(alloc, entry, bounds, budget)
 }
 
 fn text_of(alloc: Global, suffice: &Result<Suffice, Fault>) -> Result<String, AllocError> {
