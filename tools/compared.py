@@ -82,10 +82,16 @@ def of_sources(sources: Sequence[str], place: str) -> dict[str, Compared | str]:
 def lines(sources: Sequence[str], place: str) -> list[str]:
     """What a campaign tells of its sources, a line a folder; nothing where bin/adapt wrote none of them."""
     found = of_sources(sources, place)
-    return [f"{folder or '.'} was written by bin/adapt, {one if isinstance(one, str) else one.line}" for folder, one in found.items()]
+    return [
+        f"{folder or '.'} was written by bin/adapt, {one if isinstance(one, str) else one.line}"
+        for folder, one in found.items()
+    ]
 
 
 def values(sources: Sequence[str], place: str) -> list[dict[str, object]]:
     """The same as JSON."""
     found = of_sources(sources, place)
-    return [{"folder": folder or "."} | ({"why": one} if isinstance(one, str) else asdict(one)) for folder, one in found.items()]
+    return [
+        {"folder": folder or "."} | ({"why": one} if isinstance(one, str) else asdict(one))
+        for folder, one in found.items()
+    ]

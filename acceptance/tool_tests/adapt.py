@@ -97,6 +97,32 @@ def many_blocks_on_a_line(folder: str) -> Iterator[bool]:
     yield times[1] < 14 * times[0]
 
 
+# gcc 12 takes declarations right behind a label, which C11 hasn't (6.8.1p1)
+LABELS = """int g(int x) { switch (x & 3) { case 1: int a = x, b = 4; return a * b; case 2: static int n; n++; return n; default: typedef int t; } return 0; }
+static int *at(int *p, int i) { return p + i; }
+int h(int x) { int a[4] = {x}; int *q = a; switch (x) { case 3: int *p = at(q, 1); return *p; default: int b[2] = {1, 2}; return b[x & 1]; } }
+"""
+
+
+def labels_stand_before_statements(folder: str) -> Iterator[bool]:
+    """What is written is C11, by clang where it is there, and by gcc; and each declaration is where it was."""
+    put(folder, {"a.c": LABELS})
+    yield run(folder, ["adapt", "a.c", "-o", "new"]).returncode == 0
+    with open(os.path.join(folder, "new", "a.c"), encoding="utf-8") as file:
+        made = file.read()
+    due = (
+        "case 1: ; int a = x; int b = 4;",
+        "g_n++; return g_n;",
+        "default: ; }",
+        "case 3: ; int p = ",
+        "default: ; int b[2] = {1, 2};",
+    )
+    yield all(text in made for text in due)
+    for compiler in ("gcc", "clang") if is_there("clang") else ("gcc",):
+        words = [compiler, "-std=c11", "-pedantic-errors", "-fsyntax-only", "-w", "-include", "assert.h", "new/a.c"]
+        yield subprocess.run(words, cwd=folder).returncode == 0
+
+
 NEEDED = """#include <string.h>
 #include <stdlib.h>
 int next(void); unsigned char rx(void);
@@ -343,6 +369,6 @@ def a_changed_original_fails(folder: str) -> Iterator[bool]:
     yield compiled.returncode == 0 and tests.returncode == 1 and "\nnot ok" in tests.stdout
 
 
-TRIED = [(NEEDS, without_gcc), (NEEDS, many_blocks_on_a_line), (NEEDS, bounds_are_those_that_suffice),
+TRIED = [(NEEDS, without_gcc), (NEEDS, many_blocks_on_a_line), (NEEDS, labels_stand_before_statements), (NEEDS, bounds_are_those_that_suffice),
          (NEEDS, nothing_is_left_half_written), ((), without_pycparser), *((NEEDS, of_table(path)) for path in TABLES),
          *((NEEDS, of_module(given)) for given in WAYS), (NEEDS, a_changed_original_fails), (NEEDS, stubs_with_arguments_answer_the_original)]  # fmt: skip

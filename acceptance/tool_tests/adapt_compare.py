@@ -30,7 +30,7 @@ NOTHING = "adapt: there is no function that isn't static, takes integers alone a
 
 CASES = [
     Case("adapt --compare: runs that agree", ["adapt", "a.c", "-o", "new", "--compare", "3"], SOURCE, 0,
-         f"{FIRST}compared 6 runs, 0 differ\n{BUILT}", "", None, NEEDS),
+         f"{FIRST}{BUILT}compared 6 runs, 0 differ\n", "", None, NEEDS),
     Case("adapt --compare: nothing to compare", ["adapt", "a.c", "-o", "new", "--compare", "3"],
          {"a.c": "static int f(int x) { return x; }\n"}, 2, None, NOTHING, None, NEEDS),
     *(Case(f"adapt --compare: {word or 'nothing'} is no number of runs", ["adapt", "a.c", "-o", "new", "--compare", word], SOURCE, 2, "",
@@ -48,22 +48,29 @@ ROWS = [
     ("#include <stdlib.h>\nint f(void) { int *p = malloc(4); if (!p) return 0; *p = 1; free(p); return *p; }\n", 4),
     ("#include <string.h>\nstatic char *kept;\nstatic void keep(void) { char a[4] = {1}; kept = a; }\nint f(void) { keep(); return *kept; }\n", 4),
     ("#include <assert.h>\nvoid f(void) { assert(0); }\n", 0),
-    ("static int n;\nint f(int x) { for (;;) { n = x; } return 1; }\n", 0),
-    ("#include <stdio.h>\nint sprintf(char *to, const char *form, ...);\nstatic int n;\nint f(int x) { n += printf(\"%d\", x) * 0; return n; }\n", 0),
+    ("typedef struct { int n; } FILE;\nstatic FILE own;\nint f(int x) { own.n += x; return own.n; }\n", 0),
 ]  # fmt: skip
 
 
 def runs_without_a_meaning_are_counted_apart(folder: str) -> Iterator[bool]:
     """Each by its source: a main of its own, no value, outside of an array, a division and a shift, freed memory, a local that is
-    gone, an assert that fails, a loop without an end, and declarations that a header of the library has too."""
+    gone, an assert that fails, and names that a header of the library has too."""
     for number, (text, apart) in enumerate(ROWS):
         place = os.path.join(folder, str(number))
         put(place, {"a.c": text})
         with one_build():
             status, out, err = adapted([os.path.join(place, "a.c"), "-o", os.path.join(place, "new"), "--compare", "2"])
         told = f", of {apart} C gives the end no meaning" if apart else ""
-        due = f"\ncompared 4 runs, 0 differ{told}\nbuilt by gcc -O0; half of the inputs random, half boundaries\n"
-        yield (status, err) == (0, "") and due in out
+        yield (status, err) == (0, "") and out.endswith(f"\ncompared 4 runs, 0 differ{told}\n")
+        yield "\nbuilt by gcc -O0; half of the inputs random, half boundaries\n" in out
+
+
+def a_loop_without_an_end_is_compared_up_to_there(folder: str) -> Iterator[bool]:
+    """The runs end by their time, which is no difference, and C gives them a meaning."""
+    put(folder, {"a.c": "static int n;\nint f(int x) { for (;;) { n = x; } return 1; }\n"})
+    with one_build():
+        status, out, _ = adapted([os.path.join(folder, "a.c"), "-o", os.path.join(folder, "new"), "--compare", "1"])
+    yield status == 0 and "\ncompared 2 runs, 0 differ\n" in out and report(folder)["calls"] == 0
 
 
 def with_path(folder: str, path: str, *words: str) -> subprocess.CompletedProcess[str]:
@@ -90,8 +97,8 @@ def a_compiler_that_isnt_there(folder: str) -> Iterator[bool]:
         place = os.path.join(folder, here)
         put(place, SOURCE)
         ended = with_path(place, linked(place, here, "as", "ld"), "--compare", "2")
-        told = f"compared 4 runs, 0 differ\nbuilt by {here} -O0, {here} -O2; half of the inputs random, half boundaries\n"
-        due = f"{FIRST}{told}not built by {other}: it isn't there\nwrote new/compare.json\n"
+        told = f"built by {here} -O0, {here} -O2; half of the inputs random, half boundaries\nnot built by {other}: it isn't there\n"
+        due = f"{FIRST}{told}wrote new/compare.json\ncompared 4 runs, 0 differ\n"
         yield (ended.returncode, ended.stdout, ended.stderr) == (0, due, "")
         yield report(place)["missing"] == {other: "it isn't there"}
 
@@ -101,15 +108,18 @@ def a_compiler_without_sanitizers(folder: str) -> Iterator[bool]:
     put(folder, SOURCE)
     path = linked(folder, "as", "ld")
     refusing = 'case "$*" in *-fsanitize*) echo "error: no sanitizer" >&2; exit 1;; esac\n'
-    for name, lines in (("gcc", refusing), ("clang", 'case "$*" in *original*) echo "error: no C" >&2; exit 1;; esac\n')):
+    for name, lines in (
+        ("gcc", refusing),
+        ("clang", 'case "$*" in *original*) echo "error: no C" >&2; exit 1;; esac\n'),
+    ):
         with open(os.path.join(path, name), "w", encoding="ascii") as file:
             file.write(f'#!/bin/sh\n{lines}exec {shutil.which(name)} "$@"\n')
         os.chmod(os.path.join(path, name), 0o755)
     ended = with_path(folder, path, "--compare", "1")
-    due = f"{FIRST}compared 2 runs, 0 differ\nbuilt by gcc -O0, gcc -O2; half of the inputs random, half boundaries\n"
+    due = f"{FIRST}built by gcc -O0, gcc -O2; half of the inputs random, half boundaries\n"
     due += "not built by clang: error: no C\n"
     due += "".join(f"gcc {level} has no sanitizer address and no undefined\n" for level in ("-O0", "-O2"))
-    yield (ended.returncode, ended.stdout) == (0, due + "wrote new/compare.json\n")
+    yield (ended.returncode, ended.stdout) == (0, due + "wrote new/compare.json\ncompared 2 runs, 0 differ\n")
     yield not any("sanitize" in flag for one in report(folder)["builds"] for flag in one["original"])
 
 
@@ -132,30 +142,44 @@ def the_report_says_what_was_compared(folder: str) -> Iterator[bool]:
     """Files with their sums, headers too; words, builds, inputs, and differences with the calls that lead to them."""
     put(folder, {"a.c": '#include "a.h"\n' + PLANTED["a.c"], "a.h": "static const int whole = 1;\n"})
     ended = run(folder, ["adapt", "a.c", "-o", "new", "-D", "X=1", "--compare", "2"])
-    told = "".join(f"input {number}, the original by gcc -O2: f(): n is 4, by the original of gcc -O0 0\n" for number in range(1, 5))
-    yield (ended.returncode, ended.stdout) == (1, f"{FIRST.replace('new/a.c', 'new/a.h new/a.c')}{told}compared 4 runs, 4 differ\n{BUILT}")
+    told = "".join(
+        f"input {number}, the original by gcc -O2: f(): n is 4, by the original of gcc -O0 0\n"
+        for number in range(1, 5)
+    )
+    yield (ended.returncode, ended.stdout) == (
+        1,
+        f"{FIRST.replace('new/a.c', 'new/a.h new/a.c')}{told}{BUILT}compared 4 runs, 4 differ\n",
+    )
     found = report(folder)
     yield found["form"] == "fshell compare 1"
-    yield found["originals"] == sums(folder, "../a.h", "../a.c") and found["written"] == sums(folder, "a.c")
+    yield found["originals"] == sums(folder, "../a.h", "../a.c") and found["written"] == sums(folder, "a.h", "a.c")
     yield found["flags"] == ["-DX=1"] and found["missing"] == {} and found["without_meaning"] == {}
     builds = [(one["compiler"], one["level"]) for one in found["builds"]]
     yield builds == [("gcc", "-O0"), ("gcc", "-O2"), ("clang", "-O0"), ("clang", "-O2")]
-    yield all("-fsanitize=address,undefined" in one["original"] and one["compiler"] in one["version"] for one in found["builds"])
+    yield all(
+        "-fsanitize=address,undefined" in one["original"] and one["compiler"] in one["version"]
+        for one in found["builds"]
+    )
     yield found["inputs"] == {"random": 2, "boundary": 2} and found["calls"] == 4 * 6
-    yield [(one["input"], one["kind"]) for one in found["differences"]] == [(1, "random"), (2, "random"), (3, "boundary"), (4, "boundary")]
+    yield [(one["input"], one["kind"]) for one in found["differences"]] == [
+        (1, "random"),
+        (2, "random"),
+        (3, "boundary"),
+        (4, "boundary"),
+    ]
     yield all(one["calls"] == ["f()"] * 6 and len(one["answers"]) == 40 for one in found["differences"])
 
 
 def a_wrong_word_in_what_was_written_is_found(folder: str) -> Iterator[bool]:
     """What was written, with one constant changed behind adapt's back: each build shows it, at the call that tells it."""
     sys.path.insert(0, programs.ROOT)
-    from tools.adapt import main as adapt
+    from tools.adapt import main, pipeline
     from tools.adapt.compare import compared as compare
     from tools.adapt.refusals import Refusals
 
     put(folder, {"a.c": "static int n;\nint f(unsigned char x) { n = x; return x < 255 ? 1 : 2; }\n"})
     source = os.path.join(folder, "a.c")
-    made = adapt.adapt(adapt.words([source]), Refusals())
+    made = pipeline.adapt(main.words([source]), Refusals())
     assert made
     for old, new, due in (("x < 255", "x < 254", "f(254): the result is 2, by the original of gcc -O0 1"),
                           ("n = x", "n = x & 127", "f(255): n is 127, by the original of gcc -O0 255")):  # fmt: skip
@@ -171,7 +195,7 @@ def a_wrong_word_in_what_was_written_is_found(folder: str) -> Iterator[bool]:
 def boundaries_are_among_the_inputs(folder: str) -> Iterator[bool]:
     """Each boundary of each parameter comes, by the entries' types and the file's arrays, and those of answers."""
     sys.path.insert(0, programs.ROOT)
-    from tools.adapt import main as adapt
+    from tools.adapt import main, pipeline
     from tools.adapt.compare_inputs import Inputs
     from tools.adapt.compare_texts import Texts
     from tools.adapt.refusals import Refusals
@@ -179,7 +203,7 @@ def boundaries_are_among_the_inputs(folder: str) -> Iterator[bool]:
     text = "unsigned char rx(void);\nstatic int row[10];\nint f(signed char a, unsigned long b) { row[a] = rx(); return b; }\nint g(_Bool c) { return c; }\n"
     put(folder, {"a.c": text})
     with redirect_stdout(io.StringIO()):
-        made = adapt.adapt(adapt.words([os.path.join(folder, "a.c")]), Refusals())
+        made = pipeline.adapt(main.words([os.path.join(folder, "a.c")]), Refusals())
     assert made
     inputs = Inputs(Texts(made.writer))
     given = [inputs.at_boundaries(number) for number in range(8)]
@@ -193,7 +217,13 @@ def boundaries_are_among_the_inputs(folder: str) -> Iterator[bool]:
 
 def a_campaign_names_the_report(folder: str) -> Iterator[bool]:
     """With its inputs and differences; that there is none, that it is of other files, or no report, is told too."""
-    put(folder, {"a.c": '#include "a.h"\nint f(int x) { if (x > LIMIT) { return 1; } return 0; }\n', "a.h": "#define LIMIT 6\n"})
+    put(
+        folder,
+        {
+            "a.c": '#include "a.h"\nint f(int x) { if (x > LIMIT) { return 1; } return 0; }\n',
+            "a.h": "#define LIMIT 6\n",
+        },
+    )
     words = ["campaign", "-o", "all", "--jobs", "1"]
     yield run(folder, ["adapt", "a.c", "-o", "new"]).returncode == 0
     none = "new was written by bin/adapt, compared with the original on no inputs (bin/adapt --compare)\n"
@@ -208,13 +238,18 @@ def a_campaign_names_the_report(folder: str) -> Iterator[bool]:
         yield json.load(file)["compared"] == [{"folder": "new", "path": "new/compare.json", "random": 2, "boundary": 2, "differences": 0,
                                                "without_meaning": 0, "builds": ["gcc -O0"]}]  # fmt: skip
     put(folder, {"a.h": "#define LIMIT 6 \n"})
-    yield "new was written by bin/adapt, new/compare.json is of other files; run bin/adapt --compare again\n" in run(folder, words).stdout
+    yield "new was written by bin/adapt, new/compare.json is of other files; run bin/adapt --compare again\n" in run(
+        folder, words
+    ).stdout
     put(folder, {"new/compare.json": "{}\n"})
-    yield "new was written by bin/adapt, new/compare.json is no report of bin/adapt --compare\n" in run(folder, words).stdout
+    yield "new was written by bin/adapt, new/compare.json is no report of bin/adapt --compare\n" in run(
+        folder, words
+    ).stdout
 
 
 TRIED = [
-    *((NEEDS, one) for one in (runs_without_a_meaning_are_counted_apart, a_compiler_that_isnt_there, a_compiler_without_sanitizers, the_report_says_what_was_compared,
+    *((NEEDS, one) for one in (runs_without_a_meaning_are_counted_apart, a_loop_without_an_end_is_compared_up_to_there,
+                               a_compiler_that_isnt_there, a_compiler_without_sanitizers, the_report_says_what_was_compared,
                                a_wrong_word_in_what_was_written_is_found, boundaries_are_among_the_inputs)),
     ((*NEEDS, "parallel"), a_campaign_names_the_report),
 ]  # fmt: skip

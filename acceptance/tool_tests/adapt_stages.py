@@ -6,6 +6,7 @@ No stage knows a later one: a module imports from its own stage and from those b
 import ast
 import glob
 import os
+import re
 import sys
 from collections.abc import Iterable, Iterator
 from typing import Any
@@ -201,6 +202,37 @@ def what_the_program_refuses_is_told(folder: str) -> Iterator[bool]:
         yield len(refusals.found) == count
 
 
-STAGES = (no_stage_knows_a_later_one, the_tree_is_our_own, jumps_become_breaks, names_have_their_scopes, parameters_are_bound, pointers_meet_their_objects,
+def each_rule_names_its_clause(folder: str) -> Iterator[bool]:
+    """In docs/ADAPT.md each row of translation has the clause on which it rests, and each module of the stages those of its rules;
+    none is named that isn't there."""
+    from tools.adapt.pipeline import STAGES as MODULES
+
+    with open(os.path.join(programs.ROOT, "docs", "ADAPT.md"), encoding="utf-8") as file:
+        text = file.read()
+    tables = re.findall(r"^\| C \| becomes \| rests on \|\n\|[-|]*\n((?:\|.*\n)+)", text, re.MULTILINE)
+    rows = [line.replace("\\|", "").split("|")[1:-1] for table in tables for line in table.splitlines()]
+    yield len(tables) == 2 and len(rows) > 35 and all(len(row) == 3 and is_clause(row[2]) for row in rows)
+    stages = text.partition("## Stages")[2].partition("\n## ")[0]
+    named = dict(re.findall(r"`(\w+)`(?:, `tree`)? \(([^()]*)\)", stages)) | {"tree": "6.5 to 6.9"}
+    due = {
+        one
+        for stage, modules in MODULES.items()
+        for one in modules.split()
+        if stage not in ("common", "pipeline", "command")
+    }
+    yield set(named) == due | {"parsing", "tree"}
+    without = {one for one, clauses in named.items() if clauses == "none"}
+    yield without == {"component", "operators", "writer", "gate"}
+    yield not any(is_clause(text) for text in ("", " ", "none", "6", "C11", "the next section"))
+    yield all(is_clause(clauses) for one, clauses in named.items() if one not in without)
+
+
+def is_clause(text: str) -> bool:
+    """Whether a text names clauses of C11, or of gcc's manual."""
+    names = [one.strip() for one in re.split(r",|;| to ", text.replace("gcc's manual, ", "gcc's manual: "))]
+    return all(re.fullmatch(r"[567](\.\d+)+(p\d+)?|7\.\d+|gcc's manual: [\w ]+", one) for one in names)
+
+
+STAGES = (each_rule_names_its_clause, no_stage_knows_a_later_one, the_tree_is_our_own, jumps_become_breaks, names_have_their_scopes, parameters_are_bound, pointers_meet_their_objects,
           objects_lie_behind_each_other, effects_are_told, a_function_is_written, what_the_program_refuses_is_told)  # fmt: skip
 TRIED = [(NEEDS, one) for one in STAGES]

@@ -128,9 +128,16 @@ class Calls(Component):
 
     def handed(self, place: Place, argument: Any, index: Optional[Value]) -> list[str]:
         """An object's integers as arguments, its arrays lent whole. Raises Refused for an array within an element of
-        an array."""
+        an array, and for one that lies in a column."""
         texts = []
+        columns = self.writer.places.columns
         for leaf, elements in self.writer.elements.integers(place, index):
+            if leaf.dims and (self.writer.places.is_raw(place) or columns.is_apart(place.region, leaf.path)):
+                raise Refused(
+                    argument.coord,
+                    "an object with an array that pointers meet is handed over whole",
+                    "hand over its address, or copy what is used of it",
+                )
             if leaf.dims and index is not None:
                 raise Refused(
                     argument.coord,
@@ -247,4 +254,4 @@ class Calls(Component):
             length = f"[{leaf.count}]" if leaf.dims else ""
             null = none_of(leaf)
             value = "" if null == "0" else f" = {{{', '.join([null] * leaf.count)}}}" if leaf.dims else f" = {null}"
-            self.writer.emit(f"{leaf.kind.text} {self.writer.spelling.leaf(variable, leaf.path)}{length}{value};")
+            self.writer.declare(f"{leaf.kind.text} {self.writer.spelling.leaf(variable, leaf.path)}{length}{value};")

@@ -129,7 +129,7 @@ class Outcome:
 
     @property
     def differences(self) -> list[Trial]:
-        """The trials that differ."""
+        """What is found of inputs on which builds don't agree."""
         return [one for one in self.trials if one.told]
 
     @property
@@ -137,18 +137,19 @@ class Outcome:
         """How many runs have no meaning from some call on, by why."""
         return Counter(one.why for one in self.trials if one.why)
 
-    def text(self) -> str:
-        """The lines of the command."""
+    def text(self, report: str) -> str:
+        """The lines of the command, of which the last one has the numbers, where its report stands at a path."""
         lines = [one.told for one in self.differences]
-        count = sum(self.without_meaning.values())
-        apart = f", of {count} C gives the end no meaning" if count else ""
-        lines.append(f"compared {len(self.trials)} runs, {len(self.differences)} differ{apart}")
-        lines.append("built by " + ", ".join(one.name for one in self.builds) + "; half of the inputs random, half boundaries")
+        names = ", ".join(one.name for one in self.builds)
+        lines.append(f"built by {names}; half of the inputs random, half boundaries")
         lines += [f"not built by {name}: {why}" for name, why in self.missing.items()]
         for build in self.builds:
             lacks = [one for one in ("address", "undefined") if one not in build.watches]
             if lacks:
                 lines.append(f"{build.name} has no sanitizer {' and no '.join(lacks)}")
+        count = sum(self.without_meaning.values())
+        apart = f", of {count} C gives the end no meaning" if count else ""
+        lines += [f"wrote {report}", f"compared {len(self.trials)} runs, {len(self.differences)} differ{apart}"]
         return "\n".join(lines)
 
 

@@ -64,7 +64,7 @@ class Build:
 
     @property
     def name(self) -> str:
-        """Its name in a line."""
+        """What lines call it: the compiler and the level."""
         return f"{self.compiler} {self.level}"
 
     @property

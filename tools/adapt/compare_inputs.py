@@ -78,7 +78,8 @@ class Inputs:
 
     def at_boundaries(self, number: int) -> Given:
         """Input `number`, from 0, of those at boundaries: the entries take turns, and each parameter of one goes through all its
-        boundaries, beside those of others by chance; then all are by chance. Answers begin where those of the input before end."""
+        boundaries, beside those of others by chance; then all are by chance. Answers begin where those of the input before end.
+        """
         chance = random.Random(f"boundaries {number}")
         answers = [self.answers[(number * 7 + at) % len(self.answers)] for at in range(ANSWERS)]
         if number % 2:

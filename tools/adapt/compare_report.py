@@ -32,7 +32,13 @@ def sums(paths: Iterable[str], folder: str) -> dict[str, str]:
 def difference(outcome: Outcome, trial: Trial) -> dict[str, Any]:
     """What the report has of an input on which runs differ."""
     calls = [outcome.inputs.shown(call) for call in trial.given.calls[: trial.calls]]
-    return {"input": trial.number, "kind": trial.given.kind, "calls": calls, "answers": trial.given.answers, "text": trial.told}
+    return {
+        "input": trial.number,
+        "kind": trial.given.kind,
+        "calls": calls,
+        "answers": trial.given.answers,
+        "text": trial.told,
+    }
 
 
 def text_of(outcome: Outcome, units: list[Unit], paths: list[str], flags: list[str], folder: str) -> str:

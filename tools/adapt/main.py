@@ -144,7 +144,7 @@ def compare(asked: argparse.Namespace, writer: Writer, texts: dict[str, str], pa
         program.write_whole(report, compare_report.text_of(outcome, units, paths, flags_of(asked), asked.out))
     except program.Failure as failure:
         raise Stop(str(failure)) from None
-    print(f"{outcome.text()}\nwrote {report}")
+    print(outcome.text(report))
     return 1 if outcome.differences else 0
 
 

@@ -134,7 +134,7 @@ class PointerEffects(Component):
             self.set_parts(self.writer.pointers.parts_at(place, self.writer.elements.index(place, True)), parts, False)
             return
         for leaf in kinds.leaves(variable.type):
-            self.writer.emit(
+            self.writer.declare(
                 f"{leaf.kind.text} {self.writer.spelling.leaf(variable, leaf.path)} = {parts[leaf.path[-1]].text};"
             )
 

@@ -132,7 +132,7 @@ class Statements(Component):
                 leaf, lambda one: self.writer.conversions.converted(self.writer.expressions.value(one), leaf.kind).text
             )
             value = f"[{leaf.count}] = {{{', '.join(texts)}}}" if leaf.dims else f" = {texts[0]}"
-            self.writer.emit(f"{leaf.kind.text} {self.writer.spelling.leaf(variable, leaf.path)}{value};")
+            self.writer.declare(f"{leaf.kind.text} {self.writer.spelling.leaf(variable, leaf.path)}{value};")
         for (path, spot), of, source in made.wholes:
             indexes = tuple(
                 (tree.Constant("int", str(one)), length)
@@ -192,7 +192,7 @@ class Statements(Component):
             )
         for one in node.stmts or []:
             self.statement(one)
-        if last and not node.stmts:
+        if last and self.writer.is_behind_case():
             self.writer.emit(";")
 
     def write_Case(self, node: Any) -> None:

@@ -119,6 +119,17 @@ class Writer:
         """Writes a piece. What a value needs before stands on the statement's own line."""
         self.file.emit(self.line, mark(self.line, self.column) + (unmarked(text) if self.within else text))
 
+    def declare(self, text: str) -> None:
+        """Writes a declaration of a block. A label stands before a statement (6.8.1p1), so one right behind a case gets an empty one."""
+        if self.is_behind_case():
+            line, label = self.file.pieces[-1]
+            self.file.pieces[-1] = line, f"{label} ;"
+        self.emit(text)
+
+    def is_behind_case(self) -> bool:
+        """Whether the last piece is a case, which has no statement yet."""
+        return bool(self.file.pieces) and self.file.pieces[-1][1].endswith(":")
+
     def go(self, node: Any) -> None:
         """What is written next stands on the line of this statement."""
         if node.coord is not None and str(node.coord.file) == self.original:
@@ -133,5 +144,5 @@ class Writer:
         """Writes a local with a value; its name."""
         name = self.spelling.fresh(stem)
         self.stands_for |= {name: self.asked[-1]} if self.asked else {}
-        self.emit(f"{kind.text} {name} = {unmarked(text)};")
+        self.declare(f"{kind.text} {name} = {unmarked(text)};")
         return name

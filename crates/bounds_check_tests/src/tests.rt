@@ -94,13 +94,29 @@ fn automaton_of(alloc: Global, source: &str) -> Result<Graph, Fail>
     }
 }
 
-fn suffice_in(
+// Whether bounds suffice for an entry, where they are in range.
+fn suffice_at(
     alloc: Global,
-    source: &str,
+    entry: Entry,
     bounds: Bounds,
     budget: u64,
 ) -> Result<Result<Suffice, Fault>, Fail> {
-    let graph = automaton_of(alloc, source)?;
+    if bounds.frames == 0 || bounds.answers > 256 {
+        return Err(Fail::from("no bounds"));
+    }
+    let bounded = Bounded { entry, bounds };
+    Ok(bounds_suffice(alloc, &bounded, budget))
+}
+
+// Whether bounds suffice for the function f of an automaton.
+fn suffice_over(
+    alloc: Global,
+    graph: &Graph,
+    bounds: Bounds,
+    budget: u64,
+) -> Result<Result<Suffice, Fault>, Fail>
+    requires { IsOnce graph.now }
+{
     let Some(number) = graph.function_named(b"f") else {
         return Err(Fail::from("no function"));
     };
@@ -108,16 +124,22 @@ fn suffice_in(
     if function.arrays.len() > 0 {
         return Err(Fail::from("no entry"));
     }
-    if bounds.frames == 0 || bounds.answers > 256 {
-        return Err(Fail::from("no bounds"));
-    }
     let entry = Entry {
-        graph: &graph,
+        graph,
         number,
         function,
     };
-    let bounded = Bounded { entry, bounds };
-    Ok(bounds_suffice(alloc, &bounded, budget))
+    suffice_at(alloc, entry, bounds, budget)
+}
+
+fn suffice_in(
+    alloc: Global,
+    source: &str,
+    bounds: Bounds,
+    budget: u64,
+) -> Result<Result<Suffice, Fault>, Fail> {
+    let graph = automaton_of(alloc, source)?;
+    suffice_over(alloc, &graph, bounds, budget)
 }
 
 fn text_of(alloc: Global, suffice: &Result<Suffice, Fault>) -> Result<String, AllocError> {

@@ -1,8 +1,8 @@
-mod Accepted
+pub mod Accepted
 mod AcceptedBounds
 mod Agreement
-mod OneDue
-mod OneFile
+pub mod OneDue
+pub mod OneFile
 mod OneKind
 mod OneLeast
 mod OneLine

@@ -14,9 +14,9 @@ use Rattle.goals.specs.GoalForm.{GoalForm}
 use Rattle.goals.specs.declared.answer.Answer.{Answer}
 use Rattle.goals.specs.declared.answer.Answer.TheVariants.{Refuted}
 use Rattle.made_laws.specs.Laws.{EachReturns, NoneTraps, OthersAreRefuted, RefutesEnds}
-use Rattle.plain_returns.proofs.Whole.{automata_return_plainly}
+use Rattle.plain_returns.specs.Laws.{AutomataReturnPlainly}
 use Rattle.report_laws.specs.Laws.{AnswersAreRead}
-use Rattle.suite.specs.Suite.{kept_of}
+use Rattle.reduction.specs.Suite.{kept_of}
 use Rattle.command_words.specs.Request.{Generating}
 use Rattle.command.specs.Ranges.{within}
 use Rattle.command.specs.Reads.{Reads}
@@ -25,7 +25,7 @@ use Rattle.printed_laws.proofs.Graphs.{entry_there, sources_are_graph}
 use Rattle.refuted_laws.specs.Reports.{RefutesOtherEnds, ReportsLetReturn, ReportsRefuteTraps}
 use Rattle.refuted_laws.proofs.Files.{none_leaves}
 
-module _ (law : (texts : List SourceText) → front.HasOneOutcome texts) (ask : AllEndsAreAsked) (read : AnswersAreRead) (before after : Reads) (m : Generating) (said other : Said) (h : RefutesOtherEnds before after m said other) where
+module _ (law : (texts : List SourceText) → front.HasOneOutcome texts) (plainly : AutomataReturnPlainly) (ask : AllEndsAreAsked) (read : AnswersAreRead) (before after : Reads) (m : Generating) (said other : Said) (h : RefutesOtherEnds before after m said other) where
   abbrev graph : GraphParts
   graph = h.report.of.graph
 
@@ -53,7 +53,7 @@ module _ (law : (texts : List SourceText) → front.HasOneOutcome texts) (ask : 
 
   refutes : RefutesEnds graph h.report.of.entry.function h.report.predicates h.report.plan (within m.bounds) m.ends
   refutes = record {
-    plainly = automata_return_plainly h.report.of.automaton.texts graph h.report.of.entry.function h.report.of.automaton.automaton;
+    plainly = plainly h.report.of.automaton.texts graph h.report.of.entry.function h.report.of.automaton.automaton;
     asks = asks;
     stay = none_leaves before after law m.sources h.same m.entry (within m.bounds) h.report.of h.suffices.of h.suffices.none;
     budget = m.budget;
@@ -66,14 +66,14 @@ module _ (law : (texts : List SourceText) → front.HasOneOutcome texts) (ask : 
   refutes_with : (ends : Ends) → m.ends ≡ ends → RefutesEnds graph h.report.of.entry.function h.report.predicates h.report.plan (within m.bounds) ends
   refutes_with ends is = subst (λ (e : Ends). RefutesEnds graph h.report.of.entry.function h.report.predicates h.report.plan (within m.bounds) e) is refutes
 
-pub reports_refute_traps : ((texts : List SourceText) → front.HasOneOutcome texts) → AllEndsAreAsked → AnswersAreRead → NoneTraps → ReportsRefuteTraps
-reports_refute_traps law ask read none before after m said other h is input given trap =
+pub reports_refute_traps : ((texts : List SourceText) → front.HasOneOutcome texts) → AutomataReturnPlainly → AllEndsAreAsked → AnswersAreRead → NoneTraps → ReportsRefuteTraps
+reports_refute_traps law plainly ask read none before after m said other h is input given trap =
     let of = h.report.of in
-    none of.graph of.entry.number of.entry.function h.report.predicates h.report.plan (within m.bounds) (meets_rules law ask read before after m said other h)
-    (own law ask read before after m said other h) (refutes_with law ask read before after m said other h counted.Trapped is) input given trap
+    none of.graph of.entry.number of.entry.function h.report.predicates h.report.plan (within m.bounds) (meets_rules law plainly ask read before after m said other h)
+    (own law plainly ask read before after m said other h) (refutes_with law plainly ask read before after m said other h counted.Trapped is) input given trap
 
-pub reports_let_return : ((texts : List SourceText) → front.HasOneOutcome texts) → AllEndsAreAsked → AnswersAreRead → EachReturns → ReportsLetReturn
-reports_let_return law ask read each before after m said other h is input given =
+pub reports_let_return : ((texts : List SourceText) → front.HasOneOutcome texts) → AutomataReturnPlainly → AllEndsAreAsked → AnswersAreRead → EachReturns → ReportsLetReturn
+reports_let_return law plainly ask read each before after m said other h is input given =
     let of = h.report.of in
-    each of.graph of.entry.number of.entry.function h.report.predicates h.report.plan (within m.bounds) (meets_rules law ask read before after m said other h)
-    (own law ask read before after m said other h) (refutes_with law ask read before after m said other h counted.Any is) input given
+    each of.graph of.entry.number of.entry.function h.report.predicates h.report.plan (within m.bounds) (meets_rules law plainly ask read before after m said other h)
+    (own law plainly ask read before after m said other h) (refutes_with law plainly ask read before after m said other h counted.Any is) input given

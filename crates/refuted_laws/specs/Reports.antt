@@ -13,7 +13,7 @@ use Rattle.goals.specs.declared.plan.Plan.{Plan}
 use Rattle.report.specs.Generated.{generated_head, generated_text}
 use Rattle.run_laws.specs.Ends.{EndsIn}
 use Rattle.suite.specs.Generated.{IsGenerated, Shown}
-use Rattle.suite.specs.Suite.{kept_of}
+use Rattle.reduction.specs.Suite.{kept_of}
 use Rattle.given.specs.declared.generated.Generated.{Generated}
 use Rattle.unwinder.specs.Lists.{IsInputFor}
 use Rattle.asked_ends.specs.Laws.{asking_for_ends}

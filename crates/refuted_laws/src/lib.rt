@@ -13,6 +13,7 @@ use asked_ends::all_ends_are_asked;
 use bounds_check::laws::unhit_is_unreachable;
 use c_front::laws::one_outcome;
 use made_laws::{each_returns, none_traps};
+use plain_returns::automata_return_plainly;
 use report_laws::answers_are_read;
 
 /// A goal that a line says is refuted, within bounds that a line says suffice, is hit by no run at all.
@@ -34,6 +35,7 @@ pub fn reports_refute_traps()
     ensures { ReportsRefuteTraps }
 {
     one_outcome();
+    automata_return_plainly();
     all_ends_are_asked();
     answers_are_read();
     none_traps();
@@ -44,6 +46,7 @@ pub fn reports_let_return()
     ensures { ReportsLetReturn }
 {
     one_outcome();
+    automata_return_plainly();
     all_ends_are_asked();
     answers_are_read();
     each_returns();

@@ -1,5 +1,6 @@
-//! Searches models of formulas, for bench/search: `search_formula BUDGET FILE`, where the file is a certificate without
-//! lines. It prints what `search` answers, and for a derivation its number of lines.
+//! Searches models of formulas, for bench/search and bench/orders: `search_formula BUDGET FILE [ORDER]`, where the file is a
+//! certificate without lines, and the order `lowest`, `highest` or `both`; `lowest` where it isn't said. It prints what
+//! `search_in_order` or `search_both` answers, and for a derivation its number of lines.
 #![tactic(auto)]
 
 ghost use Rattle.std.specs.Prelude.{◌≡◌};
@@ -9,7 +10,7 @@ ghost use Rattle.search.specs.Laws.{is_over};
 use certificate::read_certificate;
 use cnf::{Clause, Formula, literal_key};
 use fq_io::{Files, RealFiles};
-use search::{Found, search};
+use search::{FirstVariables, Found, search_both, search_in_order};
 use std::alloc::Global;
 use std::process::ExitCode;
 use std::{env, io};
@@ -55,12 +56,39 @@ fn formula_of<F: Files>(alloc: Global, files: &mut F, file: &str) -> Option<Form
     }
 }
 
+// Which variables are decided first: in one search, or in one after the other as `generate` does.
+#[derive(Clone, Copy, Debug, Drop)]
+enum Order {
+    Only(FirstVariables),
+    Both,
+}
+
+// The order that a word names.
+fn order_of(word: Option<&String>) -> Option<Order> {
+    let Some(word) = word else {
+        return Some(Order::Only(FirstVariables::Lowest));
+    };
+    let word = word.as_str();
+    if word == "lowest" {
+        Some(Order::Only(FirstVariables::Lowest))
+    } else if word == "highest" {
+        Some(Order::Only(FirstVariables::Highest))
+    } else if word == "both" {
+        Some(Order::Both)
+    } else {
+        None
+    }
+}
+
 // What a search answers, or nothing where its condition doesn't hold or memory is wanting.
-fn found(alloc: Global, formula: &Formula, budget: u64) -> Option<Found> {
+fn found(alloc: Global, formula: &Formula, budget: u64, order: Order) -> Option<Found> {
     if formula.variables > 1 << 30 || !are_over(formula.variables, &formula.clauses) {
         return None;
     }
-    search(alloc, formula, budget).ok()
+    match order {
+        Order::Only(first) => search_in_order(alloc, formula, budget, first).ok(),
+        Order::Both => search_both(alloc, formula, budget).ok(),
+    }
 }
 
 fn main(rt: HostRuntime) -> Result<ExitCode, io::Error> {
@@ -72,10 +100,14 @@ fn main(rt: HostRuntime) -> Result<ExitCode, io::Error> {
     let Ok(budget) = budget.as_str().parse::<u64>() else {
         return Ok(ExitCode::from(2));
     };
+    let word = words.next();
+    let Some(order) = order_of(word.as_ref()) else {
+        return Ok(ExitCode::from(2));
+    };
     let Some(formula) = formula_of(rt.alloc(), &mut files, file.as_str()) else {
         return Ok(ExitCode::from(1));
     };
-    let Some(found) = found(rt.alloc(), &formula, budget) else {
+    let Some(found) = found(rt.alloc(), &formula, budget, order) else {
         return Ok(ExitCode::from(1));
     };
     match &found {
