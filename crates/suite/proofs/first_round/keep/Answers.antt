@@ -24,10 +24,10 @@ learn-requires c =
     let x = c.args.sought.now.goal in
     let own = form_of x in
     let found = c.requires in
-    (subst (IsDecidedAs x own.0 found.0) c.in-Refuted.is (found.1 own.0 own.1)).1.0.0
+    (subst (IsDecidedAs x own.0 found.0) c.in-Refuted.is (found.1 own.0 own.1)).1.0
 
 pub refute-requires : goal.refute-requires
 refute-requires c =
     let x = c.args.sought.now.goal in
     let found = c.requires in
-    subst (λ (s : Seeking). IsNoneFrom s.goal) (sym c.learn.ensures) (λ form is. (subst (IsDecidedAs x form found.0) c.in-Refuted.is (found.1 form is)).1.1.0)
+    subst (λ (s : Seeking). IsNoneFrom s.goal) (sym c.learn.ensures) (λ form is. (subst (IsDecidedAs x form found.0) c.in-Refuted.is (found.1 form is)).2)
