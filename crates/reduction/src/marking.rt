@@ -4,6 +4,7 @@ ghost use Rattle.std.specs.List.{list_all};
 ghost use Rattle.reduction.specs.Marks.{are_goals, first_by, first_hits, is_found, marked};
 
 use crate::first_hit::FirstHit;
+use crate::hit_lists::HitLists;
 use containers::Vector;
 use std::alloc::{AllocError, Global};
 
@@ -26,7 +27,8 @@ fn first_by(first: FirstHit, input: u32) -> FirstHit
 /// The input hits each of these goals, which have their places in the table.
 pub fn mark(firsts: &mut [FirstHit], goals: &[u32], input: u32)
     requires { IsTrue (are_goals (length firsts.old) goals.now) }
-    ensures { (k : ℕ) → slice_get firsts.new k ≡ option_map (marked input goals.now k) (slice_get firsts.old k) }
+    ensures { (k : ℕ) → slice_get firsts.new k
+        ≡ option_map (marked input goals.now k) (slice_get firsts.old k) }
 {
     for goal in goals {
         let place = *goal as usize;
@@ -35,18 +37,13 @@ pub fn mark(firsts: &mut [FirstHit], goals: &[u32], input: u32)
 }
 
 /// The first hit of each of `count` goals, numbered from 0.
-pub fn first_hits(
-    alloc: Global,
-    hits: &[Vector<u32>],
-    count: usize,
-) -> Result<Vec<FirstHit>, AllocError>
-    requires few { length hits.now < 2 ^ 32 }
-    requires goals { IsTrue (list_all (are_goals count) hits.now) }
-    ensures firsts { IfOk result (λ firsts. firsts.items ≡ first_hits hits.now count) }
+pub fn first_hits(alloc: Global, hits: &HitLists, count: usize) -> Result<Vec<FirstHit>, AllocError>
+    requires goals { IsTrue (list_all (are_goals count) hits.now.lists.now) }
+    ensures firsts { IfOk result (λ firsts. firsts.items ≡ first_hits hits.now.lists.now count) }
     ensures many { IfOk result (λ firsts. vec_len firsts ≡ count) }
 {
     let mut firsts = vec![in alloc; FirstHit::Never; count]?;
-    for (place, goals) in hits.iter().enumerate() {
+    for (place, goals) in hits.lists.iter().enumerate() {
         mark(&mut firsts, goals.as_slice(), place as u32 + 1);
     }
     Ok(firsts)

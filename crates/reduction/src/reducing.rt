@@ -5,6 +5,7 @@ ghost use Rattle.reduction.specs.Marks.{are_goals, first_hits, is_before, is_els
 ghost use Rattle.reduction.specs.Suite.{kept_of};
 
 use crate::first_hit::FirstHit;
+use crate::hit_lists::HitLists;
 use crate::marking::{first_hits, found, goal_count, mark};
 use containers::Vector;
 use fq_core::Memory;
@@ -32,20 +33,15 @@ fn is_redundant(goals: &[u32], number: u32, firsts: &[FirstHit], later: &[FirstH
 }
 
 // The numbers of the inputs that are kept, rising, where `firsts` has the first hit of each goal.
-fn kept_with(
-    alloc: Global,
-    hits: &[Vector<u32>],
-    firsts: &[FirstHit],
-) -> Result<Vec<u32>, AllocError>
-    requires few { length hits.now < 2 ^ 32 }
-    requires goals { IsTrue (list_all (are_goals (length firsts.now)) hits.now) }
-    requires firsts { firsts.now ≡ first_hits hits.now (length firsts.now) }
-    ensures { IfOk result (λ kept. kept.items ≡ kept_of hits.now) }
+fn kept_with(alloc: Global, hits: &HitLists, firsts: &[FirstHit]) -> Result<Vec<u32>, AllocError>
+    requires goals { IsTrue (list_all (are_goals (length firsts.now)) hits.now.lists.now) }
+    requires firsts { firsts.now ≡ first_hits hits.now.lists.now (length firsts.now) }
+    ensures { IfOk result (λ kept. kept.items ≡ kept_of hits.now.lists.now) }
 {
     let mut later = vec![in alloc; FirstHit::Never; firsts.len()]?;
     let mut kept = Vec::new(alloc);
-    for place in (0..hits.len()).rev() {
-        let goals = hits[place].as_slice();
+    for place in (0..hits.lists.len()).rev() {
+        let goals = hits.lists[place].as_slice();
         let number = place as u32 + 1;
         if !is_redundant(goals, number, firsts, &later) {
             mark(&mut later, goals, kept.len() as u32 + 1);
@@ -65,6 +61,7 @@ pub fn reduce(alloc: Global, hits: &[Vector<u32>]) -> Result<Vec<u32>, Memory>
     requires { length hits.now < 2 ^ 32 }
     ensures { IfOk result (λ kept. kept.items ≡ kept_of hits.now) }
 {
-    let firsts = first_hits(alloc, hits, goal_count(hits))?;
-    Ok(kept_with(alloc, hits, &firsts)?)
+    let hits = HitLists { lists: hits };
+    let firsts = first_hits(alloc, &hits, goal_count(hits.lists))?;
+    Ok(kept_with(alloc, &hits, &firsts)?)
 }

@@ -16,5 +16,5 @@ loop-place-preserved c =
       same_length = c.loop-place.invariant.same_length;
       so_far =
           rw (long, take-append_seam) (first_hits-more _ _ _ _ c.as_slice.result.now _ _ c.loop-place-test.true
-          (c.as_slice.ensures ∙ c.index-hits-place.is) (c.deref_mut.ensures.value ∙ c.loop-place.invariant.so_far) c.mark.ensures);
+          (c.as_slice.ensures ∙ c.goals-item.is) (c.deref_mut.ensures.value ∙ c.loop-place.invariant.so_far) c.mark.ensures);
     }

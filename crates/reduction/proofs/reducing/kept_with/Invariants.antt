@@ -5,8 +5,8 @@ use Rattle.reduction.proofs.reducing.kept_with.Given as goal
 
 abbrev pub invariant-loop-place : goal.invariant-loop-place
 invariant-loop-place l = record {
-  numbers : l.kept.items ≡ reverse (map (λ input. input.0) (kept_at l.hits l.place));
-  later : l.later.items ≡ first_hits (reverse (map (λ input. input.1) (kept_at l.hits l.place))) (length l.firsts);
+  numbers : l.kept.items ≡ reverse (map (λ input. input.0) (kept_at l.hits.lists.now l.place));
+  later : l.later.items ≡ first_hits (reverse (map (λ input. input.1) (kept_at l.hits.lists.now l.place))) (length l.firsts);
   same_length : vec_len l.later ≡ length l.firsts;
-  few : vec_len l.kept + l.place ≤ length l.hits;
+  few : vec_len l.kept + l.place ≤ length l.hits.lists.now;
 }
