@@ -1,5 +1,5 @@
 -- The clauses of a gate hold in every world.
-use Rattle.std.proofs.Common.{◌≡◌, ℕ, zero, suc, ◌-◌, ◌<◌, Bool, true, false, not, ◌&&◌, ◌||◌, List, [], ◌∷◌, get_or, refl, sym, ◌∙◌, ap, subst, ⊎_elim, arith, Some}
+use Rattle.std.proofs.Common.{◌≡◌, ℕ, zero, suc, ◌-◌, ◌<◌, Bool, true, false, not, ◌&&◌, ◌||◌, List, [], ◌∷◌, refl, sym, ◌∙◌, ap, subst, ⊎_elim, arith, Some}
 use Rattle.std.specs.Prelude.{◌⊎◌, ℤ, pos, negsuc, neg_ℤ, slice_get, if◌then◌else◌}
 use Rattle.circuit.specs.Sharing.{inverse}
 use Rattle.circuit.specs.Truth.{World}
@@ -8,7 +8,7 @@ use Rattle.circuit.specs.declared.lit.Gate.{Gate}
 use Rattle.circuit.specs.declared.lit.Gate.TheVariants.{And}
 use Rattle.circuit.specs.declared.lit.Lit.{Lit}
 use Rattle.clause_form.proofs.WorldLaws.{held_on}
-use Rattle.cnf.specs.Formulas.{is_true_clause, is_true_literal}
+use Rattle.cnf.specs.Formulas.{is_true_literal}
 use Rattle.lessons.specs.Holding.{HoldsAlways, wire_value}
 use Rattle.lessons.specs.Naming.{lit_number}
 

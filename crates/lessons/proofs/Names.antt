@@ -1,7 +1,6 @@
 -- Literals named anew are true where the others are.
-use Rattle.std.proofs.Common.{◌≡◌, ℕ, zero, suc, ◌+◌, ◌≤◌, ◌<◌, ◌^◌, Bool, not, ◌||◌, List, [], ◌∷◌, ◌++◌, length, take, get_or, Option, None, Some, refl, sym, ◌∙◌, ap, subst, arith}
+use Rattle.std.proofs.Common.{◌≡◌, ℕ, zero, suc, ◌≤◌, ◌<◌, ◌^◌, Bool, not, ◌||◌, List, [], ◌∷◌, ◌++◌, length, get_or, Option, None, Some, refl, sym, ◌∙◌, ap, subst, arith}
 use Rattle.std.specs.Prelude.{ℤ, pos, negsuc, neg_ℤ, IfOk, IfSome, IsSomeAnd, Result, Ok, Err}
-use Rattle.std.proofs.lemmas.List.{take_more}
 use Rattle.circuit.specs.Truth.{World}
 use Rattle.circuit.specs.declared.lit.Gate.{Gate}
 use Rattle.clause_form.specs.Encoding.{variable_of}

@@ -7,8 +7,9 @@ ghost use Rattle.cnf.specs.declared.formula.Formula.{Formula as OneFormula};
 ghost use Rattle.goal_formula.specs.Forms.{HasWorlds};
 ghost use Rattle.lessons.specs.Giving.{SaysTheSame};
 ghost use Rattle.lessons.specs.Naming.{AreNamed};
-ghost use Rattle.lessons.specs.Store.{Hold, AllHold};
+ghost use Rattle.lessons.specs.Store.{Hold};
 
+use crate::held::Held;
 use crate::lesson::Lessons;
 use crate::naming::renamed;
 use circuit::Circuit;
@@ -51,7 +52,8 @@ fn lesson_for(
     variables: u32,
 ) -> Result<Option<Clause>, Memory>
     ensures named { IfOk result (λ made. IfSome made (AreNamed variable.now lesson.now)) }
-    ensures over { IfOk result (λ made. IfSome made (λ clause. list_all (is_over variables) clause ≡ true)) }
+    ensures over { IfOk result (λ made.
+        IfSome made (λ clause. list_all (is_over variables) clause ≡ true)) }
 {
     let Some(clause) = renamed(alloc, variable, lesson.literals())? else {
         return Ok(None);
@@ -72,7 +74,8 @@ fn push_lesson(
     given: &mut Given,
 ) -> Result<(), Memory>
     ensures { (formula : OneFormula) → SaysTheSame formula given.old.formula
-        → ((clause : List ℤ) → AreNamed variable.now lesson.now clause → (value : ℕ → Bool) → Satisfies value formula → is_true_clause value clause ≡ true)
+        → ((clause : List ℤ) → AreNamed variable.now lesson.now clause
+        → (value : ℕ → Bool) → Satisfies value formula → is_true_clause value clause ≡ true)
         → OnOk result (SaysTheSame formula given.new.formula) }
 {
     let variables = given.formula.variables;
@@ -90,19 +93,17 @@ fn push_lesson(
 /// notes their places.
 fn push_lessons(
     alloc: Global,
-    lessons: &[Clause],
-    circuit: &Circuit,
+    held: &Held,
     formula: &GoalFormula,
     given: &mut Given,
 ) -> Result<(), Memory>
-    requires lessons { AllHold circuit.now lessons.now }
-    requires worlds { HasWorlds circuit.now formula.now }
+    requires worlds { HasWorlds held.now.circuit.now formula.now }
     requires same { SaysTheSame formula.now.formula given.old.formula }
     ensures { OnOk result (SaysTheSame formula.now.formula given.new.formula) }
 {
-    let count = formula.variable.len().min(circuit.wires() as usize);
+    let count = formula.variable.len().min(held.circuit.wires() as usize);
     let variable = &formula.variable[..count];
-    for (place, lesson) in lessons.iter().enumerate() {
+    for (place, lesson) in held.lessons.iter().enumerate() {
         push_lesson(alloc, lesson, place, variable, given)?;
     }
     Ok(())
@@ -118,7 +119,8 @@ impl Lessons {
     ) -> Result<Option<Given>, Memory>
         requires lessons { Hold circuit.now self.now }
         requires worlds { HasWorlds circuit.now formula.now }
-        ensures { IfOk result (λ made. IfSome made (λ given. SaysTheSame formula.now.formula given.formula)) }
+        ensures { IfOk result (λ made.
+            IfSome made (λ given. SaysTheSame formula.now.formula given.formula)) }
     {
         if self.is_empty() {
             return Ok(None);
@@ -127,7 +129,11 @@ impl Lessons {
             formula: formula.formula.try_clone(alloc)?,
             places: Vec::new(alloc),
         };
-        push_lessons(alloc, &self.clauses, circuit, formula, &mut given)?;
+        let held = Held {
+            circuit,
+            lessons: &self.clauses,
+        };
+        push_lessons(alloc, &held, formula, &mut given)?;
         if given.places.is_empty() {
             return Ok(None);
         }

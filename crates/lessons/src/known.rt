@@ -1,21 +1,22 @@
 // Which clauses of a refutation hold in every world: those of gates, lessons, and lines that stand on such clauses alone.
 ghost use Rattle.std.specs.Prelude.{◌≡◌, ◌+◌, ◌≤◌, ℕ, List, Option as Maybe, All, IfOk, IsTrue, OnOk, length};
 ghost use Rattle.circuit.specs.declared.lit.Gate.{Gate as OneGate};
-ghost use Rattle.cnf.specs.Checks.{Checks, clauses_before};
 ghost use Rattle.lessons.specs.Holding.{IsKnown};
-ghost use Rattle.lessons.specs.Known.{AreKnown, IsMarked, StandsOn};
+ghost use Rattle.lessons.specs.Known.{AllKnown, AreKnown, IsMarked, IsRight, StandsOn};
 ghost use Rattle.lessons.specs.Store.{AllHold};
 
 use crate::gates::is_of_gate;
+use crate::held::Held;
 use crate::naming::are_named;
-use circuit::Circuit;
-use cnf::{Clause, Derivation, DerivationLine, Formula};
+use crate::refutation::Refutation;
+use cnf::{Clause, DerivationLine};
 use fq_core::Memory;
 use std::alloc::Global;
 
 /// Whether a clause is a lesson, where `wires` lists the wires of the variables from 1 on.
 fn is_lesson(lessons: &[Clause], lesson: usize, wires: &[Option<u32>], literals: &[i32]) -> bool
-    ensures { IsTrue result → (gates : List OneGate) → AllHold gates lessons.now → IsKnown gates wires.now literals.now }
+    ensures { IsTrue result → (gates : List OneGate) → AllHold gates lessons.now
+        → IsKnown gates wires.now literals.now }
 {
     if lesson >= lessons.len() {
         return false;
@@ -23,54 +24,33 @@ fn is_lesson(lessons: &[Clause], lesson: usize, wires: &[Option<u32>], literals:
     are_named(wires, literals, lessons[lesson].literals())
 }
 
-/// Whether a clause of a formula, by its place, is one of a gate, or the lesson that stands behind the first `own` clauses.
-fn is_base(
-    circuit: &Circuit,
-    wires: &[Option<u32>],
-    lessons: &[Clause],
-    places: &[usize],
-    own: usize,
-    place: usize,
-    literals: &[i32],
-) -> bool
-    requires { AllHold circuit.now lessons.now }
-    ensures { IsTrue result → IsKnown circuit.now wires.now literals.now }
+/// Whether a clause is one of a gate, or is the lesson of a place, if there is one.
+fn is_base(held: &Held, wires: &[Option<u32>], lesson: Option<usize>, literals: &[i32]) -> bool
+    ensures { IsTrue result → IsKnown held.now.circuit.now wires.now literals.now }
 {
-    if place < own {
-        return is_of_gate(circuit, wires, literals);
+    match lesson {
+        Some(place) => is_lesson(held.lessons, place, wires, literals),
+        None => is_of_gate(held.circuit, wires, literals),
     }
-    let at = place - own;
-    if at >= places.len() {
-        return false;
-    }
-    is_lesson(lessons, places[at], wires, literals)
 }
 
 /// A mark for each clause of a formula: whether it is one of a gate or a lesson.
 pub(crate) fn known_clauses(
     alloc: Global,
-    circuit: &Circuit,
+    held: &Held,
     wires: &[Option<u32>],
-    lessons: &[Clause],
-    places: &[usize],
-    formula: &Formula,
+    refutation: &Refutation,
 ) -> Result<Vec<bool>, Memory>
-    requires { AllHold circuit.now lessons.now }
-    ensures known { IfOk result (λ marks. AreKnown circuit.now wires.now formula.now.clauses marks.items) }
-    ensures size { IfOk result (λ marks. length marks.items ≡ length formula.now.clauses) }
+    ensures known { IfOk result (λ marks.
+        AreKnown held.now.circuit.now wires.now refutation.now.formula.now.clauses marks.items) }
+    ensures size { IfOk result (λ marks.
+        length marks.items ≡ length refutation.now.formula.now.clauses) }
 {
-    let own = formula.clauses.len().saturating_sub(places.len());
+    let formula = refutation.formula;
     let mut marks = Vec::with_capacity(alloc, formula.clauses.len())?;
     for (place, clause) in formula.clauses.iter().enumerate() {
-        let mark = is_base(
-            circuit,
-            wires,
-            lessons,
-            places,
-            own,
-            place,
-            clause.literals(),
-        );
+        let lesson = refutation.lesson_at(place);
+        let mark = is_base(held, wires, lesson, clause.literals());
         marks.push(mark)?;
     }
     Ok(marks)
@@ -102,17 +82,14 @@ fn stands(marks: &[bool], line: &DerivationLine) -> bool
 }
 
 /// Marks the lines of a derivation, behind the clauses of its formula: whether each stands on clauses with marks alone.
-pub(crate) fn mark_lines(
-    marks: &mut Vec<bool>,
-    formula: &Formula,
-    derivation: &Derivation,
-) -> Result<(), Memory>
-    requires size { length marks.old.items ≡ length formula.now.clauses }
-    requires checks { Checks formula.now derivation.now }
-    ensures { OnOk result ((gates : List OneGate) (wires : List (Maybe ℕ)) → AreKnown gates wires formula.now.clauses marks.old.items
-        → AreKnown gates wires (clauses_before formula.now derivation.now (length derivation.now.lines)) marks.new.items) }
+pub(crate) fn mark_lines(marks: &mut Vec<bool>, refutation: &Refutation) -> Result<(), Memory>
+    requires size { length marks.old.items ≡ length refutation.now.formula.now.clauses }
+    requires right { IsRight refutation.now }
+    ensures { OnOk result ((gates : List OneGate) (wires : List (Maybe ℕ))
+        → AreKnown gates wires refutation.now.formula.now.clauses marks.old.items
+        → AllKnown gates wires refutation.now marks.new.items) }
 {
-    for line in derivation.lines.iter() {
+    for line in refutation.derivation.lines.iter() {
         let mark = stands(marks, line);
         marks.push(mark)?;
     }

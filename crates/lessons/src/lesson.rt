@@ -51,7 +51,8 @@ impl Lessons {
     /// Keeps a clause that holds in every world, unless it is a lesson already. Where there are 1,000 the one goes that was of
     /// no use for longest.
     pub(crate) fn keep(&mut self, clause: Clause) -> Result<(), Memory>
-        ensures { (gates : List OneGate) → Hold gates self.old → HoldsAlways gates clause → Hold gates self.new }
+        ensures { (gates : List OneGate) → Hold gates self.old → HoldsAlways gates clause
+            → Hold gates self.new }
     {
         for lesson in self.clauses.iter() {
             if lesson.same(&clause) {

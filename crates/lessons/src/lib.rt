@@ -14,10 +14,13 @@
 
 mod gates;
 mod giving;
+mod held;
 mod known;
 mod learning;
 mod lesson;
 mod naming;
+mod refutation;
 
 pub use giving::Given;
 pub use lesson::Lessons;
+pub use refutation::Refutation;

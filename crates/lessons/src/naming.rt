@@ -38,7 +38,8 @@ pub(crate) fn all_named(
     table: &[Option<u32>],
     literals: &[i32],
 ) -> Result<Option<Vec<i32>>, Memory>
-    ensures { IfOk result (λ made. IfSome made (λ others. AreNamed table.now literals.now others.items)) }
+    ensures { IfOk result (λ made.
+        IfSome made (λ others. AreNamed table.now literals.now others.items)) }
 {
     let mut others = Vec::new(alloc);
     for literal in literals {

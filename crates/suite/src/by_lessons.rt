@@ -11,7 +11,7 @@ use c_meaning::Input;
 use confirmation::confirm;
 use fq_core::Memory;
 use goal_formula::GoalFormula;
-use lessons::Given;
+use lessons::{Given, Refutation};
 use search::{Found, search_lowest_part};
 use std::alloc::Global;
 
@@ -47,13 +47,13 @@ fn told_at_end(
         }
         Found::NoModel(derivation) => {
             confirm(alloc, &given.formula, &derivation)?;
-            sought.learn(
-                alloc,
-                &formula.variable,
-                &given.formula,
-                &given.places,
-                &derivation,
-            )?;
+            let refutation = Refutation {
+                variable: &formula.variable,
+                formula: &given.formula,
+                places: &given.places,
+                derivation: &derivation,
+            };
+            sought.learn(alloc, &refutation)?;
             Ok(Told::Refuted)
         }
         Found::Spent(_history) => Ok(Told::Open),

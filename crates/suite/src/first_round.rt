@@ -9,6 +9,7 @@ use crate::deciding::{found_by_parts, found_late};
 use crate::pool::LEAST;
 use crate::sought::Sought;
 use fq_core::Memory;
+use lessons::Refutation;
 use std::alloc::Global;
 
 /// A round over all goals.
@@ -37,7 +38,13 @@ fn keep(alloc: Global, sought: &mut Sought, found: Decided) -> Result<(), Memory
             formula,
             derivation,
         } => {
-            sought.learn(alloc, &formula.variable, &formula.formula, &[], &derivation)?;
+            let refutation = Refutation {
+                variable: &formula.variable,
+                formula: &formula.formula,
+                places: &[],
+                derivation: &derivation,
+            };
+            sought.learn(alloc, &refutation)?;
             sought.refute();
             Ok(())
         }

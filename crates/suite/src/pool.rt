@@ -198,7 +198,8 @@ impl Pool {
     ) -> Result<(), Memory>
         requires pool { IsPoolOf given.now self.old }
         requires path { IsPath (path_in run.now) }
-        requires made { (numbers : List ℕ) → AreHits given.now.planned.plan given.now.ends run.now numbers
+        requires made { (numbers : List ℕ)
+            → AreHits given.now.planned.plan given.now.ends run.now numbers
             → IsPooledOf given.now input numbers }
         ensures { IsPoolOf given.now self.new }
     {

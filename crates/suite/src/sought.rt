@@ -2,19 +2,18 @@
 ghost use Rattle.std.specs.Prelude.{◌≡◌, IfErr, IfOk, IfSome, IsTrue, length};
 ghost use Rattle.fq_core.specs.Refusals.{IfRefused, refusal};
 ghost use Rattle.fq_core.specs.declared.refusal.Place.TheVariants as place;
-ghost use Rattle.cnf.specs.Checks.{Checks};
 ghost use Rattle.goal_formula.specs.Forms.{HasWorlds};
 ghost use Rattle.goals.specs.GoalForm.{GoalForm};
 ghost use Rattle.lessons.specs.Giving.{SaysTheSame};
+ghost use Rattle.lessons.specs.Known.{IsRight};
 ghost use Rattle.suite.specs.Seeking.{CanTurn, CannotUnwind, HasRun, IsFormulaFor, IsMadeAs, IsMadeFrom, IsNoneFrom, IsRecordOf, IsRefused, IsSmall, IsTurned, IsUnwindingOf, IsWithin};
 
 use crate::pool::Pool;
 use c_meaning::Input;
-use cnf::{Derivation, Formula};
 use fq_core::{Fault, Memory, Place, Refusal};
 use given::{Given, Goal};
 use goal_formula::{GoalFormula, formula, is_goal_too_large};
-use lessons::{Given as WithLessons, Lessons};
+use lessons::{Given as WithLessons, Lessons, Refutation};
 use path_runner::{PathRecord, trace_run};
 use std::alloc::Global;
 use std::marker::Model;
@@ -136,7 +135,8 @@ impl<'a> Sought<'a> {
     ) -> Result<Sought<'a>, Memory>
         requires unwound { IsUnwindingOf goal.given.now unwound }
         requires small { IsSmall goal unwound.pairs }
-        ensures { IfOk result (λ sought. sought ≡ record { goal = goal.entry; pairs = unwound.pairs }) }
+        ensures { IfOk result (λ sought.
+            sought ≡ record { goal = goal.entry; pairs = unwound.pairs }) }
     {
         let pool = Pool::new(alloc, goal.given)?;
         Ok(Sought {
@@ -188,7 +188,8 @@ impl<'a> Sought<'a> {
         alloc: Global,
     ) -> Result<(GoalFormula, Option<WithLessons>), Memory>
         ensures exact { IfOk result (λ made. IsFormulaFor self.old.goal made.0) }
-        ensures given { IfOk result (λ made. IfSome made.1 (λ given. SaysTheSame made.0.formula given.formula)) }
+        ensures given { IfOk result (λ made.
+            IfSome made.1 (λ given. SaysTheSame made.0.formula given.formula)) }
         ensures same { self.new ≡ self.old }
     {
         let formula = formula_over(alloc, self.goal, &mut self.unwound)?;
@@ -196,21 +197,12 @@ impl<'a> Sought<'a> {
         Ok((formula, given))
     }
 
-    /// Learns from the refutation of the formula of a goal, behind whose own clauses stand the lessons of these places.
-    pub(crate) fn learn(
-        &mut self,
-        alloc: Global,
-        variable: &[Option<u32>],
-        formula: &Formula,
-        places: &[usize],
-        derivation: &Derivation,
-    ) -> Result<(), Memory>
-        requires { Checks formula.now derivation.now }
+    /// Learns from the refutation of a goal's formula.
+    pub(crate) fn learn(&mut self, alloc: Global, refutation: &Refutation) -> Result<(), Memory>
+        requires { IsRight refutation.now }
         ensures { self.new ≡ self.old }
     {
-        let circuit = &self.unwound.circuit;
-        self.lessons
-            .learn(alloc, circuit, variable, formula, places, derivation)
+        self.lessons.learn(alloc, &self.unwound.circuit, refutation)
     }
 
     /// The run of an input that stays within the bounds, recorded whole. No such run has more edges than the unwinding has

@@ -8,8 +8,8 @@ use Rattle.lessons.proofs.known.known_clauses.Goals as goal
 pub loop-place-preserved : goal.loop-place-preserved
 loop-place-preserved c =
     let i = c.loop-place.place in
-    let clauses = c.args.formula.now.clauses in
-    let gates = c.args.circuit.now in
+    let clauses = c.args.refutation.now.formula.now.clauses in
+    let gates = c.args.held.now.circuit.now in
     let wires = c.args.wires.now in
     let item = c.clause-item.result in
     let shown = ap length c.deref-clause-items.ensures in
@@ -29,7 +29,7 @@ loop-place-preserved c =
 pub returns-clause-known : goal.returns-clause-known
 returns-clause-known c =
     let i = c.loop-place.place in
-    let clauses = c.args.formula.now.clauses in
+    let clauses = c.args.refutation.now.formula.now.clauses in
     let shown = ap length c.deref-clause-items.ensures in
     let le : length clauses ≤ i = omega (arith, shown) in
-    subst (λ cs. AreKnown c.args.circuit.now c.args.wires.now cs c.loop-place.marks.items) (take_all i clauses le) c.loop-place.invariant.known
+    subst (λ cs. AreKnown c.args.held.now.circuit.now c.args.wires.now cs c.loop-place.marks.items) (take_all i clauses le) c.loop-place.invariant.known

@@ -5,5 +5,5 @@ use Rattle.lessons.proofs.known.known_clauses.Given as goal
 abbrev pub invariant-loop-place : goal.invariant-loop-place
 invariant-loop-place l = record {
   size : length l.marks.items ≡ l.place;
-  known : AreKnown l.circuit l.wires (take l.place l.formula.clauses) l.marks.items;
+  known : AreKnown l.held.circuit.now l.wires (take l.place l.refutation.formula.now.clauses) l.marks.items;
 }

@@ -1,5 +1,5 @@
-use Rattle.std.proofs.Common.{◌≡◌, ◌+◌, ◌≤◌, ◌<◌, ◌++◌, ◌∷◌, [], length, take, get_or, sym, ap, subst, ◌∙◌, true, arith, length-append}
-use Rattle.std.proofs.lemmas.List.{append-nil, take_all}
+use Rattle.std.proofs.Common.{◌≡◌, ◌≤◌, ◌<◌, ◌++◌, ◌∷◌, [], length, get_or, sym, ap, subst, ◌∙◌, true, arith, length-append}
+use Rattle.std.proofs.lemmas.List.{append-nil}
 use Rattle.cnf.specs.Checks.{clauses_before}
 use Rattle.lessons.specs.Holding.{IsKnown}
 use Rattle.lessons.specs.Known.{AreKnown, StandsOn}
@@ -11,14 +11,14 @@ loop-line-init c =
     let size = c.requires.size in
     record {
       size = omega (arith, size);
-      known = λ gates wires known. subst (λ cs. AreKnown gates wires cs c.args.marks.now.items) (sym (append-nil c.args.formula.now.clauses)) known;
+      known = λ gates wires known. subst (λ cs. AreKnown gates wires cs c.args.marks.now.items) (sym (append-nil c.args.refutation.now.formula.now.clauses)) known;
     }
 
 pub loop-line-preserved : goal.loop-line-preserved
 loop-line-preserved c =
     let i = c.loop-line.line-index in
-    let formula = c.args.formula.now in
-    let derivation = c.args.derivation.now in
+    let formula = c.args.refutation.now.formula.now in
+    let derivation = c.args.refutation.now.derivation.now in
     let marks = c.loop-line.marks.items in
     let item = c.line-item.result in
     let shown = ap length c.deref-line-items.ensures in
@@ -28,7 +28,7 @@ loop-line-preserved c =
     let size = c.loop-line.invariant.size in
     let before = size_before formula derivation i (omega (arith, lt)) in
     let stands : c.stands-mark.result ≡ true → StandsOn marks item = λ yes. subst (λ ms. StandsOn ms item) c.deref.ensures.value (c.stands-mark.ensures yes) in
-    let right = right_line formula derivation i item lt is (c.requires.checks.0 i lt) in
+    let right = right_line formula derivation i item lt is (c.requires.right.0 i lt) in
     let pushed = c.in_ok-push.ensures.items in
     record {
       size = ap length pushed ∙ length-append marks (c.stands-mark.result ∷ []) ∙ omega (arith, size);
@@ -42,6 +42,6 @@ pub returns : goal.returns
 returns c = λ gates wires known.
     let i = c.loop-line.line-index in
     let shown = ap length c.deref-line-items.ensures in
-    let le : length c.args.derivation.now.lines ≤ i = omega (arith, shown) in
-    let same = all_before c.args.formula.now c.args.derivation.now i le in
+    let le : length c.args.refutation.now.derivation.now.lines ≤ i = omega (arith, shown) in
+    let same = all_before c.args.refutation.now.formula.now c.args.refutation.now.derivation.now i le in
     subst (λ cs. AreKnown gates wires cs c.loop-line.marks.items) same (c.loop-line.invariant.known gates wires known)

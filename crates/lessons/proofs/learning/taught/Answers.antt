@@ -1,4 +1,4 @@
-use Rattle.std.proofs.Common.{List, ℤ, length, sym, subst}
+use Rattle.std.proofs.Common.{length, sym, subst}
 use Rattle.cnf.specs.Checks.{clauses_before}
 use Rattle.lessons.specs.Holding.{IsKnown}
 use Rattle.lessons.specs.Known.{AreKnown}
@@ -7,10 +7,11 @@ use Rattle.lessons.proofs.learning.taught.Goals as goal
 
 pub returns : goal.returns
 returns c =
-    let gates = c.args.circuit.now in
+    let gates = c.args.held.now.circuit.now in
     let wires = c.in_ok-wires.wires.items in
-    let clauses = c.args.formula.now.clauses in
-    let before = clauses_before c.args.formula.now c.args.derivation.now (length c.args.derivation.now.lines) in
+    let r = c.args.refutation.now in
+    let clauses = r.formula.now.clauses in
+    let before = clauses_before r.formula.now r.derivation.now (length r.derivation.now.lines) in
     let base = subst (λ ws. AreKnown gates ws clauses c.in_ok-marks.marks.items) c.deref-2.ensures.value c.in_ok-marks.ensures.known in
     let lines = c.in_ok-mark_lines.ensures gates wires base in
     let shown = subst (AreKnown gates wires before) (sym c.deref-3.ensures.value) lines in

@@ -1,4 +1,4 @@
-use Rattle.std.proofs.Common.{◌≡◌, ◌<◌, ◌+◌, length, take, get_or, pos, sym, arith, rules, SFits, w32}
+use Rattle.std.proofs.Common.{take, get_or, pos, arith, rules, SFits, w32}
 use Rattle.std.proofs.lemmas.Int.{to_z-of_z}
 use Rattle.std.proofs.lemmas.List.{take_more}
 use Rattle.lessons.proofs.Names.{named_more}

@@ -1,7 +1,7 @@
-use Rattle.std.proofs.Common.{◌≡◌, ◌+◌, ◌≤◌, ◌<◌, length, take, get_or, pos, refl, sym, ap, subst, arith, rules, SFits, w32}
+use Rattle.std.proofs.Common.{◌≡◌, take, get_or, pos, subst, arith, rules, SFits, w32}
 use Rattle.std.proofs.lemmas.Int.{to_z-of_z}
 use Rattle.std.proofs.lemmas.List.{take_all, take_more}
-use Rattle.cnf.proofs.ClauseLaws.{RisesTo, rises, rises_more}
+use Rattle.cnf.proofs.ClauseLaws.{rises, rises_more}
 use Rattle.cnf.specs.Clauses.{IsClause, literal_key}
 use Rattle.lessons.proofs.naming.do_rise.Goals as goal
 

@@ -4,9 +4,9 @@ use Rattle.lessons.specs.Store.{AllHold}
 use Rattle.lessons.proofs.Names.{some_is}
 use Rattle.lessons.proofs.lesson.Lessons.learn.Goals as goal
 
-pub taught-requires-clause-lessons : goal.taught-requires-clause-lessons
-taught-requires-clause-lessons c =
-    subst (AllHold c.args.circuit.now) (sym (c.deref.ensures.value ∙ (λ i. (c.note_lines.ensures i).items))) c.requires.lessons
+pub invariant_of-held : goal.invariant_of-held
+invariant_of-held c =
+    record { hold = subst (AllHold c.args.circuit.now) (sym (c.deref.ensures.value ∙ (λ i. (c.note_lines.ensures i).items))) c.requires.lessons }
 
 pub returns-in_err-made : goal.returns-in_err-made
 returns-in_err-made c = subst (AllHold c.args.circuit.now) (sym (λ i. (c.note_lines.ensures i).items)) c.requires.lessons
