@@ -24,5 +24,6 @@ returns c =
     let done : IsDescent g.formula c.args.budget vs new = subst (AreLowered g.formula c.args.budget vs new) c.in-None.is c.in_ok-spent.ensures in
     let low : IsLowest g.formula c.args.budget (variables_in_order g) new.model new.fixed = subst (λ xs. IsLowest g.formula c.args.budget xs new.model new.fixed) is (ended g.formula c.args.budget vs new done) in
     let cut : c.cut.result ≡ g.formula = c.cut.ensures ∙ cut_back g.formula new.formula new.units c.len-count.result done.has.formula c.len-count.ensures in
-    let whole : ◌≡◌ {A = GoalFormula} (record { formula = c.cut.result; words = g.words; answers = g.answers }) g = λ i. record { formula = cut i; words = g.words; answers = g.answers } in
+    let whole : ◌≡◌ {A = GoalFormula} (record { formula = c.cut.result; variable = g.variable; words = g.words; answers = g.answers }) g =
+    λ i. record { formula = cut i; variable = g.variable; words = g.words; answers = g.answers } in
     (whole, low)
