@@ -120,6 +120,9 @@ impl Lessons {
         requires worlds { HasWorlds circuit.now formula.now }
         ensures { IfOk result (λ made. IfSome made (λ given. SaysTheSame formula.now.formula given.formula)) }
     {
+        if self.is_empty() {
+            return Ok(None);
+        }
         let mut given = Given {
             formula: formula.formula.try_clone(alloc)?,
             places: Vec::new(alloc),

@@ -1,5 +1,6 @@
 -- One goal over an unwinding: whether its size is within its limit.
-use Rattle.std.proofs.Common.{◌<◌, ◌≤◌, ℕ, inl, inr, subst}
+use Rattle.std.proofs.Common.{◌≡◌, ◌<◌, ◌≤◌, ℕ, Bool, false, inl, inr, rules, subst}
+use Rattle.std.specs.Prelude.{◌↔◌, IsTrue}
 use Rattle.c_meaning.specs.declared.ends.Ends.{Ends}
 use Rattle.cfa.specs.declared.parts.Function.{Function}
 use Rattle.cfa.specs.declared.parts.GraphParts.{GraphParts}
@@ -19,6 +20,10 @@ pub unwind_refused : (parts : GraphParts) (f : Function) (p : Predicates) (plan 
     → IfRefused e (IsGoalRefused parts f p plan bounds goal)
 unwind_refused parts f p plan bounds goal (fault.Refused x) why = inl why
 unwind_refused parts f p plan bounds goal fault.Memory why = tt
+
+-- a size is within the limit where it isn't found to be above it
+pub small_unless : (large : Bool) (size : ℕ) → (IsTrue large ↔ (8388608 < size)) → large ≡ false → size ≤ 8388608
+small_unless large size is within = search rules
 
 module _ (parts : GraphParts) (p : Predicates) (f : Function) (entry : ℕ) (bounds : Bounds) (ends : Ends) (u : Unwound) (is : IsUnwound parts p f entry bounds ends u) (plan : Plan) (goal : GoalForm) where
   pub goal_is_within : goal_size plan goal u.pairs ≤ 8388608 → IsGoalWithin parts f p plan bounds goal

@@ -1,5 +1,5 @@
 -- What a formula with lessons says of a goal.
-use Rattle.std.proofs.Common.{◌≡◌, ◌∙◌, ℕ, ◌-◌, List, Bool, false, length}
+use Rattle.std.proofs.Common.{◌∙◌, ◌-◌, List, Bool, false}
 use Rattle.std.specs.Prelude.{slice_index_or}
 use Rattle.c_meaning.specs.declared.ends.Ends.{Ends}
 use Rattle.cfa.specs.declared.parts.Function.{Function}

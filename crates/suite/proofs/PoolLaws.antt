@@ -1,8 +1,8 @@
 -- The inputs of a pool: what was run, counts and is within the bounds, with the answers alone that the run reads.
-use Rattle.std.proofs.Common.{◌≡◌, ℕ, zero, suc, ◌-◌, ◌<◌, List, [], ◌∷◌, length, get_or, Some, None, Option, refl, sym, ap, subst, ◌∙◌, arith, All}
+use Rattle.std.proofs.Common.{◌≡◌, ℕ, zero, suc, ◌-◌, List, [], ◌∷◌, Some, None, Option, sym, ap, subst, ◌∙◌, arith, All}
 use Rattle.std.specs.Prelude.{IfSome, IsTrue, slice_get}
 use Rattle.std.specs.List.{AllZip}
-use Rattle.std.proofs.lemmas.Option.{same_Some, slice_get_read, slice_get_within}
+use Rattle.std.proofs.lemmas.Option.{same_Some}
 use Rattle.c_meaning.specs.Runs.{Run, edges_in}
 use Rattle.c_meaning.specs.Starts.{start_of}
 use Rattle.c_meaning.specs.declared.input.Input.{Input}

@@ -1,7 +1,5 @@
 -- One goal after another of the same.
 use Rattle.std.proofs.Common.{◌≡◌, ◌∙◌, ◌+◌, ◌-◌, ◌<◌, ℕ, ap, length, subst, sym, arith}
-use Rattle.std.specs.Prelude.{slice_get}
-use Rattle.goals.specs.GoalForm.{GoalForm}
 use Rattle.given.specs.declared.given.Given.{Given}
 use Rattle.suite.specs.Progress.{AreSmall}
 use Rattle.suite.specs.Seeking.{CanTurn, IsOfSame, IsTurned, Seeking}

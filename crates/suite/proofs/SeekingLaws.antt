@@ -1,6 +1,5 @@
 -- What is said of a goal, from what is known of it.
-use Rattle.std.proofs.Common.{◌≡◌, ◌∙◌, Option, None, Some, sym, subst}
-use Rattle.std.specs.Prelude.{IfSome}
+use Rattle.std.proofs.Common.{◌∙◌, sym, subst}
 use Rattle.std.proofs.lemmas.Option.{same_Some}
 use Rattle.given.specs.declared.goal.Goal.{Goal}
 use Rattle.goal_formula.specs.Exact.{IsExact}

@@ -1,5 +1,5 @@
 // The rounds before goals are answered.
-ghost use Rattle.std.specs.Prelude.{◌≡◌, ℕ, IfOk, IfSome};
+ghost use Rattle.std.specs.Prelude.{◌≡◌, ◌<◌, ℕ, IfOk, IfSome};
 ghost use Rattle.suite.specs.Progress.{AreSmall};
 ghost use Rattle.suite.specs.Seeking.{IsDecidedAt, IsOfSame};
 

@@ -1,7 +1,4 @@
-use Rattle.std.proofs.Common.{Option, subst, arith}
-use Rattle.std.specs.Prelude.{IfSome}
-use Rattle.search.specs.Nexts.{IsEnd}
-use Rattle.search.specs.declared.found.Found.{Found}
+use Rattle.std.proofs.Common.{arith}
 use Rattle.suite.proofs.by_lessons.told_by.Goals as goal
 
 pub search_lowest_part-requires-clause-formula : goal.search_lowest_part-requires-clause-formula

@@ -1,4 +1,4 @@
-use Rattle.std.proofs.Common.{◌≡◌, ℕ, List, map, length, sym, ap, subst, ◌∙◌, All}
+use Rattle.std.proofs.Common.{◌≡◌, List, map, sym, ap, subst, ◌∙◌, All}
 use Rattle.c_meaning.specs.Runs.{IsRun}
 use Rattle.c_meaning.specs.declared.input.Input.{Input}
 use Rattle.c_values.specs.Kind.{IsKind}

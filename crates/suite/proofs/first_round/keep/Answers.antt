@@ -1,7 +1,7 @@
-use Rattle.std.proofs.Common.{◌-◌, subst, arith}
+use Rattle.std.proofs.Common.{◌-◌, sym, subst, arith}
 use Rattle.given.specs.declared.goal.Goal.{Goal}
 use Rattle.goals.specs.GoalForm.{GoalForm}
-use Rattle.suite.specs.Seeking.{IsDecidedAs, IsGoalOf}
+use Rattle.suite.specs.Seeking.{IsDecidedAs, IsGoalOf, IsNoneFrom, Seeking}
 use Rattle.suite.proofs.Firsts.{there_at}
 use Rattle.suite.proofs.first_round.keep.Goals as goal
 
@@ -25,3 +25,9 @@ learn-requires c =
     let own = form_of x in
     let found = c.requires in
     (subst (IsDecidedAs x own.0 found.0) c.in-Refuted.is (found.1 own.0 own.1)).1.0
+
+pub refute-requires : goal.refute-requires
+refute-requires c =
+    let x = c.args.sought.now.goal in
+    let found = c.requires in
+    subst (λ (s : Seeking). IsNoneFrom s.goal) (sym c.learn.ensures) (λ form is. (subst (IsDecidedAs x form found.0) c.in-Refuted.is (found.1 form is)).2)

@@ -5,7 +5,7 @@ use Rattle.given.specs.declared.goal.Goal.{Goal}
 use Rattle.goals.specs.declared.answer.Answer.{Answer}
 use Rattle.measurer.specs.Measurers.{IsMadeFor}
 use Rattle.suite.specs.Progress.{AnswersMore, IsNext, so_far}
-use Rattle.suite.specs.Seeking.{IsGoalOf, IsOfSame}
+use Rattle.suite.specs.Seeking.{IsGoalOf}
 use Rattle.given.specs.declared.generated.Generated.{Generated}
 use Rattle.suite.proofs.Answering.{all_begin, all_more, answers_kept, next_more}
 use Rattle.suite.proofs.Firsts.{there_at}

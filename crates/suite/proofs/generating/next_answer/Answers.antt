@@ -1,4 +1,4 @@
-use Rattle.std.proofs.Common.{◌≡◌, ◌∙◌, ◌-◌, None, inr, refl, sym, subst, arith}
+use Rattle.std.proofs.Common.{◌∙◌, ◌-◌, inr, refl, sym, subst, arith}
 use Rattle.suite.specs.Seeking.{IsDecidedAs, IsMadeAs, Seeking}
 use Rattle.suite.proofs.Firsts.{there_at}
 use Rattle.suite.proofs.generating.next_answer.Goals as goal

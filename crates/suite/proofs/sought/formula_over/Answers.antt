@@ -1,6 +1,5 @@
-use Rattle.std.proofs.Common.{◌≡◌, ◌∙◌, ◌-◌, ap, subst, arith}
+use Rattle.std.proofs.Common.{◌∙◌, ◌-◌, ap, subst, arith}
 use Rattle.std.specs.Prelude.{slice_get}
-use Rattle.fq_core.specs.declared.refusal.Fault.{Fault}
 use Rattle.goal_formula.specs.Sizes.{IsFormulaFault, goal_size}
 use Rattle.suite.proofs.Firsts.{there_at}
 use Rattle.suite.proofs.SeekingLaws.{exact_given}

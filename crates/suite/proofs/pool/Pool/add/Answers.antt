@@ -1,4 +1,4 @@
-use Rattle.std.proofs.Common.{◌≡◌, ◌++◌, List, [], ◌∷◌, ℕ, sym, subst}
+use Rattle.std.proofs.Common.{◌++◌, List, [], ◌∷◌, ℕ, sym, subst}
 use Rattle.std.specs.List.{AllZip}
 use Rattle.std.proofs.lemmas.Slice.Zip.{all_zipped_more}
 use Rattle.c_meaning.specs.declared.input.Input.{Input}

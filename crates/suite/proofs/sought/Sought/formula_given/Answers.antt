@@ -1,4 +1,4 @@
-use Rattle.std.proofs.Common.{◌≡◌, sym, subst}
+use Rattle.std.proofs.Common.{sym, subst}
 use Rattle.goal_formula.specs.Forms.{HasWorlds}
 use Rattle.lessons.specs.Store.{Hold}
 use Rattle.unwinder.specs.declared.unwound.Unwound.{Unwound}

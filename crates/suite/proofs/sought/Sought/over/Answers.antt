@@ -5,5 +5,5 @@ invariant_of-result c = record {
   unwound = c.requires.unwound;
   small = c.requires.small;
   pool_is = c.in_ok-pool.ensures;
-  lessons_hold = c.new.ensures c.args.unwound.circuit;
+  lessons_hold = c.new-2.ensures c.args.unwound.circuit;
 }
