@@ -3,7 +3,6 @@ use Rattle.std.proofs.Common.{◌≡◌, false, true, List, [], Option, Some, No
 use Rattle.ending_laws.specs.Laws.{AllNodesAsk}
 use Rattle.fq_core.specs.declared.refusal.Fault.{Fault}
 use Rattle.fql_read.proofs.QueryLaws.{query_again}
-use Rattle.fql_read.specs.Asks.{Asks}
 use Rattle.fql_read.specs.Reading as reading
 use Rattle.fql_tokens.proofs.OutcomeLaws.{text_accepts}
 use Rattle.fql_tokens.specs.declared.token.Token.{Token}

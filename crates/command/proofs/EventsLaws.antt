@@ -1,14 +1,13 @@
 -- What is listed of runs is what happens by the trees.
-use Rattle.std.proofs.Common.{◌≡◌, ℕ, List, [], ◌∷◌, ◌++◌, length, Option, Some, None, slice_get, refl, sym, ap, subst, ◌∙◌}
+use Rattle.std.proofs.Common.{◌≡◌, ℕ, List, [], ◌∷◌, ◌++◌, Option, Some, None, slice_get, refl, sym, subst}
 use Rattle.std.specs.List.{All}
 use Rattle.std.proofs.lemmas.List.{length-map}
-use Rattle.c_front.specs.Automata.{IsAutomatonOf, automaton_of, names_of}
+use Rattle.c_front.specs.Automata.{IsAutomatonOf, names_of}
 use Rattle.c_lex.specs.declared.token.SourceText.{SourceText}
 use Rattle.c_meaning.specs.Starts.{CanStart, start_of}
 use Rattle.c_meaning.specs.declared.input.Input.{Input}
 use Rattle.c_types.specs.Units.{typed_of}
 use Rattle.cfa.specs.declared.parts.Edge.{Edge}
-use Rattle.cfa.specs.declared.parts.Function.{Function}
 use Rattle.cfa.specs.declared.parts.GraphParts.{GraphParts}
 use Rattle.edge_events.specs.declared.event.Event.{Event}
 use Rattle.expression_events.specs.Follows.{edge_tells}

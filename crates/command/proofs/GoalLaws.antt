@@ -1,5 +1,5 @@
 -- One goal over an unwinding.
-use Rattle.std.proofs.Common.{◌≡◌, ℕ, ◌<◌, ◌≤◌, List, [], length, Some, slice_get, sym, ap, subst, ◌∙◌, inl, inr}
+use Rattle.std.proofs.Common.{◌≡◌, ℕ, List, [], length, Some, slice_get, sym, ap, subst, ◌∙◌}
 use Rattle.std.specs.Prelude.{Option}
 use Rattle.std.specs.Option.{IsSomeAnd, option_map_or}
 use Rattle.std.proofs.lemmas.Slice.Zip.{AllZip-long}
@@ -28,8 +28,7 @@ use Rattle.suite.specs.declared.decided.Decided.TheVariants.{Covered}
 use Rattle.unwinder.specs.Unwinding.{IsUnwound}
 use Rattle.unwinder.specs.declared.unwound.Unwound.{Unwound}
 use Rattle.command.specs.Prove.{IsSaidOf}
-use Rattle.command.specs.Runs.{EntryFunction}
-use Rattle.command.specs.Said.{Said, answered}
+use Rattle.command.specs.Said.{answered}
 
 module _ (parts : GraphParts) (f : Function) (p : Predicates) (plan : Plan) (bounds : Bounds) (goal : GoalForm) where
   -- no input at all hits a goal, for which there is a formula that is exact and a derivation that checks over it

@@ -1,5 +1,5 @@
 -- What is due has a status: each refusal that is due has a code.
-use Rattle.std.proofs.Common.{◌≡◌, ℕ, ◌-◌, Bool, true, false, List, [], ◌∷◌, length, map, slice_get, Option, Some, None, refl, sym, subst, inl, inr}
+use Rattle.std.proofs.Common.{◌≡◌, ℕ, ◌-◌, Bool, true, false, List, [], ◌∷◌, length, slice_get, Option, Some, None, refl, sym, subst, inl, inr}
 use Rattle.std.specs.Prelude.{IsSome, MatchOption, codes, cond, nat_lt}
 use Rattle.std.specs.List.{AllByRecursion}
 use Rattle.fq_core.specs.Refusals.{refusal}

@@ -1,7 +1,5 @@
 // What happens in the runs of inputs, as it is listed.
 ghost use Rattle.std.specs.Prelude.{◌≡◌, List};
-ghost use Rattle.std.specs.List.{All};
-ghost use Rattle.c_meaning.specs.Starts.{CanStart};
 ghost use Rattle.command_words.specs.Reading.{Text};
 ghost use Rattle.command_words.specs.Request.{running};
 ghost use Rattle.command_words.specs.Request as asks;
@@ -16,21 +14,21 @@ use crate::inputs::read_inputs;
 use crate::reply::Reply;
 use crate::runs::recorded;
 use crate::sources::automaton;
-use c_meaning::Input;
+use crate::types::Starts;
 use command_words::Runs;
 use fq_core::Fault;
 use fq_io::Files;
-use given::Entry;
 use report::events_text;
 use std::alloc::Global;
 
 // The events of the runs of these inputs, each cut after so many edges.
-fn list(alloc: Global, entry: &Entry, steps: u32, inputs: &[Input]) -> Result<Reply, Fault>
-    requires { All (λ input. CanStart entry.now.function.now input.words) inputs.now }
+fn list(alloc: Global, starts: &Starts, steps: u32) -> Result<Reply, Fault>
     ensures { (names : List Text) →
-        Tells (IsEventful entry.now.graph.now (seen entry.now) steps inputs.now) names result }
+        Tells (IsEventful starts.now.entry.graph.now (seen starts.now.entry) steps
+        starts.now.inputs.now) names result }
 {
-    let runs = recorded(alloc, entry, steps, inputs)?;
+    let runs = recorded(alloc, starts, steps)?;
+    let entry = starts.entry;
     let text = events_text(alloc, entry.graph, entry.number, &runs)?;
     Ok(Reply::Answer {
         text,
@@ -46,5 +44,9 @@ pub fn events<F: Files>(alloc: Global, request: &Runs, files: &mut F) -> Result<
     let automaton = automaton(alloc, files, &request.sources)?;
     let entry = entry_named(&automaton, request.entry)?;
     let inputs = read_inputs(alloc, files, request.inputs, &entry)?;
-    list(alloc, &entry, request.steps, &inputs)
+    let starts = Starts {
+        entry,
+        inputs: &inputs,
+    };
+    list(alloc, &starts, request.steps)
 }

@@ -1,7 +1,5 @@
 // The runs of inputs, as they are listed.
 ghost use Rattle.std.specs.Prelude.{◌≡◌};
-ghost use Rattle.std.specs.List.{All};
-ghost use Rattle.c_meaning.specs.Starts.{CanStart};
 ghost use Rattle.command_words.specs.Request.{running};
 ghost use Rattle.command_words.specs.Request as asks;
 ghost use Rattle.command.specs.Answered.{IsTold};
@@ -19,14 +17,12 @@ use crate::inputs::read_inputs;
 use crate::measure::run_of;
 use crate::reply::Reply;
 use crate::sources::automaton;
-use crate::types::Steps;
-use c_meaning::Input;
+use crate::types::{Starts, Steps};
 use cfa::Predicates;
 use command_words::Runs;
 use containers::Vector;
 use fq_core::{Fault, Place, Refusal};
 use fq_io::Files;
-use given::Entry;
 use path_runner::RunEnd;
 use report::runs_text;
 use std::alloc::Global;
@@ -49,13 +45,14 @@ pub fn too_many_edges() -> Fault
 /// How the runs of these inputs end, each cut after so many edges, and their edges, where they have no more than are listed.
 pub fn recorded(
     alloc: Global,
-    entry: &Entry,
+    starts: &Starts,
     steps: u32,
-    inputs: &[Input],
 ) -> Result<Vec<(RunEnd, Vector<u32>)>, Fault>
-    requires { All (λ input. CanStart entry.now.function.now input.words) inputs.now }
-    ensures { AreRecordedAs entry.now.graph.now (seen entry.now) steps inputs.now result }
+    ensures { AreRecordedAs starts.now.entry.graph.now (seen starts.now.entry) steps
+        starts.now.inputs.now result }
 {
+    let entry = starts.entry;
+    let inputs = starts.inputs;
     let none = Predicates {
         texts: Vector::new(alloc),
         meanings: Vector::new(alloc),
@@ -66,7 +63,7 @@ pub fn recorded(
         edges: steps as u64,
     };
     for input in inputs {
-        let run = run_of(alloc, entry, &none, limit, input)?;
+        let run = run_of(alloc, &entry, &none, limit, input)?;
         listed += run.edges.len() as u64;
         if listed > MOST_LISTED {
             return Err(too_many_edges());
@@ -77,12 +74,13 @@ pub fn recorded(
 }
 
 // The list of the runs of these inputs, each cut after so many edges.
-fn list(alloc: Global, entry: &Entry, steps: u32, inputs: &[Input]) -> Result<Reply, Fault>
-    requires { All (λ input. CanStart entry.now.function.now input.words) inputs.now }
+fn list(alloc: Global, starts: &Starts, steps: u32) -> Result<Reply, Fault>
     ensures { (names : List Text) →
-        Tells (IsRecorded entry.now.graph.now (seen entry.now) steps inputs.now) names result }
+        Tells (IsRecorded starts.now.entry.graph.now (seen starts.now.entry) steps
+        starts.now.inputs.now) names result }
 {
-    let runs = recorded(alloc, entry, steps, inputs)?;
+    let runs = recorded(alloc, starts, steps)?;
+    let entry = starts.entry;
     let text = runs_text(alloc, entry.graph, entry.number, &runs)?;
     Ok(Reply::Answer {
         text,
@@ -97,5 +95,9 @@ pub fn runs<F: Files>(alloc: Global, request: &Runs, files: &mut F) -> Result<Re
     let automaton = automaton(alloc, files, &request.sources)?;
     let entry = entry_named(&automaton, request.entry)?;
     let inputs = read_inputs(alloc, files, request.inputs, &entry)?;
-    list(alloc, &entry, request.steps, &inputs)
+    let starts = Starts {
+        entry,
+        inputs: &inputs,
+    };
+    list(alloc, &starts, request.steps)
 }

@@ -2,9 +2,12 @@
 ghost use Rattle.std.specs.Prelude.{◌+◌, ◌<◌, ◌^◌, length};
 ghost use Rattle.std.proofs.Props.{props};
 ghost use Rattle.cfa.specs.Contexts.{IsOnce};
+ghost use Rattle.command.specs.Entries.{AllCanStart};
 
+use c_meaning::Input;
 use cfa::Graph;
 use cnf::{Derivation, Formula};
+use given::Entry;
 use typed_trees::Typed;
 
 /// The automaton of sources. No walk over it comes twice to one pair of node and context.
@@ -19,6 +22,14 @@ pub struct Automaton {
 pub struct Trees {
     pub automaton: Automaton,
     pub typed: Typed,
+}
+
+/// An entry, and inputs with which runs can begin at it.
+#[derive(Clone, Copy)]
+pub struct Starts<'a> {
+    pub entry: Entry<'a>,
+    pub inputs: &'a [Input],
+    ghost can_start: { AllCanStart entry inputs.now } by { Prim.hlevel props },
 }
 
 /// After how many edges a run is cut.

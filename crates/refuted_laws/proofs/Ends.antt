@@ -1,5 +1,5 @@
 -- What a report and a line of bounds say of all ends.
-use Rattle.std.proofs.Common.{◌≡◌, ◌<◌, ◌^◌, ℕ, List, length, Option, Some, subst, sym}
+use Rattle.std.proofs.Common.{◌≡◌, ℕ, List, Some, subst, sym}
 use Rattle.std.specs.Prelude.{slice_get}
 use Rattle.c_front.specs.Laws as front
 use Rattle.c_lex.specs.declared.token.SourceText.{SourceText}
@@ -8,9 +8,8 @@ use Rattle.c_meaning.specs.declared.ends.Ends.TheVariants as counted
 use Rattle.cfa.specs.Graph.{IsGraph}
 use Rattle.cfa.specs.declared.parts.GraphParts.{GraphParts}
 use Rattle.asked_ends.specs.Laws.{AllEndsAreAsked, asking_for_ends}
-use Rattle.ending_laws.specs.Asking.{AsksFor, AsksForEachEnd}
+use Rattle.ending_laws.specs.Asking.{AsksForEachEnd}
 use Rattle.fql_read.specs.Asks.{Asks}
-use Rattle.goals.specs.GoalForm.{GoalForm}
 use Rattle.goals.specs.declared.answer.Answer.{Answer}
 use Rattle.goals.specs.declared.answer.Answer.TheVariants.{Refuted}
 use Rattle.made_laws.specs.Laws.{EachReturns, NoneTraps, OthersAreRefuted, RefutesEnds}

@@ -1,5 +1,5 @@
 -- What is written of a generation is its report.
-use Rattle.std.proofs.Common.{◌≡◌, ℕ, Bool, true, false, List, [], refl, sym, ap, ◌∙◌, inl, inr}
+use Rattle.std.proofs.Common.{◌≡◌, ℕ, Bool, false, List, [], ap, ◌∙◌, inl, inr}
 use Rattle.cfa.specs.declared.parts.GraphParts.{GraphParts}
 use Rattle.cfa.specs.declared.state.Predicates.{Predicates}
 use Rattle.c_meaning.specs.declared.ends.Ends.{Ends}
@@ -10,7 +10,7 @@ use Rattle.given.specs.declared.generated.Generated.{Generated}
 use Rattle.command_words.specs.Reading.{Text}
 use Rattle.command_words.specs.Request.{generate, Generating}
 use Rattle.command.specs.Due.{IsDueOf}
-use Rattle.command.specs.Generate.{IsGeneration, concluded, generated_report}
+use Rattle.command.specs.Generate.{IsGeneration, generated_report}
 use Rattle.command.specs.Queries.{IsPlanned}
 use Rattle.command.specs.Ranges.{within}
 use Rattle.command.specs.Reads.{Reads}

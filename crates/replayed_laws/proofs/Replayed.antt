@@ -1,11 +1,10 @@
 -- `replay` accepts what `traces` wrote.
-use Rattle.std.proofs.Common.{◌≡◌, ◌⊎◌, ℕ, ◌<◌, ◌≤◌, Bool, List, [], ◌∷◌, ◌++◌, length, map, Option, Some, None, refl, sym, ap, subst, inl, inr, arith}
+use Rattle.std.proofs.Common.{◌≡◌, ◌⊎◌, ℕ, ◌<◌, ◌≤◌, Bool, List, [], ◌∷◌, ◌++◌, length, map, Option, Some, None, refl, ap, subst, inl, inr, arith}
 use Rattle.std.specs.Prelude.{IfSome, IsTrue, MatchOption, true}
 use Rattle.std.specs.Option.{is_some}
 use Rattle.c_front.specs.Laws as front
 use Rattle.c_lex.specs.declared.token.SourceText.{SourceText}
 use Rattle.c_values.proofs.Fitting.{and_both, and_left, and_right}
-use Rattle.cfa.specs.declared.parts.Function.{Function}
 use Rattle.cfa.specs.declared.parts.GraphParts.{GraphParts}
 use Rattle.cfa.specs.declared.state.Predicates.{Predicates}
 use Rattle.c_meaning.specs.declared.input.Input.{Input}
@@ -36,7 +35,7 @@ use Rattle.due_laws.proofs.Accepted.{still_have}
 use Rattle.due_laws.proofs.OneDue.{no_automaton, not_all_read, one_automaton, one_seen}
 use Rattle.due_laws.proofs.OneFile.{read_alike}
 use Rattle.traced_laws.specs.Laws.{SaysTraces, TracesAreRead, edges_in}
-use Rattle.replayed_laws.specs.Laws.{IsReplay, SaysReplay, TracesAreReplayed, replaying_of}
+use Rattle.replayed_laws.specs.Laws.{IsReplay, TracesAreReplayed, replaying_of}
 
 -- files that tell what they hold, each of them
 both_told : (r : Reads) (files : List Text) (file : Text) → IsTrue (are_told r (files ++ file ∷ [])) → IsTrue (are_told r files) × IsTrue (is_some (r.holds file))

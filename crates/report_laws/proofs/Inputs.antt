@@ -1,5 +1,5 @@
 -- The lines of the inputs that were made.
-use Rattle.std.proofs.Common.{◌≡◌, ℕ, suc, ◌+◌, ◌<◌, ◌≤◌, ◌^◌, List, [], ◌∷◌, ◌++◌, All, length, refl, arith, length-append}
+use Rattle.std.proofs.Common.{◌≡◌, ℕ, ◌+◌, ◌<◌, ◌≤◌, ◌^◌, List, [], ◌∷◌, ◌++◌, All, length, refl, arith, length-append}
 use Rattle.std.specs.Prelude.{codes}
 use Rattle.std.specs.Fmt.{decimal}
 use Rattle.std.specs.List.{AllZip, flat_map}
@@ -10,7 +10,7 @@ use Rattle.c_values.specs.Kind.{IsValue}
 use Rattle.c_values.specs.declared.kinds.Kind.{Kind}
 use Rattle.report.specs.Ends.{spaced_value}
 use Rattle.report.specs.Made.{arguments_text, made_line, made_lines, made_text, taken_text}
-use Rattle.trace_file.proofs.NumberLaws.{IsWritten, Lacks, decimal_lacks, lacks_by, value_written}
+use Rattle.trace_file.proofs.NumberLaws.{Lacks, decimal_lacks, lacks_by, value_written}
 use Rattle.report_laws.specs.Laws.{IsInLine, line_of_input}
 
 -- what stands behind the word in the line of an input

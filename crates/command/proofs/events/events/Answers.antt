@@ -1,7 +1,9 @@
-use Rattle.std.proofs.Common.{inl, inr, refl}
+use Rattle.std.proofs.Common.{List, inl, inr, refl, subst}
 use Rattle.std.proofs.lemmas.Result.{err_from_is_err_and}
 use Rattle.command_words.specs.Request.{running}
+use Rattle.c_meaning.specs.declared.input.Input.{Input}
 use Rattle.command.specs.Entries.{seen}
+use Rattle.command.specs.Replies.{Tells}
 use Rattle.command.specs.Events.{IsEventful}
 use Rattle.command.specs.Due.{IsDueOfEvents}
 use Rattle.command.specs.Stages.{OfTrees}
@@ -44,8 +46,8 @@ returns-in_err-inputs g c =
     (refused_at_entry graph m.entry (EventsThen _ m t.0) c.in_ok-entry.entry c.in_ok-entry.ensures m.sources c.in_err-inputs.field-0.0
     (refused_map c.in_err-inputs.field-0.0 cause (λ x why. inl (x, refused_since _ _ _ _ _ _ _ _ _ c.in_ok-automaton.ensures.same_files c.in_ok-automaton.ensures.no_fault c.in_ok-automaton.ensures.received _ _ x why, refl))))))
 
-pub list-requires : goal.list-requires
-list-requires g c = rw c.deref-2.ensures.value c.in_ok-inputs.ensures.start
+pub invariant_of-starts : goal.invariant_of-starts
+invariant_of-starts g c = record { can_start = rw c.deref-2.ensures.value c.in_ok-inputs.ensures.start }
 
 pub returns : goal.returns
 returns g c =
@@ -56,7 +58,9 @@ returns g c =
     let e = c.in_ok-entry.entry in
     let inputs = c.in_ok-inputs.inputs.items in
     let given = inputs_since _ _ _ _ _ _ _ _ _ c.in_ok-automaton.ensures.same_files c.in_ok-automaton.ensures.no_fault c.in_ok-automaton.ensures.received _ _ _ c.in_ok-inputs.ensures.answer in
+    let done : Tells (IsEventful e.graph.now (seen e) m.steps inputs) m.sources c.list.result =
+    subst (λ (given : List Input). Tells (IsEventful e.graph.now (seen e) m.steps given) m.sources c.list.result) c.deref-2.ensures.value (c.list.ensures m.sources) in
     tells_map (IsEventful e.graph.now (seen e) m.steps inputs) (OfTrees _ m.sources (IsDueOfEvents _ m)) m.sources c.list.result
     (λ said text. at_trees _ m.sources (IsDueOfEvents _ m) graph t.0 said t.1
     (at_entry graph m.entry (EventsThen _ m t.0) e c.in_ok-entry.ensures said
-    (inr (inputs, given, events_at _ m.sources graph have (seen e) m.steps e.graph.now c.in_ok-entry.ensures.0 e.there inputs c.in_ok-inputs.ensures.start said text)))) (rw c.deref-2.ensures.value at (c.list.ensures m.sources))
+    (inr (inputs, given, events_at _ m.sources graph have (seen e) m.steps e.graph.now c.in_ok-entry.ensures.0 e.there inputs c.in_ok-inputs.ensures.start said text)))) done

@@ -14,14 +14,14 @@ use Rattle.command.proofs.events.list.Goals as goal
 
 pub returns-in_err-runs : goal.returns-in_err-runs
 returns-in_err-runs c = λ names.
-    let e = c.args.entry.now in
+    let e = c.args.starts.now.entry in
     let p = err_from_is_err_and c.from_residual.result c.from_residual.ensures.1 in
-    rw (p.1, p.2) (tells_refused (IsEventful e.graph.now (seen e) c.args.steps c.args.inputs.now) names c.in_err-runs.field-0.0
-    (refused_map c.in_err-runs.field-0.0 c.in_err-runs.ensures (λ x why. refused_many (runs_of e.graph.now e.function.now no_predicates c.args.steps c.args.inputs.now) _ x names why)))
+    rw (p.1, p.2) (tells_refused (IsEventful e.graph.now (seen e) c.args.steps c.args.starts.now.inputs.now) names c.in_err-runs.field-0.0
+    (refused_map c.in_err-runs.field-0.0 c.in_err-runs.ensures (λ x why. refused_many (runs_of e.graph.now e.function.now no_predicates c.args.steps c.args.starts.now.inputs.now) _ x names why)))
 
 pub returns : goal.returns
 returns c = λ names.
-    let e = c.args.entry.now in
+    let e = c.args.starts.now.entry in
     let text = rw c.deref.ensures.value at c.in_ok-text.ensures in
     ap answered (text ∙ ap (λ (runs : List (RunEnd × List ℕ)). events_text e.graph.now e.number (map (told_run e.graph.now) runs)) c.in_ok-runs.ensures.1)
-    ∙ answered_few (runs_of e.graph.now e.function.now no_predicates c.args.steps c.args.inputs.now) _ c.in_ok-runs.ensures.0
+    ∙ answered_few (runs_of e.graph.now e.function.now no_predicates c.args.steps c.args.starts.now.inputs.now) _ c.in_ok-runs.ensures.0

@@ -1,4 +1,4 @@
-use Rattle.std.proofs.Common.{◌≡◌, inl, inr, refl, subst}
+use Rattle.std.proofs.Common.{inl, inr, refl, subst}
 use Rattle.std.proofs.lemmas.Result.{err_from_is_err_and}
 use Rattle.given.specs.declared.goal.Goal.{Goal}
 use Rattle.least_input.specs.AtGoal.{IsAnsweredAt, IsOpenAt}

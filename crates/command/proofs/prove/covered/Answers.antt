@@ -1,5 +1,3 @@
-use Rattle.std.proofs.Common.{subst, sym}
-use Rattle.given.specs.declared.goal.Goal.{Goal}
 use Rattle.suite.proofs.Models.{has_made}
 use Rattle.command.proofs.GivesLaws.{ok_tells}
 use Rattle.command.proofs.GoalLaws.{covered_said, has_words}

@@ -3,9 +3,7 @@ use Rattle.std.proofs.lemmas.Result.{err_from_is_err_and}
 use Rattle.given.specs.declared.goal.Goal.{Goal}
 use Rattle.suite.specs.Seeking.{IsDecidedAt, IsDecidedAs, IsOpenAt, Seeking}
 use Rattle.command.specs.Entries.{seen}
-use Rattle.command.specs.Parts.{IsSaidFor}
 use Rattle.command.specs.Prove.{IsProved}
-use Rattle.command.specs.Replies.{IsReply}
 use Rattle.command.proofs.GivesLaws.{gives_nothing, gives_refused}
 use Rattle.command.proofs.ReadsLaws.{refused_map}
 use Rattle.command.proofs.StageLaws.{goal_found}

@@ -6,6 +6,6 @@ use Rattle.command.proofs.runs.recorded.Given as goal
 abbrev pub invariant-loop-input : goal.invariant-loop-input
 invariant-loop-input l = record {
   few : l.listed ≤ most_listed;
-  listed : l.listed ≡ edges_in (runs_of l.entry.graph.now l.entry.function.now no_predicates l.steps (take l.input-index l.inputs));
-  runs : l.runs.items ≡ map ending (runs_of l.entry.graph.now l.entry.function.now no_predicates l.steps (take l.input-index l.inputs));
+  listed : l.listed ≡ edges_in (runs_of l.starts.entry.graph.now l.starts.entry.function.now no_predicates l.steps (take l.input-index l.starts.inputs.now));
+  runs : l.runs.items ≡ map ending (runs_of l.starts.entry.graph.now l.starts.entry.function.now no_predicates l.steps (take l.input-index l.starts.inputs.now));
 }

@@ -1,7 +1,9 @@
-use Rattle.std.proofs.Common.{inl, inr, refl}
+use Rattle.std.proofs.Common.{List, inl, inr, refl, subst}
 use Rattle.std.proofs.lemmas.Result.{err_from_is_err_and}
 use Rattle.command_words.specs.Request.{running}
+use Rattle.c_meaning.specs.declared.input.Input.{Input}
 use Rattle.command.specs.Entries.{seen}
+use Rattle.command.specs.Replies.{Tells}
 use Rattle.command.specs.RunList.{IsRecorded}
 use Rattle.command.specs.Due.{IsDueOfRuns}
 use Rattle.command.specs.Stages.{OfSources}
@@ -39,8 +41,8 @@ returns-in_err-inputs g c =
     (refused_at_entry c.in_ok-automaton.automaton.graph m.entry (RunsThen _ m) c.in_ok-entry.entry c.in_ok-entry.ensures m.sources c.in_err-inputs.field-0.0
     (refused_map c.in_err-inputs.field-0.0 cause (λ x why. inl (x, refused_since _ _ _ _ _ _ _ _ _ c.in_ok-automaton.ensures.same_files c.in_ok-automaton.ensures.no_fault c.in_ok-automaton.ensures.received _ _ x why, refl))))))
 
-pub list-requires : goal.list-requires
-list-requires g c = rw c.deref-2.ensures.value c.in_ok-inputs.ensures.start
+pub invariant_of-starts : goal.invariant_of-starts
+invariant_of-starts g c = record { can_start = rw c.deref-2.ensures.value c.in_ok-inputs.ensures.start }
 
 pub returns : goal.returns
 returns g c =
@@ -48,6 +50,8 @@ returns g c =
     let have = rw c.deref.ensures.value at c.in_ok-automaton.ensures.answer in
     let given = inputs_since _ _ _ _ _ _ _ _ _ c.in_ok-automaton.ensures.same_files c.in_ok-automaton.ensures.no_fault c.in_ok-automaton.ensures.received _ _ _ c.in_ok-inputs.ensures.answer in
     let e = c.in_ok-entry.entry in
+    let done : Tells (IsRecorded e.graph.now (seen e) m.steps c.in_ok-inputs.inputs.items) m.sources c.list.result =
+    subst (λ (given : List Input). Tells (IsRecorded e.graph.now (seen e) m.steps given) m.sources c.list.result) c.deref-2.ensures.value (c.list.ensures m.sources) in
     tells_map (IsRecorded e.graph.now (seen e) m.steps c.in_ok-inputs.inputs.items) (OfSources _ m.sources (IsDueOfRuns _ m)) m.sources c.list.result
     (λ said due. at_graph _ m.sources (IsDueOfRuns _ m) c.in_ok-automaton.automaton.graph said have
-    (at_entry c.in_ok-automaton.automaton.graph m.entry (RunsThen _ m) e c.in_ok-entry.ensures said (inr (c.in_ok-inputs.inputs.items, given, due)))) (rw c.deref-2.ensures.value at (c.list.ensures m.sources))
+    (at_entry c.in_ok-automaton.automaton.graph m.entry (RunsThen _ m) e c.in_ok-entry.ensures said (inr (c.in_ok-inputs.inputs.items, given, due)))) done
