@@ -22,7 +22,7 @@ struct Goals {
 // x, y, z and the other bit are on the wires 1 to 4, the first part on 33, the second on 34, the contradiction on 35, and
 // more on 36. So the contradiction's cone has the wires 1, 2, 3, 33, 34, 35, which are its variables 1 to 6, and that of more
 // has the wires 1 to 4 and 33 to 36, its variables 1 to 8. The first part's cone has the wires 1, 2 and 33.
-fn goals(rt: &impl Abort, alloc: Global) -> (Circuit, Goals)
+fn circuit_of_goals(rt: &impl Abort, alloc: Global) -> (Circuit, Goals)
     ensures { input_count result.0 ≡ 32 }
 {
     let (mut circuit, bits) = bits_of_an_int(rt, alloc);
@@ -46,7 +46,7 @@ fn goals(rt: &impl Abort, alloc: Global) -> (Circuit, Goals)
 #[test]
 fn one_goal_teaches_another(rt: HostRuntime) -> Result<(), Fail> {
     let alloc = rt.alloc();
-    let (circuit, goals) = goals(&rt, alloc);
+    let (circuit, goals) = circuit_of_goals(&rt, alloc);
     let mut store = Lessons::new(alloc);
     assert!(rt; given(&rt, alloc, &store, &circuit, goals.contradiction).is_none());
     let formula = formula_of(&rt, alloc, &circuit, goals.contradiction);
@@ -84,7 +84,7 @@ const CONTRADICTION: &str =
 #[test]
 fn derivations_by_hand(rt: HostRuntime) -> Result<(), Fail> {
     let alloc = rt.alloc();
-    let (circuit, goals) = goals(&rt, alloc);
+    let (circuit, goals) = circuit_of_goals(&rt, alloc);
     let formula = formula_of(&rt, alloc, &circuit, goals.contradiction);
     for (lines, last) in [
         // {1, -4}, with {-1, -5} {-4, -5}, with {4, -6} {-5, -6}, with {5, -6} {-6}.
@@ -128,7 +128,7 @@ fn derivations_by_hand(rt: HostRuntime) -> Result<(), Fail> {
 #[test]
 fn a_lesson_teaches_another(rt: HostRuntime) -> Result<(), Fail> {
     let alloc = rt.alloc();
-    let (circuit, goals) = goals(&rt, alloc);
+    let (circuit, goals) = circuit_of_goals(&rt, alloc);
     let contradiction = formula_of(&rt, alloc, &circuit, goals.contradiction);
     let more = formula_of(&rt, alloc, &circuit, goals.more);
     let mut text = String::new(alloc);
