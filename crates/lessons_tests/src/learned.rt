@@ -27,8 +27,10 @@ pub(crate) fn learn(
 {
     let derivation = refutation.derivation;
     assert!(rt; derivation.lines.len() < 0x1_0000_0000);
-    let mut checker =
-        Checker::prepare(alloc, refutation.formula, derivation).expect(rt, "no memory");
+    let mut checker = Checker::prepare(alloc, refutation.formula, derivation).expect(
+        rt,
+        "no memory",
+    );
     match checker.check() {
         Verdict::Yes => {
             store
