@@ -4,10 +4,13 @@ No stage knows a later one: a module imports from its own stage and from those b
 """
 
 import ast
+import dataclasses
 import glob
 import os
 import re
 import sys
+import types
+import typing
 from collections.abc import Iterable, Iterator
 from typing import Any
 
@@ -21,7 +24,7 @@ sys.path.insert(0, programs.ROOT)
 def parsed(text: str) -> Any:
     """The unit of a text, which nothing has preprocessed."""
     from tools.adapt.parsing import parsed as tree_of
-    from tools.adapt.reading import Unit
+    from tools.adapt.unit import Unit
 
     return Unit("a.c", tree_of(text, "a.c"), ["a.c"])
 
@@ -83,6 +86,82 @@ def the_tree_is_our_own(folder: str) -> Iterator[bool]:
     yield [one.name for one in nodes if isinstance(one, tree.ID)] == ["g", "x"]
     yield parsing.printed(unit.ext[0].body.block_items[0]) == "return g(2, x + 1);"
     yield unit.ext[0].coord == tree.Coord("a.c", 1, 5)
+
+
+EVERY = """
+enum e { A = 3, B }; typedef unsigned long word; struct s; union u { int a; char b[4]; };
+struct s { int f : 3, : 0; struct s *next; union { int x; word y; }; };
+static const int t[] = {1, [3] = 2}, *const p = t; int (*g)(int, ...); extern int h(void), k();
+int old(a, b) char *a; { return *a + b; }
+int f(int n, struct s v, char c[]) {
+  struct s w = {.f = 1, .next = &w}; ; static int i = sizeof(struct s) + sizeof n;
+  for (int j = 0, m; j < n; j++) { if (n > j) continue; else break; }
+  for (;;) { while (n--) do { n += 2, i = -i; } while (!i); goto end; }
+  switch (n) { case 1: case A: return 0; default: n = n ? (char) n : ~i; }
+end: w = (struct s) { 1 };
+  _Static_assert(1, "so");
+  return h() + g(1, 2) + w.f + v.next->f + t[1] + *p + c[0] + "text"[0];
+}
+"""
+GNU = "int f(int x) { switch (x) { case 1 ... 3: return ({ typeof(x) y = x; y + 1; }); } return 0; }"
+
+
+def fits(value: object, wanted: Any) -> bool:
+    """Whether a value is of a type as dataclasses name them: a class, a list, or one of several."""
+    origin, given = typing.get_origin(wanted), typing.get_args(wanted)
+    if origin in (typing.Union, types.UnionType):
+        return any(fits(value, one) for one in given)
+    if origin is list:
+        return isinstance(value, list) and all(fits(one, given[0]) for one in value)
+    return isinstance(value, wanted)
+
+
+def gnu_tree(text: str) -> Any:
+    """The tree of a text with forms of GNU C."""
+    from tools.adapt import gnu, parsing
+    from tools.adapt.refusals import Refusals
+
+    unit = parsing.parsed(gnu.lifted(text), "a.c")
+    gnu.Settled(Refusals()).unit(unit)
+    return unit
+
+
+def the_tree_is_as_its_types_say(folder: str) -> Iterator[bool]:
+    """Each field of each node that the parser gives is of the type by which mypy judges the stages."""
+    from tools.adapt import tree
+
+    for unit in (parsed(EVERY).tree, gnu_tree(GNU)):
+        for node in tree.walk(unit):
+            hints = typing.get_type_hints(type(node))
+            wrong = [one.name for one in dataclasses.fields(node) if not fits(getattr(node, one.name), hints[one.name])]
+            print(*(f"{type(node).__name__}.{name} of {node.coord}" for name in wrong), sep="\n", end="")
+            yield not wrong
+
+
+def gnu_forms_are_printed(folder: str) -> Iterator[bool]:
+    """As C has them, which reports of checked operations quote."""
+    from tools.adapt import parsing
+
+    text = " ".join(parsing.printed(gnu_tree(GNU).ext[0]).split())
+    due = "int f(int x) { switch (x) { case 1 ... 3: return ({ typeof (x) y = x; y + 1; }); } return 0; }"
+    yield text == due
+
+
+def nothing_is_untyped(folder: str) -> Iterator[bool]:
+    """Where the parser's own tree is read alone a thing has no type: mypy --strict checks what is left, without an exception. Fields
+    are named by what they are called at two places, the parser's tree and the slots of ours."""
+    for path in sorted(glob.glob(os.path.join(FOLDER, "**", "*.py"), recursive=True)):
+        with open(path, encoding="utf-8") as file:
+            text = file.read()
+        nodes = list(ast.walk(ast.parse(text)))
+        imported = {alias.name for one in nodes if isinstance(one, ast.ImportFrom) for alias in one.names}
+        words = {one.id for one in nodes if isinstance(one, ast.Name)}
+        name = os.path.basename(path)
+        found = imported & {"Any", "cast"} if name != "parsing.py" else set()
+        found |= words & {"getattr", "setattr", "hasattr", "vars"} if name not in ("parsing.py", "tree.py") else set()
+        found |= {"type: ignore"} if "type: ignore" in text else set()
+        print(*(f"{path} has {word}" for word in sorted(found)), sep="\n", end="\n" if found else "")
+        yield not found
 
 
 def jumps_become_breaks(folder: str) -> Iterator[bool]:
@@ -165,7 +244,7 @@ def effects_are_told(folder: str) -> Iterator[bool]:
 
     names = bound("int a, b, c; int g(void) { return a; } void f(int x) { b = g() + x; }")
     columns = Columns(names, set())
-    effected = Effected(names, Places(names, columns, Choosers(names, columns)), set())
+    effected = Effected(Places(names, columns), columns, Choosers(names, columns), set())
     found = effected.of_function[of_name(names.functions, "f")]
     read, written = ({one[0].name for one in places if one[0]} for places in (found.reads, found.writes))
     yield (read, written) == ({"a"}, {"b"})
@@ -184,8 +263,9 @@ def a_function_is_written(folder: str) -> Iterator[bool]:
 
     names = bound("static int n;\nint f(int x)\n{\n  n += x++;\n  return n;\n}\n")
     columns = Columns(names, set())
-    places = Places(names, columns, Choosers(names, columns))
-    known = Analysis(names, places, Effected(names, places, set()), Lifetimes(names, columns), set())
+    places, choosers = Places(names, columns), Choosers(names, columns)
+    effected = Effected(places, columns, choosers, set())
+    known = Analysis(names, places, columns, choosers, effected, Lifetimes(names, columns), set())
     files = Writer(known, Spelling(names, {"n", "f", "x"}), Checking()).units.write()
     pieces = [(line, unmarked(text)) for line, text in files["a.c"].pieces]
     due = [(1, "static int n;"), (2, "int f(int x) {"), (4, "n += x;"), (4, "x++;"), (5, "return n;"), (5, FELL + "}")]
@@ -233,6 +313,6 @@ def is_clause(text: str) -> bool:
     return all(re.fullmatch(r"[567](\.\d+)+(p\d+)?|7\.\d+|gcc's manual: [\w ]+", one) for one in names)
 
 
-STAGES = (each_rule_names_its_clause, no_stage_knows_a_later_one, the_tree_is_our_own, jumps_become_breaks, names_have_their_scopes, parameters_are_bound, pointers_meet_their_objects,
+STAGES = (each_rule_names_its_clause, no_stage_knows_a_later_one, nothing_is_untyped, the_tree_is_our_own, the_tree_is_as_its_types_say, gnu_forms_are_printed, jumps_become_breaks, names_have_their_scopes, parameters_are_bound, pointers_meet_their_objects,
           objects_lie_behind_each_other, effects_are_told, a_function_is_written, what_the_program_refuses_is_told)  # fmt: skip
 TRIED = [(NEEDS, one) for one in STAGES]

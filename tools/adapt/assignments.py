@@ -1,25 +1,24 @@
 """Writes assignments, steps and other expressions for their effect, as statements."""
 
-from typing import Any, Callable
+from collections.abc import Callable
+from typing import Optional
 
 from . import kinds, statement_exprs, tree
 from .component import Component
-
 from .constants import LOGICAL
 from .effects import STEPS
-from .tree import walk
-from .kinds import Int, Pointer, Struct
+from .kinds import INDEX, Int, Path, Pointer, Struct
+from .objects import Place, Variable
 from .output import unmarked
-from .places import Place
 from .refusals import Refused
-from .regions import INDEX
+from .tree import walk
 from .values import LEVELS, PRIMARY, UNARY, Value
 
 
 class Assignments(Component):
     """The assignments, steps and effects of one function (6.5.16, 6.5.2.4, 6.5.3.1)."""
 
-    def assigned(self, node: Any) -> Value:
+    def assigned(self, node: tree.Assignment) -> Value:
         """An assignment as a value: it is written, and the target read again (6.5.16p3). Raises Refused for a struct
         that is assigned within an expression."""
         if not isinstance(self.writer.constants.type_of(node.lvalue), Int):
@@ -31,7 +30,7 @@ class Assignments(Component):
             return Value(f"({kind.text}) {text}", kind, UNARY)
         return Value(text, kind, PRIMARY, truth=kind.boolean)
 
-    def assign(self, node: Any, stable: bool = False) -> tuple[str, Int]:
+    def assign(self, node: tree.Assignment, stable: bool = False) -> tuple[str, Int]:
         """Writes an assignment to an integer; the target's text and type. Raises Refused where the target is an
         array, or where C leaves an order open that matters."""
         place = self.writer.places.place(node.lvalue)
@@ -54,7 +53,7 @@ class Assignments(Component):
         self.writer.emit(self.assignment(node, target, kind, given, other))
         return target, kind
 
-    def assignment(self, node: Any, target: str, kind: Int, given: Value, other: bool) -> str:
+    def assignment(self, node: tree.Assignment, target: str, kind: Int, given: Value, other: bool) -> str:
         """The statement of an assignment; `other` says that the column has integers of the other sign."""
         if node.op == "=" or not (kind.boolean or other or kind.width > 0):
             return f"{target} {node.op} {self.writer.conversions.converted(given, kind).text};"
@@ -63,13 +62,13 @@ class Assignments(Component):
         whole = Value(f"{own} {node.op[:-1]} {given.within(level + 1)}", kinds.common(kind, given.kind), level)
         return f"{target} = {whole.text if other else self.writer.conversions.converted(whole, kind).text};"
 
-    def stepping(self, node: Any, target: str, kind: Int) -> str:
+    def stepping(self, node: tree.UnaryOp, target: str, kind: Int) -> str:
         """The statement that adds 1 to a place or takes 1 off (6.5.2.4, 6.5.3.1), converted to the kind of the place."""
         if not kind.width:
             return f"{target}{node.op[-2:]};"
         return f"{target} = {self.writer.conversions.converted(Value(f'{target} {node.op[-1]} 1', kinds.INT, 9), kind).text};"
 
-    def assign_register(self, node: Any, place: Place, kind: Int) -> tuple[str, Int]:
+    def assign_register(self, node: tree.Assignment, place: Place, kind: Int) -> tuple[str, Int]:
         """Writes an assignment to a register, which keeps nothing; the value that it was given."""
         value = self.combined(Value(f"{place.variable.out}()", kind, PRIMARY, calls=True), node)
         return self.writer.temporary(kind, value.text), kind
@@ -113,17 +112,17 @@ class Assignments(Component):
         self.writer.emit(f"{whole} = {whole} & ~(({word}) {mask}{up}) | ({word}) ({own}) {given}{up};")
         return self.part(place, whole).text, kind
 
-    def combined(self, own: Value, node: Any) -> Value:
+    def combined(self, own: Value, node: tree.Assignment) -> Value:
         """What an assignment gives its target."""
         given = self.writer.expressions.value(node.rvalue)
         return given if node.op == "=" else self.operated(node, node.op[:-1], own, given)
 
-    def operated(self, node: Any, op: str, own: Value, given: Value) -> Value:
+    def operated(self, node: tree.Expression, op: str, own: Value, given: Value) -> Value:
         """What an operation makes of a part and a value."""
         level = LEVELS[op]
         return Value(f"{own.within(level)} {op} {given.within(level + 1)}", kinds.common(own.kind, given.kind), level)
 
-    def not_twice(self, node: Any, place: Place, value: Any) -> None:
+    def not_twice(self, node: tree.Expression, place: Place, value: tree.Expression) -> None:
         """An object that isn't an element may not be assigned once more by the value. Raises Refused where it is
         (6.5p2)."""
         one = (place.variable, place.path, bool(place.indexes))
@@ -135,14 +134,14 @@ class Assignments(Component):
                 "use two statements",
             )
 
-    def step(self, node: Any, stable: bool = False) -> tuple[str, Int]:
+    def step(self, node: tree.UnaryOp, stable: bool = False) -> tuple[str, Int]:
         """The text and the type of what `++` or `--` steps. Raises Refused for what is no integer, or is bool."""
         place = self.writer.places.place(node.expr)
         if not isinstance(place.type, Int) or place.type.boolean:
             raise Refused(node.coord, "a step of what is no integer", "assign its value")
         return self.writer.elements.leaf(place, stable or self.writer.elements.is_large(place))[0], place.type
 
-    def stepped(self, node: Any) -> Value:
+    def stepped(self, node: tree.UnaryOp) -> Value:
         """`++` and `--` as a value: the old one, which is kept, or the new one, which is read (6.5.2.4, 6.5.3.1)."""
         place = self.writer.places.place(node.expr)
         if place.view is not None and isinstance(place.type, Int):
@@ -164,18 +163,19 @@ class Assignments(Component):
         self.writer.emit(step)
         return Value(old, kind, PRIMARY)
 
-    def effect(self, node: Any) -> None:
+    def effect(self, node: tree.Expression) -> None:
         """Writes an expression for its effect alone. Raises Refused for a step of a register."""
         if isinstance(node, tree.ExprList):
             for one in node.exprs:
                 self.effect(one)
         elif isinstance(node, tree.Assignment):
+            assigned = node
             if isinstance(self.writer.constants.type_of(node.lvalue), Pointer):
-                self.plain_effect(node, lambda: self.writer.pointer_effects.assign_pointer(node))
+                self.plain_effect(node, lambda: self.writer.pointer_effects.assign_pointer(assigned))
             elif isinstance(self.writer.constants.type_of(node.lvalue), Struct):
                 self.writer.wholes.assign_whole(self.writer.places.place(node.lvalue), node.rvalue, node)
             else:
-                self.plain_effect(node, lambda: self.assign(node))
+                self.plain_effect(node, lambda: self.assign(assigned))
         elif isinstance(node, tree.UnaryOp) and node.op in STEPS and self.writer.pointers.is_pointer(node.expr):
             place = self.writer.places.place(node.expr)
             self.writer.emit(
@@ -198,9 +198,9 @@ class Assignments(Component):
         elif isinstance(node, tree.TernaryOp):
             self.writer.expressions.either(node, self.effect)
         elif isinstance(node, tree.BinaryOp) and node.op in LOGICAL:
-            (self.writer.expressions.when if node.op == "&&" else self.writer.expressions.unless)(
-                node.left, lambda: self.effect(node.right)
-            )
+            right = node.right
+            test = self.writer.expressions.when if node.op == "&&" else self.writer.expressions.unless
+            test(node.left, lambda: self.effect(right))
         elif isinstance(node, tree.Cast) and self.writer.names.types.get(node.to_type) == kinds.VOID:
             self.effect(node.expr)
         elif self.writer.effected.of(node).writes or self.has_calls(node):
@@ -212,22 +212,22 @@ class Assignments(Component):
             if left.calls:
                 self.writer.temporary(left.kind, left.text)
 
-    def step_part(self, node: Any, place: Place) -> None:
+    def step_part(self, node: tree.UnaryOp, place: Place) -> None:
         """Writes a step of a part of an integer."""
         assert isinstance(place.type, Int)
         one = Value("1", kinds.INT, PRIMARY)
         self.assign_part(place, lambda own: self.operated(node, node.op[-1], own, one), place.type)
 
-    def kind_has_width(self, node: Any) -> bool:
+    def kind_has_width(self, node: tree.Expression) -> bool:
         """Whether an expression is a bit-field."""
         of = self.writer.constants.type_of(node)
         return isinstance(of, Int) and of.width > 0
 
-    def has_calls(self, node: Any) -> bool:
+    def has_calls(self, node: tree.Expression) -> bool:
         """Whether an expression has a call in it."""
         return any(isinstance(one, tree.FuncCall) for one in walk(node))
 
-    def plain_effect(self, node: Any, write: Callable[[], Any]) -> None:
+    def plain_effect(self, node: tree.Expression, write: Callable[[], object]) -> None:
         """A statement without calls and sequence points: steps of objects that it names only once are taken behind it."""
         nodes = walk(node)
         inner = [one for one in nodes if isinstance(one, tree.UnaryOp) and one.op in ("p++", "p--")]
@@ -245,7 +245,7 @@ class Assignments(Component):
             self.writer.emit(text)
         self.writer.after.clear()
 
-    def object_of(self, node: Any) -> Any:
+    def object_of(self, node: tree.Expression) -> Optional[tuple[Variable, Path]]:
         """The integer that a name or a member stands for, where it is no element."""
         try:
             place = self.writer.places.place(node)

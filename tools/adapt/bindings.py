@@ -3,32 +3,31 @@ handed on: it is "lent" where it is indexed or handed an array, and becomes a wh
 of the file that each call hands over, or, where there are several, it is a "copy", in and out. Each other one is a "pointer",
 an index into a column."""
 
-from typing import Any, Optional
+from typing import Optional
 
-from . import tree
-from .declarators import Function, Variable
+from . import kinds, tree
 from .kinds import VOID, Array, Pointer, Signature, Type
-from .places import Place, Places, arguments
+from .learned import ApartParameter, Learned
+from .objects import Function, Place, Variable
+from .places import Places, arguments
 from .refusals import Refused
 from .tree import walk, with_parents
 
-Key = tuple[str, int, int, str]  # a parameter by its place and name, over several readings
 SOMEWHERE = Variable("", VOID, None, "local")  # an object of which no more is known
 MOST_LENT = 1024
 CONDITIONS = (tree.If, tree.While, tree.DoWhile, tree.For, tree.TernaryOp)
 
 
-def key(parameter: Variable) -> Key:
+def key(parameter: Variable) -> ApartParameter:
     """What names a parameter over several readings of the sources."""
-    at = parameter.coord
-    return (str(at.file), at.line, at.column or 0, parameter.name)
+    return ApartParameter(parameter.where, parameter.name)
 
 
 class Bindings:
     """Binds the parameters of all functions; those in `apart` are pointers in any case. `of` has the function and the
     number of each."""
 
-    def __init__(self, places: Places, apart: set[Key]) -> None:
+    def __init__(self, places: Places, apart: set[Learned]) -> None:
         self.places, self.names, self.apart = places, places.names, apart
         self.types: dict[Variable, Type] = {}
         self.of: dict[Variable, tuple[Function, int]] = {}
@@ -85,7 +84,12 @@ class Bindings:
 
     # ---- uses
 
-    def is_plain(self, one: Variable, standing: set[Variable], uses: dict[Function, list[Any]]) -> bool:
+    def is_plain(
+        self,
+        one: Variable,
+        standing: set[Variable],
+        uses: dict[Function, list[tuple[tree.Node, tuple[tree.Node, ...]]]],
+    ) -> bool:
         """Whether a parameter is only dereferenced, compared with null, or handed on as such a one."""
         function = self.of[one][0]
         return all(
@@ -94,10 +98,11 @@ class Bindings:
             if isinstance(node, tree.ID) and self.names.meaning.get(node) is one
         )
 
-    def plain_use(self, node: Any, parents: tuple[Any, ...], standing: set[Variable]) -> bool:
+    def plain_use(self, node: tree.ID, parents: tuple[tree.Node, ...], standing: set[Variable]) -> bool:
         """Whether one use of a parameter is among those that let it stand for an object; a test for null only where
         calls hand objects over."""
-        up, called = parents[-1], bool(parents[0].decl and self.names.meaning[parents[0]].calls)
+        up, function = parents[-1], self.names.meaning.get(parents[0])
+        called = isinstance(function, Function) and bool(function.calls)
         if self.argument(node, parents) is not None:
             return self.argument(node, parents) in standing
         if isinstance(up, tree.UnaryOp):
@@ -117,10 +122,11 @@ class Bindings:
             return up.type == "->" and self.plain_path(parents, standing)
         return isinstance(up, tree.ArrayRef) and up.name is node and self.plain_path(parents, standing)
 
-    def plain_path(self, parents: tuple[Any, ...], standing: set[Variable]) -> bool:
+    def plain_path(self, parents: tuple[tree.Node, ...], standing: set[Variable]) -> bool:
         """Whether the address of what a path of members and elements names stays with parameters of this kind."""
         node, parents = parents[-1], parents[:-1]
-        up, array = parents[-1], isinstance(self.names.constants.type_of(node), Array)
+        up = parents[-1]
+        array = isinstance(node, tree.Expression) and isinstance(self.names.constants.type_of(node), Array)
         if isinstance(up, tree.StructRef) and up.name is node and up.type == ".":
             return self.plain_path(parents, standing)
         if array and isinstance(up, tree.ArrayRef) and up.name is node:
@@ -133,7 +139,7 @@ class Bindings:
             return self.argument(node, parents) in standing or (isinstance(up, tree.UnaryOp) and up.op == "sizeof")
         return True
 
-    def argument(self, node: Any, parents: tuple[Any, ...]) -> Optional[Variable]:
+    def argument(self, node: tree.Node, parents: tuple[tree.Node, ...]) -> Optional[Variable]:
         """The parameter to which an expression is handed, where it is an argument of a call of a function that is known."""
         if len(parents) < 2 or not isinstance(parents[-1], tree.ExprList) or not isinstance(parents[-2], tree.FuncCall):
             return None
@@ -142,7 +148,7 @@ class Bindings:
         known = isinstance(called, Function) and called.definition is not None and at < len(called.parameters)
         return called.parameters[at] if known and isinstance(called, Function) else SOMEWHERE
 
-    def is_null(self, node: Any) -> bool:
+    def is_null(self, node: tree.Expression) -> bool:
         """Whether an expression is a null pointer constant (6.3.2.3p3)."""
         while isinstance(node, tree.Cast):
             node = node.expr
@@ -156,7 +162,7 @@ class Bindings:
         given = [arguments(call)[at] for _, call in function.calls if at < len(arguments(call))]
         return all(self.is_object(node, standing) for node in given)
 
-    def is_object(self, node: Any, standing: set[Variable]) -> bool:
+    def is_object(self, node: tree.Expression, standing: set[Variable]) -> bool:
         """Whether an argument is the address of a named object, an array by its name, or a parameter that stands for
         an object."""
         if isinstance(node, tree.UnaryOp) and node.op == "&":
@@ -214,7 +220,7 @@ class Bindings:
         parameter.binding = one if same and known else "copy"
         return True
 
-    def target(self, given: Any, lent: bool) -> Place:
+    def target(self, given: tree.Expression, lent: bool) -> Place:
         """What an argument hands over; what a pointer points to is an object of its own here."""
         try:
             return self.places.whole_array(given) if lent else self.places.handed(given)
@@ -235,6 +241,7 @@ class Bindings:
             if len(targets) > 1 or not called:
                 raise Refused(parameter.coord, "no array of one length", "hand over whole arrays of one length")
             return False
-        of = parameter.type.to if isinstance(parameter.type, Pointer) else parameter.type.of  # type: ignore[union-attr]
+        of = kinds.behind(parameter.type)
+        assert of is not None
         parameter.type, parameter.binding = Array(of, lengths.pop()), "lent"
         return True

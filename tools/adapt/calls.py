@@ -1,24 +1,23 @@
 """Writes calls: what they hand over, what they hand back, and that no two names of one object meet."""
 
 from contextlib import contextmanager
-from typing import Any, Iterator, Optional
+from collections.abc import Iterator
+from typing import Optional
 
 from . import kinds, tree
 from .bindings import key
 from .component import Component
 from .constants import is_offset
-from .declarators import Function, Variable
 from .effects import Object, may_be, objects, pointee
 from .heap import heap_call
 from .initialisers import none_of
-from .kinds import Int, Pointer, Struct
+from .kinds import INDEX, Int, Pointer, Struct
 from .library import OUTPUT
-from .places import Place, arguments
-from .refusals import Refused
-from .regions import INDEX
-
-from .values import PRIMARY, Value
 from .models import Model, model_of
+from .objects import Function, Place, Variable
+from .places import arguments
+from .refusals import Refused
+from .values import PRIMARY, Value
 
 MOST_ELEMENTS = 1024
 
@@ -26,15 +25,15 @@ MOST_ELEMENTS = 1024
 class Calls(Component):
     """The calls of one function (6.5.2.2)."""
 
-    def called(self, node: Any) -> Function:
+    def called(self, node: tree.FuncCall) -> Function:
         """The function that a call calls. Raises Refused where it calls what is no function."""
-        function = self.writer.places.choosers.called(node)
+        function = self.writer.choosers.called(node)
         if not isinstance(function, Function):
             self.writer.pointers.pointer(node.name)
             raise Refused(node.coord, "a call of what is no function", "call functions by their names")
         return function
 
-    def call(self, node: Any) -> tuple[str, list[str]]:
+    def call(self, node: tree.FuncCall) -> tuple[str, list[str]]:
         """A call's text, and the statements that must follow it. Raises Refused for a wrong number of arguments, and
         for two names of one object."""
         function = self.called(node)
@@ -68,9 +67,9 @@ class Calls(Component):
                 self.argument(argument, parameter, function, texts, after)
         return f"{self.writer.at(node)}{function.out}({', '.join(texts)})", after
 
-    def chosen_by(self, node: Any, function: Function) -> list[str]:
+    def chosen_by(self, node: tree.FuncCall, function: Function) -> list[str]:
         """Of a call by a pointer the number of the function, which is its first argument."""
-        if self.writer.places.choosers.targets(function) is None:
+        if self.writer.choosers.targets(function) is None:
             return []
         function.out = function.out or self.writer.spelling.fresh(function.name)
         self.writer.order.unsequenced(node, [node.name, *arguments(node)])
@@ -86,7 +85,7 @@ class Calls(Component):
             self.writer.names.refusals.apart.update(key(one) for one in bound)
             raise
 
-    def takes_model(self, node: Any, model: Model) -> bool:
+    def takes_model(self, node: tree.FuncCall, model: Model) -> bool:
         """Whether a call is one of a library's function by its model. Raises Refused where it is declared otherwise
         than in the library."""
         if len(arguments(node)) != len(model.parameters):
@@ -96,7 +95,7 @@ class Calls(Component):
         return True
 
     def argument(
-        self, argument: Any, parameter: Variable, function: Function, texts: list[str], after: list[str]
+        self, argument: tree.Expression, parameter: Variable, function: Function, texts: list[str], after: list[str]
     ) -> None:
         """What stands for an argument, and what follows the call for it."""
         if isinstance(parameter.type, Int):
@@ -126,11 +125,11 @@ class Calls(Component):
                 if leaf.path in back:
                     after.append(f"{elements[0]} = {self.writer.spelling.leaf(own, leaf.path)};")
 
-    def handed(self, place: Place, argument: Any, index: Optional[Value]) -> list[str]:
+    def handed(self, place: Place, argument: tree.Expression, index: Optional[Value]) -> list[str]:
         """An object's integers as arguments, its arrays lent whole. Raises Refused for an array within an element of
         an array, and for one that lies in a column."""
         texts = []
-        columns = self.writer.places.columns
+        columns = self.writer.columns
         for leaf, elements in self.writer.elements.integers(place, index):
             if leaf.dims and (self.writer.places.is_raw(place) or columns.is_apart(place.region, leaf.path)):
                 raise Refused(
@@ -149,7 +148,7 @@ class Calls(Component):
             )
         return texts
 
-    def apart(self, node: Any, function: Function) -> None:
+    def apart(self, node: tree.FuncCall, function: Function) -> None:
         """Refuses a call in which a copied object has a second name, and one of both is written. Raises Refused then."""
         summary = self.writer.effected.summary_of(function)
         seen: list[tuple[Object, bool, bool]] = []
@@ -190,7 +189,7 @@ class Calls(Component):
                     "let it reach the object in one way alone",
                 )
 
-    def call_value(self, node: Any) -> Value:
+    def call_value(self, node: tree.FuncCall) -> Value:
         """The value of a call; what follows the call is written before it is used. Raises Refused for one that gives
         no integer."""
         if is_offset(node):
@@ -209,7 +208,7 @@ class Calls(Component):
                 self.writer.emit(one)
         return self.writer.conversions.truth(made) if function.result.boolean else made
 
-    def call_effect(self, node: Any) -> None:
+    def call_effect(self, node: tree.FuncCall) -> None:
         """Writes a call as a statement; calls that record nothing are left out, but not what their arguments do."""
         function = self.called(node)
         if function.name in ("assert", "assume") and function.definition is None:
@@ -245,11 +244,11 @@ class Calls(Component):
 
     def declared(self, variable: Variable) -> None:
         """Writes a local's declaration without values; pointers are null, so that their use is seen."""
-        if self.writer.places.columns.in_column(variable):
+        if self.writer.columns.in_column(variable):
             return
-        region = self.writer.places.columns.home(variable)
+        region = self.writer.columns.home(variable)
         for leaf in kinds.leaves(variable.type):
-            if self.writer.places.columns.is_apart(region, leaf.path):
+            if self.writer.columns.is_apart(region, leaf.path):
                 continue
             length = f"[{leaf.count}]" if leaf.dims else ""
             null = none_of(leaf)

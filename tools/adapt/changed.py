@@ -1,12 +1,12 @@
 """What a function that no source defines may do to the objects that it is handed: an object at a pointer that isn't to const has any
 values behind the call, each of its integers an input of its own."""
 
-from typing import Any, Optional
+from typing import Optional
 
 from . import kinds, tree
-from .declarators import Function
 from .kinds import Array, Pointer, Struct
-from .places import Place, arguments
+from .objects import Function, Place
+from .places import Places, arguments
 from .refusals import Refused
 
 MOST_CHANGED = 64
@@ -21,14 +21,15 @@ CHANGING = set(
 
 def takes_const(function: Function, number: int) -> bool:
     """Whether a parameter is a pointer to what is const, or one of those that are any number of a function that only reads."""
-    written = function.declaration.type.args.params if function.declaration.type.args else []
-    if number >= len(written) or isinstance(written[number], tree.EllipsisParam):
+    one = function.written[number] if number < len(function.written) else None
+    if one is None or isinstance(one, tree.EllipsisParam):
         return function.variadic and function.name not in CHANGING
-    of = written[number].type
-    return isinstance(of, tree.PtrDecl) and "const" in (getattr(of.type, "quals", None) or [])
+    of = one.type if isinstance(one, (tree.Decl, tree.Typename)) else None
+    to = of.type if isinstance(of, tree.PtrDecl) else None
+    return isinstance(to, (tree.TypeDecl, tree.PtrDecl)) and "const" in (to.quals or [])
 
 
-def handed(places: Any, function: Function, number: int, argument: Any) -> Optional[Place]:
+def handed(places: Places, function: Function, number: int, argument: tree.Expression) -> Optional[Place]:
     """The object that a call may change by an argument, where its integers are known and few."""
     if takes_const(function, number):
         return None
@@ -41,7 +42,7 @@ def handed(places: Any, function: Function, number: int, argument: Any) -> Optio
     try:
         place = (
             places.place(argument.expr)
-            if whole
+            if isinstance(argument, tree.UnaryOp) and whole
             else places.place(argument)
             if isinstance(of, Array)
             else places.pointed(argument)
@@ -54,7 +55,7 @@ def handed(places: Any, function: Function, number: int, argument: Any) -> Optio
     return place if few and plain and kinds.has_bytes(place.type) else None
 
 
-def changed(places: Any, node: Any, function: Any, inputs: set[str]) -> list[Place]:
+def changed(places: Places, node: tree.FuncCall, function: Optional[Function], inputs: set[str]) -> list[Place]:
     """The objects that a call may change."""
     if not isinstance(function, Function) or function.definition is not None or function.name not in inputs:
         return []

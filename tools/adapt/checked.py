@@ -1,9 +1,9 @@
 """The parts of the writer that write operations as calls where overflow.py says so (--check-overflow, --check-conversions): each does
 what it doesn't check as the part that it stands for."""
 
-from typing import TYPE_CHECKING, Any
+from typing import TYPE_CHECKING
 
-from . import kinds, overflow_texts
+from . import kinds, overflow_texts, tree
 from .assignments import Assignments
 from .conversions import Conversions
 from .expressions import Expressions
@@ -23,16 +23,16 @@ class CheckedExpressions(Expressions):
         super().__init__(writer)
         self.overflow = overflow
 
-    def inner_value(self, node: Any) -> Value:
+    def inner_value(self, node: tree.Expression) -> Value:
         """The value, with the numbers between which a constant lies."""
         made = super().inner_value(node)
         known = None if isinstance(made, Ranged) or made.kind.boolean else self.writer.constants.value(node)
         if known is not None:
-            made = Ranged(**vars(made), low=known, high=known)
+            made = Ranged(made.text, made.kind, made.level, made.truth, made.calls, known, known)
         self.overflow.last = node, made
         return made
 
-    def binary(self, node: Any) -> Value:
+    def binary(self, node: tree.BinaryOp) -> Value:
         """An operation that can overflow becomes a call; within no function, as in first values, all stays."""
         is_size = self.is_size(node.left) and self.is_size(node.right)
         both = (node.left, node.right) if node.op in CHECKED + KNOWN and not is_size else ()
@@ -43,7 +43,7 @@ class CheckedExpressions(Expressions):
         made = self.overflow.checked(node, node.op, left, right) if node.op in CHECKED else None
         return made or self.overflow.unchecked(node.op, left, right)
 
-    def unary(self, node: Any) -> Value:
+    def unary(self, node: tree.UnaryOp) -> Value:
         """A negation that can overflow becomes a call (6.5.3.3p3)."""
         if node.op != "-" or self.writer.function is None:
             return super().unary(node)
@@ -63,11 +63,11 @@ class CheckedAssignments(Assignments):
         super().__init__(writer)
         self.overflow = overflow
 
-    def assign(self, node: Any, stable: bool = False) -> tuple[str, Int]:
+    def assign(self, node: tree.Assignment, stable: bool = False) -> tuple[str, Int]:
         """An assignment whose target stays the same, since it is written twice."""
         return super().assign(node, stable or node.op != "=")
 
-    def assignment(self, node: Any, target: str, kind: Int, given: Value, other: bool) -> str:
+    def assignment(self, node: tree.Assignment, target: str, kind: Int, given: Value, other: bool) -> str:
         """A compound assignment as a plain one of the checked operation (6.5.16.2p3)."""
         op = node.op[:-1]
         if not op or kind.boolean and not self.overflow.overflows:
@@ -80,18 +80,18 @@ class CheckedAssignments(Assignments):
         self.overflow.last = node, whole
         return f"{target} = {self.writer.conversions.converted(whole, kind).text};"
 
-    def operated(self, node: Any, op: str, own: Value, given: Value) -> Value:
+    def operated(self, node: tree.Expression, op: str, own: Value, given: Value) -> Value:
         """The checked operation on a part of an integer."""
         made = self.overflow.checked(node, op, own, given) if op in CHECKED else None
         made = self.overflow.unchecked(op, own, given) if made is None else made
         self.overflow.last = node, made
         return made
 
-    def step(self, node: Any, stable: bool = False) -> tuple[str, Int]:
+    def step(self, node: tree.UnaryOp, stable: bool = False) -> tuple[str, Int]:
         """The target of a step, which stays the same, since it is written twice."""
         return super().step(node, True)
 
-    def stepping(self, node: Any, target: str, kind: Int) -> str:
+    def stepping(self, node: tree.UnaryOp, target: str, kind: Int) -> str:
         """A step as an assignment of the checked sum or difference (6.5.2.4p2)."""
         one = Value("1", kinds.INT, PRIMARY)
         own, op = Value(target, kind, PRIMARY), node.op[-1]

@@ -2,11 +2,9 @@
 
 from .bindings import key
 from .component import Component
-
-from .declarators import Function
 from .effects import pointee
 from .kinds import Array, Int, Pointer, Struct, Type
-from .places import Place
+from .objects import Function, Place
 from .refusals import Refused
 
 

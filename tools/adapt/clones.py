@@ -2,34 +2,37 @@
 call by a pointer that meets one of them alone. What is copied is learned by a first reading, in which the types meet (learning.py)."""
 
 import copy
-from typing import Any, Callable
+from collections.abc import Callable
+from typing import TypeVar
 
 from . import tree
-from .reading import Unit
+from .learned import CopiedFunction, DirectCall, Learned
 from .tree import walk
+from .unit import Unit
 
 MOST_COPIES, MOST_NODES = 8, 400
+Copied = TypeVar("Copied", tree.Decl, tree.FuncDef)
 
 
 class Clones:
     """Copies functions in the trees of the units. `fresh` gives a name that nothing else has."""
 
-    def __init__(self, units: list[Unit], learned: set[Any], fresh: Callable[[str], str]) -> None:
+    def __init__(self, units: list[Unit], learned: set[Learned], fresh: Callable[[str], str]) -> None:
         self.fresh = fresh
-        direct = {one[:4]: one[4] for one in learned if one[0] == "direct"}
-        names = {one[2] for one in learned if one[0] == "copied"}
+        direct = {one.at: one.name for one in learned if isinstance(one, DirectCall)}
+        names = {one.name for one in learned if isinstance(one, CopiedFunction)}
         for unit in units if names else []:
             for node in walk(unit.tree) if direct else []:
-                spot = node.coord and ("direct", str(node.coord.file), str(node.coord.line), str(node.coord.column))
-                if isinstance(node, tree.FuncCall) and not isinstance(node.name, tree.ID) and spot in direct:
-                    node.name = tree.ID(direct[spot], node.coord)
+                is_call = isinstance(node, tree.FuncCall) and not isinstance(node.name, tree.ID)
+                if isinstance(node, tree.FuncCall) and is_call and node.coord in direct:
+                    node.name = tree.ID(direct[node.coord], node.coord)
             items = [one for one in unit.tree.ext if isinstance(one, tree.FuncDef) and one.decl.name in names]
             for item in reversed(items):
                 if len(walk(item)) <= MOST_NODES and not self.keeps(item):
                     self.copied(unit, item)
 
     @staticmethod
-    def keeps(item: Any) -> bool:
+    def keeps(item: tree.FuncDef) -> bool:
         """Whether a function has static objects, or calls itself."""
         name = item.decl.name
         return any(
@@ -38,14 +41,11 @@ class Clones:
             for one in walk(item)
         )
 
-    def copied(self, unit: Unit, item: Any) -> None:
+    def copied(self, unit: Unit, item: tree.FuncDef) -> None:
         """Copies a function for each call of it, with its first declaration."""
-        name = item.decl.name
-        calls: list[Any] = [
-            node
-            for node in walk(unit.tree)
-            if isinstance(node, tree.FuncCall) and isinstance(node.name, tree.ID) and node.name.name == name
-        ]
+        name = item.decl.name or ""
+        called = [node.name for node in walk(unit.tree) if isinstance(node, tree.FuncCall)]
+        calls = [one for one in called if isinstance(one, tree.ID) and one.name == name]
         made, heads, other = [], [], ""
         first = next((one for one in unit.tree.ext if isinstance(one, tree.Decl) and one.name == name), None)
         for number, call in enumerate(calls):
@@ -54,7 +54,7 @@ class Clones:
                 made.append(self.renamed(item, other))
                 if first is not None:
                     heads.append(self.renamed(first, other))
-            call.name.name = other
+            call.name = other
         at = next(number for number, one in enumerate(unit.tree.ext) if one is item)
         unit.tree.ext[at + 1 : at + 1] = made
         if first is not None:
@@ -62,10 +62,11 @@ class Clones:
             unit.tree.ext[at + 1 : at + 1] = heads
 
     @staticmethod
-    def renamed(item: Any, name: str) -> Any:
+    def renamed(item: Copied, name: str) -> Copied:
         """A copy of a declaration or a function by another name, which is static."""
         made = copy.deepcopy(item)
         decl = made.decl if isinstance(made, tree.FuncDef) else made
+        assert isinstance(decl, tree.Decl)
         decl.storage = ["static"]
         tree.rename(decl, name)
         return made

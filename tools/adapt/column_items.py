@@ -1,21 +1,17 @@
 """Writes the columns with the first values of what lies in them, and what parameters hand into them."""
 
 import re
-from typing import Any
-
-from . import kinds
+from . import kinds, tree
 from .bindings import key
 from .calls import MOST_ELEMENTS
 from .component import Component
-from .declarators import Function, Variable
 from .effects import pointee
 from .initialisers import Part, filled, none_of
-from .kinds import Int, Path, Pointer
+from .kinds import Int, Path, Pointer, Region
+from .objects import Function, Place, Variable
 from .output import File, unmarked
-from .places import Place
 from .pointers import MOST
 from .refusals import Refused
-from .regions import Region
 
 
 def product(lengths: tuple[int, ...]) -> int:
@@ -31,20 +27,19 @@ class ColumnItems(Component):
 
     def write_columns(self) -> None:
         """Writes the columns, before all else; those that have the name of a file's object with its own words."""
-        columns = self.writer.places.columns
+        columns = self.writer.columns
         columns.named(self.writer.spelling)
         given = self.column_values()
         path = next((unit.files[0] for unit, _ in self.writer.names.items if unit.files), "")
         self.writer.original, self.writer.closings = path, {}
-        self.writer.line = min(
-            (item.coord.line for _, item in self.writer.names.items if str(item.coord.file) == path), default=1
-        )
+        lines = [item.where.line for _, item in self.writer.names.items if item.where.file == path]
+        self.writer.line = min(lines, default=1)
         self.writer.begin = (path, self.writer.line, len(columns.made))
         if not columns.made:
             return
         self.writer.file = self.writer.files.setdefault(path, File(path))
         for region in columns.made:
-            self.writer.names.refusals.go(region.column.coord)
+            self.writer.names.refusals.go(region.laid.coord)
             with self.writer.names.refusals.gathered():
                 self.write_column(region, given)
         self.writer.begin = (path, self.writer.line, len(self.writer.file.pieces))
@@ -52,12 +47,12 @@ class ColumnItems(Component):
     def write_column(self, region: Region, given: dict[tuple[Variable, Path], dict[int, str]]) -> None:
         """Writes one column, an array for each integer of its elements. Raises Refused where its objects can't lie in
         one, or are too many."""
-        column = region.column
+        column = region.laid
         if region.fault:
             raise Refused(*region.fault)
         self.writer.units.check_type(column)
         for leaf in kinds.leaves(column.type):
-            if self.writer.places.columns.is_apart(region, leaf.path):
+            if self.writer.columns.is_apart(region, leaf.path):
                 continue
             values = [none_of(leaf)] * leaf.count
             for at, text in given.get((column, leaf.path), {}).items():
@@ -82,13 +77,11 @@ class ColumnItems(Component):
     def column_values(self) -> dict[tuple[Variable, Path], dict[int, str]]:
         """The first values that lie in columns, by the column, the members and the number of the element."""
         found: dict[tuple[Variable, Path], dict[int, str]] = {}
-        for variable in [*self.writer.names.variables, *self.writer.places.columns.points.texts.values()]:
+        for variable in [*self.writer.names.variables, *self.writer.columns.points.texts.values()]:
             if variable.init is None or variable.home in ("local", "parameter"):
                 continue
-            region = self.writer.places.columns.home(variable)
-            if not self.writer.places.columns.in_column(variable) and not self.writer.places.columns.any_apart(
-                region, variable.type
-            ):
+            region = self.writer.columns.home(variable)
+            if not self.writer.columns.in_column(variable) and not self.writer.columns.any_apart(region, variable.type):
                 continue
             self.writer.names.refusals.go(variable.coord)
             with self.writer.names.refusals.gathered():
@@ -108,7 +101,7 @@ class ColumnItems(Component):
                             found.setdefault((place.variable, place.path), {})[int(index.text)] = text
         return found
 
-    def first_number(self, node: Any, kind: Int) -> str:
+    def first_number(self, node: tree.Expression, kind: Int) -> str:
         """A first value as a number. Raises Refused where it is no constant."""
         if isinstance(node, Part):
             text = unmarked(self.writer.expressions.value(node).text)
@@ -126,9 +119,9 @@ class ColumnItems(Component):
         for one in function.parameters:
             if isinstance(one.binding, Place) or one.binding == "lent":
                 continue
-            region, of = self.writer.places.columns.home(one), pointee(one)
+            region, of = self.writer.columns.home(one), pointee(one)
             place = self.writer.places.of_variable(one)
-            if place.variable.home != "column" and not self.writer.places.columns.any_apart(region, of):
+            if place.variable.home != "column" and not self.writer.columns.any_apart(region, of):
                 continue
             with self.writer.names.refusals.gathered():
                 if one.is_bound and isinstance(one.type, Pointer):
@@ -137,7 +130,7 @@ class ColumnItems(Component):
                 for leaf, texts in self.writer.pointer_effects.each_integer(
                     place, self.writer.elements.index(place, True) if place.shifted() else None
                 ):
-                    if place.variable.home == "column" or self.writer.places.columns.is_apart(region, leaf.path):
+                    if place.variable.home == "column" or self.writer.columns.is_apart(region, leaf.path):
                         name = self.writer.spelling.leaf(one, leaf.path)
                         for at, text in enumerate(texts):
                             self.writer.emit(f"{text} = {name}{f'[{at}]' if leaf.dims else ''};")

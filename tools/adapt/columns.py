@@ -1,38 +1,38 @@
 """The columns: for each region to which a pointer may point an array that has all of its objects, one behind the other."""
 
-from typing import Any, Optional, Union
+from typing import Optional
 
-from . import kinds
-from .declarators import Variable
-from .heap import bytes_asked, call_key, heap_call
-from .kinds import Array, Path, Pointer, Type
+from . import kinds, tree
+from .heap import bytes_asked, heap_call
+from .kinds import Array, Path, Pointer, Region, Type
+from .learned import HeapCall, Learned
 from .learning import learn
 from .names import Names
+from .objects import Function, Variable
+from .places import Owner
 from .points_to import PointsTo
 from .refusals import Refused
-from .regions import Region
 from .spelling import Spelling
-
-Owner = Union[Variable, tuple[Region, str]]  # an object, or the member of all elements of another region
 
 
 class Columns:
     """The columns of all regions to which pointers are made. `begins` has where each object begins in its own,
     `counts` how many elements they have."""
 
-    def __init__(self, names: Names, learned: set[Any]) -> None:
+    def __init__(self, names: Names, learned: set[Learned]) -> None:
         self.names, self.points = names, PointsTo(names, learned)
         self.pools = {pool.variable: pool for pool in self.points.pools.values()}
         for caller, node in self.points.pointer_calls:
             targets = self.pointer(node.name).region.root().targets
             heap = {heap_call(target) for target in targets}
-            if len(heap) == 1 and "" not in heap and node.coord:
-                names.refusals.apart.add(call_key(node, heap.pop()))
+            if len(heap) == 1 and "" not in heap and node.coord is not None:
+                names.refusals.apart.add(HeapCall(node.coord, heap.pop()))
             for target in targets:
                 target.calls.append((caller, node))
         learn(names, self.points, names.refusals.apart)
         self.begins: dict[tuple[Region, Owner], int] = {}
-        self.counts: dict[Region, Optional[int]] = {}
+        self.counts: dict[Region, int] = {}
+        self.open: set[Region] = set()  # those that are laid out now
         self.inner: dict[Region, list[tuple[Region, str]]] = {}
         self.regions = self.known()
         for region in self.regions:
@@ -41,7 +41,7 @@ class Columns:
         self.made = [region for region in self.regions if region.pointed and not self.is_function(region)]
         for region in self.made:
             self.lay_out(region)
-        self.of_column = {region.column: region for region in self.made}
+        self.of_column = {region.laid: region for region in self.made}
         self.check_locals()
 
     def known(self) -> list[Region]:
@@ -68,17 +68,17 @@ class Columns:
         """Gives each object of a region its begin; how many elements there are. Raises Refused for an object that
         lies within itself by a pointer."""
         if region in self.counts:
-            count = self.counts[region]
-            if count is None:
-                raise Refused(None, "an object that lies within itself by a pointer", "use objects apart")
-            return count
-        self.counts[region] = None
+            return self.counts[region]
+        if region in self.open:
+            raise Refused(None, "an object that lies within itself by a pointer", "use objects apart")
+        self.open.add(region)
         if region.elem is None or region.elem == kinds.VOID or self.points.is_open(region.elem):
             region.elem = kinds.Int(8, False, "unsigned char")
         end, objects = 0, 0
         owners: list[Owner] = [*region.objects, *self.inner.get(region, [])]
         for owner in owners:
-            count, each = self.pool(owner, region) if owner in self.pools else self.extent(owner)
+            is_pool = isinstance(owner, Variable) and owner in self.pools
+            count, each = self.pool(owner, region) if isinstance(owner, Variable) and is_pool else self.extent(owner)
             end = (
                 -(-end // 8) * 8 if region.raw else end
             )  # (as aligned as their objects are, so that a test of it tells the same)
@@ -92,24 +92,24 @@ class Columns:
         self.column(region, end, alone)
         return end
 
-    def pool(self, owner: Any, region: Region) -> tuple[int, int]:
+    def pool(self, owner: Variable, region: Region) -> tuple[int, int]:
         """How many elements the memory of a call of malloc has, and how many objects."""
-        pool, size = self.pools[owner], kinds.size(region.elem) or 1
+        pool, size = self.pools[owner], kinds.size(region.type) or 1
         try:
             asked = bytes_asked(self.names.constants, pool.node, pool.called)
         except Refused:
             asked = None  # (told where it is written)
         pool.count = self.names.pool[1] if asked is None else max(1, asked // size)
-        owner.type = Array(region.elem, pool.slots * pool.count)
+        owner.type = Array(region.type, pool.slots * pool.count)
         return pool.slots * pool.count, pool.slots
 
     def extent(self, owner: Owner) -> tuple[int, int]:
         """How many elements an owner has, and how many objects these are."""
         if isinstance(owner, Variable):
-            of = owner.type.to if owner.is_bound and isinstance(owner.type, Pointer) else owner.type
-            return self.points.count(of, self.points.home(owner)), 1
+            whole = owner.type.to if owner.is_bound and isinstance(owner.type, Pointer) else owner.type
+            return self.points.count(whole, self.points.home(owner)), 1
         outer, name = owner
-        of = outer.elem.type_of(name)
+        of = kinds.member(outer.type, name)
         owners: list[Owner] = [*outer.objects, *self.inner.get(outer, [])]
         count = self.lay_out(outer) if outer.pointed else sum(self.extent(one)[0] for one in owners)
         return count * self.points.count(of, outer.member(name, kinds.element(of))), count
@@ -117,7 +117,7 @@ class Columns:
     def column(self, region: Region, count: int, alone: Optional[Variable]) -> None:
         """Makes the variable of a region's column."""
         coord = region.objects[0].coord if region.objects else None
-        made = Variable(alone.name if alone else "r", Array(region.elem, count), coord, "column", defined=True)
+        made = Variable(alone.name if alone else "r", Array(region.type, count), coord, "column", defined=True)
         made.const = bool(region.objects) and all(one.const for one in region.objects) and not self.inner.get(region)
         region.column = made
 
@@ -129,9 +129,9 @@ class Columns:
                     cause = f"the address of {one.name} is taken in {one.function.name}, which calls itself"
                     self.names.refusals.add(one.coord, cause, "hand over an object of the caller")
 
-    def recurs(self, function: Any) -> bool:
+    def recurs(self, function: Function) -> bool:
         """Whether a function may be called while it runs."""
-        seen, rest = set(), [function]
+        seen, rest = set[Function](), [function]
         while rest:
             one = rest.pop()
             for other in self.names.functions:
@@ -152,12 +152,16 @@ class Columns:
             owner = next(one for one in self.inner[region] if one[0] is owner[0] and one[1] == owner[1])
         return self.begins[(region, owner)]
 
-    def pointer(self, node: Any) -> Pointer:
+    def pointer(self, node: tree.Expression) -> Pointer:
         """The type of a pointer's value, with its region. Raises Refused for what is no pointer."""
         of = self.points.value(node)
         if not isinstance(of, Pointer):
             raise Refused(node.coord, "what is no pointer", "use a pointer")
         return of
+
+    def count(self, of: Type, region: Region) -> int:
+        """How many elements an object takes in a column."""
+        return self.points.count(of, region)
 
     def number(self, region: Region) -> int:
         """The number of a region among all."""
@@ -180,15 +184,15 @@ class Columns:
         """Where a leaf of a region's elements lies: the column, the members there, and by what an element's number is multiplied
         and what is added for the leaf's first one."""
         inside: Path = ()
-        variable, factor, add = region.column, 1, 0
+        variable, factor, add = region.laid, 1, 0
         at: Optional[Region] = region
         for name in path:
-            of = at.root().elem.type_of(name) if at is not None and not name.startswith("@") else None
+            of = kinds.member(at.root().type, name) if at is not None and not name.startswith("@") else None
             inner = at.root().members.get(name) if at is not None else None
             count = kinds.elements(of) if of is not None else 1
             factor, add = factor * count, add * count
             if inner is not None and inner.root().column is not None and at is not None:
-                variable, inside = inner.root().column, ()
+                variable, inside = inner.root().laid, ()
                 add += self.begin(inner.root(), (at.root(), name))
             else:
                 inside = inside + (name,)
@@ -208,9 +212,9 @@ class Columns:
         for region in self.made:
             alone = region.objects[0] if len(region.objects) == 1 and not self.inner.get(region) else None
             if alone is not None and alone.shared and alone.out and alone.out not in hidden:
-                region.column.out = alone.out
+                region.laid.out = alone.out
             elif alone is not None and alone.home != "text":
                 stem = f"{alone.function.name}_{alone.name}" if alone.function else alone.name
-                region.column.out = spelling.fresh(stem, True)
+                region.laid.out = spelling.fresh(stem, True)
             else:
-                region.column.out = spelling.fresh("text" if alone is not None else "r")
+                region.laid.out = spelling.fresh("text" if alone is not None else "r")

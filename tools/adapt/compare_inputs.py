@@ -5,8 +5,8 @@ from collections.abc import Iterator
 from dataclasses import dataclass
 
 from .compare_texts import Texts
-from .declarators import Function
 from .kinds import Array, Int, Struct, Type
+from .objects import Function
 
 CALLS, ANSWERS = 6, 40
 RANDOM, BOUNDARY = "random", "boundary"

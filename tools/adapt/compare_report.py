@@ -3,7 +3,6 @@
 import json
 import os
 from collections.abc import Iterable
-from typing import Any
 
 from tools import compared as reports
 from tools.source_map import sum_of
@@ -11,8 +10,8 @@ from tools.source_map import sum_of
 from .compare import Outcome, Trial
 from .compare_builds import version_of
 from .compare_inputs import BOUNDARY, RANDOM
-from .reading import Unit
 from .refusals import Stop
+from .unit import Unit
 
 
 def bytes_of(path: str) -> bytes:
@@ -29,7 +28,7 @@ def sums(paths: Iterable[str], folder: str) -> dict[str, str]:
     return {os.path.relpath(path, folder): sum_of(bytes_of(path)) for path in paths}
 
 
-def difference(outcome: Outcome, trial: Trial) -> dict[str, Any]:
+def difference(outcome: Outcome, trial: Trial) -> dict[str, object]:
     """What the report has of an input on which runs differ."""
     calls = [outcome.inputs.shown(call) for call in trial.given.calls[: trial.calls]]
     return {

@@ -5,14 +5,14 @@ each call, in a line a call; behind a run stands `=STATUS`.
 """
 
 import os
-from typing import Any, Iterator
+from collections.abc import Iterator
 
 from . import kinds
-from .declarators import Function, Variable
 from .heap import heap_call
 from .kinds import Array, Int, Path, Struct, Type
 from .library import OUTPUT, Spot
 from .models import model_of
+from .objects import Function, Variable
 from .output import FELL, unmarked
 from .parsing import printed
 from .reading import is_system
@@ -106,12 +106,13 @@ def undefined(writer: Writer) -> list[Function]:
 
 def is_in_library(function: Function) -> bool:
     """Whether a header of the system declares a function, so that the original is linked with the library's."""
-    return is_system(str(function.coord.file))
+    return is_system(function.where.file)
 
 
 def answering(writer: Writer, function: Function, answer: str) -> str:
     """The definition of an input function, as the original declares it."""
-    node: Any = function.declaration
+    node = function.declaration
+    assert node is not None
     result = f"return ({kinds.c_words(function.result)}) {answer};" if isinstance(function.result, Int) else ""
     node.storage, node.funcspec = [], []
     return f"{printed(node)} {{ {result} }}\n"
@@ -180,7 +181,8 @@ class Texts:
         lines = []
         for number, one in enumerate(self.entries):
             words = "".join(f" long long adapt_{at} = adapt_word();" for at in range(len(one.parameters)))
-            given = ", ".join(f"({getattr(p.type, 'text', '')}) adapt_{at}" for at, p in enumerate(one.parameters))
+            types = [p.type.text for p in one.parameters if isinstance(p.type, Int)]  # (of an entry all)
+            given = ", ".join(f"({text}) adapt_{at}" for at, text in enumerate(types))
             call = f"{one.out}({given})"
             shown = f"adapt_give((long long) {call});" if isinstance(one.result, Int) else f"{call};"
             lines.append(f"    case {number}: {{{words} {shown} break; }}")
@@ -189,14 +191,14 @@ class Texts:
     def declared(self, function: Function) -> str:
         """A declaration of an entry, for the file that calls it."""
         types = [function.result, *(one.type for one in function.parameters)]
-        words = ["_Bool" if isinstance(of, Int) and of.boolean else getattr(of, "text", "void") for of in types]
+        words = ["void" if not isinstance(of, Int) else "_Bool" if of.boolean else of.text for of in types]
         return f"{words[0]} {function.out}({', '.join(words[1:]) or 'void'});"
 
     def original(self, sources: list[str]) -> list[str]:
         """The files of the original, with guards around its objects."""
         texts = []
         for number, path in enumerate(sources):
-            own = [one for one in self.shared if one.unit.path == path]
+            own = [one for one in self.shared if home_of(one) == path]
             defined = "".join(answering(self.writer, one, "adapt_answer()") for one in self.outer if number == 0)
             around = GUARDS.format(number, "before"), GUARDS.format(number, "behind")
             dump = f"void adapt_dump_{number}(void) {{\n{self.dump(own, False)}\n}}\n"
@@ -225,7 +227,12 @@ class Texts:
     def in_order(self) -> list[Variable]:
         """The compared objects in the order of their sources."""
         units = list(dict.fromkeys(unit.path for unit, _ in self.writer.names.items))
-        return sorted(self.shared, key=lambda one: units.index(one.unit.path))
+        return sorted(self.shared, key=lambda one: units.index(home_of(one)))
+
+
+def home_of(variable: Variable) -> str:
+    """The source that declares a variable first."""
+    return variable.unit.path if variable.unit is not None else ""
 
 
 def copied(made: dict[str, str], folder: str) -> str:

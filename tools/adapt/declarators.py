@@ -1,86 +1,14 @@
-"""What names stand for, and the type that a declarator or a type name gives (6.7.2, 6.7.6)."""
+"""The type that a declarator or a type name gives (6.7.2, 6.7.6)."""
 
-from dataclasses import dataclass, field
-from typing import TYPE_CHECKING, Any, Optional
+from typing import TYPE_CHECKING
 
 from . import kinds, tree
 from .kinds import Array, Int, Other, Pointer, Signature, Struct, Type
+from .objects import Enumerator
 from .refusals import Refused
 
 if TYPE_CHECKING:
     from .names import Names
-
-
-@dataclass(eq=False)
-class Variable:
-    """An object. `home` is file, static (within a function), local, parameter or column; `binding` is how a parameter that
-    is a pointer is written: the variable and the members of the one object that it points to, "copy", "lent", or "pointer"
-    where it is one as any other."""
-
-    name: str
-    type: Type
-    coord: Any
-    home: str
-    init: Any = None
-    function: Optional["Function"] = None
-    defined: bool = False
-    const: bool = False
-    binding: Any = None
-    out: str = ""
-    unit: Any = None
-    number: int = 0  # of the item in which it is first declared
-    volatile: bool = False
-
-    @property
-    def is_input(self) -> bool:
-        """Whether it is a register: a volatile integer that no source defines, so that each read of it is an input."""
-        return self.volatile and self.home == "file" and not self.defined and isinstance(self.type, Int)
-
-    @property
-    def shared(self) -> bool:
-        """Whether several functions may name it."""
-        return self.home in ("file", "static", "column")
-
-    @property
-    def is_bound(self) -> bool:
-        """Whether it is a parameter that stands for an object."""
-        return self.home == "parameter" and self.binding != "pointer"
-
-
-@dataclass(eq=False)
-class Function:
-    """A function of the sources, declared or defined. `calls` are its calls with who calls, `taken` says that its
-    address is taken."""
-
-    name: str
-    result: Type
-    parameters: list[Variable]
-    coord: Any
-    variadic: bool = False
-    static: bool = False
-    definition: Any = None
-    declaration: Any = None  # the first one
-    out: str = ""
-    calls: list[tuple[Optional["Function"], Any]] = field(default_factory=list)
-    number: int = 0  # of the item that defines it
-    taken: bool = False
-    own_type: Optional[Signature] = None
-
-    @property
-    def type(self) -> Signature:
-        """The type of the function, whose pointers have the regions of its parameters and of its result."""
-        if self.own_type is None:
-            self.own_type = Signature(self.result, [one.type for one in self.parameters], self.variadic)
-        return self.own_type
-
-
-@dataclass
-class Enumerator:
-    """A constant of an `enum`. `out` is its text in what is written: its name, or its number."""
-
-    name: str
-    value: int
-    out: str
 
 
 def bit_field(declared: Int, width: int) -> Int:
@@ -98,7 +26,7 @@ class Declarators:
     def __init__(self, names: "Names") -> None:
         self.names = names
 
-    def type_of(self, node: Any) -> Type:
+    def type_of(self, node: tree.TypeNode | tree.Typename) -> Type:
         """The type that a declarator or a Typename gives. Raises Refused for a type that no object of the profile
         has."""
         if isinstance(node, (tree.Typename, tree.TypeDecl)):
@@ -135,21 +63,21 @@ class Declarators:
             self.names.expression(node.of)
         return kinds.renewed(self.names.constants.type_of(node.of))
 
-    def signature(self, node: Any) -> Signature:
+    def signature(self, node: tree.FuncDecl) -> Signature:
         """The type of a function (6.7.6.3); its parameters are what they are adjusted to."""
-        listed = list(node.args.params) if node.args else []
+        listed = node.params
         own = [self.usable(one.type) for one in listed if isinstance(one, (tree.Decl, tree.Typename))]
         taken = [kinds.adjusted(one) for one in own if one != kinds.VOID]
         return Signature(self.usable(node.type), taken, any(isinstance(one, tree.EllipsisParam) for one in listed))
 
-    def usable(self, node: Any) -> Type:
+    def usable(self, node: tree.TypeNode) -> Type:
         """The type, or one that is refused where it is used."""
         try:
             return self.type_of(node)
         except Refused as refused:
             return Other(refused.cause, refused.advice)
 
-    def named(self, node: Any) -> Type:
+    def named(self, node: tree.IdentifierType) -> Type:
         """The type that words or a typedef's name give (6.7.2p2, 6.7.8); pointers in it get regions of their own."""
         found = self.names.scope.get(node.names[0]) if len(node.names) == 1 else None
         if isinstance(found, (Int, Array, Struct, Pointer, Signature, Other)):
@@ -160,10 +88,11 @@ class Declarators:
             kinds.VOID if node.names == ["void"] else Other(f"the type {' '.join(node.names)}")
         )
 
-    def struct(self, node: Any) -> Struct:
+    def struct(self, node: tree.Struct | tree.Union) -> Struct:
         """The struct or union of a tag, or one without a tag (6.7.2.3); a member that can't be written is its fault."""
-        tag = node.name or f"at line {node.coord.line}"
-        made = self.names.tags.get(tag) if node.name else None
+        tag = node.name or f"at line {node.where.line}"
+        known = self.names.tags.get(tag) if node.name else None
+        made = known if isinstance(known, Struct) else None
         if made is None or (node.decls is not None and node.name and tag not in self.names.tags.maps[0]):
             made = Struct(tag, union=isinstance(node, tree.Union))
             self.names.structs.append(made)
@@ -171,7 +100,7 @@ class Declarators:
                 self.names.tags[tag] = made
         if node.decls is None or made.members is not None:
             return made
-        members = []
+        members: list[tuple[str, Type]] = []
         for one in node.decls:
             if isinstance(one, tree.Decl) and one.bitsize is not None:
                 members += self.bit_field(made, one)
@@ -182,14 +111,16 @@ class Declarators:
                 cause = (one.coord or node.coord, "a member without a name", "use a member of its own")
                 made.fault = made.fault or cause
                 continue
-            members.append((one.name, self.usable(one.type)))
-            made.declared.append((*members[-1], None))
+            of = self.usable(one.type)
+            members.append((one.name, of))
+            made.declared.append((one.name, of, None))
         made.members = members
         return made
 
-    def bit_field(self, made: Struct, node: Any) -> list[tuple[str, Type]]:
+    def bit_field(self, made: Struct, node: tree.Decl) -> list[tuple[str, Type]]:
         """A bit-field, which is an integer of its own; one without a name only takes place (6.7.2.1p9 to p12)."""
         of = self.usable(node.type)
+        assert node.bitsize is not None
         self.names.expression(node.bitsize)
         width = self.names.constants.value(node.bitsize)
         if not isinstance(of, Int) or width is None or 32 < width < of.bits:
@@ -203,11 +134,11 @@ class Declarators:
             return []
         return [(node.name, of if width == of.bits else bit_field(of, width))]
 
-    def enum(self, node: Any) -> Type:
+    def enum(self, node: tree.Enum) -> Type:
         """The type of an enum, whose constants come into scope (6.7.2.2, gcc's choice of the type). Raises Refused
         for one that is no int."""
         if node.values is None:
-            return self.names.tags.get(node.name, kinds.UINT)
+            return self.names.tags.get(node.name or "", kinds.UINT)
         last, least = -1, 0
         for one in node.values.enumerators:
             if one.value is not None:
@@ -228,9 +159,9 @@ class Declarators:
                 or one.name in self.names.enumerators
                 and self.names.enumerators[one.name] != one.coord
             )
-            self.names.scope[one.name] = Enumerator(one.name, last, str(last) if taken else one.name)
+            made = Enumerator(one.name, last, str(last) if taken else one.name)
+            self.names.scope[one.name] = self.names.meaning[one] = made
             self.names.enumerators.setdefault(one.name, one.coord)
-            self.names.meaning[one] = self.names.scope[one.name]
         kind = kinds.INT if least < 0 else kinds.UINT
         if node.name:
             self.names.tags[node.name] = kind

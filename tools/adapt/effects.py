@@ -1,16 +1,17 @@
 """What expressions and calls read and write, and where C leaves an order open in which that matters (6.5p2, 6.5.2.2p10)."""
 
 from dataclasses import dataclass, field
-from typing import Any, Optional
+from typing import Optional
 
 from . import tree
 from .changed import changed
+from .choosers import Choosers
+from .columns import Columns
 from .constants import is_offset
-from .declarators import Function, Variable
-from .kinds import Array, Int, Pointer, Struct, leaves
+from .kinds import Array, Int, Pointer, Struct, Type, leaves
 from .models import Model, model_of
-from .names import Names
-from .places import Place, Places, arguments
+from .objects import Function, Place, Variable
+from .places import Places, arguments
 from .refusals import Refused
 
 STEPS = ("++", "--", "p++", "p--")
@@ -62,8 +63,15 @@ def objects(place: Place) -> list[Object]:
 class Effected:
     """The effects of all functions, and of expressions."""
 
-    def __init__(self, names: Names, places: Places, inputs: set[str]) -> None:
-        self.names, self.places, self.inputs = names, places, inputs
+    def __init__(self, places: Places, columns: Columns, choosers: Choosers, inputs: set[str]) -> None:
+        self.names, self.places, self.columns, self.choosers, self.inputs = (
+            places.names,
+            places,
+            columns,
+            choosers,
+            inputs,
+        )
+        names = self.names
         self.of_function: dict[Function, Effects] = {function: Effects() for function in names.functions}
         self.kept: dict[tree.Node, Effects] = {}
         defined = [function for function in names.functions if function.definition is not None]
@@ -78,6 +86,7 @@ class Effected:
 
     def summary(self, function: Function) -> Effects:
         """The effects of a call on what outlives it: shared objects, and what its parameters stand for."""
+        assert function.definition is not None
         whole, made = self.of(function.definition.body), Effects()
         for ours, theirs in ((made.reads, whole.reads), (made.writes, whole.writes)):
             for one, _ in theirs.items():
@@ -88,16 +97,16 @@ class Effected:
 
     def summary_of(self, function: Function) -> Effects:
         """The effects of a call; of a function that chooses, those of all that it may call."""
-        targets = self.places.choosers.targets(function)
+        targets = self.choosers.targets(function)
         if targets is None:
             return self.of_function[function]
         made = Effects()
         for one in targets:
             if one.definition is None:
                 made.writes[OUTSIDE] = True
-            own: dict[Any, Variable] = dict(zip(one.parameters, function.parameters))
+            own: dict[Optional[Variable], Variable] = dict(zip(one.parameters, function.parameters))
             for ours, theirs in zip((made.reads, made.writes), self.parts(self.of_function[one])):
-                ours.update({(own.get(key[0], key[0]), *key[1:]): True for key in theirs})
+                ours.update({(own.get(variable, variable), path, inner): True for variable, path, inner in theirs})
         return made
 
     @staticmethod
@@ -107,8 +116,8 @@ class Effected:
 
     def is_own(self, one: Object, function: Function) -> bool:
         """Whether a column has objects of this function alone, which end with its call."""
-        region = self.places.columns.of_column.get(one[0]) if one[0] and one[0].home == "column" else None
-        if region is None or self.places.columns.inner.get(region):
+        region = self.columns.of_column.get(one[0]) if one[0] and one[0].home == "column" else None
+        if region is None or self.columns.inner.get(region):
             return False  # (members of other objects lie in it too)
         objects_of = region.objects
         return bool(objects_of) and all(v.function is function and v.home in ("local", "parameter") for v in objects_of)
@@ -121,13 +130,13 @@ class Effected:
             return False
         return isinstance(of, (Pointer, Array)) or (isinstance(of, Struct) and one[2])
 
-    def of(self, node: Any) -> Effects:
+    def of(self, node: tree.Node) -> Effects:
         """The effects of an expression or a statement."""
         if node not in self.kept:
             self.kept[node] = self.made(node)
         return self.kept[node]
 
-    def made(self, node: Any) -> Effects:
+    def made(self, node: tree.Node) -> Effects:
         """The effects of a node, from those of its parts."""
         found = Effects()
         if isinstance(node, tree.UnaryOp) and node.op == "sizeof" or is_offset(node):
@@ -146,12 +155,13 @@ class Effected:
         else:
             for _, child in node.children():
                 found.add(self.of(child))
-            variable = self.names.meaning.get(node) if isinstance(node, tree.Decl) else None
-            if isinstance(variable, Variable) and node.init is not None and variable.home == "local":
+            init = node.init if isinstance(node, tree.Decl) else None
+            variable = self.names.meaning.get(node) if init is not None else None
+            if isinstance(variable, Variable) and variable.home == "local":
                 found.add(Effects({}, {one: False for one in objects(Place(variable, (), (), variable.type))}))
         return found
 
-    def named(self, node: Any, found: Effects, written: bool, read: bool) -> None:
+    def named(self, node: tree.Expression, found: Effects, written: bool, read: bool) -> None:
         """Adds those of naming an object, with its indexes; of what is no named object those of its parts."""
         try:
             place = self.places.place(node)
@@ -172,9 +182,9 @@ class Effected:
         if written:
             found.add(Effects({}, {one: False for one in objects(place)}))
 
-    def called(self, node: Any, found: Effects) -> None:
+    def called(self, node: tree.FuncCall, found: Effects) -> None:
         """Adds those of a call: of its arguments, and what the function may read and write (6.5.2.2p10)."""
-        function = self.places.choosers.called(node)
+        function = self.choosers.called(node)
         model = model_of(function)
         if not isinstance(function, Function) or function.definition is None:
             for argument in arguments(node):
@@ -187,7 +197,7 @@ class Effected:
             for place in changed(self.places, node, function, self.inputs):
                 found.add(Effects({}, {one: True for one in objects(place)}))
             return
-        if self.places.choosers.targets(function) is not None:
+        if self.choosers.targets(function) is not None:
             found.add(self.of(node.name))
         summary = self.summary_of(function)
         shared = Effects(
@@ -203,22 +213,22 @@ class Effected:
             elif not isinstance(parameter.binding, Place):
                 self.handed(argument, parameter, summary, found)
 
-    def modelled(self, node: Any, model: Model, found: Effects) -> None:
+    def modelled(self, node: tree.FuncCall, model: Model, found: Effects) -> None:
         """What a library's function reads and writes: the objects of its pointers, the first written where it isn't const."""
         for argument, parameter in zip(arguments(node), model.parameters):
             if "*" not in parameter:
                 continue
             try:
-                region = self.places.columns.pointer(argument).region.root()
+                region = self.columns.pointer(argument).region.root()
             except Refused:
                 continue
             if region.column is None:
                 continue
-            at = [self.places.columns.leaf_at(region, leaf.path) for leaf in leaves(region.elem)]
+            at = [self.columns.leaf_at(region, leaf.path) for leaf in leaves(region.type)]
             whole: dict[Object, bool] = {(variable, path, True): True for variable, path, _, _ in at}
             found.add(Effects(whole, {} if "const" in parameter else whole))
 
-    def handed(self, argument: Any, parameter: Variable, summary: Effects, found: Effects) -> None:
+    def handed(self, argument: tree.Expression, parameter: Variable, summary: Effects, found: Effects) -> None:
         """What a call does to the object that an argument hands over."""
         try:
             place = self.target(argument, parameter)
@@ -236,13 +246,13 @@ class Effected:
             if theirs in summary.writes and not isinstance(parameter.type, Struct):
                 found.writes[mine] = True
 
-    def target(self, argument: Any, parameter: Variable) -> Place:
+    def target(self, argument: tree.Expression, parameter: Variable) -> Place:
         """The object that an argument stands for."""
         if isinstance(parameter.type, Pointer):
             return self.places.handed(argument)
         return self.places.place(argument)
 
 
-def pointee(parameter: Variable) -> Any:
+def pointee(parameter: Variable) -> Type:
     """The type of what a parameter stands for."""
     return parameter.type.to if isinstance(parameter.type, Pointer) and parameter.is_bound else parameter.type

@@ -1,13 +1,12 @@
 """Writes where an integer of an object lies: its name, and the number of its element in an array (6.5.2.1)."""
 
-from typing import Any, Optional
+from typing import Optional
 
 from . import kinds, tree
 from .component import Component
-from .declarators import Variable
 from .kinds import Int, Leaf
+from .objects import Place, Variable
 from .output import unmarked
-from .places import Place
 from .tree import walk
 from .values import PRIMARY, UNARY, Value, number, plus, times
 
@@ -19,7 +18,7 @@ class Elements(Component):
         """A value that calls no function, so that it may be named twice."""
         return Value(self.writer.temporary(value.kind, value.text), value.kind, PRIMARY) if value.calls else value
 
-    def steady(self, node: Any, value: Value) -> Value:
+    def steady(self, node: tree.Expression, value: Value) -> Value:
         """An index that stays the same when it is read again."""
         loads = any(
             isinstance(one, (tree.ArrayRef, tree.FuncCall))
@@ -31,7 +30,7 @@ class Elements(Component):
             return value
         return Value(self.writer.temporary(value.kind, value.text, "index"), value.kind, PRIMARY)
 
-    def stands(self, node: Any) -> bool:
+    def stands(self, node: tree.Expression) -> bool:
         """Whether an expression is a parameter that stands for an object."""
         meaning = self.writer.names.meaning.get(node) if isinstance(node, tree.ID) else None
         return isinstance(meaning, Variable) and meaning.is_bound
@@ -81,7 +80,7 @@ class Elements(Component):
         of = place.variable.type
         return isinstance(of, kinds.Array) and of.length == length and not place.path and len(place.indexes) == 1
 
-    def below(self, node: Any, value: Value, length: int) -> bool:
+    def below(self, node: tree.Expression, value: Value, length: int) -> bool:
         """Whether an index is one of the array's at all events."""
         known = self.writer.constants.value(node)
         if known is not None:
@@ -133,7 +132,7 @@ class Elements(Component):
 
     def integers(self, place: Place, index: Optional[Value]) -> list[tuple[Leaf, list[str]]]:
         """The integers of an object, with the text of each element."""
-        if self.writer.places.columns.any_apart(place.region, place.type):
+        if self.writer.columns.any_apart(place.region, place.type):
             return self.writer.pointer_effects.each_integer(place, index)
         found = []
         for leaf in kinds.leaves(place.type):

@@ -1,20 +1,19 @@
 """Writes expressions: what has an effect becomes statements before, in an order that C allows, and what is left is a value."""
 
-from typing import Any, Callable, Optional
+from collections.abc import Callable
+from typing import Optional
 
 from . import kinds, statement_exprs, tree
 from .component import Component
-
 from .constants import COMPARED, LOGICAL, SHIFTS, number
 from .effects import STEPS
-from .kinds import Array, Int, Pointer
-from .declarators import Enumerator, Function, Variable
-from .output import unmarked
-from .refusals import Refused
 from .initialisers import Part
-from .places import At
-from .regions import INDEX, NIL
+from .kinds import INDEX, NIL, Array, Int, Pointer
+from .objects import Enumerator, Function, Variable
 from .order import is_no_object
+from .output import unmarked
+from .places import At
+from .refusals import Refused
 from .values import LEVELS, PRIMARY, UNARY, Known, Value
 
 
@@ -23,7 +22,7 @@ class Expressions(Component):
 
     # ---- values
 
-    def value(self, node: Any) -> Value:
+    def value(self, node: tree.Expression) -> Value:
         """The value of an expression; its effects are written before. What it reads stays as it is until it is used,
         unless C leaves open whether it does, which is refused."""
         self.writer.within += 1
@@ -34,7 +33,7 @@ class Expressions(Component):
             self.writer.within -= 1
             self.writer.asked.pop()
 
-    def inner_value(self, node: Any) -> Value:
+    def inner_value(self, node: tree.Expression) -> Value:
         """The value of an expression by its form. Raises Refused for one that gives no integer, and for an effect in
         a list of pointers."""
         if isinstance(node, Known):
@@ -43,7 +42,7 @@ class Expressions(Component):
             return self.writer.pointers.element_at(node)
         if isinstance(node, Part):
             null = self.writer.pointers.is_null(node.pointer)
-            several = not null and len(self.writer.places.columns.pointer(node.pointer).region.parts()) > 1
+            several = not null and len(self.writer.columns.pointer(node.pointer).region.parts()) > 1
             if several and (self.writer.assignments.has_calls(node) or self.writer.effected.of(node).writes):
                 raise Refused(
                     node.coord, "an effect in a list of pointers", "assign the pointer in a statement of its own"
@@ -75,7 +74,7 @@ class Expressions(Component):
             return statement_exprs.value(self.writer, node)
         raise Refused(node.coord, f"an expression ({type(node).__name__})", "write it with the operators of integers")
 
-    def constant(self, node: Any) -> Value:
+    def constant(self, node: tree.Constant) -> Value:
         """An integer constant as the profile takes it (6.4.4). Raises Refused for a string."""
         if node.type == "string":
             raise Refused(node.coord, "a string", "name it as an array of char, and use its elements")
@@ -92,7 +91,7 @@ class Expressions(Component):
             self.writer.at(node) + text, kind, UNARY if text.startswith("-") else PRIMARY, truth=text in ("0", "1")
         )
 
-    def named(self, node: Any) -> Value:
+    def named(self, node: tree.ID) -> Value:
         """The value of a name: a constant of an enum, or an object. Raises Refused for a function."""
         meaning = self.writer.names.meaning.get(node)
         if isinstance(meaning, Enumerator):
@@ -104,7 +103,7 @@ class Expressions(Component):
             )
         return self.read(node)
 
-    def read(self, node: Any) -> Value:
+    def read(self, node: tree.Expression) -> Value:
         """The value of an object (6.3.2.1p2). Raises Refused for one that is no integer."""
         if is_no_object(node):
             node = self.writer.wholes.kept_whole(node)
@@ -121,7 +120,7 @@ class Expressions(Component):
             return Value(f"{self.writer.at(node)}({place.type.text}) {text}", place.type, UNARY, calls=calls)
         return Value(self.writer.at(node) + text, place.type, PRIMARY, truth=place.type.boolean, calls=calls)
 
-    def unary(self, node: Any) -> Value:
+    def unary(self, node: tree.UnaryOp) -> Value:
         """A unary expression (6.5.3). Raises Refused for an address where an integer is needed."""
         if node.op == "sizeof":
             return Value(self.writer.at(node) + f"{self.writer.constants.size_of(node.expr)}ul", kinds.SIZE, PRIMARY)
@@ -144,7 +143,7 @@ class Expressions(Component):
         kind = kinds.INT if node.op == "!" else kinds.promoted(one.kind)
         return Value(self.writer.at(node) + node.op + blank + inner, kind, UNARY, truth=node.op == "!", calls=one.calls)
 
-    def test(self, node: Any) -> Value:
+    def test(self, node: tree.Expression) -> Value:
         """The value of a condition, which may be a pointer."""
         with self.writer.names.refusals.gathered():
             null = self.null(node)
@@ -156,7 +155,7 @@ class Expressions(Component):
             )
         return Value("0", kinds.INT, PRIMARY)
 
-    def null(self, node: Any) -> Optional[str]:
+    def null(self, node: tree.Expression) -> Optional[str]:
         """What a test for a null pointer gives of a parameter to which each call hands an object. Raises Refused
         where no call hands one over."""
         meaning = self.writer.names.meaning.get(node) if isinstance(node, tree.ID) else None
@@ -172,7 +171,7 @@ class Expressions(Component):
             )
         return "0"
 
-    def binary(self, node: Any) -> Value:
+    def binary(self, node: tree.BinaryOp) -> Value:
         """A binary expression (6.5.5 to 6.5.14), whose operands C evaluates in any order."""
         if node.op in LOGICAL:
             return self.logical(node)
@@ -210,11 +209,11 @@ class Expressions(Component):
         return Value(text, kind, level, truth=node.op in COMPARED, calls=left.calls or right.calls)
 
     @staticmethod
-    def is_size(node: Any) -> bool:
+    def is_size(node: tree.Expression) -> bool:
         """Whether an expression is a sizeof."""
         return isinstance(node, tree.UnaryOp) and node.op == "sizeof"
 
-    def logical(self, node: Any) -> Value:
+    def logical(self, node: tree.BinaryOp) -> Value:
         """&& and ||; where the right operand takes statements, by a branch (6.5.13p4, 6.5.14p4)."""
         right = self.writer.order.inline(node.right, lambda: self.test(node.right))
         if right is not None:
@@ -228,17 +227,19 @@ class Expressions(Component):
         test(node, lambda: self.writer.emit(f"{truth} = {int(both)};"))
         return Value(truth, kinds.INT, PRIMARY, truth=True)
 
-    def when(self, node: Any, then: Callable[[], None]) -> None:
+    def when(self, node: tree.Expression, then: Callable[[], None]) -> None:
         """Writes that something is done where a condition holds."""
         if isinstance(node, tree.BinaryOp) and node.op == "&&" and self.writer.order.needs_statements(node.right):
-            self.when(node.left, lambda: self.when(node.right, then))
+            right = node.right
+            self.when(node.left, lambda: self.when(right, then))
             return
         self.braced(f"if ({self.test(node).text})", then)
 
-    def unless(self, node: Any, then: Callable[[], None]) -> None:
+    def unless(self, node: tree.Expression, then: Callable[[], None]) -> None:
         """Writes that something is done where a condition doesn't hold."""
         if isinstance(node, tree.BinaryOp) and node.op == "||" and self.writer.order.needs_statements(node.right):
-            self.unless(node.left, lambda: self.unless(node.right, then))
+            right = node.right
+            self.unless(node.left, lambda: self.unless(right, then))
             return
         self.braced(f"if (!{self.test(node).within(UNARY)})", then)
 
@@ -248,7 +249,7 @@ class Expressions(Component):
         then()
         self.writer.emit("}")
 
-    def chosen(self, node: Any) -> Value:
+    def chosen(self, node: tree.TernaryOp) -> Value:
         """?: as a value; where a part takes statements, by a branch (6.5.15p4). Raises Refused where both are no
         integers."""
         kind = self.writer.constants.type_of(node)
@@ -265,7 +266,7 @@ class Expressions(Component):
         self.either(node, lambda one: self.writer.emit(f"{made} = {self.value(one).text};"))
         return Value(made, kind, PRIMARY)
 
-    def either(self, node: Any, do: Callable[[Any], None]) -> None:
+    def either(self, node: tree.TernaryOp, do: Callable[[tree.Expression], None]) -> None:
         """Writes that something is done with the one or the other part of `?:`."""
         self.writer.emit(f"if ({self.test(node.cond).text}) {{")
         do(node.iftrue)
@@ -273,17 +274,17 @@ class Expressions(Component):
         do(node.iffalse)
         self.writer.emit("}")
 
-    def as_number(self, node: Any, to: Int) -> Value:
+    def as_number(self, node: tree.Expression, to: Int) -> Value:
         """A pointer as an integer: 0 of null, else a number for its column, 2^20 apart, and in it that of the first byte (6.3.2.3p6)."""
-        of = self.writer.places.columns.pointer(node)
+        of = self.writer.columns.pointer(node)
         region = of.region.root()
         index = self.writer.elements.steady_value(self.writer.pointers.pointer(node)[INDEX])
-        size = 1 if region.raw or region.is_code else kinds.size(region.elem) or 1
-        base = (self.writer.places.columns.number(region) + 1) << 20
+        size = 1 if region.raw or region.is_code else kinds.size(region.type) or 1
+        base = (self.writer.columns.number(region) + 1) << 20
         at = index.within(10) if size == 1 else f"{index.within(10)} * {size}"
         return Value(f"({to.text}) ({index.within(7)} == {NIL} ? 0 : {base} + {at})", to, UNARY)
 
-    def cast(self, node: Any) -> Value:
+    def cast(self, node: tree.Cast) -> Value:
         """A conversion to an integer type (6.5.4). Raises Refused for another one."""
         to = self.writer.names.types.get(node.to_type)
         if not isinstance(to, Int):

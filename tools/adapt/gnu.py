@@ -4,7 +4,6 @@ function in a function of its own, at the lines and columns that it had. In the 
 
 import re
 from dataclasses import dataclass, field
-from typing import Any
 
 from . import tree
 from .refusals import Refusals
@@ -136,7 +135,7 @@ class Settled:
 
     def __init__(self, refusals: Refusals) -> None:
         self.refusals = refusals
-        self.bodies: dict[str, Any] = {}
+        self.bodies: dict[str, tree.Compound] = {}
 
     def unit(self, unit: tree.FileAST) -> None:
         """Puts the nodes into a unit's tree, and takes the functions out in which their parts stood."""
@@ -150,13 +149,13 @@ class Settled:
         for item in own:
             self.inside(item)
 
-    def is_lifted(self, item: Any) -> bool:
+    def is_lifted(self, item: tree.Node) -> bool:
         """Whether an item was made for a form."""
         if isinstance(item, tree.FuncDef):
             return str(item.decl.name).startswith("$")
         return isinstance(item, tree.Typedef) and str(item.name).startswith("$")
 
-    def inside(self, node: Any) -> None:
+    def inside(self, node: tree.Node) -> None:
         """Replaces what stands in a node, and in what is put there."""
         rest = [node]
         while rest:
@@ -166,8 +165,10 @@ class Settled:
                 if made is not child:
                     one.put(slot, made)
                 if isinstance(made, tree.Typeof):
-                    made.of = self.made(made.of)
-                    rest.append(made.of)
+                    inner = self.made(made.of)
+                    assert isinstance(inner, tree.Expression)
+                    made.of = inner
+                    rest.append(inner)
                 rest.append(made)
             if (
                 isinstance(one, tree.Decl)
@@ -177,20 +178,22 @@ class Settled:
             ):
                 one.type.type = tree.Typeof(one.init, one.coord)
 
-    def made(self, node: Any) -> Any:
+    def made(self, node: tree.Node) -> tree.Node:
         """The node that stands for another one, or that one itself."""
         if isinstance(node, tree.ID) and node.name in self.bodies:
             body = self.bodies[node.name]
             self.leaves(body)
             return tree.StatementExpr(body, node.coord)
         if isinstance(node, tree.IdentifierType) and node.names[0] in self.bodies:
-            return tree.Typeof(self.bodies[node.names[0]].block_items[0].expr, node.coord)
+            size = self.bodies[node.names[0]].block_items[0]  # (as Lifter has put it there)
+            assert isinstance(size, tree.UnaryOp)
+            return tree.Typeof(size.expr, node.coord)
         if isinstance(node, tree.BinaryOp) and node.op == "||" and isinstance(node.left, tree.BinaryOp):
             if isinstance(node.left.right, tree.ID) and node.left.right.name == RANGED:
                 return tree.CaseRange(node.left.left, node.right, node.coord)
         return node
 
-    def leaves(self, node: Any, in_loop: bool = False, in_switch: bool = False) -> None:
+    def leaves(self, node: tree.Node, in_loop: bool = False, in_switch: bool = False) -> None:
         """Refuses what jumps out of statements within an expression, or within them."""
         jumps = isinstance(node, (tree.Goto, tree.Label, tree.Return))
         out = isinstance(node, tree.Break) and not (in_loop or in_switch)
@@ -203,7 +206,7 @@ class Settled:
             self.leaves(child, in_loop, in_switch)
 
 
-def is_auto(node: Any) -> bool:
+def is_auto(node: tree.Decl) -> bool:
     """Whether a declaration's type is that of its value (`__auto_type`)."""
     of = node.type.type if isinstance(node.type, tree.TypeDecl) else None
-    return isinstance(of, tree.IdentifierType) and bool(AUTO in of.names)
+    return isinstance(of, tree.IdentifierType) and AUTO in of.names

@@ -10,9 +10,10 @@ from collections.abc import Sequence
 from tools import harness, inputs
 from tools.harness_text import FORK, HEAD, TESTS
 
+from . import tree
 from .compare_texts import answering, plain, undefined
-from .declarators import Function
 from .kinds import Array, Int, Pointer, Type, c_words
+from .objects import Function
 from .refusals import Stop
 from .writer import Writer
 
@@ -29,8 +30,8 @@ def answered(writer: Writer, function: Function, home: str) -> str:
     another source aren't known there."""
     if _declares(writer, home, function.name):
         whole = answering(writer, function, "fshell_answer()")
-        args = function.declaration.type.args
-        unused = "".join(f"(void) {one.name}; " for one in (args.params if args else []) if getattr(one, "name", None))
+        given_names = [one.name for one in function.written if not isinstance(one, tree.EllipsisParam)]
+        unused = "".join(f"(void) {name}; " for name in given_names if name)
         head, _, body = whole.rpartition(" { ")
         return f"{head} {{ {unused}{body}"
     words = [words_of(one.type) for one in function.parameters]
@@ -44,9 +45,8 @@ def answered(writer: Writer, function: Function, home: str) -> str:
 def _declares(writer: Writer, path: str, name: str) -> bool:
     """Whether a source, or a header that it includes, declares a function."""
     nodes = [item for unit, item in writer.names.items if unit.path == path]
-    return any(
-        name in (getattr(node, "name", None), getattr(getattr(node, "decl", None), "name", None)) for node in nodes
-    )
+    decls = [node.decl if isinstance(node, tree.FuncDef) else node for node in nodes]
+    return any(isinstance(one, (tree.Decl, tree.Typedef)) and one.name == name for one in decls)
 
 
 def own_main(writer: Writer, home: str) -> bool:

@@ -1,30 +1,29 @@
 """Which expression gives each integer of an object its first value (6.7.9)."""
 
 from dataclasses import dataclass, field
-from typing import Any, Callable, Optional
+from collections.abc import Callable
+from typing import Optional
 
 from . import tree, unions
 from .constants import Constants, codes
-from .kinds import Array, Int, Leaf, Other, Path, Pointer, Struct, Type
+from .kinds import BEGIN, END, INDEX, NIL, Array, Int, Leaf, Other, Path, Pointer, Struct, Type
 from .refusals import Refused
-from .regions import BEGIN, END, INDEX, NIL
 
 Spot = tuple[Path, tuple[int, ...]]
 PARTS = (INDEX, END, BEGIN)
 
 
 @dataclass(eq=False)
-class Part(tree.Node):
+class Part(tree.Expression):
     """One of the integers of a pointer's value."""
 
     SLOTS = ("pointer",)
-    pointer: tree.Node
+    pointer: tree.Expression
     part: str
+    coord: Optional[tree.Coord] = None  # the pointer's
 
-    @property
-    def coord(self) -> Optional[tree.Coord]:  # type: ignore[override]
-        """The pointer's place."""
-        return self.pointer.coord
+    def __post_init__(self) -> None:
+        self.coord = self.pointer.coord
 
 
 def none_of(leaf: Leaf) -> str:
@@ -37,10 +36,10 @@ class Filled:
     """The expressions by the members and the indexes that lead to what they are for; `wholes` are structs' values."""
 
     constants: Constants
-    given: dict[Spot, Any] = field(default_factory=dict)
-    wholes: list[tuple[Spot, Type, Any]] = field(default_factory=list)
+    given: dict[Spot, tree.Expression] = field(default_factory=dict)
+    wholes: list[tuple[Spot, Type, tree.Expression]] = field(default_factory=list)
 
-    def of(self, leaf: Leaf) -> dict[int, Any]:
+    def of(self, leaf: Leaf) -> dict[int, tree.Expression]:
         """The expressions of a leaf by the numbers of its elements, in the order in which they are given."""
         part = leaf.path[-1] if leaf.path and leaf.path[-1] in PARTS else ""
         found = {
@@ -50,7 +49,7 @@ class Filled:
         }
         return {at: Part(one, part) if part else one for at, one in found.items()}
 
-    def texts(self, leaf: Leaf, text: Callable[[Any], str]) -> list[str]:
+    def texts(self, leaf: Leaf, text: Callable[[tree.Expression], str]) -> list[str]:
         """What is written of a leaf's first values: 0 where there is none, up to the last that is another text."""
         found = [none_of(leaf)] * leaf.count
         for at, one in self.of(leaf).items():
@@ -59,7 +58,7 @@ class Filled:
             found.pop()
         return found
 
-    def fill(self, of: Type, spot: Spot, init: Any) -> None:
+    def fill(self, of: Type, spot: Spot, init: tree.Expression) -> None:
         """Gives an object its first value: a list, a string, an expression, or a struct's value. Raises Refused for
         more than one value of an integer."""
         if isinstance(of, Other):
@@ -82,13 +81,14 @@ class Filled:
         else:
             self.wholes.append((spot, of, init))
 
-    def fill_parts(self, of: Struct, spot: Spot, init: Any) -> None:
+    def fill_parts(self, of: Struct, spot: Spot, init: tree.InitList) -> None:
         """The first value of a union that is one integer: that of its first or of a named member. Raises Refused
         where it is no constant."""
-        items: list[Any] = list(init.exprs or [])
+        items = list(init.exprs or [])
         member, carrier = (of.members or [])[0][1], of.type_of(of.path_of(""))
-        if items and isinstance(items[0], tree.NamedInitializer):
-            member, items = of.type_of(getattr(items[0].name[0], "name")), [items[0].expr]
+        first = items[0] if items else None
+        if isinstance(first, tree.NamedInitializer) and isinstance(first.name[0], tree.ID):
+            member, items = of.type_of(first.name[0].name), [first.expr]
         own = Filled(self.constants)
         if isinstance(member, Array):
             own.fill(member, ((), ()), items[0] if len(items) == 1 and isinstance(items[0], tree.InitList) else init)
@@ -107,7 +107,7 @@ class Filled:
             word |= known % (1 << inner.bits) << (inner.bits * (at[0] if at else 0))
         self.given[place] = tree.Constant("int", f"{word}u" if word < 1 << 32 else f"{word}ul", init.coord)
 
-    def part(self, of: Type, spot: Spot, at: int, init: Any) -> tuple[Type, Spot]:
+    def part(self, of: Type, spot: Spot, at: int, init: tree.Expression) -> tuple[Type, Spot]:
         """The element or member of a number. Raises Refused where there is none."""
         if isinstance(of, Array) and at < (of.length or 0):
             return of.of, (spot[0], spot[1] + (at,))
@@ -116,11 +116,11 @@ class Filled:
             return member, (spot[0] + (of.path_of(name),), spot[1])
         raise Refused(init.coord, "more values than there are members or elements", "leave them out")
 
-    def number(self, of: Type, designator: Any) -> int:
+    def number(self, of: Type, designator: tree.Expression) -> int:
         """The number of the element or member that a designator names. Raises Refused for a designator that is no
         constant, or leads through a member without a name."""
         if isinstance(of, Struct):
-            path = unions.found(of, designator.name) or []
+            path = (unions.found(of, designator.name) if isinstance(designator, tree.ID) else None) or []
             if len(path) != 1:
                 raise Refused(designator.coord, "a member within one without a name", "give it by its place")
             return [name for name, _ in of.members or []].index(path[0])
@@ -129,7 +129,7 @@ class Filled:
             raise Refused(designator.coord, "a designator that is no constant", "give a number")
         return known
 
-    def listed(self, of: Type, spot: Spot, items: list[Any]) -> None:
+    def listed(self, of: Type, spot: Spot, items: list[tree.Expression]) -> None:
         """Fills the parts of an array or a struct by the items of a list, in order or by their designators (6.7.9p17
         to p20)."""
         at = taken = 0
@@ -147,7 +147,7 @@ class Filled:
                 taken = self.next(part, place, items, taken)
             at += 1
 
-    def next(self, part: Type, spot: Spot, items: list[Any], taken: int) -> int:
+    def next(self, part: Type, spot: Spot, items: list[tree.Expression], taken: int) -> int:
         """Fills a part by the next items, of which it takes several where it has no braces of its own. Gives the
         number of the item behind those."""
         item = items[taken]
@@ -166,7 +166,7 @@ class Filled:
         return taken if count else taken + 1
 
 
-def filled(constants: Constants, of: Type, init: Any) -> Filled:
+def filled(constants: Constants, of: Type, init: Optional[tree.Expression]) -> Filled:
     """The first values of an object of a type. Raises Refused where the list doesn't fit it."""
     made = Filled(constants)
     if init is not None:

@@ -1,7 +1,8 @@
 """`goto` forward, out of loops or to a later label of a block around it, becomes `break`, with a flag where more than one
 loop or `switch` is left. The tree of a function is changed in place."""
 
-from typing import Any, Callable, Optional
+from collections.abc import Callable
+from typing import Optional
 
 from . import tree
 from .parsing import snippet
@@ -10,12 +11,12 @@ from .states import States
 from .tree import LEFT_BY_BREAK, LOOPS, walk
 
 
-def goto_names(node: Any) -> set[str]:
+def goto_names(node: tree.Node) -> set[str]:
     """The labels to which jumps in a tree go."""
     return {one.name for one in walk(node) if isinstance(one, tree.Goto)}
 
 
-def leaves_by(node: Any, in_loop: bool = False, in_switch: bool = False) -> bool:
+def leaves_by(node: tree.Node, in_loop: bool = False, in_switch: bool = False) -> bool:
     """Whether a `break` or `continue` in it belongs to a loop or `switch` around it."""
     if isinstance(node, tree.Break):
         return not in_loop and not in_switch
@@ -27,8 +28,7 @@ def leaves_by(node: Any, in_loop: bool = False, in_switch: bool = False) -> bool
 
 def parameters_of(item: tree.FuncDef) -> set[str]:
     """The names of a function's parameters."""
-    args = item.decl.type.args if isinstance(item.decl.type, tree.FuncDecl) else None
-    return {getattr(one, "name", "") or "" for one in (args.params if args else [])}
+    return {one.name or "" for one in item.head.params if not isinstance(one, tree.EllipsisParam)}
 
 
 class Jumps:
@@ -48,7 +48,7 @@ class Jumps:
             with self.refusals.gathered():
                 States(self.fresh, names).function(body, parameters_of(item))
 
-    def label(self, block: Any, label: Any) -> None:
+    def label(self, block: tree.Compound, label: tree.Label) -> None:
         """Rewrites the jumps that come from earlier statements of the label's block."""
         items, name = block.block_items, label.name
         to = next(at for at, item in enumerate(items) if item is label)
@@ -76,17 +76,17 @@ class Jumps:
         block.block_items = items[:begin] + declared + region + rest
 
     @staticmethod
-    def end(item: Any) -> Any:
+    def end(item: tree.Node) -> tree.Coord:
         """The last place in a statement."""
         found = [one.coord for one in walk(item) if one.coord]
-        return max(found, key=lambda coord: int(coord.line))
+        return max(found, key=lambda coord: coord.line)
 
-    def replaced(self, node: Any, name: str, flag: Optional[str], depth: int) -> bool:
+    def replaced(self, node: tree.Node, name: str, flag: Optional[str], depth: int) -> bool:
         """Replaces the jumps within a statement at which `depth` loops and switches are open; whether the flag is used."""
         used = False
         depth += isinstance(node, LEFT_BY_BREAK)
         for slot, child in node.children():
-            made = [child]
+            made: list[tree.Node] = [child]
             if isinstance(child, tree.Goto) and child.name == name:
                 made = [tree.EmptyStatement(coord=child.coord)] if flag is None else [tree.Break(coord=child.coord)]
                 if flag is not None and depth != 1:
@@ -96,15 +96,5 @@ class Jumps:
                 if depth >= 1 and isinstance(child, LEFT_BY_BREAK):
                     made.extend(snippet(f"if ({flag}) break;", self.end(child)))
             if made != [child]:
-                self.put(node, slot.split("[")[0], child, made)
+                node.spread(slot, child, made, made[0].coord)
         return used
-
-    @staticmethod
-    def put(node: Any, name: str, old: Any, made: list[Any]) -> None:
-        """Puts statements where a child of a node stood."""
-        items = getattr(node, name)
-        if isinstance(items, list):
-            at = next(at for at, item in enumerate(items) if item is old)
-            items[at : at + 1] = made
-        else:
-            setattr(node, name, made[0] if len(made) == 1 else tree.Compound(made, coord=made[0].coord))

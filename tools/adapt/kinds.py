@@ -1,9 +1,18 @@
-"""The types of C that are read: integers, arrays, structs and pointers; their layout, promotions and leaves."""
+"""The types of C that are read: integers, arrays, structs and pointers, with the regions in which these point; their layout, promotions
+and leaves."""
 
+from collections.abc import Iterator
 from dataclasses import dataclass, field
-from typing import Any, Iterator, Optional, Union
+from typing import TYPE_CHECKING, Optional, Union
 
-from .regions import Region
+from .tree import Coord
+
+if TYPE_CHECKING:
+    from .objects import Function, Variable
+
+NIL = -16384  # a null pointer: below each index, also with the largest index of the profile added
+INDEX, END, BEGIN = "@p", "@e", "@b"  # what a pointer is written as; they stand in paths behind the members
+Fault = tuple[Optional[Coord], str, str]  # where something can't be written, why, and what to do
 
 
 @dataclass(frozen=True)
@@ -34,7 +43,7 @@ class Struct:
 
     tag: str
     members: Optional[list[tuple[str, "Type"]]] = None
-    fault: Optional[tuple[Any, str, str]] = None
+    fault: Optional[Fault] = None
     declared: list[tuple[str, "Type", Optional[int]]] = field(default_factory=list)  # with the widths of bit-fields
     union: bool = False
     carrier: Optional[tuple[str, "Type"]] = None
@@ -60,6 +69,68 @@ class Struct:
     def is_parts(self) -> bool:
         """Whether a union's members are parts of one integer."""
         return bool(self.carrier and self.carrier[0] not in dict(self.members or []))
+
+
+@dataclass(eq=False)
+class Region:
+    """The objects that one pointer may meet, which are written into one array, a column. Each type of a pointer has a region, and each
+    object one in which its elements lie. What an assignment, an argument or a comparison brings together becomes one region
+    (unification, as Steensgaard has it), member by member.
+
+    `elem` is the type of its elements, which are no arrays, and None where only `void` is known. `pointed` says that a
+    pointer to an element may be made, `moved` and `down` that one is moved, and moved down."""
+
+    elem: Optional["Type"] = None
+    objects: list["Variable"] = field(default_factory=list)
+    members: dict[str, "Region"] = field(default_factory=dict)
+    pointed: bool = False
+    moved: bool = False
+    down: bool = False
+    fault: Optional[Fault] = None
+    into: Optional["Region"] = None
+    freed: bool = False
+    raw: bool = False  # whether its objects stand as their bytes
+    targets: list["Function"] = field(default_factory=list)  # the functions to which a pointer may point
+    single: bool = False
+    column: Optional["Variable"] = None
+
+    def root(self) -> "Region":
+        """What the region has become a part of."""
+        one = self
+        while one.into is not None:
+            if one.into.into is not None:
+                one.into = one.into.into
+            one = one.into
+        return one
+
+    @property
+    def type(self) -> "Type":
+        """The type of its elements; `void` where no more is known."""
+        return VOID if self.elem is None else self.elem
+
+    @property
+    def laid(self) -> "Variable":
+        """The variable of its column, of a region that has one."""
+        assert self.column is not None
+        return self.column
+
+    @property
+    def is_code(self) -> bool:
+        """Whether pointers here point to functions."""
+        return isinstance(self.root().elem, Signature)
+
+    def parts(self) -> list[str]:
+        """The integers of a pointer into the region: its index, and the end and the begin of its object where these matter."""
+        root = self.root()
+        several = root.pointed and not root.single and not root.is_code
+        return [INDEX] + [END] * (several and root.moved) + [BEGIN] * (several and root.down)
+
+    def member(self, name: str, elem: Optional["Type"]) -> "Region":
+        """The region of a member of the elements."""
+        if self.root().raw:
+            return self.root()
+        found = self.root().members.setdefault(name, Region(elem))
+        return found.root()
 
 
 @dataclass(eq=False)
@@ -117,6 +188,17 @@ def element(of: Type) -> Type:
     while isinstance(of, Array):
         of = of.of
     return of
+
+
+def behind(of: Type) -> Optional[Type]:
+    """What a pointer leads to, or the elements of an array; nothing of another type."""
+    return of.to if isinstance(of, Pointer) else of.of if isinstance(of, Array) else None
+
+
+def member(of: Type, name: str) -> Type:
+    """The type of a member of a struct or a union, which has it."""
+    assert isinstance(of, Struct)
+    return of.type_of(name)
 
 
 def elements(of: Type) -> int:

@@ -3,8 +3,9 @@ two functions read and set an element. What is written names them as arrays; at 
 
 import re
 from dataclasses import dataclass
-from typing import Any, Callable
+from typing import Optional, Protocol
 
+from . import tree
 from .kinds import Int
 from .refusals import Refused
 
@@ -23,14 +24,23 @@ class Large:
     sets: str
 
 
+class Fresh(Protocol):
+    """What gives a name that nothing else has (Spelling.fresh)."""
+
+    def __call__(self, stem: str, plain: bool = False) -> str:
+        """The stem with a number, or the stem alone where it is free."""
+
+
 class LargeArrays:
     """The arrays so far that are too large, by their names."""
 
-    def __init__(self, fresh: Callable[..., str]) -> None:
+    def __init__(self, fresh: Fresh) -> None:
         self.fresh = fresh
         self.known: dict[str, Large] = {}
 
-    def declared(self, name: str, kind: Int, count: int, values: list[str], const: bool, coord: Any) -> str:
+    def declared(
+        self, name: str, kind: Int, count: int, values: list[str], const: bool, coord: Optional[tree.Coord]
+    ) -> str:
         """The arrays and the functions that stand for one array; `values` are the first ones, as numbers. Raises
         Refused where all objects of the profile together have fewer cells."""
         each = 64 // kind.bits

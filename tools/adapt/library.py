@@ -4,13 +4,13 @@ they are. One with pointers is put there anew for each call."""
 import copy
 import os
 from functools import cache
-from typing import Any
+from typing import Optional
 
 from . import tree
 from .parsing import parsed
-from .reading import Unit
 from .sorting import SORTING, Sorted, written_for
 from .tree import walk
+from .unit import Unit
 
 FOLDER = os.path.join(os.path.dirname(os.path.abspath(__file__)), "models")
 FILES = ("ctype.c", "stdlib.c", "builtin.c", "sort.c")
@@ -40,23 +40,23 @@ def without_comments(text: str) -> str:
 
 
 @cache
-def models() -> dict[str, Any]:
+def models() -> dict[str, tree.FuncDef]:
     """The trees of the models by their names."""
     found = {}
     for name in FILES:
         with open(os.path.join(FOLDER, name), encoding="utf-8") as file:
             unit = parsed(without_comments(file.read()), name)
-        found.update({str(item.decl.name): item for item in unit.ext if isinstance(item, tree.FuncDef)})
+        found.update({item.decl.name or "": item for item in unit.ext if isinstance(item, tree.FuncDef)})
     return found
 
 
 @cache
-def known() -> dict[str, Any]:
+def known() -> dict[str, tree.Decl]:
     """The declarations of the functions that models use, by name."""
-    return {str(item.name): item for item in parsed(KNOWN).ext if isinstance(item, tree.Decl)}
+    return {item.name or "": item for item in parsed(KNOWN).ext if isinstance(item, tree.Decl)}
 
 
-def has_pointers(model: Any) -> bool:
+def has_pointers(model: tree.FuncDef) -> bool:
     """Whether a model takes or gives pointers, so that each call gets one of its own."""
     return any(isinstance(one, tree.PtrDecl) for one in walk(model.decl.type))
 
@@ -72,8 +72,8 @@ class Library:
         own = {node.decl.name for node in nodes if isinstance(node, tree.FuncDef)}
         own |= {node.name for node in nodes if isinstance(node, tree.Decl) and not self.is_function(node)}
         self.missing, self.names = set(models()) - own, own | self.declared
-        self.added: list[Any] = []
-        self.wanted: dict[str, Any] = {}
+        self.added: list[tree.Decl | tree.FuncDef] = []
+        self.wanted: dict[str, Optional[tree.FuncDef]] = {}
         self.sorted: list[Sorted] = []
         for unit in units:
             self.unit = unit
@@ -81,18 +81,20 @@ class Library:
         if "errno" in self.declared and not self.is_defined("errno"):
             self.add("errno", known()["errno"])
         front = units[0].files[0] if units else ""
-        self.line = min(
-            (one.coord.line for one in trees[0].ext if one.coord and str(one.coord.file) == front), default=1
-        )
+        self.line = min((one.where.line for one in trees[0].ext if one.where.file == front), default=1)
         for item in self.added:
-            for node in walk(item):
-                self.count += 1
-                node.coord = Spot(front, self.line, self.count)
+            self.stand(item, front, self.line)
         if self.added:
             trees[0].ext[0:0] = self.added
 
+    def stand(self, item: tree.Node, path: str, line: int) -> None:
+        """Gives the nodes of what is added places of their own on a line of a file."""
+        for node in walk(item):
+            self.count += 1
+            node.coord = Spot(path, line, self.count)
+
     @staticmethod
-    def is_function(node: Any) -> bool:
+    def is_function(node: tree.Decl) -> bool:
         """Whether a declaration is one of a function."""
         return isinstance(node.type, tree.FuncDecl)
 
@@ -103,13 +105,13 @@ class Library:
         ]
         return any("extern" not in item.storage for item in items)
 
-    def expand(self, nodes: list[Any]) -> None:
+    def expand(self, nodes: list[tree.Node]) -> None:
         """Finds the uses of models in a tree's nodes, and adds these."""
         called = {node.name: node for node in nodes if isinstance(node, tree.FuncCall)}
         for node in nodes:
             if isinstance(node, tree.ID) and node.name in SORTING:
                 if node in called and node.name in self.missing:
-                    self.sort(called[node])
+                    self.sort(called[node], node)
             elif (
                 isinstance(node, tree.ID)
                 and node.name in self.missing
@@ -125,35 +127,33 @@ class Library:
                 self.names.add(node.name)
                 self.added.insert(0, copy.deepcopy(known()[node.name]))
 
-    def declare(self, nodes: list[Any]) -> None:
+    def declare(self, nodes: list[tree.Node]) -> None:
         """Declares what a model uses."""
         for one in nodes:
             if isinstance(one, tree.ID) and one.name in known() and one.name not in self.wanted:
                 self.wanted[one.name] = None
                 self.added.insert(0, copy.deepcopy(known()[one.name]))
 
-    def sort(self, call: Any) -> None:
-        """Puts the model of a call of qsort or bsearch behind its unit, and declares it in front."""
-        number, name = 1, f"{call.name.name}_1"
+    def sort(self, call: tree.FuncCall, own: tree.ID) -> None:
+        """Puts the model of a call of qsort or bsearch, by its name there, behind its unit, and declares it in front."""
+        number, name = 1, f"{own.name}_1"
         while name in self.taken:
             number += 1
-            name = f"{call.name.name}_{number}"
+            name = f"{own.name}_{number}"
         self.taken.add(name)
         items, path = self.unit.tree.ext, self.unit.path
-        functions = {str(one.decl.name) for one in items if isinstance(one, tree.FuncDef)}
-        functions |= {str(one.name) for one in items if isinstance(one, tree.Decl) and self.is_function(one)}
-        made = written_for(call, models()[call.name.name], name, functions)
-        lines = [one.coord.line for one in items if one.coord and str(one.coord.file) == path] or [1]
-        for item, at in ((made.prototype, min(lines)), (made.definition, max(lines))):
-            for node in walk(item):
-                self.count += 1
-                node.coord = Spot(path, at, self.count)
+        functions = {one.decl.name or "" for one in items if isinstance(one, tree.FuncDef)}
+        functions |= {one.name or "" for one in items if isinstance(one, tree.Decl) and self.is_function(one)}
+        made = written_for(call, own, models()[own.name], name, functions)
+        lines = [one.where.line for one in items if one.where.file == path] or [1]
+        self.stand(made.prototype, path, min(lines))
+        self.stand(made.definition, path, max(lines))
         self.declare(walk(made.definition))
         items[0:0] = [made.prototype]
         items.append(made.definition)
         self.sorted.append(made)
 
-    def anew(self, node: Any, model: Any) -> None:
+    def anew(self, node: tree.ID, model: tree.FuncDef) -> None:
         """Adds a model for one call."""
         name, number = node.name, 1
         while name in self.taken and (name in self.wanted or name not in self.declared or number > 1):
@@ -164,7 +164,7 @@ class Library:
         node.name = name
         self.add(name, model)
 
-    def add(self, name: str, model: Any) -> None:
+    def add(self, name: str, model: tree.Decl | tree.FuncDef) -> None:
         """Adds a model by a name, with those that it uses itself."""
         made = copy.deepcopy(model)
         if isinstance(made, tree.FuncDef):

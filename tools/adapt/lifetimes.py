@@ -2,32 +2,57 @@
 arguments and results (inclusion, as Andersen has it; a pointer object is told by the region in which it lies). Where only objects of
 the file or of the heap have it then, they become -1 at the end of the function, which ends a run that uses them; else it is refused."""
 
-from typing import Any, Iterator, Optional
+from collections.abc import Iterator
+from dataclasses import dataclass
+from typing import Optional, Union
 
 from . import kinds, tree
-from .declarators import Function, Variable
+from .columns import Columns
 from .initialisers import filled
-from .kinds import Array, Pointer, Struct
+from .kinds import INDEX, Array, Pointer, Region, Struct, Type
 from .models import model_of
-from .places import Place, arguments
+from .names import Names
+from .objects import Function, Variable
+from .places import arguments
 from .refusals import Refused
-from .regions import INDEX, Region
 from .tree import with_parents
 
-MOST_ENDED = 16  # so many pointers may become -1 where a function ends
-Node = tuple[Any, ...]  # the pointers in a region, what a function gives, or a local
+
+@dataclass(frozen=True)
+class Inside:
+    """The pointers in a region."""
+
+    region: Region
 
 
-def pointer_paths(of: Any) -> list[tuple[str, ...]]:
+@dataclass(frozen=True)
+class Result:
+    """What a function gives; of a struct the pointer to which members lead."""
+
+    function: Function
+    path: tuple[str, ...]
+
+
+@dataclass(frozen=True)
+class Local:
+    """A local, whose address is taken."""
+
+    variable: Variable
+
+
+Node = Union[Inside, Result, Local]
+
+
+def pointer_paths(of: Type) -> list[tuple[str, ...]]:
     """The members that lead to pointers in an object of a type."""
     return [leaf.path[:-1] for leaf in kinds.leaves(kinds.element(of)) if leaf.path and leaf.path[-1] == INDEX]
 
 
-def inner_region(region: Region, of: Any, path: tuple[str, ...]) -> tuple[Any, Region]:
+def inner_region(region: Region, of: Type, path: tuple[str, ...]) -> tuple[Type, Region]:
     """The type and the region of what members lead to."""
     of = kinds.element(of)
     for name in path:
-        of = kinds.element(of.type_of(name))
+        of = kinds.element(kinds.member(of, name))
         region = region.root().member(name, of)
     return of, region.root()
 
@@ -35,9 +60,9 @@ def inner_region(region: Region, of: Any, path: tuple[str, ...]) -> tuple[Any, R
 class Lifetimes:
     """The flow of addresses. `ended` has for each function its locals with the regions whose pointers become -1 behind it."""
 
-    def __init__(self, names: Any, columns: Any) -> None:
+    def __init__(self, names: Names, columns: Columns) -> None:
         self.names, self.columns, self.points = names, columns, columns.points
-        self.flows: list[tuple[list[Node], Node, Any]] = []
+        self.flows: list[tuple[list[Node], Node, Optional[tree.Coord]]] = []
         self.function: Optional[Function] = None
         self.ended: dict[Function, list[tuple[Variable, Region]]] = {}
         locals_of = [one for one in names.variables if one.home == "local"]
@@ -66,7 +91,7 @@ class Lifetimes:
                 except Refused:
                     pass  # (told where it is written)
 
-    def visit(self, node: Any) -> None:
+    def visit(self, node: tree.Node) -> None:
         """Gathers those of one node."""
         if isinstance(node, tree.Decl) and node.init is not None and not isinstance(node.init, tree.InitList):
             variable = self.names.meaning.get(node)
@@ -79,15 +104,15 @@ class Lifetimes:
             of = self.function.result
             for path in pointer_paths(of):
                 found = self.sources(node.expr) if isinstance(of, Pointer) else self.of_member(node.expr, path)
-                self.flows.append((found, ("result", self.function, path), node.coord))
+                self.flows.append((found, Result(self.function, path), node.coord))
         elif isinstance(node, tree.FuncCall):
             self.called(node)
 
-    def put(self, of: Any, region: Region, source: Any, at: Any) -> None:
+    def put(self, of: Type, region: Region, source: tree.Expression, at: Optional[tree.Coord]) -> None:
         """A value goes into an object of a type that lies in a region."""
         for path in pointer_paths(of) if isinstance(of, (Pointer, Struct)) else []:
             found = self.sources(source) if isinstance(of, Pointer) else self.of_member(source, path)
-            self.flows.append((found, ("in", inner_region(region, of, path)[1]), at))
+            self.flows.append((found, Inside(inner_region(region, of, path)[1]), at))
 
     def listed(self, variable: Variable) -> None:
         """Gathers those of a list of first values."""
@@ -99,14 +124,14 @@ class Lifetimes:
             of, region = inner_region(self.points.home(variable), variable.type, path)
             self.put(of, region, source, variable.coord)
 
-    def called(self, node: Any) -> None:
+    def called(self, node: tree.FuncCall) -> None:
         """Gathers those of a call: from arguments to parameters."""
         model = model_of(self.names.meaning.get(node))
         given = arguments(node)
         if model is not None and len(given) > 1:
             regions = [of.region for of in map(self.points.value, given[:2]) if isinstance(of, Pointer)]
             if len(regions) == 2:
-                self.same(regions[0], regions[0].root().elem, regions[1], node.coord)
+                self.same(regions[0], regions[0].root().type, regions[1], node.coord)
         for function in self.targets(node):
             for argument, one in zip(given, function.parameters):
                 if one.is_bound and not isinstance(one.type, (kinds.Int, Struct)):
@@ -115,23 +140,24 @@ class Lifetimes:
                 else:
                     self.put(one.type, self.points.home(one), argument, node.coord)
 
-    def same(self, one: Region, of: Any, other: Region, at: Any) -> None:
+    def same(self, one: Region, of: Type, other: Region, at: Optional[tree.Coord]) -> None:
         """Pointers in two objects may be each other's."""
-        for path in pointer_paths(of) if of is not None and one.root() is not other.root() else []:
-            nodes: list[Node] = [("in", inner_region(region, of, path)[1]) for region in (one, other)]
+        for path in pointer_paths(of) if one.root() is not other.root() else []:
+            nodes: list[Node] = [Inside(inner_region(region, of, path)[1]) for region in (one, other)]
             self.flows += [(nodes[:1], nodes[1], at), (nodes[1:], nodes[0], at)]
 
-    def targets(self, node: Any) -> list[Function]:
+    def targets(self, node: tree.FuncCall) -> list[Function]:
         """The functions that a call may call."""
         known = self.names.meaning.get(node)
         if isinstance(known, Function):
             return [known] if known.definition is not None else []
         of = self.points.value(node.name)
-        return [one for one in of.region.root().targets if one.definition is not None] if hasattr(of, "region") else []
+        targets = of.region.root().targets if isinstance(of, Pointer) else []
+        return [one for one in targets if one.definition is not None]
 
     # ---- where values come from
 
-    def sources(self, node: Any) -> list[Node]:
+    def sources(self, node: tree.Expression) -> list[Node]:
         """Where a pointer's value comes from."""
         if isinstance(node, tree.Cast):
             return self.sources(node.expr)
@@ -155,22 +181,23 @@ class Lifetimes:
             of = self.names.constants.type_of(node)
             if isinstance(of, Array):
                 return self.base(node)
-            return [("in", self.points.place(node)[1].root())] if isinstance(of, Pointer) else []
+            return [Inside(self.points.place(node)[1].root())] if isinstance(of, Pointer) else []
         return []
 
-    def given(self, node: Any) -> list[Node]:
+    def given(self, node: tree.FuncCall) -> list[Node]:
         """What a call gives; a function of the library that gives a pointer gives its first argument's."""
         model = model_of(self.names.meaning.get(node))
         if model is not None:
             return self.sources(arguments(node)[0]) if model.gives_pointer and arguments(node) else []
-        return [("result", one, ()) for one in self.targets(node)]
+        return [Result(one, ()) for one in self.targets(node)]
 
-    def base(self, node: Any) -> list[Node]:
+    def base(self, node: tree.Expression) -> list[Node]:
         """The object in which something lies."""
         if isinstance(node, tree.ID):
             meaning = self.names.meaning.get(node)
-            local = isinstance(meaning, Variable) and meaning.home in ("local", "parameter") and not meaning.is_bound
-            return [("local", meaning)] if local else []
+            if isinstance(meaning, Variable) and meaning.home in ("local", "parameter") and not meaning.is_bound:
+                return [Local(meaning)]
+            return []
         if isinstance(node, tree.StructRef):
             return self.base(node.name) if node.type == "." else self.sources(node.name)
         if isinstance(node, tree.ArrayRef):
@@ -178,7 +205,7 @@ class Lifetimes:
             return self.base(node.name) if is_array else self.sources(node.name) + self.sources(node.subscript)
         return self.sources(node.expr) if isinstance(node, tree.UnaryOp) and node.op == "*" else []
 
-    def of_member(self, node: Any, path: tuple[str, ...]) -> list[Node]:
+    def of_member(self, node: tree.Expression, path: tuple[str, ...]) -> list[Node]:
         """Where a pointer in a struct's value comes from."""
         if isinstance(node, tree.TernaryOp):
             return self.of_member(node.iftrue, path) + self.of_member(node.iffalse, path)
@@ -189,13 +216,13 @@ class Lifetimes:
         if isinstance(node, tree.Assignment):
             return self.of_member(node.lvalue, path)
         if isinstance(node, tree.FuncCall):
-            return [("result", one, path) for one in self.targets(node)]
+            return [Result(one, path) for one in self.targets(node)]
         if isinstance(node, tree.CompoundLiteral):
             of = self.names.types.get(node.type, kinds.VOID)
             given = filled(self.names.constants, of, node.init).given
             return [one for (own, _), source in given.items() if own == path for one in self.sources(source)]
         of, region = self.points.place(node)
-        return [("in", inner_region(region, of, path)[1])]
+        return [Inside(inner_region(region, of, path)[1])]
 
     # ---- what has which
 
@@ -206,8 +233,8 @@ class Lifetimes:
         rest: list[Node] = []
         for sources, target, _ in self.flows:
             for one in sources:
-                if one[0] == "local":
-                    self.has.setdefault(target, set()).add(one[1])
+                if isinstance(one, Local):
+                    self.has.setdefault(target, set()).add(one.variable)
                     rest.append(target)
                 else:
                     self.behind.setdefault(one, []).append(target)
@@ -240,18 +267,18 @@ class Lifetimes:
         """What may have the address of a local behind its function."""
         assert local.function is not None
         nodes = [node for node, has in self.has.items() if local in has]
-        for node in [one for one in nodes if one[0] == "result" and one[1] is local.function]:
+        for node in [one for one in nodes if isinstance(one, Result) and one.function is local.function]:
             cause = f"the address of the local {local.name} as a result"
             self.names.refusals.add(self.place(local, node), cause, "make it static")
             return
-        for node in [one for one in nodes if one[0] == "in"]:
-            outliving = [one for one in self.owned.get(node[1], []) if self.outlives(one, local.function)]
+        for inside in [one for one in nodes if isinstance(one, Inside)]:
+            outliving = [one for one in self.owned.get(inside.region, []) if self.outlives(one, local.function)]
             if any(one.home in ("local", "parameter") for one in outliving):
-                self.refuse(local, node)
+                self.refuse(local, inside)
             elif outliving:
-                self.ended.setdefault(local.function, []).append((local, node[1]))
+                self.ended.setdefault(local.function, []).append((local, inside.region))
 
-    def outlives(self, holder: Variable, function: Function) -> bool:
+    def outlives(self, holder: Variable, function: Optional[Function]) -> bool:
         """Whether a pointer is there when a function has ended."""
         if holder.home in ("local", "parameter"):
             return (
@@ -261,9 +288,9 @@ class Lifetimes:
             )
         return holder.home != "text" and not holder.const
 
-    def calls(self, one: Function, other: Function) -> bool:
+    def calls(self, one: Function, other: Optional[Function]) -> bool:
         """Whether a function may call another one, in the end."""
-        seen, rest = {other}, [other]
+        seen, rest = {other}, [other] if other is not None else []
         while rest:
             for caller, _ in rest.pop().calls:
                 if caller is one:
@@ -279,10 +306,10 @@ class Lifetimes:
         cause = f"the address of the local {local.name} may be kept where it outlives {function}"
         self.names.refusals.add(self.place(local, node), cause, "make it static")
 
-    def place(self, local: Variable, node: Node) -> Any:
+    def place(self, local: Variable, node: Node) -> Optional[tree.Coord]:
         """Where an address is taken that gets into what has it too long."""
         for sources, target, at in self.flows:
-            if ("local", local) in sources and self.leads(target, node):
+            if Local(local) in sources and self.leads(target, node):
                 return at
         return local.coord
 
@@ -295,31 +322,3 @@ class Lifetimes:
                     seen.add(target)
                     rest.append(target)
         return other in seen
-
-    # ---- what is written
-
-    def texts(self, writer: Any, function: Function) -> list[str]:
-        """The statements by which pointers that a function leaves behind become -1."""
-        made = []
-        for local, region in self.ended.get(function, []):
-            own = self.points.home(local).root()
-            begin, count = self.columns.begins[(own, local)], self.points.count(local.type, own)
-            holders = dict.fromkeys(text for one in self.owned[region] for text in self.holders(writer, one, region))
-            if len(holders) > MOST_ENDED:
-                self.refuse(local, ("in", region))
-                continue
-            for text in holders:
-                bad = f"(unsigned int) ({text} - {begin})" if begin else f"(unsigned int) {text}"
-                made.append(f"{text} = {text} | -({bad} <= {count});")
-        return made
-
-    def holders(self, writer: Any, variable: Variable, region: Region) -> Iterator[str]:
-        """The pointers of a variable that lie in a region."""
-        if not self.outlives(variable, None):  # type: ignore[arg-type]
-            return
-        place: Place = writer.places.of_variable(variable)
-        index = writer.elements.index(place, True) if place.shifted() else None
-        for leaf, texts in writer.pointer_effects.each_integer(place, index):
-            if leaf.path and leaf.path[-1] == INDEX:
-                if inner_region(self.points.home(variable), variable.type, leaf.path[:-1])[1] is region:
-                    yield from texts

@@ -8,18 +8,17 @@ import bisect
 import difflib
 import os
 from collections.abc import Iterator, Sequence
-from typing import Any, Optional
+from typing import Optional
 
 from tools import program, source_map
 from tools.sources import CLOSING, OPENING, Source, plain
 
 from . import tree
-from .declarators import Variable
-from .kinds import Pointer
+from .kinds import INDEX, Pointer
+from .objects import Variable
 from .output import FELL, File
-from .reading import Unit
-from .regions import INDEX
 from .tree import walk
+from .unit import Unit
 from .writer import Writer
 
 MACRO = "\x00"
@@ -128,9 +127,9 @@ class Original:
             (known[(row, column)] for row in range(len(self.rows.get(line, ()))) if (row, column) in known), None
         )
 
-    def text(self, node: Any) -> Optional[tuple[tuple[int, int], str]]:
+    def text(self, node: tree.Expression) -> Optional[tuple[tuple[int, int], str]]:
         """Where an expression stands, and its text."""
-        coords = [one.coord for one in walk(node) if one.coord is not None and str(one.coord.file) == self.source.name]
+        coords = [one.coord for one in walk(node) if one.coord is not None and one.coord.file == self.source.name]
         spans = [span for one in coords if (span := self.tokens_at(one.line, one.column or 0))]
         if not spans:
             return None
@@ -184,7 +183,7 @@ def shown(variable: Variable, path: Sequence[str]) -> str:
 def names(writer: Writer) -> dict[str, str]:
     """What names stand for: the member or the object behind each cell, and the functions that have another name."""
     found = {one.out: one.name for one in writer.names.functions}
-    columns = {region.column: region for region in writer.places.columns.made}
+    columns = {region.laid: region for region in writer.columns.made}
     for column, region in columns.items():
         found[column.out] = " or ".join(dict.fromkeys(one.name for one in region.objects))
     for (base, path), name in writer.spelling.leaves.items():

@@ -1,19 +1,22 @@
 """What calls bring together: arguments and parameters, also of the library's functions, and of calls by pointers."""
 
-from typing import Any
+from typing import TYPE_CHECKING
 
 from . import kinds, tree
 from .bindings import key
 from .constants import is_offset
-from .declarators import Function, Variable
 from .heap import TAKES
 from .kinds import Int, Pointer, Signature, Struct, Type
 from .models import model_of
+from .objects import Function, Variable
 from .places import arguments
 from .refusals import Refused
 
+if TYPE_CHECKING:
+    from .points_to import PointsTo
 
-def visit(points: Any, node: Any) -> None:
+
+def visit(points: "PointsTo", node: tree.Node) -> None:
     """What a node brings together. What is refused in it is told where it is written."""
     try:
         if isinstance(node, tree.Decl) and node.init is not None:
@@ -41,7 +44,7 @@ def visit(points: Any, node: Any) -> None:
         pass  # (told where it is written)
 
 
-def assigned(points: Any, node: Any) -> None:
+def assigned(points: "PointsTo", node: tree.Assignment) -> None:
     """An assignment: the value becomes one of the target's type, or the target moves."""
     to = points.value(node.lvalue)
     if isinstance(to, Pointer) and node.op in ("+=", "-="):
@@ -50,7 +53,7 @@ def assigned(points: Any, node: Any) -> None:
         points.flow(node.rvalue, to)
 
 
-def compared(points: Any, node: Any) -> None:
+def compared(points: "PointsTo", node: tree.BinaryOp) -> None:
     """A comparison of pointers, which meet the same objects (6.5.8p5, 6.5.9p6)."""
     if node.op in ("==", "!=", "<", ">", "<=", ">="):
         if points.is_null(node.left) or points.is_null(node.right):
@@ -62,7 +65,7 @@ def compared(points: Any, node: Any) -> None:
         points.value(node)
 
 
-def called(points: Any, node: Any) -> None:
+def called(points: "PointsTo", node: tree.FuncCall) -> None:
     """A call: arguments become parameters."""
     function = points.names.meaning.get(node)
     if is_offset(node):
@@ -87,7 +90,7 @@ def called(points: Any, node: Any) -> None:
             points.tried(argument, parameter.type)
 
 
-def called_by_pointer(points: Any, node: Any) -> None:
+def called_by_pointer(points: "PointsTo", node: tree.FuncCall) -> None:
     """A call by a pointer, whose functions are known at the end. Raises Refused where it is none to a function."""
     of = points.value(node.name)
     if not isinstance(of, Pointer) or not isinstance(of.to, Signature):
@@ -100,17 +103,19 @@ def called_by_pointer(points: Any, node: Any) -> None:
             pass  # (told where it is written)
 
 
-def handed_by_pointer(points: Any, done: set[tree.Node]) -> None:
+def handed_by_pointer(points: "PointsTo", done: set[tree.Node]) -> None:
     """What calls by pointers hand over reaches parameters where the pointer meets a function."""
     for _, node in points.pointer_calls:
         of = points.value(node.name)
+        if not isinstance(of, Pointer) or not isinstance(of.to, Signature):
+            continue
         if node not in done and of.region.root().targets:
             done.add(node)
             for argument, to in zip(arguments(node), of.to.parameters):
                 points.tried(argument, to)
 
 
-def of_model(points: Any, node: Any) -> None:
+def of_model(points: "PointsTo", node: tree.FuncCall) -> None:
     """A call of a library's function goes through the objects of its pointers, and may copy from one to the other."""
     found = [points.value(one) for one in arguments(node) if not points.is_null(one)]
     regions = [of.region.root() for of in found if isinstance(of, Pointer)]
@@ -119,9 +124,9 @@ def of_model(points: Any, node: Any) -> None:
     model = model_of(points.names.meaning.get(node))
     if model is not None and len(arguments(node)) == len(model.parameters):
         points.modelled.append((node, model))
-    if len(regions) == 2 and all(region.root().elem is not None for region in regions):
+    if len(regions) == 2:
         left, right = [region.root().elem for region in regions]
-        if not differ(left, right):
+        if left is not None and right is not None and not differ(left, right):
             points.same_type(left, right, node.coord, regions[0])
 
 
@@ -136,7 +141,7 @@ def differ(one: Type, other: Type) -> bool:
     return one is not other and kinds.has_bytes(one) and kinds.has_bytes(other)
 
 
-def called_heap(points: Any, node: Any, name: str) -> None:
+def called_heap(points: "PointsTo", node: tree.FuncCall, name: str) -> None:
     """A call of the heap. Raises Refused where it is declared otherwise than in the library."""
     if len(arguments(node)) != TAKES[name]:
         raise Refused(node.coord, f"{name} is declared otherwise than in the library", "declare it as stdlib.h does")

@@ -2,16 +2,15 @@
 calls meet."""
 
 import re
-from typing import TYPE_CHECKING, Any
+from typing import TYPE_CHECKING, Union
 
-from . import kinds
+from . import kinds, tree
 from .component import Component
 from .initialisers import none_of
-from .kinds import Int, Pointer, Struct
+from .kinds import BEGIN, END, INDEX, NIL, Int, Pointer, Region, Struct
 from .models import WHOLE, Model, element_count, letter
 from .places import arguments
 from .refusals import Refused
-from .regions import BEGIN, END, INDEX, NIL, Region
 from .values import PRIMARY, UNARY, Value
 
 if TYPE_CHECKING:
@@ -29,7 +28,7 @@ MOST_LEAVES = 64
 class Written:
     """One model for the regions of its pointers."""
 
-    def __init__(self, model: Model, name: str, regions: dict[str, Region], own: Any, count: str) -> None:
+    def __init__(self, model: Model, name: str, regions: dict[str, Region], own: "ModelCalls", count: str) -> None:
         self.model, self.name, self.regions, self.count = model, name, regions, count
         self.leaf, self.names = own.model_leaf, own.model_word
 
@@ -47,8 +46,7 @@ class Written:
         body = ACCESS.sub(lambda found: self.access(found.group(1), found.group(2), ()), body)
         body = body.replace("$i < $n", f"({self.count}) $i < $n").replace("NULL", str(NIL)).replace(OPEN, "[")
         whole = f"static {result} {self.name}({', '.join(heads)}) {{ {body} }}"
-        named: str = re.sub(r"\$(\w+)", lambda found: str(self.names(found.group(1))), whole)
-        return named
+        return re.sub(r"\$(\w+)", lambda found: self.names(found.group(1)), whole)
 
     def access(self, at: str, index: str, path: tuple[str, ...], element: int = 0) -> str:
         """The text of an element, which is -1's where it lies outside of its object."""
@@ -63,7 +61,7 @@ class Written:
     def set_elements(self, found: "re.Match[str]") -> str:
         """The text that sets an element, integer by integer."""
         to, index, of, other, value = found.groups()
-        elem, made = self.regions[to].elem, []
+        elem, made = self.regions[to].type, []
         if isinstance(elem, Int):
             right = self.access(of, other, ()) if of else f"({elem.text}) {value}" if value == "$c" else value
             return f"{self.access(to, index, ())} = {right};"
@@ -79,10 +77,10 @@ class ModelCalls(Component):
 
     def __init__(self, writer: "Writer") -> None:
         super().__init__(writer)
-        self.written_models: dict[Any, tuple[str, str]] = {}
+        self.written_models: dict[tuple[Union[str, Region], ...], tuple[str, str]] = {}
         self.model_words: dict[str, str] = {}
 
-    def model_parts(self, node: Any, model: Model) -> dict[str, Value]:
+    def model_parts(self, node: tree.FuncCall, model: Model) -> dict[str, Value]:
         """The call of a model, with what else a pointer that it gives has: that of its first argument."""
         self.writer.order.unsequenced(node, arguments(node))
         texts: list[str] = []
@@ -105,7 +103,9 @@ class ModelCalls(Component):
         text = f"{self.writer.at(node)}{self.model_name(node, model, regions, count)}({', '.join(texts)})"
         return {**first, INDEX: Value(text, kinds.INT, PRIMARY, calls=True)}
 
-    def number_argument(self, node: Any, at: str, region: Region, model: Model, count: str) -> tuple[str, str]:
+    def number_argument(
+        self, node: tree.Expression, at: str, region: Region, model: Model, count: str
+    ) -> tuple[str, str]:
         """An argument that is no pointer, with the type of the number of elements. Raises Refused for bytes of what
         has none."""
         if at != "n":
@@ -113,7 +113,7 @@ class ModelCalls(Component):
             if model.name == "memset" and not narrow and self.writer.constants.value(node) != 0:
                 raise Refused(node.coord, "memset of what is no array of bytes", "assign the elements")
             return self.writer.expressions.value(node).text, count
-        size = kinds.size(region.elem)
+        size = kinds.size(region.type)
         if size is None or (not isinstance(region.elem, Int) or region.elem.bits != 8) and model.name not in WHOLE:
             raise Refused(node.coord, f"{model.name} of what are no bytes", "use the elements")
         try:
@@ -127,14 +127,14 @@ class ModelCalls(Component):
         value = self.writer.expressions.value(whole)
         return value.text, "unsigned int" if value.kind.bits <= 32 else "size_t"
 
-    def model_region(self, node: Any) -> Region:
+    def model_region(self, node: tree.Expression) -> Region:
         """The region of a pointer that a model gets. Raises Refused where its objects aren't known, or are large."""
-        of = self.writer.places.columns.pointer(node)
-        region: Region = of.region.root()
+        of = self.writer.columns.pointer(node)
+        region = of.region.root()
         fault = region.fault
         if fault:
             raise Refused(node.coord, fault[1], fault[2])
-        leaves = list(kinds.leaves(region.elem)) if isinstance(region.elem, (Int, Struct, Pointer)) else []
+        leaves = list(kinds.leaves(region.type)) if isinstance(region.elem, (Int, Struct, Pointer)) else []
         if region.column is None or not leaves or sum(leaf.count for leaf in leaves) > MOST_LEAVES:
             raise Refused(node.coord, "memory whose objects aren't known, or are large", "assign the elements")
         return region
@@ -142,22 +142,20 @@ class ModelCalls(Component):
     def model_leaf(self, region: Region, path: tuple[str, ...]) -> tuple[str, int, int]:
         """Where an integer of a region's elements lies: its array, the factor of an element's number, and what is
         added."""
-        variable, inside, factor, add = self.writer.places.columns.leaf_at(region, path)
+        variable, inside, factor, add = self.writer.columns.leaf_at(region, path)
         return self.writer.spelling.leaf(variable, inside), factor, add
 
     def model_word(self, word: str) -> str:
         """A name within models that nothing else has."""
         if word not in self.model_words:
             self.model_words[word] = self.writer.spelling.fresh(word)
-        found: str = self.model_words[word]
-        return found
+        return self.model_words[word]
 
-    def model_name(self, node: Any, model: Model, regions: dict[str, Region], count: str) -> str:
+    def model_name(self, node: tree.FuncCall, model: Model, regions: dict[str, Region], count: str) -> str:
         """The name of a model for some regions, which is written with its first call."""
-        key = (model.name, *regions.values(), count)
+        key: tuple[Union[str, Region], ...] = (model.name, *regions.values(), count)
         if key not in self.written_models:
             name = self.writer.spelling.fresh(model.name)
             made = Written(model, name, regions, self, count)
             self.written_models[key] = (name, made.text())
-        found: str = self.written_models[key][0]
-        return found
+        return self.written_models[key][0]

@@ -3,10 +3,11 @@
 import os
 import re
 from functools import cache
-from typing import Any, NamedTuple, Optional
+from typing import NamedTuple, Optional, Union
 
 from . import tree
-from .declarators import Function
+from .constants import Constants
+from .objects import Function, Meaning
 from .refusals import Refused
 
 FOLDER = os.path.join(os.path.dirname(os.path.abspath(__file__)), "models")
@@ -41,10 +42,9 @@ def models() -> dict[str, Model]:
     return found
 
 
-def model_of(function: Any) -> Optional[Model]:
+def model_of(function: Optional[Meaning]) -> Optional[Model]:
     """The model of a function that no source defines."""
-    known = isinstance(function, Function) and function.definition is None
-    return models().get(function.name) if known else None
+    return models().get(function.name) if isinstance(function, Function) and function.definition is None else None
 
 
 def letter(parameter: str) -> str:
@@ -52,7 +52,7 @@ def letter(parameter: str) -> str:
     return parameter.split()[-1].lstrip("*")
 
 
-def element_count(constants: Any, node: Any, size: int) -> Any:
+def element_count(constants: Constants, node: tree.Expression, size: int) -> Union[int, tree.Expression]:
     """A number of bytes as one of elements: a number, or the expression that it is. Raises Refused where they may be
     no whole number of elements."""
     if size == 1:

@@ -1,16 +1,21 @@
 """What each name of the units stands for: scopes as C has them (6.2.1)."""
 
 from collections import ChainMap
-from typing import Any, Optional
+from typing import Optional, Union
 
 
 from . import kinds, tree
 from .constants import Constants, is_offset
-from .declarators import Declarators, Function, Variable
-from .kinds import Array, Other, Struct, Type
+from .declarators import Declarators
+from .kinds import Array, Int, Other, Struct, Type
+from .objects import Function, Meaning, Variable
 from .parsing import printed
-from .reading import Unit, is_system
+from .reading import is_system
 from .refusals import Refusals, Refused
+from .unit import Unit
+
+
+Key = Union[str, tuple[str, str]]  # what links declarations: a name, and of static ones the file
 
 
 class Names:
@@ -20,22 +25,22 @@ class Names:
 
     def __init__(self, refusals: Refusals, pool: tuple[int, int]) -> None:
         self.refusals = refusals
-        self.linked: dict[Any, Any] = {}
-        self.meaning: dict[tree.Node, Any] = {}
+        self.linked: dict[Key, Union[Variable, Function]] = {}
+        self.meaning: dict[tree.Node, Optional[Meaning]] = {}
         self.types: dict[tree.Node, Type] = {}
         self.functions: list[Function] = []
         self.variables: list[Variable] = []
-        self.enumerators: dict[str, Any] = {}
+        self.enumerators: dict[str, Optional[tree.Coord]] = {}
         self.constants, self.declarators = Constants(self), Declarators(self)
         self.function: Optional[Function] = None
         self.structs: list[Struct] = []
         self.named_members: set[str] = set()
         self.initialised: list[Type] = []  # types of objects that have lists of first values
         self.pool = pool
-        self.scope: ChainMap[str, Any] = ChainMap()
-        self.tags: ChainMap[str, Any] = ChainMap()
-        self.items: list[tuple[Unit, Any]] = []
-        self.current: Any = None  # the unit that is read
+        self.scope: ChainMap[str, Meaning] = ChainMap()
+        self.tags: ChainMap[str, Union[Struct, Int]] = ChainMap()
+        self.items: list[tuple[Unit, tree.Node]] = []
+        self.current: Optional[Unit] = None  # the one that is read
 
     def unit(self, unit: Unit) -> None:
         """Reads one source; what is refused in an item is gathered."""
@@ -48,7 +53,7 @@ class Names:
 
     # ---- declarations
 
-    def item(self, item: Any) -> None:
+    def item(self, item: tree.Node) -> None:
         """A declaration or a definition of the file or of a block."""
         if isinstance(item, tree.Typedef):
             self.typedef(item)
@@ -57,12 +62,12 @@ class Names:
         elif isinstance(item, tree.FuncDef):
             self.definition(item)
 
-    def typedef(self, node: Any) -> None:
+    def typedef(self, node: tree.Typedef) -> None:
         """The name of a type; the library's own of known widths are kept as they are."""
-        fixed = kinds.FIXED.get(node.name) if is_system(str(node.coord.file)) else None
+        fixed = kinds.FIXED.get(node.name) if is_system(node.where.file) else None
         self.scope[node.name] = fixed or self.declarators.usable(node.type)
 
-    def declaration(self, node: Any) -> None:
+    def declaration(self, node: tree.Decl) -> None:
         """A declaration of a type alone, of a function, or of an object."""
         if isinstance(node.type, (tree.Struct, tree.Enum, tree.Union)) and node.name is None:
             self.declarators.type_of(node.type)
@@ -71,11 +76,12 @@ class Names:
         else:
             self.meaning[node] = self.variable(node)
 
-    def key(self, node: Any, static: bool) -> Any:
+    def key(self, node: tree.Decl, static: bool) -> Key:
         """What links declarations of the file: the name, and of static ones the file, which for a header is its own."""
-        return (node.name, node.coord.file) if static else node.name
+        name = node.name or ""
+        return (name, node.where.file) if static else name
 
-    def variable(self, node: Any) -> Variable:
+    def variable(self, node: tree.Decl) -> Variable:
         """The object that a declaration declares, which may be known already (6.2.2). Raises Refused for static ones
         that differ from source to source."""
         of = self.declarators.usable(node.type)
@@ -83,7 +89,8 @@ class Names:
             self.initialiser(node.init)
             of = Array(of.of, self.constants.length_of(node.init, of.of))
         local = self.function is not None and "extern" not in node.storage
-        before = self.scope.get(node.name)
+        name = node.name or ""
+        before = self.scope.get(name)
         if self.function is not None and not local and isinstance(before, Variable) and before.home != "file":
             raise Refused(
                 node.coord,
@@ -92,10 +99,11 @@ class Names:
             )
         static = "static" in node.storage
         home = "static" if local and static else "local" if local else "file"
-        old = self.scope.maps[-1].get(node.name) if home == "file" else None
-        key = self.key(node, static or (isinstance(old, Variable) and (node.name, node.coord.file) in self.linked))
-        if home == "file" and isinstance(self.linked.get(key), Variable):
-            made: Variable = self.linked[key]
+        old = self.scope.maps[-1].get(name) if home == "file" else None
+        key = self.key(node, static or (isinstance(old, Variable) and (name, node.where.file) in self.linked))
+        linked = self.linked.get(key)
+        if home == "file" and isinstance(linked, Variable):
+            made = linked
             if static and made.unit is not self.current and not made.const:
                 raise Refused(
                     node.coord,
@@ -106,14 +114,14 @@ class Names:
                 made.type = of
         else:
             const = "const" in (node.quals or []) or "const" in self.quals(node.type)
-            made = Variable(node.name, of, node.coord, home, function=self.function, const=const, unit=self.current)
+            made = Variable(name, of, node.coord, home, function=self.function, const=const, unit=self.current)
             made.number = len(self.items)
             self.variables.append(made)
             if home == "file":
                 self.linked[key] = made
         made.volatile = made.volatile or "volatile" in (node.quals or []) or "volatile" in self.quals(node.type)
         made.defined = made.defined or "extern" not in node.storage or node.init is not None
-        self.scope[node.name] = made
+        self.scope[name] = made
         if isinstance(node.init, tree.InitList):
             self.initialised.append(of)
         if node.init is not None:
@@ -122,13 +130,13 @@ class Names:
         return made
 
     @staticmethod
-    def quals(node: Any) -> list[str]:
+    def quals(node: tree.TypeNode) -> list[str]:
         """The qualifiers of what an array has, or of the object itself."""
         while isinstance(node, tree.ArrayDecl):
             node = node.type
-        return list(getattr(node, "quals", None) or [])
+        return list(node.quals or []) if isinstance(node, (tree.TypeDecl, tree.PtrDecl)) else []
 
-    def initialiser(self, node: Any) -> None:
+    def initialiser(self, node: tree.Expression) -> None:
         """Ties the names in a first value."""
         if isinstance(node, tree.InitList):
             for one in node.exprs or []:
@@ -144,36 +152,32 @@ class Names:
         else:
             self.expression(node)
 
-    def declared_function(self, node: Any) -> Function:
+    def declared_function(self, node: tree.Decl) -> Function:
         """The function that a declaration declares, which may be known already (6.2.2p5)."""
-        result = node.type.type
-        old = self.scope.maps[-1].get(node.name)
+        assert isinstance(node.type, tree.FuncDecl)
+        name, result = node.name or "", node.type.type
+        old = self.scope.maps[-1].get(name)
         static = "static" in node.storage or (isinstance(old, Function) and old.static)
         key = self.key(node, static)
         made = old if isinstance(old, Function) else self.linked.get(key)
         parameters = self.parameters(node)
         if not isinstance(made, Function):
             made = Function(
-                node.name, self.declarators.usable(result), parameters, node.coord, static=static, declaration=node
+                name, self.declarators.usable(result), parameters, node.coord, static=static, declaration=node
             )
             self.linked[key] = made
             self.functions.append(made)
         elif made.definition is None and (parameters or not made.parameters):
             made.parameters = parameters
-        made.variadic = made.variadic or any(isinstance(one, tree.EllipsisParam) for one in self.written(node))
-        self.scope.maps[-1][node.name] = self.scope[node.name] = made
+        made.variadic = made.variadic or any(isinstance(one, tree.EllipsisParam) for one in node.type.params)
+        self.scope.maps[-1][name] = self.scope[name] = made
         return made
 
-    @staticmethod
-    def written(node: Any) -> list[Any]:
-        """The declarations in the brackets of a function's declarator, also a lone `void`; none where there are none."""
-        return list(node.type.args.params) if node.type.args else []
-
-    def parameters(self, node: Any) -> list[Variable]:
+    def parameters(self, node: tree.Decl) -> list[Variable]:
         """The parameters as objects; an ellipsis and void are none."""
         made = []
-        for one in self.written(node):
-            if isinstance(one, tree.EllipsisParam):
+        for one in node.type.params if isinstance(node.type, tree.FuncDecl) else []:
+            if not isinstance(one, (tree.Decl, tree.Typename)):
                 continue
             of = self.declarators.usable(one.type)
             if of == kinds.VOID:
@@ -184,7 +188,7 @@ class Names:
             made.append(variable)
         return made
 
-    def definition(self, node: Any) -> None:
+    def definition(self, node: tree.FuncDef) -> None:
         """The definition of a function, with the scopes of its body."""
         self.prototyped(node)
         made = self.declared_function(node.decl)
@@ -205,33 +209,33 @@ class Names:
         self.function = None
 
     @staticmethod
-    def prototyped(node: Any) -> None:
+    def prototyped(node: tree.FuncDef) -> None:
         """Puts parameters that are declared behind the parentheses between them; without a type they are `int` (K&R)."""
         own = {one.name: one for one in node.param_decls or []}
-        if node.decl.type.args is None:
+        if node.head.args is None:
             return
-        for at, one in enumerate(node.decl.type.args.params):
+        for at, one in enumerate(node.head.args.params):
             if isinstance(one, tree.ID):
                 word = tree.TypeDecl(one.name, [], None, tree.IdentifierType(["int"], one.coord), one.coord)
                 made = tree.Decl(one.name, [], [], [], [], word, None, None, one.coord)
-                node.decl.type.args.params[at] = own.get(one.name, made)
+                node.head.args.params[at] = own.get(one.name, made)
         node.param_decls = None
 
-    def same_again(self, made: Function, node: Any) -> None:
+    def same_again(self, made: Function, node: tree.FuncDef) -> None:
         """A second definition must be that of a header, read anew. Raises Refused where it is another one."""
         if any(one.function is made and one.home == "static" and not one.const for one in self.variables):
             raise Refused(
                 node.decl.coord, f"{made.name} has another static object in each source", "define it in one source"
             )
-        texts = [printed(one) for one in (made.definition, node)]
-        if made.definition.decl.coord.file != node.decl.coord.file or texts[0] != texts[1]:
+        first = made.definition
+        if first is None or first.decl.where.file != node.decl.where.file or printed(first) != printed(node):
             raise Refused(
                 node.decl.coord, f"{made.name} is defined again, or otherwise in another source", "define it once"
             )
 
     # ---- statements and expressions
 
-    def statement(self, node: Any) -> None:
+    def statement(self, node: tree.Node) -> None:
         """Ties the names of a statement; a block has a scope of its own (6.2.1p4)."""
         self.refusals.go(node.coord)
         with self.refusals.gathered():
@@ -247,17 +251,17 @@ class Names:
             else:
                 self.expression(node)
 
-    def children(self, node: Any) -> None:
+    def children(self, node: tree.Node) -> None:
         """Ties the names of all parts of a node."""
         for _, child in node.children():
             self.statement(child)
 
-    def expression(self, node: Any) -> None:
+    def expression(self, node: tree.Node) -> None:
         """Ties the names of an expression, and gives types' names their types."""
         if isinstance(node, tree.ID):
-            self.meaning[node] = self.scope.get(node.name)
-            if isinstance(self.meaning[node], Function):
-                self.meaning[node].taken = True
+            self.meaning[node] = meaning = self.scope.get(node.name)
+            if isinstance(meaning, Function):
+                meaning.taken = True
         elif isinstance(node, tree.FuncCall):
             self.call(node)
         elif isinstance(node, tree.StructRef):
@@ -281,10 +285,10 @@ class Names:
         else:
             self.children(node)
 
-    def call(self, node: Any) -> None:
+    def call(self, node: tree.FuncCall) -> None:
         """Ties a call to its function where it is called by its name."""
         if is_offset(node):
-            self.expression(node.args.exprs[0])
+            self.expression(node.given[0])
             return
         called = self.scope.get(node.name.name) if isinstance(node.name, tree.ID) else None
         if isinstance(called, Function):
@@ -292,6 +296,5 @@ class Names:
             called.calls.append((self.function, node))
         else:
             self.expression(node.name)
-        if node.args:
-            for one in node.args.exprs:
-                self.expression(one)
+        for one in node.given:
+            self.expression(one)

@@ -4,7 +4,7 @@ one in the other, and the answers that are read one behind the other. Other loop
 import os
 import re
 from dataclasses import dataclass, field
-from typing import Any, Optional
+from typing import Optional
 
 
 from . import parsing, tree
@@ -15,14 +15,15 @@ WORDS = "".join(
     for name in "int8_t uint8_t int16_t uint16_t int32_t uint32_t int64_t uint64_t size_t bool".split()
 )
 HEAP = "malloc_fails"  # is asked once, whatever calls there are
-Counts = dict[Any, Optional[int]]  # how often loops go back, where that is known
+Loop = tree.While | tree.DoWhile | tree.For
+Counts = dict[Loop, Optional[int]]  # how often loops go back, where that is known
 MOST = {"turns": 1000, "frames": 64, "answers": 256}
 STEPS = ("++", "p++", "--", "p--")
 
 
-def name_of(call: Any) -> str:
+def name_of(call: tree.FuncCall) -> str:
     """The name by which a call calls; nothing of one by a pointer."""
-    return str(call.name.name) if isinstance(call.name, tree.ID) else ""
+    return call.name.name if isinstance(call.name, tree.ID) else ""
 
 
 @dataclass
@@ -46,7 +47,7 @@ class Written:
     """What was written, read again: its functions with the files in which they stand."""
 
     def __init__(self, texts: dict[str, str]) -> None:
-        self.functions: dict[str, Any] = {}
+        self.functions: dict[str, tree.FuncDef] = {}
         self.files: dict[str, str] = {}
         self.inputs: set[str] = set()
         self.constants: dict[str, int] = {}
@@ -56,20 +57,20 @@ class Written:
                 r"(?m)^[ \t]*#.*$", "", re.sub(r"//.*|/\*(?:[^*]|\*(?!/))*\*/", blank, text.replace(FELL, ""))
             )
             joined.append(f'# 1 "{path}"\n{plain}')
-        whole: Any = parsing.parsed(WORDS + "\n" + "\n".join(joined))
+        whole = parsing.parsed(WORDS + "\n" + "\n".join(joined))
         declared = set[str]()
         for item in whole.ext:
             if isinstance(item, tree.FuncDef):
-                name, at = str(item.decl.name), item.decl.coord
-                self.functions[name], self.files[name] = item, str(at.file) if at else ""
+                name = item.decl.name or ""
+                self.functions[name], self.files[name] = item, item.decl.where.file
             elif isinstance(item, tree.Decl) and isinstance(item.type, tree.FuncDecl):
-                declared.add(str(item.name))
+                declared.add(item.name or "")
             for one in tree.walk(item) if isinstance(item, tree.Decl) else []:
                 self.enumerated(one)
         self.inputs = declared - set(self.functions) - {"assert", "assume"}
         self.handed = self.arguments()
 
-    def enumerated(self, node: Any) -> None:
+    def enumerated(self, node: tree.Node) -> None:
         """Learns the constants of an enum."""
         last = -1
         for one in node.values.enumerators if isinstance(node, tree.Enum) and node.values is not None else []:
@@ -77,15 +78,15 @@ class Written:
             last = known if known is not None else last + 1
             self.constants[one.name] = last
 
-    def calls(self, function: str) -> list[Any]:
+    def calls(self, function: str) -> list[tree.FuncCall]:
         """Where this function, by what is written, calls another or itself; nothing where its body isn't there."""
         nodes = tree.walk(self.functions[function].body) if function in self.functions else []
         return [one for one in nodes if isinstance(one, tree.FuncCall)]
 
     def parameters(self, function: str) -> list[str]:
         """The names of a function's parameters."""
-        listed = self.functions[function].decl.type.args
-        return [str(one.name) for one in listed.params] if listed else []
+        listed = self.functions[function].head.params
+        return [one.name or "" for one in listed if not isinstance(one, tree.EllipsisParam)]
 
     def arguments(self) -> dict[str, dict[str, int]]:
         """The greatest constant that calls hand over for a parameter, where all of them hand over constants."""
@@ -93,7 +94,7 @@ class Written:
         for function in self.functions:
             for call in self.calls(function):
                 own = self.parameters(name_of(call)) if name_of(call) in self.functions else []
-                for name, one in zip(own, call.args.exprs if call.args else []):
+                for name, one in zip(own, call.given):
                     found.setdefault(name_of(call), {}).setdefault(name, []).append(self.value(one, {}))
         return {
             function: {
@@ -104,7 +105,7 @@ class Written:
 
     # ---- constants
 
-    def value(self, node: Any, known: dict[str, int]) -> Optional[int]:
+    def value(self, node: Optional[tree.Node], known: dict[str, int]) -> Optional[int]:
         """The value of a constant expression of small numbers; None of any other one."""
         if isinstance(node, tree.Constant):
             digits = node.value.rstrip("uUlL")
@@ -134,7 +135,7 @@ def blank(found: "re.Match[str]") -> str:
     return re.sub(r"[^\n]", " ", found.group())
 
 
-def stepped(node: Any, name: str) -> Optional[int]:
+def stepped(node: tree.Node, name: str) -> Optional[int]:
     """By how much an expression steps a variable, where that is known and above 0, or below."""
     if (
         isinstance(node, tree.UnaryOp)
@@ -149,7 +150,7 @@ def stepped(node: Any, name: str) -> Optional[int]:
     return None
 
 
-def changes(node: Any, name: str) -> list[Any]:
+def changes(node: tree.Node, name: str) -> list[tree.Node]:
     """The assignments, `++` and `--` in a tree whose target is the variable of this name."""
     found = []
     for one in tree.walk(node):
@@ -166,7 +167,7 @@ def changes(node: Any, name: str) -> list[Any]:
     return found
 
 
-def leaves(loop: Any) -> bool:
+def leaves(loop: Loop) -> bool:
     """Whether a loop is there for its `break` alone: it never goes back."""
     items = loop.stmt.block_items or [] if isinstance(loop.stmt, tree.Compound) else [loop.stmt]
     rest, goes_on = list(items), False
@@ -177,9 +178,9 @@ def leaves(loop: Any) -> bool:
     return bool(items) and isinstance(items[-1], tree.Break) and not goes_on
 
 
-def first_of(node: Any, name: str) -> Any:
+def first_of(node: Optional[tree.Node], name: str) -> Optional[tree.Expression]:
     """What a variable is given by the statement before a loop, or in its head."""
-    for one in node.decls if isinstance(node, tree.DeclList) else [node]:
+    for one in [node, *(node.decls if isinstance(node, tree.DeclList) else [])]:
         if isinstance(one, tree.Decl) and one.name == name:
             return one.init
         if (
@@ -201,17 +202,19 @@ class Needed:
 
     # ---- loops
 
-    def turns(self, loop: Any, before: Any, known: dict[str, int]) -> Optional[int]:
+    def turns(self, loop: Loop, before: Optional[tree.Node], known: dict[str, int]) -> Optional[int]:
         """How often a loop goes back at most, where its count is constant."""
         test = loop.cond
         if test is None and leaves(loop):
             return 0
-        tested = test.left if isinstance(test, tree.BinaryOp) and not isinstance(loop, tree.DoWhile) else None
-        tested = tested.expr if isinstance(tested, tree.Cast) else tested
+        if not isinstance(test, tree.BinaryOp) or isinstance(loop, tree.DoWhile):
+            return None
+        tested = test.left.expr if isinstance(test.left, tree.Cast) else test.left
         if not isinstance(tested, tree.ID):
             return None
         name, last = tested.name, self.written.value(test.right, known)
-        step, body = (loop.next, loop.stmt) if isinstance(loop, tree.For) else (None, loop.stmt)
+        step: Optional[tree.Node] = loop.next if isinstance(loop, tree.For) else None
+        body = loop.stmt
         first = self.written.value(
             first_of(loop.init if isinstance(loop, tree.For) and loop.init else before, name), known
         )
@@ -226,7 +229,7 @@ class Needed:
             return None
         return counted(test.op, first, last, by)
 
-    def loops(self, function: str) -> list[tuple[Any, Optional[int]]]:
+    def loops(self, function: str) -> list[tuple[Loop, Optional[int]]]:
         """The loops of a function with their counts."""
         item = self.written.functions[function]
         own = {name: v for name, v in self.written.handed.get(function, {}).items() if not changes(item.body, name)}
@@ -253,7 +256,7 @@ class Needed:
             self.asked[function] = self.of(self.written.functions[function].body, counts, (*open_, function))
         return self.asked[function]
 
-    def of(self, node: Any, counts: Counts, open_: tuple[str, ...]) -> Asked:
+    def of(self, node: Optional[tree.Node], counts: Counts, open_: tuple[str, ...]) -> Asked:
         """The answers that a statement or an expression reads."""
         if node is None:
             return Asked()
@@ -274,12 +277,12 @@ class Needed:
             made = made.plus(Asked({name: 1}) if name in self.written.inputs else self.answers(name, open_))
         return made
 
-    def of_cases(self, node: Any, counts: Counts, open_: tuple[str, ...]) -> Asked:
+    def of_cases(self, node: tree.Switch, counts: Counts, open_: tuple[str, ...]) -> Asked:
         """What the cases of a switch read: the one that reads most, or all of them where one goes on into the next."""
         groups = node.stmt.block_items or [] if isinstance(node.stmt, tree.Compound) else [node.stmt]
         made = [self.of(one, counts, open_) for one in groups]
         ends = (tree.Break, tree.Return, tree.Continue)
-        lists = [getattr(one, "stmts", None) or [] for one in groups[:-1]]
+        lists = [one.stmts or [] for one in groups[:-1] if isinstance(one, (tree.Case, tree.Default))]
         falls = any(one and not isinstance(one[-1], ends) for one in lists)
         if not falls:
             return max(made, key=lambda one: one.total, default=Asked())
@@ -318,16 +321,16 @@ class Needed:
 
     # ---- what is said
 
-    def place(self, node: Any) -> str:
+    def place(self, node: tree.Node) -> str:
         """The file and the line of a node."""
-        return f"{os.path.basename(str(node.coord.file))}:{node.coord.line}"
+        return f"{os.path.basename(node.where.file)}:{node.where.line}"
 
     def entries(self, files: set[str]) -> list[str]:
         """The functions of the sources that nothing calls, which take integers alone."""
         called = {name_of(call) for function in self.written.functions for call in self.written.calls(function)}
         found = []
         for name, item in self.written.functions.items():
-            listed = item.decl.type.args.params if item.decl.type.args else []
+            listed = [one for one in item.head.params if isinstance(one, (tree.Decl, tree.Typename))]
             arrays = any(isinstance(one.type, tree.ArrayDecl) for one in listed)
             if name not in called and not arrays and self.written.files[name] in files:
                 found.append(name)

@@ -2,7 +2,7 @@
 
 import re
 from bisect import bisect_left
-from typing import Any, Optional
+from typing import Optional
 
 from . import tree
 
@@ -28,7 +28,7 @@ class Original:
             self.words.append(found.group())
             self.spots.append((line, found.start() - starts[line - 1] + 1))
 
-    def at(self, coord: Any) -> Optional[int]:
+    def at(self, coord: tree.Coord) -> Optional[int]:
         """The number of the token at a place, if one begins there."""
         spot = (coord.line, coord.column or 0)
         number = bisect_left(self.spots, spot)
@@ -62,7 +62,7 @@ class Original:
         return None
 
 
-def leftmost(node: Any, op: str) -> tuple[Any, int]:
+def leftmost(node: tree.Expression, op: str) -> tuple[tree.Expression, int]:
     """The name or constant with which an expression begins, and how often the operator stands before it as a prefix."""
     count = 0
     while True:
@@ -85,17 +85,17 @@ def leftmost(node: Any, op: str) -> tuple[Any, int]:
             return node, count
 
 
-def word_of(node: Any) -> str:
+def word_of(node: tree.Expression) -> str:
     """The text of a name or a constant."""
-    return str(node.name if isinstance(node, tree.ID) else getattr(node, "value", ""))
+    return node.name if isinstance(node, tree.ID) else node.value if isinstance(node, tree.Constant) else ""
 
 
-def spot(original: Original, node: Any) -> Spot:
+def spot(original: Original, node: tree.Expression) -> Spot:
     """The place of the operator of an expression, or of its name or constant; within a macro that of the line's first token."""
     if (
         not isinstance(node, (tree.BinaryOp, tree.UnaryOp, tree.Assignment))
         or node.op in ("*", "&")
-        and not hasattr(node, "right")
+        and isinstance(node, tree.UnaryOp)
     ):
         leaf, _ = leftmost(node, "")
         number = original.at(leaf.coord) if leaf.coord is not None else None
@@ -108,8 +108,13 @@ def spot(original: Original, node: Any) -> Spot:
     is_postfix = isinstance(node, tree.UnaryOp) and node.op in ("p++", "p--")
     forward = is_postfix or isinstance(node, tree.Assignment)
     op = node.op[1:] if is_postfix else node.op
-    right = node.right if isinstance(node, tree.BinaryOp) else node.expr if isinstance(node, tree.UnaryOp) else None
-    operand = node.lvalue if isinstance(node, tree.Assignment) else right
+    operand = (
+        node.lvalue
+        if isinstance(node, tree.Assignment)
+        else node.right
+        if isinstance(node, tree.BinaryOp)
+        else node.expr
+    )
     leaf, count = leftmost(operand, op)
     found, line = None, node.coord.line if node.coord else 1
     number = original.at(leaf.coord) if leaf.coord is not None else None

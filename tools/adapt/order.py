@@ -1,15 +1,16 @@
 """In which order parts of an expression are evaluated, and what stands in statements before it (6.5p2)."""
 
+from collections.abc import Callable, Sequence
 from itertools import combinations
-from typing import TYPE_CHECKING, Any, Callable, Optional, TypeVar
+from typing import TYPE_CHECKING, Optional, TypeVar
 
 from . import kinds, tree
 from .changed import changed
 from .component import Component
-from .declarators import Function, Variable
 from .effects import STEPS
 from .heap import heap_call
 from .kinds import Leaf, Struct
+from .objects import Function, Variable
 from .refusals import Refused
 from .tree import walk
 
@@ -20,7 +21,7 @@ Made = TypeVar("Made")
 ORDER = "C leaves open whether {} is read or written first; use two statements"
 
 
-def is_no_object(node: Any) -> bool:
+def is_no_object(node: Optional[tree.Node]) -> bool:
     """Whether an expression is a member of a struct that a call, a comma, a choice or an assignment gives."""
     if not isinstance(node, (tree.ArrayRef, tree.StructRef)):
         return False
@@ -38,16 +39,16 @@ class Order(Component):
         super().__init__(writer)
         self.needing: dict[Optional[tree.Node], bool] = {}
 
-    def unsequenced(self, node: Any, parts: list[Any]) -> None:
+    def unsequenced(self, node: Optional[tree.Node], parts: Sequence[tree.Expression]) -> None:
         """Refuses parts that C evaluates in any order, where that matters. Raises Refused then (6.5p2)."""
         for one, other in combinations([self.writer.effected.of(part) for part in parts], 2):
             found = one.clash(other)
             if found:
                 name = found[0].name + "".join("." + part for part in found[1]) if found[0] else "an input"
                 cause, advice = ORDER.format(name).split("; ")
-                raise Refused(node.coord, cause, advice)
+                raise Refused(node.coord if node is not None else None, cause, advice)
 
-    def needs_statements(self, node: Any) -> bool:
+    def needs_statements(self, node: Optional[tree.Expression]) -> bool:
         """Whether an expression can't be written without statements before it."""
         if node not in self.needing:
             nodes = [] if node is None else walk(node)
@@ -58,7 +59,7 @@ class Order(Component):
             self.needing[node] = any(self.needs(one) for one in nodes if one not in skipped | listed)
         return self.needing[node]
 
-    def inline(self, node: Any, write: Callable[[], Made]) -> Optional[Made]:
+    def inline(self, node: tree.Expression, write: Callable[[], Made]) -> Optional[Made]:
         """What is written of an expression as a value alone; nothing where it takes statements before it, which stand apart where
         the expression is evaluated again, or not at all."""
         if self.needs_statements(node):
@@ -73,12 +74,12 @@ class Order(Component):
             return None
         return made
 
-    def needs(self, node: Any) -> bool:
+    def needs(self, node: tree.Node) -> bool:
         """Whether a node itself takes statements before."""
         if isinstance(node, tree.ArrayRef) and self.writer.check:
             return isinstance(node.name, tree.ArrayRef)
         if isinstance(node, tree.FuncCall):
-            called = self.writer.places.choosers.called(node)
+            called = self.writer.choosers.called(node)
             if not isinstance(called, Function):
                 return False
             if heap_call(called) or changed(self.writer.places, node, called, self.writer.inputs):
@@ -92,7 +93,7 @@ class Order(Component):
 
     def outs(self, function: Function) -> list[tuple[Variable, Leaf]]:
         """What a call gives back by copies: each integer of an object that the function writes, with its parameter."""
-        if self.writer.places.choosers.targets(function) is not None:
+        if self.writer.choosers.targets(function) is not None:
             return []
         writes = self.writer.effected.of_function[function].writes
         found = []

@@ -72,7 +72,8 @@ def marked(part: str, line: int, column: int) -> str:
 def joined(parts: list[str], original: str) -> str:
     """One line, as far in as the original's."""
     text = "".join(parts).strip()
-    return re.match(r"[ \t]*", original).group() + text if text else ""  # type: ignore[union-attr]
+    blanks = len(original) - len(original.lstrip(" \t"))
+    return original[:blanks] + text if text else ""
 
 
 def copied(line: str) -> bool:

@@ -1,14 +1,13 @@
 """Calls of functions that no source defines: input functions, and those that were named as such."""
 
-from typing import Any
+from typing import Optional
 
 from . import tree
 from .changed import handed, takes_const
 from .component import Component
-from .declarators import Function
 from .kinds import Array, Int, Pointer
-from .places import Place, arguments
-
+from .objects import Function, Place
+from .places import arguments
 from .refusals import Refused
 from .values import PRIMARY, Value
 
@@ -16,7 +15,7 @@ from .values import PRIMARY, Value
 class OutsideCalls(Component):
     """The calls of functions that no source defines."""
 
-    def outer_call(self, node: Any, function: Function) -> tuple[str, list[str]]:
+    def outer_call(self, node: tree.FuncCall, function: Function) -> tuple[str, list[str]]:
         """A call of a function that no source defines: an input function, or one that was named as such. Behind it
         stand the values that objects get by it. Raises Refused where an object is handed over that it may change."""
         after: list[str] = []
@@ -50,14 +49,14 @@ class OutsideCalls(Component):
             found += [f"{text} = {value.text};" for text in texts]
         return found
 
-    def check_outer(self, function: Function, coord: Any) -> None:
+    def check_outer(self, function: Function, coord: Optional[tree.Coord]) -> None:
         """Refuses a function that no source defines and that is no input function. Raises Refused then."""
         named = function.name in self.writer.inputs
         if (function.parameters or function.variadic) and not named or not isinstance(function.result, Int):
             advice = f"give the source that defines it, or name it (--input {function.name}) where its arguments don't matter and it changes no object"
             raise Refused(coord, f"no source defines {function.name}", advice)
 
-    def may_change(self, function: Function, number: int, argument: Any) -> bool:
+    def may_change(self, function: Function, number: int, argument: tree.Expression) -> bool:
         """Whether a function that no source defines may change an object of these sources by an argument."""
         if not isinstance(self.writer.constants.type_of(argument), (Pointer, Array)) or self.writer.pointers.is_null(
             argument
@@ -65,6 +64,6 @@ class OutsideCalls(Component):
             return False
         if isinstance(argument, tree.Constant) or self.writer.elements.stands(argument):
             return not isinstance(argument, tree.Constant)
-        region = self.writer.places.columns.pointer(argument).region.root()
-        ours = bool(region.objects) or region in self.writer.places.columns.inner
+        region = self.writer.columns.pointer(argument).region.root()
+        ours = bool(region.objects) or region in self.writer.columns.inner
         return ours and not takes_const(function, number)

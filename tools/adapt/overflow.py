@@ -9,12 +9,13 @@ until the files are laid out; then the table of overflow.json tells of each call
 import json
 import os
 import re
+from collections.abc import Callable
 from dataclasses import dataclass
-from typing import TYPE_CHECKING, Any, Optional
+from typing import TYPE_CHECKING, Optional, Union
 
 from tools import program
 
-from . import kinds, overflow_texts
+from . import kinds, overflow_texts, tree
 from .component import Component
 from .kinds import Int
 from .operators import Original, spot
@@ -118,15 +119,18 @@ class Overflow(Component):
     def __init__(self, writer: "Writer", overflows: bool, conversions: bool) -> None:
         super().__init__(writer)
         self.overflows, self.conversions = overflows, conversions
-        self.helpers: dict[tuple[Any, ...], tuple[str, str]] = {}
+        self.helpers: dict[tuple[object, ...], tuple[str, str]] = {}
         self.sites: list[Site] = []
         self.originals: dict[str, Original] = {}
-        self.last: tuple[Any, Optional[Value]] = None, None  # the expression that was written last, and its value
-        self.rows: list[dict[str, Any]] = []
+        self.last: tuple[Optional[tree.Expression], Optional[Value]] = (
+            None,
+            None,
+        )  # the expression that was written last, and its value
+        self.rows: list[dict[str, Union[str, int]]] = []
 
     # ---- calls
 
-    def helper(self, key: tuple[Any, ...], stem: str, text: Any) -> str:
+    def helper(self, key: tuple[object, ...], stem: str, text: Callable[[str], str]) -> str:
         """The name of a function of the header, which is written where it is used."""
         if key not in self.helpers:
             name = self.writer.spelling.fresh(stem, True)
@@ -140,15 +144,15 @@ class Overflow(Component):
                 self.originals[file] = Original(opened.read())
         return self.originals[file]
 
-    def site_text(self, name: str, what: str, node: Any, words: list[str]) -> str:
+    def site_text(self, name: str, what: str, node: tree.Expression, words: list[str]) -> str:
         """The text of a call, with the mark of its site."""
-        file = str(node.coord.file)
+        file = node.where.file
         line, column = spot(self.original_of(file), node)
         text = " ".join(printed(node, True).split())
         self.sites.append(Site(name, what, file, line, column, text))
         return f"{name}\x04{len(self.sites) - 1}\x05({', '.join(words)})"
 
-    def checked(self, node: Any, op: str, left: Value, right: Optional[Value]) -> Optional[Value]:
+    def checked(self, node: tree.Expression, op: str, left: Value, right: Optional[Value]) -> Optional[Value]:
         """The operation as a call, or nothing where it can't overflow."""
         kind = kinds.promoted(left.kind) if op == "<<" or right is None else kinds.common(left.kind, right.kind)
         found = result("-", (0, 0), span(left)) if right is None else result(op, span(left), span(right))
@@ -200,7 +204,11 @@ class Overflow(Component):
                 if site is not None:
                     one = self.sites[int(site)]
                     column = len(clean) - len(one.function) + 1
-                    row = {"file": os.path.basename(path), "line": number_of, "column": column}
+                    row: dict[str, Union[str, int]] = {
+                        "file": os.path.basename(path),
+                        "line": number_of,
+                        "column": column,
+                    }
                     place = f"{one.file}:{one.line}:{one.column}"
                     self.rows.append(
                         row | {"function": one.function, "what": one.what, "place": place, "text": one.text}

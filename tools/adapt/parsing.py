@@ -2,7 +2,7 @@
 
 import dataclasses
 import functools
-from typing import Any
+from typing import Any, Optional
 
 from . import tree
 from .refusals import Stop
@@ -39,13 +39,13 @@ def parsed(text: str, path: str = "") -> tree.FileAST:
     return made
 
 
-def own(node: Any, known: dict[int, tuple[Any, Any]]) -> Any:
-    """Our node of a parser's, with its parts; `known` has those that stand in several places, by identity."""
+def own(node: Any, known: dict[Any, tree.Node]) -> Any:
+    """Our node of a parser's, with its parts; `known` has ours of those before, since one may stand in several places."""
     if isinstance(node, list):
         return [own(one, known) for one in node]
     if not isinstance(node, c_ast.Node):
         return node
-    if id(node) not in known:
+    if node not in known:
         name = type(node).__name__
         kind = getattr(tree, name)
         given = {
@@ -55,17 +55,23 @@ def own(node: Any, known: dict[int, tuple[Any, Any]]) -> Any:
             if given[slot] is None and slot in LISTS and (name, slot) not in ABSENT:
                 given[slot] = []
         at = node.coord
-        known[id(node)] = node, kind(**given, coord=at and tree.Coord(str(at.file), at.line, at.column))
-    return known[id(node)][1]
+        known[node] = kind(**given, coord=at and tree.Coord(str(at.file), at.line, at.column))
+    return known[node]
 
 
 def theirs(node: Any) -> Any:
-    """The parser's node of ours, for its printer."""
+    """The parser's node of ours, for its printer; of what GNU C adds a name with its text."""
     if isinstance(node, list):
         return [theirs(one) for one in node]
     if not isinstance(node, tree.Node):
         return node
-    kind: Any = getattr(c_ast, type(node).__name__)
+    if isinstance(node, tree.StatementExpr):
+        return c_ast.ID(f"({printed(node.body).rstrip()})")
+    if isinstance(node, tree.CaseRange):
+        return c_ast.ID(f"{printed(node.low)} ... {printed(node.high)}")
+    if isinstance(node, tree.Typeof):
+        return c_ast.IdentifierType([f"typeof ({printed(node.of)})"])
+    kind = getattr(c_ast, type(node).__name__)
     given = {one.name: theirs(getattr(node, one.name)) for one in dataclasses.fields(node) if one.name != "coord"}
     return kind(**given)
 
@@ -82,7 +88,7 @@ def is_there() -> bool:
     return MISSING is None
 
 
-def snippet(text: str, coord: Any) -> list[tree.Node]:
+def snippet(text: str, coord: Optional[tree.Coord]) -> list[tree.Node]:
     """The statements of a text, all at one place."""
     unit = parsed(f"void f(void) {{ {text} }}")
     function = unit.ext[0]

@@ -15,7 +15,7 @@ What a later stage learns, that parameters can't stand for objects or that funct
 
 from argparse import Namespace
 from collections.abc import Callable
-from typing import Any, NamedTuple, Optional
+from typing import NamedTuple, Optional
 
 from . import tree
 from .bindings import Bindings
@@ -26,29 +26,31 @@ from .columns import Columns
 from .effects import Effected
 from .gate import check
 from .jumps import Jumps
+from .learned import CopiedFunction, DirectCall, Learned
 from .library import OUTPUT, Library
 from .lifetimes import Lifetimes
 from .names import Names
 from .output import File
 from .places import Places
-from .reading import Unit, read
+from .reading import read
 from .refusals import Refusals
-from .sorting import check_sizes
+from .sorted_sizes import check_sizes
 from .spelling import Spelling
 from .unions import settle
+from .unit import Unit
 from .writer import Analysis, Checking, Writer
 
 
 STAGES = {
-    "common": "refusals tree parsing kinds regions output",
+    "common": "tree learned refusals parsing unit kinds objects output",
     "read": "gnu reading",
     "expand": "lists states jumps cases sorting library clones",
-    "names": "unions constants declarators names",
+    "names": "unions constants declarators names sorted_sizes",
     "bind": "values initialisers places bindings",
     "points-to": "heap models first_members unification meetings settling points_to",
     "layout": "learning spelling columns choosers lifetimes",
     "effects": "changed effects",
-    "write": "large raw component order conversions elements pointers pointer_effects outside model_calls calls wholes assignments "
+    "write": "component large raw heap_calls first_member_casts chooser_texts endings order conversions elements pointers pointer_effects outside model_calls calls wholes assignments "
     "expressions statement_exprs operators overflow_texts overflow checked statements column_items checks uses units writer",
     "judge": "gate",
     "pipeline": "pipeline",
@@ -68,12 +70,12 @@ def adapt(given: Namespace, refusals: Refusals) -> Optional[Adapted]:
 
     Parameters that can't stand for objects in what is written, since these have a second name there, are pointers as any other
     in what is written next. Raises Stop where a source can't be opened, or a program of the machine isn't there."""
-    apart: set[Any] = set()
+    apart: set[Learned] = set()
     while True:
         tried = Refusals()
         made = written(given, tried, apart)
         if not tried.apart - apart:
-            copies = {one for one in apart if one[0] in ("copied", "direct")}
+            copies = {one for one in apart if isinstance(one, (CopiedFunction, DirectCall))}
             if tried.found and copies:  # (told in the words of the sources)
                 tried = Refusals()
                 written(given, tried, apart - copies)
@@ -82,21 +84,21 @@ def adapt(given: Namespace, refusals: Refusals) -> Optional[Adapted]:
         apart |= tried.apart
 
 
-def written(given: Namespace, refusals: Refusals, apart: set[Any]) -> Optional[Adapted]:
+def written(given: Namespace, refusals: Refusals, apart: set[Learned]) -> Optional[Adapted]:
     """One way through all stages, with what was learned before."""
-    units = [read(path, flags_of(given), refusals) for path in given.sources]
-    if any(unit.tree is None for unit in units):
+    tried = [read(path, flags_of(given), refusals) for path in given.sources]
+    units = [unit for unit in tried if unit is not None]
+    if len(units) < len(tried):
         return None
     taken = {word for unit in units for word in unit.words}
     library = expanded(units, taken, apart, refusals)
     names = named(units, library, given, refusals, taken)
     Bindings(Places(names), apart).bind()
     columns = Columns(names, apart)
-    places = Places(names, columns, Choosers(names, columns))
-    lifetimes = Lifetimes(names, columns)
+    choosers, places, lifetimes = Choosers(names, columns), Places(names, columns), Lifetimes(names, columns)
     inputs = set(given.inputs) | OUTPUT
-    effected = Effected(names, places, inputs)
-    known = Analysis(names, places, effected, lifetimes, inputs)
+    effected = Effected(places, columns, choosers, inputs)
+    known = Analysis(names, places, columns, choosers, effected, lifetimes, inputs)
     writer = Writer(known, Spelling(names, taken), Checking(given.check, given.check_overflow, given.check_conversions))
     texts = writer.finished(laid_out(writer.units.write(), units, given.sources))
     if not refusals.found:
@@ -115,7 +117,7 @@ def free_names(taken: set[str]) -> Callable[[str], str]:
     return lambda stem: next(name for name in (f"{stem}_{n}" for n in numbers) if name not in taken)
 
 
-def expanded(units: list[Unit], taken: set[str], apart: set[Any], refusals: Refusals) -> Library:
+def expanded(units: list[Unit], taken: set[str], apart: set[Learned], refusals: Refusals) -> Library:
     """Changes the trees: what is left has no jumps, and switches whose cases stand directly in them; the models in front."""
     fresh = free_names(taken)
     Clones(units, apart, fresh)

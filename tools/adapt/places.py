@@ -1,85 +1,69 @@
 """Which object an expression names. A parameter that is a pointer may stand for one (bindings.py); other pointers are
 indexes into columns (columns.py)."""
 
-from dataclasses import dataclass, field, replace
-from typing import Any, NamedTuple, Optional
+from dataclasses import dataclass, replace
+from typing import Optional, Protocol, Union
 
 from . import kinds, tree, unions
-from .declarators import Variable
-from .kinds import Array, Int, Other, Path, Pointer, Struct, Type, fault_of
+from .kinds import Array, Int, Other, Pointer, Region, Struct, Type, fault_of
 from .names import Names
+from .objects import Place, Variable, View
 from .refusals import Refused
-from .regions import Region
+from .values import Value
 
+Owner = Union[Variable, tuple[Region, str]]  # an object, or the member of all elements of another region
 USE = "name the object itself, or hand its address over as a parameter that is only dereferenced"
 
 
 @dataclass(eq=False)
-class At(tree.Node):
+class At(tree.Expression):
     """The number of the element that a pointer points to, or of one at an index from it; each step is of `stride` elements.
     Where it points to bytes, `tests` are what makes the index bad, and `ends` where its object ends and begins."""
 
     SLOTS = ("pointer", "index")
-    pointer: tree.Node
-    index: Optional[tree.Node]
+    pointer: tree.Expression
+    index: Optional[tree.Expression]
     stride: int
     coord: Optional[tree.Coord] = None
     raw: bool = False
-    tests: Any = None
-    ends: Any = None
+    tests: Optional[list[str]] = None
+    ends: Optional[dict[str, Value]] = None
 
 
-class View(NamedTuple):
-    """A part of an integer: its kind, and of one in an array the index and the array's length."""
+class Laid(Protocol):
+    """What places ask of the columns, which are laid out later."""
 
-    kind: Int
-    index: Any
-    length: Optional[int]
+    def home(self, variable: Variable) -> Optional[Region]:
+        """The region in which a variable lies."""
 
+    def begin(self, region: Region, owner: Owner) -> int:
+        """The number of the element with which an object begins in its column."""
 
-@dataclass(frozen=True)
-class Place:
-    """An object: a variable, the members that lead to it, and on the way each index with the array's length. What is added
-    to a number whole, as where an object begins in its column, has the length 1, and `shift` stands behind all of them.
-    `around` is the outermost array in which the object is an element, and `region` where its elements lie."""
+    def pointer(self, node: tree.Expression) -> Pointer:
+        """The type of a pointer's value, with its region. Raises Refused for what is no pointer."""
 
-    variable: Variable
-    path: Path
-    indexes: tuple[tuple[Any, int], ...]
-    type: Type
-    shift: int = field(default=0, compare=False)
-    region: Optional[Region] = field(default=None, compare=False)
-    around: Optional["Place"] = field(default=None, compare=False)
-    row: bool = field(default=False, compare=False)  # an array at a pointer to it
-    stored: Optional[Type] = field(default=None, compare=False)  # of what a union has as another member
-    view: Optional["View"] = field(default=None, compare=False)
-    inside: tuple[tuple[Any, int], ...] = field(default=(), compare=False)  # of bytes: indexes with their steps,
-    offset: int = field(default=0, compare=False)  # what is added to them,
-    whole: int = field(default=0, compare=False)  # and how many bytes the object has in which they lead
-
-    def shifted(self) -> tuple[tuple[Any, int], ...]:
-        """The indexes with what is added behind them."""
-        return self.indexes + (((tree.Constant("int", str(self.shift)), 1),) if self.shift else ())
+    def count(self, of: Type, region: Region) -> int:
+        """How many elements an object takes in a column."""
 
 
 class Places:
     """The objects that expressions name, by the columns where these are known."""
 
-    def __init__(self, names: Names, columns: Any = None, choosers: Any = None) -> None:
-        self.names, self.columns, self.choosers = names, columns, choosers
+    def __init__(self, names: Names, columns: Optional[Laid] = None) -> None:
+        self.names, self.columns = names, columns
         self.zero = tree.Constant("int", "0")
 
     def of_variable(self, variable: Variable) -> Place:
         """The place of a variable, which may lie in a column."""
-        region = self.columns.home(variable) if self.columns else None
-        if region is not None and region.column is not None:
+        region = self.columns.home(variable) if self.columns is not None else None
+        if self.columns is not None and region is not None and region.column is not None:
             whole = (kinds.size(variable.type) or 0) if region.raw else 0
             return Place(
                 region.column, (), (), variable.type, self.columns.begin(region, variable), region, whole=whole
             )
         return Place(variable, (), (), variable.type, 0, region)
 
-    def member(self, base: Place, name: str, node: Any) -> Place:
+    def member(self, base: Place, name: str, node: Optional[tree.Expression]) -> Place:
         """The place of a member. Raises Refused for a member that there isn't, or that can't be written."""
         path = unions.found(base.type, name)
         if path is None or not isinstance(base.type, Struct):
@@ -96,7 +80,8 @@ class Places:
             raise Refused(node.coord if node else None, f"member {name}: {whole.fault[1]}", whole.fault[2])
         if whole.is_parts():
             kind = of.of if isinstance(of, Array) else of
-            view = View(kind, None, of.length if isinstance(of, Array) else None)  # type: ignore[arg-type]
+            assert isinstance(kind, Int)
+            view = View(kind, None, of.length if isinstance(of, Array) else None)
             return Place(base.variable, base.path + (whole.path_of(name),), base.shifted(), of, view=view)
         stored = whole.type_of(whole.path_of(name))
         name = whole.path_of(name)
@@ -106,7 +91,7 @@ class Places:
             raise Refused(node.coord if node else None, f"member {name} of struct {tag}: {fault[0]}", fault[1])
         inner = base.region.root().members.get(name) if base.region else None
         inner = inner.root() if inner else None
-        if inner is not None and inner.column is not None and base.region is not None:
+        if self.columns is not None and inner is not None and inner.column is not None and base.region is not None:
             start = self.columns.begin(inner, (base.region.root(), name))
             if inner.raw:
                 size = kinds.size(of) or 0
@@ -125,21 +110,21 @@ class Places:
     @staticmethod
     def carrier_kind(place: Place) -> Int:
         """The kind of the integer of which a place is a part."""
-        of: Any = place.variable.type
+        of = place.variable.type
         for name in place.path:
-            of = getattr(kinds.element(of), "type_of")(name)
+            of = kinds.member(kinds.element(of), name)
         found = kinds.element(of)
         assert isinstance(found, Int)
         return found
 
-    def element(self, base: Place, index: Any) -> Place:
+    def element(self, base: Place, index: tree.Expression) -> Place:
         """The place of an array's element. Raises Refused for what is no array."""
         if not isinstance(base.type, Array) or base.type.length is None:
             raise Refused(index.coord, "what is no array", USE)
         if base.row and isinstance(base.type.of, Array):
             raise Refused(index.coord, "a pointer to an array of arrays", "use indexes")
         if base.view is not None:
-            return replace(base, view=base.view._replace(index=index), type=base.type.of)
+            return replace(base, view=replace(base.view, index=index), type=base.type.of)
         if self.is_raw(base):
             known, step = self.names.constants.value(index), kinds.size(base.type.of) or 1
             made = replace(base, type=base.type.of, around=base.around or base)
@@ -149,7 +134,7 @@ class Places:
         length, around = 1 if base.row else base.type.length, base.around or base
         return replace(base, indexes=base.indexes + ((index, length),), type=base.type.of, around=around, row=False)
 
-    def place(self, node: Any) -> Place:
+    def place(self, node: tree.Expression) -> Place:
         """The object that an expression names (6.5.1 to 6.5.3.2). Raises Refused where it names none, or one that
         can't be written."""
         if isinstance(node, tree.ID):
@@ -174,7 +159,7 @@ class Places:
             return self.pointed(node.expr)
         raise Refused(node.coord, "what is no named object", "use a variable")
 
-    def pointed(self, node: Any, index: Any = None) -> Place:
+    def pointed(self, node: tree.Expression, index: Optional[tree.Expression] = None) -> Place:
         """The object at a pointer, or at an index from it. Raises Refused for arithmetic that leads to no object."""
         if isinstance(node, tree.BinaryOp) and node.op == "+" and index is None:
             if not isinstance(self.names.constants.type_of(node.left), Int):
@@ -193,20 +178,21 @@ class Places:
                 fault = fault_of(meaning.type.to)
                 if fault:
                     raise Refused(node.coord, f"{meaning.name} points to {fault[0]}", fault[1])
-                region = self.columns.home(meaning) if self.columns else None
+                region = self.columns.home(meaning) if self.columns is not None else None
                 return Place(meaning, (), (), meaning.type.to, 0, region)
         if isinstance(meaning, Variable) and isinstance(node, tree.Constant) and isinstance(meaning.type, Array):
             return self.element(self.of_variable(meaning), index or self.zero)
         of = self.names.constants.type_of(node)
-        if self.columns and not isinstance(of, (Array, Other)):
+        if self.columns is not None and not isinstance(of, (Array, Other)):
             return self.at_pointer(node, index)
         if not isinstance(node, (tree.ID, tree.StructRef, tree.ArrayRef, tree.UnaryOp)):
             raise Refused(node.coord, "arithmetic with a pointer", "use an index")
         return self.element(self.place(node), index or self.zero)
 
-    def at_pointer(self, node: Any, index: Any) -> Place:
+    def at_pointer(self, node: tree.Expression, index: Optional[tree.Expression]) -> Place:
         """The object at a pointer that is an index into a column. Raises Refused where its objects have no type, or
         can't lie in one column."""
+        assert self.columns is not None
         of = self.columns.pointer(node)
         region = of.region.root()
         if region.fault:
@@ -218,14 +204,14 @@ class Places:
         fault = None if region.raw and kinds.size(of.to) is not None else fault_of(of.to)
         if fault:
             raise Refused(node.coord, f"what is pointed to: {fault[0]}", fault[1])
-        at = At(node, index, self.columns.points.count(of.to, region), node.coord, region.raw)
+        at = At(node, index, self.columns.count(of.to, region), node.coord, region.raw)
         if region.raw:
             return Place(region.column, (), ((at, 1),), of.to, 0, region)
         return Place(region.column, (), ((at, 1),), of.to, 0, region, row=isinstance(of.to, Array))
 
     # ---- arguments
 
-    def whole_array(self, node: Any) -> Place:
+    def whole_array(self, node: tree.Expression) -> Place:
         """The array that an argument is. Raises Refused for a part of one."""
         if not isinstance(node, (tree.ID, tree.StructRef, tree.ArrayRef)):
             raise Refused(
@@ -235,7 +221,7 @@ class Places:
             )
         return self.place(node)
 
-    def handed(self, node: Any) -> Place:
+    def handed(self, node: tree.Expression) -> Place:
         """The object whose address an argument is. Raises Refused for a null pointer and for one that is converted."""
         if self.names.constants.value(node) is not None:
             raise Refused(node.coord, "a null pointer is handed over", "hand over the address of a named object")
@@ -244,6 +230,6 @@ class Places:
         return self.pointed(node)
 
 
-def arguments(call: Any) -> list[Any]:
+def arguments(call: tree.FuncCall) -> list[tree.Expression]:
     """The expressions between the brackets of a call (6.5.2.2), in order."""
     return list(call.args.exprs) if call.args else []

@@ -1,25 +1,23 @@
 """Writes what is done with pointers: comparisons, assignments, declarations, returns; and objects part by part."""
 
 from dataclasses import replace
-from typing import Any, Optional
+from typing import Optional
 
 from . import kinds, tree
 from .component import Component
-from .declarators import Function, Variable
 from .effects import objects
-from .kinds import Array, Pointer
+from .kinds import INDEX, Array, Pointer
+from .objects import Function, Place, Variable
 from .output import unmarked
-from .places import Place
 from .pointers import Parts
 from .refusals import Refused
-from .regions import INDEX
 from .values import PRIMARY, UNARY, Known, Value, plus, times
 
 
 class PointerEffects(Component):
     """What is done with pointers, and with objects part by part."""
 
-    def compared(self, node: Any) -> Value:
+    def compared(self, node: tree.BinaryOp) -> Value:
         """`==`, `<` and the like of two pointers by their indexes in one column (6.5.8p5, 6.5.9p6)."""
         self.writer.order.unsequenced(node, [node.left, node.right])
         left, right = self.writer.pointers.pointer(node.left)[INDEX], self.writer.pointers.pointer(node.right)[INDEX]
@@ -27,7 +25,7 @@ class PointerEffects(Component):
         level = 6 if node.op in ("==", "!=") else 7
         return Value(text, kinds.INT, level, truth=True, calls=left.calls or right.calls)
 
-    def difference(self, node: Any) -> Value:
+    def difference(self, node: tree.BinaryOp) -> Value:
         """The difference of two pointers in elements (6.5.6p9)."""
         self.writer.order.unsequenced(node, [node.left, node.right])
         left, right = self.writer.pointers.pointer(node.left)[INDEX], self.writer.pointers.pointer(node.right)[INDEX]
@@ -36,7 +34,7 @@ class PointerEffects(Component):
         text = f"({text})" if stride == 1 else f"(({text}) / {stride})"
         return Value(f"(long) {text}", kinds.LONG, UNARY, calls=left.calls or right.calls)
 
-    def assign_pointer(self, node: Any) -> None:
+    def assign_pointer(self, node: tree.Assignment) -> None:
         """Writes an assignment to a pointer (6.5.16.1). Raises Refused for an operator that pointers haven't."""
         place = self.writer.places.place(node.lvalue)
         if node.op in ("+=", "-="):
@@ -50,7 +48,7 @@ class PointerEffects(Component):
         parts = self.writer.pointers.pointer(node.rvalue)
         self.set_parts(target, parts, self.reads(node.rvalue, place))
 
-    def moved_in_place(self, node: Any, place: Place) -> Parts:
+    def moved_in_place(self, node: tree.Assignment, place: Place) -> Parts:
         """Writes that a pointer moves by `+=` or `-=`; its integers."""
         self.writer.order.unsequenced(node, [node.lvalue, node.rvalue])
         target = self.writer.pointers.parts_at(place, self.writer.elements.index(place, True))
@@ -61,7 +59,7 @@ class PointerEffects(Component):
         self.writer.emit(f"{target[INDEX].text} {node.op} {step.text};")
         return target
 
-    def reads(self, node: Any, place: Place) -> bool:
+    def reads(self, node: tree.Expression, place: Place) -> bool:
         """Whether an expression reads an object."""
         reads = self.writer.effected.of(node).reads
         return any(one in reads for one in objects(place))
@@ -98,7 +96,7 @@ class PointerEffects(Component):
                 place = self.writer.places.member(place, names.pop(0), None)
         return place
 
-    def each_integer(self, place: Place, index: Optional[Value]) -> list[tuple[Any, list[str]]]:
+    def each_integer(self, place: Place, index: Optional[Value]) -> list[tuple[kinds.Leaf, list[str]]]:
         """The integers of an object of which some lie in columns of their own."""
         base = place
         if self.writer.places.is_raw(place) and kinds.is_mixed(place.type):
@@ -124,12 +122,12 @@ class PointerEffects(Component):
 
     def lies_apart(self, variable: Variable) -> bool:
         """Whether a part of a variable lies in a column of its own."""
-        return bool(self.writer.places.columns.any_apart(self.writer.places.columns.home(variable), variable.type))
+        return self.writer.columns.any_apart(self.writer.columns.home(variable), variable.type)
 
-    def pointer_begun(self, variable: Variable, node: Any) -> None:
+    def pointer_begun(self, variable: Variable, init: tree.Expression) -> None:
         """Writes a local pointer with its first value."""
-        parts = self.writer.pointers.pointer(node.init)
-        if self.writer.places.columns.in_column(variable):
+        parts = self.writer.pointers.pointer(init)
+        if self.writer.columns.in_column(variable):
             place = self.writer.places.of_variable(variable)
             self.set_parts(self.writer.pointers.parts_at(place, self.writer.elements.index(place, True)), parts, False)
             return
@@ -138,7 +136,7 @@ class PointerEffects(Component):
                 f"{leaf.kind.text} {self.writer.spelling.leaf(variable, leaf.path)} = {parts[leaf.path[-1]].text};"
             )
 
-    def return_pointer(self, function: Function, of: Pointer, expr: Any) -> None:
+    def return_pointer(self, function: Function, of: Pointer, expr: tree.Expression) -> None:
         """Writes the return of a pointer: its index, and what else it has in objects of the file."""
         parts = self.writer.pointers.pointer(expr)
         text = parts[INDEX].text

@@ -1,19 +1,18 @@
 """Writes the values of pointers: the index of what is pointed to in its column, and where they matter the end and the begin of
 its object. An access outside of the object becomes the index -1, which ends a run, and never reads a neighbour."""
 
-from typing import Any, Optional
+from typing import Optional
 
-from . import first_members, kinds, statement_exprs, tree
+from . import first_member_casts, kinds, statement_exprs, tree
 from .component import Component
-from .declarators import Function, Variable
 from .effects import STEPS
 from .heap import heap_call
-from .kinds import Array, Pointer, Signature
+from .kinds import BEGIN, END, INDEX, NIL, Array, Pointer, Signature
 from .models import model_of
+from .objects import Function, Place, Variable
 from .output import unmarked
-from .places import At, Place
+from .places import At
 from .refusals import Refused
-from .regions import BEGIN, END, INDEX, NIL
 from .values import PRIMARY, UNARY, Value, minus, number, plus, times
 
 
@@ -29,13 +28,13 @@ Parts = dict[str, Value]
 class Pointers(Component):
     """Writes expressions with pointer types as integers: an index, and an end and a begin where they are needed."""
 
-    def is_null(self, node: Any) -> bool:
+    def is_null(self, node: tree.Expression) -> bool:
         """Whether an expression is a null pointer constant (6.3.2.3p3)."""
         while isinstance(node, tree.Cast):
             node = node.expr
         return self.writer.constants.value(node) == 0
 
-    def is_pointer(self, node: Any) -> bool:
+    def is_pointer(self, node: tree.Expression) -> bool:
         """Whether an expression is a pointer or an array that is one, but for parameters that stand for objects."""
         of = self.writer.constants.type_of(node)
         meaning = self.writer.names.meaning.get(node) if isinstance(node, tree.ID) else None
@@ -43,7 +42,7 @@ class Pointers(Component):
 
     # ---- values
 
-    def pointer(self, node: Any) -> Parts:
+    def pointer(self, node: tree.Expression) -> Parts:
         """The integers of a pointer's value; its effects are written before."""
         self.writer.within += 1
         try:
@@ -51,20 +50,20 @@ class Pointers(Component):
         finally:
             self.writer.within -= 1
 
-    def parts_of(self, node: Any) -> Parts:
+    def parts_of(self, node: tree.Expression) -> Parts:
         """The integers of a pointer's value by its form. Raises Refused where the pointer may meet objects that can't
         lie in one column."""
         if self.is_null(node):
             return NONE
-        of = self.writer.places.columns.pointer(node)
+        of = self.writer.columns.pointer(node)
         fault = of.region.root().fault
         if fault:
             raise Refused(node.coord, fault[1], fault[2])
         if isinstance(self.writer.constants.type_of(node), Signature):
             return self.code(node, of)
         if isinstance(node, tree.Cast):
-            first = self.writer.places.columns.points.firsts.get(node)
-            return first_members.cast(self.writer, node, first) if first else self.pointer(node.expr)
+            first = self.writer.columns.points.firsts.get(node)
+            return first_member_casts.cast(self.writer, node, first) if first else self.pointer(node.expr)
         if isinstance(node, tree.UnaryOp) and node.op == "&":
             return self.address(node)
         if isinstance(node, tree.UnaryOp) and node.op in STEPS:
@@ -89,20 +88,21 @@ class Pointers(Component):
             return self.pointing_at_first(self.array(node))
         return self.loaded(node)
 
-    def code(self, node: Any, of: Pointer) -> Parts:
+    def code(self, node: tree.Expression, of: Pointer) -> Parts:
         """A function's name, or what a pointer to one leads to, as a pointer."""
         meaning = self.writer.names.meaning.get(node) if isinstance(node, tree.ID) else None
         if not isinstance(meaning, Function):
+            assert isinstance(node, tree.UnaryOp)
             return self.pointer(node.expr)
-        return {INDEX: Value(str(self.writer.places.choosers.number(of.region, meaning)), kinds.INT, PRIMARY)}
+        return {INDEX: Value(str(self.writer.choosers.number(of.region, meaning)), kinds.INT, PRIMARY)}
 
-    def array(self, node: Any) -> Place:
+    def array(self, node: tree.Expression) -> Place:
         """The place of an array or of a string."""
         if isinstance(node, tree.Constant):
-            return self.writer.places.of_variable(self.writer.places.columns.points.texts[node])
+            return self.writer.places.of_variable(self.writer.columns.points.texts[node])
         return self.writer.places.place(node)
 
-    def loaded(self, node: Any) -> Parts:
+    def loaded(self, node: tree.Expression) -> Parts:
         """The value of a pointer that is an object."""
         place = self.writer.places.place(node)
         return self.parts_at(place, self.writer.elements.index(place, True))
@@ -110,7 +110,8 @@ class Pointers(Component):
     def parts_at(self, place: Place, index: Optional[Value]) -> Parts:
         """The integers of a pointer that lies at a place."""
         found = {}
-        for part in place.type.region.parts():  # type: ignore[union-attr]
+        assert isinstance(place.type, Pointer)
+        for part in place.type.region.parts():
             name = self.writer.spelling.leaf(place.variable, place.path + (part,))
             text = name if index is None else f"{name}[{index.text}]"
             found[part] = Value(text, kinds.INT, PRIMARY, calls=index is not None and index.calls)
@@ -140,12 +141,14 @@ class Pointers(Component):
                 self.writer.raw.index(first, True, False) if raw else self.writer.elements.index(first, True) or index
             )
         count = (
-            self.writer.places.columns.points.count(around.type, place.region) if raw else kinds.elements(around.type)
+            self.writer.columns.count(around.type, place.region)
+            if raw and place.region is not None
+            else kinds.elements(around.type)
         )
         end = plus(begin, Value(str(count), kinds.INT, PRIMARY))
         return {INDEX: index, END: end, BEGIN: begin}
 
-    def address(self, node: Any) -> Parts:
+    def address(self, node: tree.UnaryOp) -> Parts:
         """The address of an object or a function (6.5.3.2p3)."""
         inner = node.expr
         if isinstance(self.writer.constants.type_of(inner), Signature):
@@ -176,12 +179,12 @@ class Pointers(Component):
             calls=value.calls,
         )
 
-    def stride(self, node: Any) -> int:
+    def stride(self, node: tree.Expression) -> int:
         """By how many elements of its column, or bytes, a pointer moves: the number of those in what it points to."""
-        of = self.writer.places.columns.pointer(node)
+        of = self.writer.columns.pointer(node)
         return (kinds.size(of.to) or 1) if of.region.root().raw else kinds.elements(of.to)
 
-    def moved(self, node: Any, base: Any, by: Any, op: str) -> Parts:
+    def moved(self, node: tree.Expression, base: tree.Expression, by: tree.Expression, op: str) -> Parts:
         """A pointer moved by a number of elements."""
         self.writer.order.unsequenced(node, [base, by])
         parts = dict(self.pointer(base))
@@ -194,7 +197,7 @@ class Pointers(Component):
             parts[INDEX] = plus(parts[INDEX], step)
         return parts
 
-    def stepped_pointer(self, node: Any) -> Parts:
+    def stepped_pointer(self, node: tree.UnaryOp) -> Parts:
         """`++` and `--`: the old value, which is kept, or the new one."""
         place = self.writer.places.place(node.expr)
         parts = self.parts_at(place, self.writer.elements.index(place, True))
@@ -207,12 +210,12 @@ class Pointers(Component):
         self.writer.emit(step)
         return {**parts, INDEX: Value(old, kinds.INT, PRIMARY)}
 
-    def step_text(self, node: Any, target: str) -> str:
+    def step_text(self, node: tree.UnaryOp, target: str) -> str:
         """The statement of a step of a pointer."""
         stride = self.stride(node.expr)
         return f"{target}{node.op[-2:]};" if stride == 1 else f"{target} {node.op[-1]}= {stride};"
 
-    def chosen_pointer(self, node: Any, of: Pointer) -> Parts:
+    def chosen_pointer(self, node: tree.TernaryOp, of: Pointer) -> Parts:
         """?: of pointers, each integer by itself, or by a branch."""
         names = of.region.parts()
         apart = self.writer.order.needs_statements(node.iffalse)
@@ -225,7 +228,7 @@ class Pointers(Component):
                 return {name: Value(text, kinds.INT, 0, calls=test.calls) for name, text in texts.items()}
         made = {name: self.writer.temporary(kinds.INT, "0", "pointer") for name in names}
 
-        def set_all(one: Any) -> None:
+        def set_all(one: tree.Expression) -> None:
             values = self.pointer(one)
             for name in names:
                 self.writer.emit(f"{made[name]} = {values[name].text};")
@@ -233,7 +236,7 @@ class Pointers(Component):
         self.writer.expressions.either(node, set_all)
         return {name: Value(text, kinds.INT, PRIMARY) for name, text in made.items()}
 
-    def given_back(self, node: Any, of: Pointer) -> Parts:
+    def given_back(self, node: tree.FuncCall, of: Pointer) -> Parts:
         """What a call gives. Raises Refused where no source defines the function."""
         function = self.writer.calls.called(node)
         if heap_call(function):
@@ -287,7 +290,7 @@ class Pointers(Component):
             if by.kind.bits == 64:
                 by = Value(f"(int) {by.within(UNARY)}", kinds.INT, UNARY)
             index = plus(index, times(by, node.stride))
-        region = self.writer.places.columns.pointer(node.pointer).region
+        region = self.writer.columns.pointer(node.pointer).region
         wanted = region.parts()
         if node.raw:
             node.tests, node.ends = tests, {name: parts[name] for name in wanted if name != INDEX}

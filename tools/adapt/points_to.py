@@ -1,19 +1,19 @@
 """Which objects pointers may meet: every assignment, argument, result and comparison brings regions together (regions.py)."""
 
-from typing import Any, Optional
+from typing import Optional
 
 from . import kinds, tree, unions
-from .declarators import Function, Variable
 from .first_members import FirstMember, related
 from .heap import GIVES, Pool, heap_call, known_call
 from .initialisers import filled
-from .kinds import Array, Int, Pointer, Signature, Struct, Type
+from .kinds import Array, Int, Pointer, Region, Signature, Struct, Type
+from .learned import Learned
 from .meetings import visit
 from .models import Model, model_of
 from .names import Names
-from .places import Place, arguments
+from .objects import Function, Place, Variable
+from .places import arguments
 from .refusals import Refused
-from .regions import Region
 from .settling import settle
 from .tree import with_parents
 from .unification import Unification
@@ -22,17 +22,17 @@ from .unification import Unification
 class PointsTo(Unification):
     """The regions of all objects and of the pointers' values."""
 
-    def __init__(self, names: Names, learned: set[Any]) -> None:
+    def __init__(self, names: Names, learned: set[Learned]) -> None:
         self.names, self.constants, self.learned = names, names.constants, learned
         self.pools: dict[tree.Node, Pool] = {}
         self.firsts: dict[tree.Node, FirstMember] = {}
-        self.parts: list[tuple[Region, Region, Any]] = []
-        self.modelled: list[tuple[Any, Model]] = []
+        self.parts: list[tuple[Region, Region, Optional[tree.Coord]]] = []
+        self.modelled: list[tuple[tree.FuncCall, Model]] = []
         super().__init__()
         self.texts: dict[tree.Node, Variable] = {}
         self.values: dict[tree.Node, Type] = {}
         self.function: Optional[Function] = None
-        self.pointer_calls: list[tuple[Optional[Function], Any]] = []
+        self.pointer_calls: list[tuple[Optional[Function], tree.FuncCall]] = []
         self.codes: dict[Function, Pointer] = {}
         for function in names.functions:
             function.own_type = None  # (parameters have got their types)
@@ -48,7 +48,7 @@ class PointsTo(Unification):
 
     # ---- types of expressions, with their regions
 
-    def place(self, node: Any) -> tuple[Type, Region]:
+    def place(self, node: tree.Expression) -> tuple[Type, Region]:
         """The type of what an expression names, and the region in which it lies. Raises Refused for what is no named
         object."""
         meaning = self.names.meaning.get(node) if isinstance(node, tree.ID) else None
@@ -84,9 +84,10 @@ class PointsTo(Unification):
             return self.place(parts[0])
         raise Refused(node.coord, "what is no named object", "use a variable")
 
-    def member(self, of: Any, region: Region, name: str, node: Any) -> tuple[Type, Region]:
+    def member(self, of: Type, region: Region, name: str, node: tree.Expression) -> tuple[Type, Region]:
         """The type and the region of a member. A part of an integer can't be pointed to."""
-        inner: Type = of.type_of(name)
+        assert isinstance(of, Struct)
+        inner = of.type_of(name)
         if region.root().raw:
             return inner, region.root()
         if of.is_parts():
@@ -96,18 +97,19 @@ class PointsTo(Unification):
             return inner, made
         own = region.member(of.path_of(name), kinds.element(inner))
         if of.union and of.carrier:
+            assert own.elem is not None
             self.same_type(own.elem, inner, node.coord, own)
         return inner, own.root()
 
-    def pointee(self, node: Any) -> tuple[Type, Region]:
+    def pointee(self, node: tree.Expression) -> tuple[Type, Region]:
         """What a pointer, or an array, leads to. Raises Refused for what is no pointer."""
         meaning = self.names.meaning.get(node) if isinstance(node, tree.ID) else None
         if isinstance(meaning, Variable) and meaning.is_bound and not isinstance(meaning.type, (Int, Struct)):
             return self.bound(meaning)
         if isinstance(node, tree.UnaryOp) and node.op == "&":
             return self.place(node.expr)
-        if isinstance(node, tree.Constant) and isinstance(self.names.meaning.get(node), Variable):
-            text = self.names.meaning[node]
+        text = self.names.meaning.get(node) if isinstance(node, tree.Constant) else None
+        if isinstance(text, Variable):
             return kinds.element(text.type), self.home(text)
         if isinstance(node, (tree.ID, tree.StructRef, tree.ArrayRef, tree.UnaryOp)):
             if isinstance(self.constants.type_of(node), Array):
@@ -125,18 +127,18 @@ class PointsTo(Unification):
         if isinstance(meaning.binding, Place):
             of, region = meaning.binding.variable.type, self.home(meaning.binding.variable)
             for name in meaning.binding.path:
-                of = of.type_of(name)  # type: ignore[union-attr]
+                of = kinds.member(of, name)
                 region = region.member(name, kinds.element(of))
             return of, region
-        return getattr(meaning.type, "to", getattr(meaning.type, "of", meaning.type)), self.home(meaning)
+        return kinds.behind(meaning.type) or meaning.type, self.home(meaning)
 
-    def value(self, node: Any) -> Type:
+    def value(self, node: tree.Expression) -> Type:
         """The type of a value; of a pointer with its region."""
         if node not in self.values:
             self.values[node] = self.made(node)
         return self.values[node]
 
-    def made(self, node: Any) -> Type:
+    def made(self, node: tree.Expression) -> Type:
         """The type of a value by its form."""
         if isinstance(node, tree.Constant) and node.type == "string":
             return self.text(node)
@@ -163,11 +165,11 @@ class PointsTo(Unification):
             return self.value(node.lvalue)
         if isinstance(node, tree.FuncCall) and self.of_heap(node) in GIVES:
             return self.allocated(node)
-        model = model_of(self.names.meaning.get(node)) if isinstance(node, tree.FuncCall) else None
-        if model is not None and model.gives_pointer and arguments(node):
+        model = model_of(self.names.meaning.get(node))
+        if isinstance(node, tree.FuncCall) and model is not None and model.gives_pointer and arguments(node):
             return self.value(arguments(node)[0])
         if isinstance(node, tree.Cast):
-            to: Type = self.names.types.get(node.to_type, kinds.VOID)
+            to = self.names.types.get(node.to_type, kinds.VOID)
             first = related(self, node, to)
             if first is None:
                 self.flow(node.expr, to)
@@ -176,17 +178,18 @@ class PointsTo(Unification):
             return self.decayed(node)
         return self.constants.type_of(node)
 
-    def code(self, node: Any) -> Type:
+    def code(self, node: tree.Expression) -> Type:
         """The pointer that a function's name, or what a pointer to one leads to, is (6.3.2.1p4)."""
         meaning = self.names.meaning.get(node) if isinstance(node, tree.ID) else None
         if not isinstance(meaning, Function):
+            assert isinstance(node, tree.UnaryOp)
             return self.value(node.expr)
         if meaning not in self.codes:
             self.codes[meaning] = Pointer(meaning.type)
             self.codes[meaning].region.targets.append(meaning)
         return self.codes[meaning]
 
-    def decayed(self, node: Any) -> Type:
+    def decayed(self, node: tree.Expression) -> Type:
         """The type of what names an object; an array is a pointer to its first element."""
         of = self.constants.type_of(node)
         if isinstance(of, (Array, Pointer, Struct)):
@@ -196,7 +199,7 @@ class PointsTo(Unification):
                 return Pointer(of.of, region)
         return of
 
-    def address(self, node: Any) -> Type:
+    def address(self, node: tree.UnaryOp) -> Type:
         """What `&` gives (6.5.3.2p3): a pointer into the region of its operand, which is now pointed to."""
         if isinstance(self.constants.type_of(node.expr), Signature):
             return self.value(node.expr)
@@ -208,11 +211,11 @@ class PointsTo(Unification):
             inner = inner.name
         return Pointer(of, region)
 
-    def of_heap(self, node: Any) -> str:
+    def of_heap(self, node: tree.FuncCall) -> str:
         """The function of the heap that a call calls, if it does."""
         return heap_call(self.names.meaning.get(node)) or known_call(node, self.learned)
 
-    def allocated(self, node: Any) -> Type:
+    def allocated(self, node: tree.FuncCall) -> Type:
         """Memory that a call gives: an object of its own."""
         name = self.of_heap(node)
         variable = Variable("heap", kinds.VOID, node.coord, "pool", function=self.function, defined=True)
@@ -225,7 +228,7 @@ class PointsTo(Unification):
             made.region.root().freed = True
         return made
 
-    def text(self, node: Any) -> Type:
+    def text(self, node: tree.Constant) -> Type:
         """A string is an object of its own."""
         if node not in self.texts:
             of = self.constants.type_of(node)
@@ -236,7 +239,7 @@ class PointsTo(Unification):
         region.pointed = True
         return Pointer(kinds.element(made.type), region)
 
-    def sum(self, node: Any) -> Type:
+    def sum(self, node: tree.BinaryOp) -> Type:
         """The type of a sum or a difference, by which a pointer moves (6.5.6p8)."""
         left, right = self.value(node.left), self.value(node.right)
         if isinstance(left, Pointer) and isinstance(right, Pointer):
@@ -250,7 +253,7 @@ class PointsTo(Unification):
             return left
         return self.constants.type_of(node)
 
-    def moves(self, region: Region, index: Any, back: bool = False) -> None:
+    def moves(self, region: Region, index: tree.Expression, back: bool = False) -> None:
         """A pointer into a region is moved by so many elements."""
         known, of = self.constants.value(index), self.constants.type_of(index)
         root = region.root()
@@ -259,7 +262,7 @@ class PointsTo(Unification):
         elif known:
             root.moved, root.down = True, root.down or (known < 0) != back
 
-    def is_null(self, node: Any) -> bool:
+    def is_null(self, node: tree.Expression) -> bool:
         """Whether an expression is a null pointer constant (6.3.2.3p3)."""
         while isinstance(node, tree.Cast):
             node = node.expr
@@ -267,7 +270,7 @@ class PointsTo(Unification):
 
     # ---- what brings regions together
 
-    def flow(self, node: Any, to: Type) -> None:
+    def flow(self, node: tree.Expression, to: Type) -> None:
         """A value becomes one of a type."""
         if isinstance(node, tree.InitList):
             self.first_values(to, node)
@@ -284,7 +287,7 @@ class PointsTo(Unification):
         elif isinstance(to, Struct) and isinstance(of, Struct):
             self.same_type(to, of, node.coord, Region())
 
-    def first_values(self, of: Type, init: Any) -> None:
+    def first_values(self, of: Type, init: tree.Expression) -> None:
         """First values flow into an object of a type."""
         try:
             made = filled(self.constants, of, init)
@@ -293,10 +296,10 @@ class PointsTo(Unification):
         for (path, _), node in made.given.items():
             part = kinds.element(of)
             for name in path:
-                part = kinds.element(part.type_of(name))  # type: ignore[union-attr]
+                part = kinds.element(kinds.member(part, name))
             self.tried(node, part)
 
-    def tried(self, node: Any, to: Type) -> None:
+    def tried(self, node: tree.Expression, to: Type) -> None:
         """A value becomes one of a type; what is refused in it is told where it is written."""
         try:
             self.flow(node, to)

@@ -3,28 +3,31 @@ union's members differ. An integer of more than a byte is read and set by two fu
 (large.py); an access that isn't within its object becomes the index -1."""
 
 from dataclasses import replace
-from typing import Any
+from typing import TYPE_CHECKING
 
 from . import kinds
-from .kinds import Int
+from .component import Component
+from .kinds import BEGIN, END, Int
 from .large import Large
-from .places import At, Place
-from .regions import BEGIN, END
+from .objects import Place
+from .places import At
 from .values import PRIMARY, UNARY, Known, Value, number, plus, times
 
+if TYPE_CHECKING:
+    from .writer import Writer
 
-class Raw:
+
+class Raw(Component):
     """What a writer does with such objects. `texts` has the functions, by what they are for."""
 
-    def __init__(self, writer: Any) -> None:
-        self.writer = writer
+    def __init__(self, writer: "Writer") -> None:
+        super().__init__(writer)
         self.texts: dict[tuple[str, str], str] = {}
         self.names: dict[tuple[str, str], str] = {}
 
     def array(self, place: Place) -> str:
         """The name of what has the integers of a place's kind: the column, or an array that there isn't."""
-        kind: Any = place.type
-        column: str = self.writer.spelling.leaf(place.variable, ())
+        kind, column = place.type, self.writer.spelling.leaf(place.variable, ())
         assert isinstance(kind, Int)
         if kind.bits == 8:
             return column

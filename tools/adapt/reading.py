@@ -4,12 +4,12 @@ import os
 import re
 import shutil
 import subprocess
-from dataclasses import dataclass, field
 from functools import cache
-from typing import Any, Optional
+from typing import Optional
 
 from . import gnu, parsing, tree
 from .refusals import JUDGED, Refusals, Stop
+from .unit import Unit
 
 MODELS = os.path.join(os.path.dirname(os.path.abspath(__file__)), "models")
 HEADERS = os.path.join(os.path.dirname(os.path.abspath(__file__)), "headers")
@@ -82,20 +82,6 @@ QUOTED = re.compile(r'"(?:\\.|[^"\\])*"|\'(?:\\.|[^\'\\])*\'')
 MARKER = re.compile(r'#\s*(?:line\s+)?(\d+)\s+"((?:\\.|[^"\\])*)"([ \d]*)')
 
 
-@dataclass
-class Unit:
-    """One source with all that it includes, as a tree. `closings` has for each line the lines of the braces that close its `{`."""
-
-    path: str
-    tree: Any
-    files: list[str] = field(default_factory=list)
-    closings: dict[tuple[str, int], list[int]] = field(default_factory=dict)
-    words: set[str] = field(default_factory=set)
-    # the preprocessed rows that come from each line of a file, and the macros, each with whether it takes arguments
-    rows: dict[tuple[str, int], list[str]] = field(default_factory=dict)
-    macros: dict[str, bool] = field(default_factory=dict)
-
-
 def compiler() -> str:
     """The path of gcc, or of clang. Raises Stop where neither is there."""
     found = shutil.which("gcc") or shutil.which("clang")
@@ -148,7 +134,7 @@ def told_errors(path: str, told: str, refusals: Refusals) -> None:
         raise Stop(f"{path} can't be read: {first[0] if first else 'the compiler failed'}")
 
 
-def decoration(inner: str, refusals: Refusals, at: Any) -> str:
+def decoration(inner: str, refusals: Refusals, at: tree.Coord) -> str:
     """An attribute, which is left out; one that changes what the program means is refused."""
     told = [
         word.strip("_") for word in re.findall(r"[A-Za-z_]\w*", QUOTED.sub("", inner)) if word.strip("_") in TELLING
@@ -159,7 +145,7 @@ def decoration(inner: str, refusals: Refusals, at: Any) -> str:
     return " "
 
 
-def without_foreign(text: str, refusals: Refusals, at: Any) -> str:
+def without_foreign(text: str, refusals: Refusals, at: tree.Coord) -> str:
     """A line without assembly and attributes, so that the parser can go on behind them."""
     for word in re.findall(r"[A-Za-z_]\w*", text):
         name = SAME_WORD.get(word, word)
@@ -255,25 +241,26 @@ def scanned(unit: Unit, text: str, refusals: Refusals) -> str:
     return "\n".join(made)
 
 
-def read(path: str, flags: list[str], refusals: Refusals) -> Unit:
-    """The unit of a source. What is no C, and what pycparser can't read, is refused. Raises Stop where it can't be
-    opened."""
+def read(path: str, flags: list[str], refusals: Refusals) -> Optional[Unit]:
+    """The unit of a source; nothing of what is no C, and of what pycparser can't read, which are refused. Raises Stop where it can't
+    be opened."""
     if not os.path.isfile(path):
         raise Stop(f"{path} can't be read")
-    unit = Unit(path, None)
+    unit = Unit(path)
     judged = run_compiler(path, flags, ["-fsyntax-only", *(f"-Werror={name}" for name in ERRORS)])
     if judged.returncode:
         told_errors(path, judged.stderr, refusals)
     cut = run_compiler(path, flags, ["-E", *(f"-D{one}" for one in BUILTINS)])
     if cut.returncode:
         told_errors(path, cut.stderr, refusals)
-        return unit
+        return None
     text = scanned(unit, cut.stdout, refusals)
     told = run_compiler(path, flags, ["-E", "-dM"]).stdout
     unit.macros = {name: bool(mark) for name, mark in re.findall(r"^#define (\w+)(\(?)", told, re.MULTILINE)}
     try:
         unit.tree = parsing.parsed(gnu.lifted(text), path)
         gnu.Settled(refusals).unit(unit.tree)
+        return unit
     except parsing.Unread as fault:
         found = re.match(r"(.*):(\d+):\d+: (.*)", str(fault))
         at = tree.Coord(found.group(1), int(found.group(2))) if found else tree.Coord(path, 0)
@@ -283,4 +270,4 @@ def read(path: str, flags: list[str], refusals: Refusals) -> Unit:
     except AssertionError:  # (by a brace too many, which the compiler tells)
         if not judged.returncode:
             refusals.add(tree.Coord(path, 0), "pycparser can't read it", "write it in plain C11")
-    return unit
+    return None

@@ -1,8 +1,11 @@
 """What is refused: each cause with its place and with what to do, all of them gathered."""
 
-from typing import Any, Iterator
+from collections.abc import Iterator
 from contextlib import contextmanager
+from typing import Optional
 
+from .learned import Learned
+from .tree import Coord
 
 JUDGED = "the compiler says"
 
@@ -14,7 +17,7 @@ class Stop(Exception):
 class Refused(Exception):
     """What is at hand can't be written in the profile."""
 
-    def __init__(self, coord: Any, cause: str, advice: str) -> None:
+    def __init__(self, coord: Optional[Coord], cause: str, advice: str) -> None:
         super().__init__(cause)
         self.coord, self.cause, self.advice = coord, cause, advice
 
@@ -24,18 +27,18 @@ class Refusals:
 
     def __init__(self) -> None:
         self.found: set[tuple[str, int, str]] = set()
-        self.at_hand: Any = None
-        self.apart: set[Any] = set()  # parameters that can't stand for objects
+        self.at_hand: Optional[Coord] = None
+        self.apart: set[Learned] = set()  # what the next reading takes otherwise
 
-    def go(self, coord: Any) -> None:
+    def go(self, coord: Optional[Coord]) -> None:
         """What is refused from now on and has no place of its own stands at this one."""
         self.at_hand = coord if coord and coord.file else self.at_hand
 
-    def add(self, coord: Any, cause: str, advice: str) -> None:
+    def add(self, coord: Optional[Coord], cause: str, advice: str) -> None:
         """Adds a refusal; one without a place stands where the statement at hand does."""
         placed = coord if coord and coord.file else self.at_hand
         file, line = (placed.file, placed.line) if placed else ("", 0)
-        self.found.add((str(file), int(line or 0), f"{cause}; {advice}"))
+        self.found.add((file, line, f"{cause}; {advice}"))
 
     @contextmanager
     def gathered(self) -> Iterator[None]:

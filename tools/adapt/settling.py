@@ -1,7 +1,7 @@
 """Which objects stand as their bytes although no pointer to another type meets them: parts of a union that are pointed to, unions whose
 members have no common form, and memory that is copied, set or compared by bytes."""
 
-from typing import Any
+from typing import TYPE_CHECKING
 
 from . import kinds, tree
 from .first_members import join
@@ -11,8 +11,11 @@ from .models import WHOLE, Model, element_count
 from .places import arguments
 from .refusals import Refused
 
+if TYPE_CHECKING:
+    from .points_to import PointsTo
 
-def settle(points: Any) -> None:
+
+def settle(points: "PointsTo") -> None:
     """Lets objects stand as their bytes where something needs them: parts of a union that are pointed to, unions whose members
     have no common form, and memory that is copied, set or compared by bytes."""
     for variable in points.names.variables:
@@ -26,12 +29,12 @@ def settle(points: Any) -> None:
         for made, region, at in points.parts:
             if made.root().pointed and made.root() is not region.root():
                 made.root().fault = None
-                points.as_bytes(region, [region.root().elem], at)
-                points.as_bytes(made, [made.root().elem], at)
+                points.as_bytes(region, [region.root().type], at)
+                points.as_bytes(made, [made.root().type], at)
                 points.unify(region, made, at)
         for variable, region in list(points.homes.items()):
             if kinds.is_mixed(variable.type) and not region.root().raw:
-                points.as_bytes(region, [region.root().elem], variable.coord)
+                points.as_bytes(region, [region.root().type], variable.coord)
         for of in pointers(points):
             if kinds.is_mixed(of.to) and not of.region.root().raw:
                 points.as_bytes(of.region, [of.to], None)
@@ -39,26 +42,26 @@ def settle(points: Any) -> None:
             by_bytes(points, node, model)
 
 
-def raws(points: Any) -> int:
+def raws(points: "PointsTo") -> int:
     """How many regions stand as bytes, or can't be written."""
     regions = {one.root() for one in points.homes.values()} | {of.region.root() for of in pointers(points)}
     return sum(1 for one in regions if one.raw or one.fault)
 
 
-def pointers(points: Any) -> list[Pointer]:
+def pointers(points: "PointsTo") -> list[Pointer]:
     """The pointers among the values."""
     return [of for of in points.values.values() if isinstance(of, Pointer)]
 
 
-def by_bytes(points: Any, node: Any, model: Model) -> None:
+def by_bytes(points: "PointsTo", node: tree.FuncCall, model: Model) -> None:
     """A call of a library's function on objects that it doesn't take as whole elements."""
     of = [points.value(one) for one in arguments(node) if not points.is_null(one)]
     regions = [one.region.root() for one in of if isinstance(one, Pointer)]
-    elems = [one.elem for one in regions]
+    elems = [one.type for one in regions]
     if all(isinstance(one, Int) and one.bits == 8 for one in elems) or any(one.fault for one in regions):
         return
-    known = all(one is not None and kinds.has_bytes(one) for one in elems)
-    sizes = {kinds.size(one) for one in elems if one is not None}
+    known = all(kinds.has_bytes(one) for one in elems)
+    sizes = {kinds.size(one) for one in elems}
     alike = not any(one.raw for one in regions) and not any(differ(elems[0], one) for one in elems[1:])
     whole = (
         known and alike and len(sizes) == 1 and model.name in WHOLE and is_whole(points, node, model, sizes.pop() or 1)
@@ -67,10 +70,10 @@ def by_bytes(points: Any, node: Any, model: Model) -> None:
         whole = False
     if known and not whole:
         for one in regions:
-            points.as_bytes(one, [one.elem], node.coord)
+            points.as_bytes(one, [one.type], node.coord)
 
 
-def is_whole(points: Any, node: Any, model: Model, size: int) -> bool:
+def is_whole(points: "PointsTo", node: tree.FuncCall, model: Model, size: int) -> bool:
     """Whether a call takes whole elements of a size."""
     try:
         element_count(points.constants, arguments(node)[-1], size)

@@ -1,13 +1,13 @@
 """The names in what is written: each is its own, and reads back to what it stands for."""
 
 import os
-from typing import Any
+from typing import Union
 
-from .declarators import Function, Variable
-from .kinds import Path
+from .kinds import INDEX, Path, Type
 from .names import Names
-from .regions import INDEX
+from .objects import Function, Variable
 
+Special = dict[tuple[Function, str], Variable]  # the variables in which functions hand values back, by what
 KEPT = {"assert", "assume"}
 
 
@@ -18,11 +18,14 @@ class Spelling:
         self.taken = set(words) | KEPT
         self.leaves: dict[tuple[str, Path], str] = {}
         self.owners: dict[tuple[str, Path], Variable] = {}
-        owners: dict[str, Any] = {}
-        files: list[Any] = [*names.functions, *(variable for variable in names.variables if variable.home == "file")]
+        owners: dict[str, Union[Function, Variable]] = {}
+        files: list[Union[Function, Variable]] = [
+            *names.functions,
+            *(variable for variable in names.variables if variable.home == "file"),
+        ]
         for one in files:
             free = owners.setdefault(one.name, one) is one
-            stem = os.path.splitext(os.path.basename(str(one.coord.file)))[0]
+            stem = os.path.splitext(os.path.basename(one.where.file))[0]
             one.out = (
                 one.name if free else self.fresh(f"{one.name}_{''.join(c if c.isalnum() else '_' for c in stem)}", True)
             )
@@ -53,7 +56,7 @@ class Spelling:
             self.leaves[key] = self.fresh("_".join(words if not base else (base, *words)), True)
         return self.leaves[key]
 
-    def special(self, function: Function, stem: str, of: Any, made: dict[Any, Variable]) -> Variable:
+    def special(self, function: Function, stem: str, of: Type, made: Special) -> Variable:
         """A variable of the file in which a function hands a value back."""
         key = (function, stem)
         if key not in made:

@@ -1,18 +1,22 @@
 """Writes statements within expressions: a block before the statement, at whose end the value is kept."""
 
-from typing import Any, Callable
+from collections.abc import Callable
+from typing import TYPE_CHECKING
 
 from . import kinds, tree
-from .declarators import Variable
+from .constants import Constants
 from .kinds import Int
-from .places import Place
+from .objects import Place, Variable
 from .refusals import Refused
 from .values import PRIMARY, Value
+
+if TYPE_CHECKING:
+    from .writer import Writer
 
 MOST_CASES = 300
 
 
-def block(writer: Any, node: tree.StatementExpr, do: Callable[[Any], object]) -> None:
+def block(writer: "Writer", node: tree.StatementExpr, do: Callable[[tree.Expression], object]) -> None:
     """Writes the statements, the last one as is asked."""
     line = writer.line, writer.column
     behind, writer.after = writer.after, []
@@ -28,7 +32,7 @@ def block(writer: Any, node: tree.StatementExpr, do: Callable[[Any], object]) ->
     writer.after, (writer.line, writer.column) = behind, line
 
 
-def value(writer: Any, node: tree.StatementExpr) -> Value:
+def value(writer: "Writer", node: tree.StatementExpr) -> Value:
     """The value of an integer. Raises Refused where they give none."""
     of = writer.constants.type_of(node)
     if not isinstance(of, Int):
@@ -38,11 +42,11 @@ def value(writer: Any, node: tree.StatementExpr) -> Value:
     return Value(made, kinds.promoted(of), PRIMARY)
 
 
-def pointer(writer: Any, node: tree.StatementExpr, names: list[str]) -> dict[str, Value]:
+def pointer(writer: "Writer", node: tree.StatementExpr, names: list[str]) -> dict[str, Value]:
     """What `({ .. })` gives where its last expression points: a temporary for each integer of the pointer."""
     made = {name: writer.temporary(kinds.INT, "0", "pointer") for name in names}
 
-    def keep(one: Any) -> None:
+    def keep(one: tree.Expression) -> None:
         parts = writer.pointers.pointer(one)
         for name in names:
             writer.emit(f"{made[name]} = {parts[name].text};")
@@ -51,12 +55,12 @@ def pointer(writer: Any, node: tree.StatementExpr, names: list[str]) -> dict[str
     return {name: Value(text, kinds.INT, PRIMARY) for name, text in made.items()}
 
 
-def effect(writer: Any, node: tree.StatementExpr) -> None:
+def effect(writer: "Writer", node: tree.StatementExpr) -> None:
     """Writes them for their effect alone."""
     block(writer, node, writer.statements.statement)
 
 
-def whole(writer: Any, target: Place, node: tree.StatementExpr, at: Any) -> None:
+def whole(writer: "Writer", target: Place, node: tree.StatementExpr, at: tree.Node) -> None:
     """Writes that a struct gets their value, which is kept first: within the block names may be other ones."""
     local = Variable("whole", target.type, node.coord, "local", out=writer.spelling.fresh("whole"))
     place = Place(local, (), (), target.type)
@@ -65,7 +69,7 @@ def whole(writer: Any, target: Place, node: tree.StatementExpr, at: Any) -> None
     writer.wholes.assign_whole(target, writer.wholes.named_as(local, at), at)
 
 
-def ranged(constants: Any, node: tree.CaseRange) -> list[str]:
+def ranged(constants: Constants, node: tree.CaseRange) -> list[str]:
     """The cases of a range (gcc: none where it is empty). Raises Refused where it is empty, isn't constant, or has
     too many."""
     low, high = constants.value(node.low), constants.value(node.high)

@@ -1,7 +1,8 @@
 """`goto` back, or into a block: what has labels is taken apart (a loop becomes tests and jumps, 6.8.5), and its parts are the cases of
 one loop over a state, in which a jump sets the state and goes on (6.8.6.1)."""
 
-from typing import Any, Callable
+from collections.abc import Callable
+from typing import Optional, Union
 
 from . import tree
 from .lists import listed
@@ -9,18 +10,20 @@ from .parsing import snippet
 from .refusals import Refused
 from .tree import LEFT_BY_BREAK, LOOPS, walk
 
+Part = Union[tree.Node, str]  # a statement, or a label by its name
 
-def holds(node: Any, names: set[str]) -> bool:
+
+def holds(node: tree.Node, names: set[str]) -> bool:
     """Whether a label of these stands in a statement."""
     return any(isinstance(one, tree.Label) and one.name in names for one in walk(node))
 
 
-def jump(name: str, coord: Any) -> Any:
+def jump(name: str, coord: Optional[tree.Coord]) -> tree.Goto:
     """A `goto` of this name at a place, as it goes into a tree (6.8.6.1)."""
     return tree.Goto(name, coord)
 
 
-def unless(test: Any, name: str, coord: Any) -> Any:
+def unless(test: tree.Expression, name: str, coord: Optional[tree.Coord]) -> tree.If:
     """A jump where a condition doesn't hold."""
     return tree.If(tree.UnaryOp("!", test, coord), jump(name, coord), None, coord)
 
@@ -30,18 +33,18 @@ class States:
 
     def __init__(self, fresh: Callable[[str], str], names: set[str]) -> None:
         self.fresh, self.names = fresh, names
-        self.declared: list[Any] = []
+        self.declared: list[tree.Node] = []
         self.own: set[str] = set()
         self.labels = 0
-        self.coord: Any = None
-        self.body: Any = None
+        self.coord: Optional[tree.Coord] = None
+        self.body = tree.Compound([])
 
-    def function(self, body: Any, parameters: set[str]) -> None:
+    def function(self, body: tree.Compound, parameters: set[str]) -> None:
         """Writes the body anew."""
         self.coord, self.body, self.own = body.coord, body, set(parameters)
         items = self.flat_Compound(body)
         at, taken = self.fresh("at"), self.fresh("jumped")
-        cases: list[tuple[int, list[Any]]] = [(0, [])]
+        cases: list[tuple[int, list[tree.Node]]] = [(0, [])]
         numbers: dict[str, int] = {}
         for one in items:
             if isinstance(one, str):
@@ -50,7 +53,7 @@ class States:
                 numbers[one] = cases[-1][0]
             else:
                 cases[-1][1].append(one)
-        made: list[Any] = []
+        made: list[tree.Case] = []
         coord = body.coord
         for number, own in cases:
             block = tree.Compound(own, coord)
@@ -60,7 +63,7 @@ class States:
             made.append(tree.Case(tree.Constant("int", str(number), where), inner, where))
         if made[-1].stmts and not isinstance(made[-1].stmts[-1], (tree.Return, tree.Break)):
             made[-1].stmts.append(tree.Break(self.last(made[-1])))
-        switch = tree.Switch(tree.ID(at, coord), tree.Compound(made), coord)
+        switch = tree.Switch(tree.ID(at, coord), tree.Compound([*made]), coord)
         used = any(isinstance(one, tree.ID) and one.name == taken for one in walk(switch))
         head = snippet(f"{taken} = 0;", coord) if used else []
         inside = tree.Compound([*head, switch, tree.Break(self.last(switch))])
@@ -69,10 +72,10 @@ class States:
         body.block_items = [*self.declared, *begin, loop]
 
     @staticmethod
-    def last(node: Any) -> Any:
+    def last(node: tree.Node) -> Optional[tree.Coord]:
         """The last place in a node."""
         found = [one.coord for one in walk(node) if one.coord]
-        return max(found, key=lambda coord: int(coord.line)) if found else node.coord
+        return max(found, key=lambda coord: coord.line) if found else node.coord
 
     def label(self) -> str:
         """A label that no source has."""
@@ -81,7 +84,7 @@ class States:
 
     # ---- taking apart
 
-    def flat(self, node: Any, top: bool = False) -> list[Any]:
+    def flat(self, node: tree.Node, top: bool = False) -> list[Part]:
         """The statements of one that may hold labels; a label is its name. Raises Refused for a goto into a statement
         that can't be taken apart."""
         if isinstance(node, tree.Label) and node.name in self.names:
@@ -92,44 +95,55 @@ class States:
             return self.hoisted(node)
         if not holds(node, self.names):
             return [node]
-        make = getattr(self, "flat_" + type(node).__name__, None)
-        if make is None:
-            raise Refused(node.coord, "a goto into this statement", "use a loop, or a flag")
-        made: list[Any] = make(node)
-        return made
+        return self.apart(node)
 
-    def hoisted(self, node: Any) -> list[Any]:
+    def apart(self, node: tree.Node) -> list[Part]:
+        """The statements of one that holds labels, by its form. Raises Refused for one that can't be taken apart."""
+        if isinstance(node, tree.Label):
+            return self.flat(node.stmt)  # (nothing goes to it)
+        if isinstance(node, tree.Compound):
+            return self.flat_Compound(node)
+        if isinstance(node, tree.If):
+            return self.flat_If(node)
+        if isinstance(node, tree.While):
+            return self.flat_While(node)
+        if isinstance(node, tree.DoWhile):
+            return self.flat_DoWhile(node)
+        if isinstance(node, tree.For):
+            return self.flat_For(node)
+        if isinstance(node, tree.Switch):
+            return self.flat_Switch(node)
+        raise Refused(node.coord, "a goto into this statement", "use a loop, or a flag")
+
+    def hoisted(self, node: tree.Decl | tree.Typedef) -> list[Part]:
         """A declaration goes in front of all; its first value stays."""
         self.declared.append(node)
-        init = getattr(node, "init", None)
-        at = node.coord
-        if isinstance(node, tree.Decl) and isinstance(node.type, (tree.TypeDecl, tree.PtrDecl, tree.ArrayDecl)):
+        if not isinstance(node, tree.Decl):
+            return []
+        init, at, name = node.init, node.coord, node.name or ""
+        if isinstance(node.type, (tree.TypeDecl, tree.PtrDecl, tree.ArrayDecl)):
             node.coord = self.coord  # (so that it moves no line)
         if init is None or {"static", "extern"} & set(node.storage):
             return []
         node.init, node.quals = None, []
         if isinstance(init, tree.InitList) or isinstance(node.type, tree.ArrayDecl):
-            return listed(node.type, tree.ID(node.name, at), init, at)
+            return [*listed(node.type, tree.ID(name, at), init, at)]
         of = node.type
         while isinstance(of, tree.PtrDecl):
             of.quals = []
             of = of.type
-        return [tree.Assignment("=", tree.ID(node.name, at), init, at)]
+        return [tree.Assignment("=", tree.ID(name, at), init, at)]
 
-    def flat_Label(self, node: Any) -> list[Any]:
-        """A label to which nothing goes."""
-        return self.flat(node.stmt)  # (nothing goes to it)
-
-    def flat_Compound(self, node: Any) -> list[Any]:
+    def flat_Compound(self, node: tree.Compound) -> list[Part]:
         """A block, whose names become those of the function."""
         for at, one in enumerate(node.block_items or []):
             if isinstance(one, tree.Decl) and one.name:
                 self.renamed(node.block_items[at:], one)
         return [one for item in node.block_items or [] for one in self.flat(item, True)]
 
-    def renamed(self, scope: list[Any], declared: Any) -> None:
+    def renamed(self, scope: list[tree.Node], declared: tree.Decl) -> None:
         """A name that is declared in a block becomes one of the whole function, so it is another one where that has it."""
-        name, nodes = declared.name, [one for item in scope for one in walk(item)]
+        name, nodes = declared.name or "", [one for item in scope for one in walk(item)]
         inside = {one for one in nodes}
         outside = [one for one in walk(self.body) if one not in inside]
         used = any(isinstance(one, tree.ID) and one.name == name for one in outside)
@@ -144,11 +158,11 @@ class States:
         self.rename(scope, name, other)
         tree.rename(declared, other)
 
-    def rename(self, nodes: list[Any], name: str, other: str) -> None:
+    def rename(self, nodes: list[tree.Node], name: str, other: str) -> None:
         """Renames what a name stands for in some statements of one block, up to where the block declares it anew."""
         for node in nodes:
-            listed = node.decls if isinstance(node, tree.DeclList) else [node]
-            if any(isinstance(one, tree.Decl) and one.name == name for one in listed):
+            declared = [node, *(node.decls if isinstance(node, tree.DeclList) else [])]
+            if any(isinstance(one, tree.Decl) and one.name == name for one in declared):
                 return
             if isinstance(node, tree.For) and isinstance(node.init, tree.DeclList):
                 if any(isinstance(one, tree.Decl) and one.name == name for one in node.init.decls):
@@ -163,7 +177,7 @@ class States:
                 for _, child in node.children():
                     self.rename([child], name, other)
 
-    def flat_If(self, node: Any) -> list[Any]:
+    def flat_If(self, node: tree.If) -> list[Part]:
         """A branch as jumps."""
         behind, end = self.label(), self.label()
         made = [unless(node.cond, behind, node.coord), *self.flat(node.iftrue)]
@@ -171,26 +185,26 @@ class States:
             return [*made, behind]
         return [*made, jump(end, node.coord), behind, *self.flat(node.iffalse), end]
 
-    def turn(self, node: Any, again: str, end: str) -> list[Any]:
+    def turn(self, node: tree.While | tree.DoWhile | tree.For, again: str, end: str) -> list[Part]:
         """A loop's body, in which break and continue are jumps."""
         self.left(node.stmt, again, end)
         return self.flat(node.stmt)
 
-    def flat_While(self, node: Any) -> list[Any]:
+    def flat_While(self, node: tree.While) -> list[Part]:
         """A loop as tests and jumps (6.8.5.1)."""
         again, end = self.label(), self.label()
         return [again, unless(node.cond, end, node.coord), *self.turn(node, again, end), jump(again, node.coord), end]
 
-    def flat_DoWhile(self, node: Any) -> list[Any]:
+    def flat_DoWhile(self, node: tree.DoWhile) -> list[Part]:
         """The same with the test behind the body (6.8.5.2)."""
         begin, again, end = self.label(), self.label(), self.label()
         back = tree.If(node.cond, jump(begin, node.cond.coord), None, node.cond.coord)
         return [begin, *self.turn(node, again, end), again, back, end]
 
-    def flat_For(self, node: Any) -> list[Any]:
+    def flat_For(self, node: tree.For) -> list[Part]:
         """The same with what stands in the head (6.8.5.3)."""
         begin, again, end = self.label(), self.label(), self.label()
-        first: list[Any] = [] if node.init is None else [node.init]
+        first: list[Part] = [] if node.init is None else [node.init]
         if isinstance(node.init, tree.DeclList):
             for one in node.init.decls:
                 self.renamed([node], one)
@@ -199,9 +213,9 @@ class States:
         step = [] if node.next is None else [node.next]
         return [*first, begin, *test, *self.turn(node, again, end), again, *step, jump(begin, node.coord), end]
 
-    def flat_Switch(self, node: Any) -> list[Any]:
+    def flat_Switch(self, node: tree.Switch) -> list[Part]:
         """A switch that jumps to its cases (6.8.4.2). Raises Refused for statements before its first case."""
-        end, heads, made = self.label(), list[tree.Node](), list[Any]()
+        end, heads, made = self.label(), list[tree.Node](), list[Part]()
         default = end
         self.left(node.stmt, "", end)
         for one in node.stmt.block_items if isinstance(node.stmt, tree.Compound) else [node.stmt]:
@@ -217,30 +231,21 @@ class States:
         heads.append(tree.Default([jump(default, node.coord)], node.coord))
         return [tree.Switch(node.cond, tree.Compound(heads), node.coord), *made, end]
 
-    def left(self, node: Any, again: str, end: str, in_switch: bool = False) -> None:
+    def left(self, node: tree.Node, again: str, end: str, in_switch: bool = False) -> None:
         """Turns what leaves a loop or a switch, or goes on with a loop, into jumps."""
         for slot, child in node.children():
             if isinstance(child, tree.Break) and not in_switch:
-                self.put(node, slot, jump(end, child.coord))
+                node.put(slot, jump(end, child.coord))
             elif isinstance(child, tree.Continue) and again:
-                self.put(node, slot, jump(again, child.coord))
+                node.put(slot, jump(again, child.coord))
             elif isinstance(child, LOOPS):
                 continue
             else:
                 self.left(child, again, end, in_switch or isinstance(child, tree.Switch))
 
-    @staticmethod
-    def put(node: Any, slot: str, made: Any) -> None:
-        """Puts a node into a slot."""
-        name, _, rest = slot.partition("[")
-        if rest:
-            getattr(node, name)[int(rest[:-1])] = made
-        else:
-            setattr(node, name, made)
-
     # ---- jumps
 
-    def jumps(self, node: Any, at: str, taken: str, numbers: dict[str, int], depth: int) -> bool:
+    def jumps(self, node: tree.Node, at: str, taken: str, numbers: dict[str, int], depth: int) -> bool:
         """Writes the jumps within a statement at which so many loops, and switches in these, are open; whether one leaves it."""
         out = False
         for slot, child in list(node.children()):
@@ -248,7 +253,7 @@ class States:
                 text = f"{at} = {numbers[child.name]};" + (f" {taken} = 1;" if depth else "")
                 leave = tree.Break(child.coord) if depth else tree.Continue(child.coord)
                 made = [*snippet(text, child.coord), leave]
-                self.put_all(node, slot, child, made)
+                node.spread(slot, child, made)
                 out = True
                 continue
             inside = depth + 1 if isinstance(child, LOOPS) or (depth and isinstance(child, tree.Switch)) else depth
@@ -258,15 +263,5 @@ class States:
                     coord = self.last(child)
                     leave = tree.Break(coord) if depth else tree.Continue(coord)
                     made = [child, tree.If(tree.ID(taken, coord), leave, None, coord)]
-                    self.put_all(node, slot, child, made)
+                    node.spread(slot, child, made)
         return out
-
-    @staticmethod
-    def put_all(node: Any, slot: str, child: Any, made: list[Any]) -> None:
-        """Puts statements where a child of a node stood."""
-        items = getattr(node, slot.split("[")[0])
-        if isinstance(items, list):
-            number = next(number for number, item in enumerate(items) if item is child)
-            items[number : number + 1] = made
-        else:
-            setattr(node, slot, tree.Compound(made) if len(made) > 1 else made[0])

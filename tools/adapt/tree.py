@@ -7,7 +7,7 @@ in which they stand, in the order in which all stages go through them.
 
 from collections.abc import Iterator
 from dataclasses import dataclass, field
-from typing import Any, ClassVar, Optional
+from typing import ClassVar, Optional
 
 
 @dataclass(frozen=True)
@@ -19,11 +19,19 @@ class Coord:
     column: Optional[int] = None
 
 
+NOWHERE = Coord("", 0)
+
+
 class Node:
     """A construct. `SLOTS` names the fields that are nodes or lists of nodes."""
 
     SLOTS: ClassVar[tuple[str, ...]] = ()
     coord: Optional[Coord]
+
+    @property
+    def where(self) -> Coord:
+        """Its place; of what has none no line of any file."""
+        return self.coord or NOWHERE
 
     def children(self) -> list[tuple[str, "Node"]]:
         """The parts with the slots in which they stand: `name`, or `name[3]` for one of a list."""
@@ -44,20 +52,32 @@ class Node:
         else:
             setattr(self, name, made)
 
-    def put_all(self, slot: str, made: list["Node"]) -> None:
-        """Puts nodes into a slot: side by side where it is one of a list, else in a block if they are several."""
-        name, _, rest = slot.partition("[")
-        if rest:
-            getattr(self, name)[int(rest[:-1]) : int(rest[:-1]) + 1] = made
+    def spread(self, slot: str, old: "Node", made: list["Node"], coord: Optional[Coord] = None) -> None:
+        """Puts nodes where another one stands in a slot: side by side where it is one of a list, else, if they are several, in a
+        block at this place."""
+        name = slot.partition("[")[0]
+        part = getattr(self, name)
+        if isinstance(part, list):
+            at = next(number for number, one in enumerate(part) if one is old)
+            part[at : at + 1] = made
         else:
-            setattr(self, name, made[0] if len(made) == 1 else Compound(made, made[0].coord))
+            setattr(self, name, made[0] if len(made) == 1 else Compound(made, coord))
+
+
+class Expression(Node):
+    """What may stand where an expression does: also the name of a type that `sizeof` takes, a list of first values, and the ends of a
+    range of cases."""
+
+
+class TypeNode(Node):
+    """A declarator, or the words of a type that stand before it."""
 
 
 # ---- expressions (6.5)
 
 
 @dataclass(eq=False)
-class ID(Node):
+class ID(Expression):
     """An identifier that is used (6.4.2.1)."""
 
     name: str
@@ -65,7 +85,7 @@ class ID(Node):
 
 
 @dataclass(eq=False)
-class Constant(Node):
+class Constant(Expression):
     """A constant or a string (6.4.4, 6.4.5) by its text; `type` is the parser's word for its kind."""
 
     type: str
@@ -74,100 +94,105 @@ class Constant(Node):
 
 
 @dataclass(eq=False)
-class ArrayRef(Node):
+class ArrayRef(Expression):
     """`name[subscript]` (6.5.2.1)."""
 
     SLOTS = ("name", "subscript")
-    name: Node
-    subscript: Node
+    name: Expression
+    subscript: Expression
     coord: Optional[Coord] = None
 
 
 @dataclass(eq=False)
-class StructRef(Node):
+class StructRef(Expression):
     """A member by `.` or `->`, which `type` says (6.5.2.3)."""
 
     SLOTS = ("name", "field")
-    name: Node
+    name: Expression
     type: str
     field: ID
     coord: Optional[Coord] = None
 
 
 @dataclass(eq=False)
-class ExprList(Node):
+class ExprList(Expression):
     """Expressions with commas between (6.5.17), or the arguments of a call."""
 
     SLOTS = ("exprs",)
-    exprs: list[Node]
+    exprs: list[Expression]
     coord: Optional[Coord] = None
 
 
 @dataclass(eq=False)
-class FuncCall(Node):
+class FuncCall(Expression):
     """A call (6.5.2.2); `args` is None where there are no arguments."""
 
     SLOTS = ("name", "args")
-    name: Node
+    name: Expression
     args: Optional[ExprList]
     coord: Optional[Coord] = None
 
+    @property
+    def given(self) -> list[Expression]:
+        """The expressions between the brackets, in order."""
+        return list(self.args.exprs) if self.args else []
+
 
 @dataclass(eq=False)
-class UnaryOp(Node):
+class UnaryOp(Expression):
     """`op` before its operand, with `p++` and `p--` for those behind it, and `sizeof` (6.5.2.4, 6.5.3)."""
 
     SLOTS = ("expr",)
     op: str
-    expr: Node
+    expr: Expression
     coord: Optional[Coord] = None
 
 
 @dataclass(eq=False)
-class BinaryOp(Node):
+class BinaryOp(Expression):
     """An operator between two operands (6.5.5 to 6.5.14)."""
 
     SLOTS = ("left", "right")
     op: str
-    left: Node
-    right: Node
+    left: Expression
+    right: Expression
     coord: Optional[Coord] = None
 
 
 @dataclass(eq=False)
-class TernaryOp(Node):
+class TernaryOp(Expression):
     """`cond ? iftrue : iffalse` (6.5.15)."""
 
     SLOTS = ("cond", "iftrue", "iffalse")
-    cond: Node
-    iftrue: Node
-    iffalse: Node
+    cond: Expression
+    iftrue: Expression
+    iffalse: Expression
     coord: Optional[Coord] = None
 
 
 @dataclass(eq=False)
-class Assignment(Node):
+class Assignment(Expression):
     """`lvalue op rvalue`, where `op` is `=` or one that ends with it (6.5.16)."""
 
     SLOTS = ("lvalue", "rvalue")
     op: str
-    lvalue: Node
-    rvalue: Node
+    lvalue: Expression
+    rvalue: Expression
     coord: Optional[Coord] = None
 
 
 @dataclass(eq=False)
-class Cast(Node):
+class Cast(Expression):
     """A conversion (6.5.4)."""
 
     SLOTS = ("to_type", "expr")
     to_type: "Typename"
-    expr: Node
+    expr: Expression
     coord: Optional[Coord] = None
 
 
 @dataclass(eq=False)
-class CompoundLiteral(Node):
+class CompoundLiteral(Expression):
     """`(type) { values }` (6.5.2.5)."""
 
     SLOTS = ("type", "init")
@@ -177,7 +202,7 @@ class CompoundLiteral(Node):
 
 
 @dataclass(eq=False)
-class StatementExpr(Node):
+class StatementExpr(Expression):
     """`({ .. })` of GNU C: the block, whose last statement may be the expression that gives the value."""
 
     SLOTS = ("body",)
@@ -190,28 +215,28 @@ class StatementExpr(Node):
         return self.body.block_items[:-1] if self.last is not None else list(self.body.block_items)
 
     @property
-    def last(self) -> Optional[Node]:
+    def last(self) -> Optional[Expression]:
         """The expression that gives the value, if there is one."""
-        found = self.body.block_items
-        return found[-1] if found and is_expression(found[-1]) else None
+        one = self.body.block_items[-1] if self.body.block_items else None
+        return one if isinstance(one, EXPRESSIONS) else None
 
 
 @dataclass(eq=False)
-class InitList(Node):
+class InitList(Expression):
     """A list of first values between braces (6.7.9)."""
 
     SLOTS = ("exprs",)
-    exprs: list[Node]
+    exprs: list[Expression]
     coord: Optional[Coord] = None
 
 
 @dataclass(eq=False)
-class NamedInitializer(Node):
+class NamedInitializer(Expression):
     """A first value with its designators, members as names and indexes as expressions (6.7.9p6)."""
 
     SLOTS = ("expr", "name")
-    name: list[Node]
-    expr: Node
+    name: list[Expression]
+    expr: Expression
     coord: Optional[Coord] = None
 
 
@@ -219,7 +244,7 @@ class NamedInitializer(Node):
 
 
 @dataclass(eq=False)
-class IdentifierType(Node):
+class IdentifierType(TypeNode):
     """The words of a type, or the name of a typedef (6.7.2, 6.7.8)."""
 
     names: list[str]
@@ -227,17 +252,17 @@ class IdentifierType(Node):
 
 
 @dataclass(eq=False)
-class Typeof(Node):
+class Typeof(TypeNode):
     """typeof of GNU C: the type of an expression, or of a type's name. Of one that is `known` the names have their meanings
     already. It isn't evaluated, so it has no parts."""
 
-    of: Node
+    of: Expression
     coord: Optional[Coord] = None
     known: bool = False
 
 
 @dataclass(eq=False)
-class Struct(Node):
+class Struct(TypeNode):
     """A struct (6.7.2.1); `decls` is None where its members aren't given."""
 
     SLOTS = ("decls",)
@@ -247,7 +272,7 @@ class Struct(Node):
 
 
 @dataclass(eq=False)
-class Union(Node):
+class Union(TypeNode):
     """A union (6.7.2.1); `decls` is None where its members aren't given."""
 
     SLOTS = ("decls",)
@@ -262,7 +287,7 @@ class Enumerator(Node):
 
     SLOTS = ("value",)
     name: str
-    value: Optional[Node]
+    value: Optional[Expression]
     coord: Optional[Coord] = None
 
 
@@ -276,7 +301,7 @@ class EnumeratorList(Node):
 
 
 @dataclass(eq=False)
-class Enum(Node):
+class Enum(TypeNode):
     """An enum (6.7.2.2); `values` is None where its constants aren't given."""
 
     SLOTS = ("values",)
@@ -286,34 +311,34 @@ class Enum(Node):
 
 
 @dataclass(eq=False)
-class TypeDecl(Node):
+class TypeDecl(TypeNode):
     """What a declarator is at its end: the name and the type that stands before all declarators."""
 
     SLOTS = ("type",)
     declname: Optional[str]
     quals: list[str]
-    align: Any
-    type: Node
+    align: Optional[list[Node]]
+    type: TypeNode
     coord: Optional[Coord] = None
 
 
 @dataclass(eq=False)
-class PtrDecl(Node):
+class PtrDecl(TypeNode):
     """A pointer (6.7.6.1)."""
 
     SLOTS = ("type",)
     quals: list[str]
-    type: Node
+    type: TypeNode
     coord: Optional[Coord] = None
 
 
 @dataclass(eq=False)
-class ArrayDecl(Node):
+class ArrayDecl(TypeNode):
     """An array (6.7.6.2); `dim` is None where it has no length of its own."""
 
     SLOTS = ("type", "dim")
-    type: Node
-    dim: Optional[Node]
+    type: TypeNode
+    dim: Optional[Expression]
     dim_quals: list[str] = field(default_factory=list)
     coord: Optional[Coord] = None
 
@@ -323,7 +348,7 @@ class ParamList(Node):
     """What stands between the brackets of a function's declarator (6.7.6.3): declarations, and maybe an ellipsis."""
 
     SLOTS = ("params",)
-    params: list[Node]
+    params: list["Parameter"]
     coord: Optional[Coord] = None
 
 
@@ -335,24 +360,29 @@ class EllipsisParam(Node):
 
 
 @dataclass(eq=False)
-class FuncDecl(Node):
+class FuncDecl(TypeNode):
     """A function (6.7.6.3); `args` is None where nothing stands between the parentheses."""
 
     SLOTS = ("args", "type")
     args: Optional[ParamList]
-    type: Node
+    type: TypeNode
     coord: Optional[Coord] = None
+
+    @property
+    def params(self) -> list["Parameter"]:
+        """What stands between the parentheses, also a lone `void`; none where nothing does."""
+        return list(self.args.params) if self.args else []
 
 
 @dataclass(eq=False)
-class Typename(Node):
+class Typename(Expression):
     """A type's name (6.7.7), or a parameter without a name."""
 
     SLOTS = ("type",)
     name: Optional[str]
     quals: list[str]
-    align: Any
-    type: Node
+    align: Optional[list[Node]]
+    type: TypeNode
     coord: Optional[Coord] = None
 
 
@@ -363,12 +393,12 @@ class Decl(Node):
     SLOTS = ("type", "init", "bitsize")
     name: Optional[str]
     quals: list[str]
-    align: Any
+    align: Optional[list[Node]]
     storage: list[str]
     funcspec: list[str]
-    type: Node
-    init: Optional[Node]
-    bitsize: Optional[Node]
+    type: TypeNode
+    init: Optional[Expression]
+    bitsize: Optional[Expression]
     coord: Optional[Coord] = None
 
 
@@ -377,7 +407,7 @@ class DeclList(Node):
     """The declarations before a loop's condition."""
 
     SLOTS = ("decls",)
-    decls: list[Node]
+    decls: list[Decl]
     coord: Optional[Coord] = None
 
 
@@ -389,7 +419,7 @@ class Typedef(Node):
     name: str
     quals: list[str]
     storage: list[str]
-    type: Node
+    type: TypeNode
     coord: Optional[Coord] = None
 
 
@@ -398,7 +428,7 @@ class Alignas(Node):
     """An alignment (6.7.5), which is refused where it is read."""
 
     SLOTS = ("alignment",)
-    alignment: Node
+    alignment: Expression
     coord: Optional[Coord] = None
 
 
@@ -426,7 +456,7 @@ class If(Node):
     """A branch (6.8.4.1)."""
 
     SLOTS = ("cond", "iftrue", "iffalse")
-    cond: Node
+    cond: Expression
     iftrue: Node
     iffalse: Optional[Node]
     coord: Optional[Coord] = None
@@ -437,18 +467,18 @@ class Switch(Node):
     """A choice by a value (6.8.4.2)."""
 
     SLOTS = ("cond", "stmt")
-    cond: Node
+    cond: Expression
     stmt: Node
     coord: Optional[Coord] = None
 
 
 @dataclass(eq=False)
-class CaseRange(Node):
+class CaseRange(Expression):
     """The ends of a range of cases of GNU C."""
 
     SLOTS = ("low", "high")
-    low: Node
-    high: Node
+    low: Expression
+    high: Expression
     coord: Optional[Coord] = None
 
 
@@ -457,7 +487,7 @@ class Case(Node):
     """A case with the statements up to the next one."""
 
     SLOTS = ("expr", "stmts")
-    expr: Node
+    expr: Expression
     stmts: list[Node]
     coord: Optional[Coord] = None
 
@@ -476,7 +506,7 @@ class While(Node):
     """A loop whose condition stands before it (6.8.5.1)."""
 
     SLOTS = ("cond", "stmt")
-    cond: Node
+    cond: Expression
     stmt: Node
     coord: Optional[Coord] = None
 
@@ -486,7 +516,7 @@ class DoWhile(Node):
     """A loop whose condition stands behind it (6.8.5.2)."""
 
     SLOTS = ("cond", "stmt")
-    cond: Node
+    cond: Expression
     stmt: Node
     coord: Optional[Coord] = None
 
@@ -497,8 +527,8 @@ class For(Node):
 
     SLOTS = ("init", "cond", "next", "stmt")
     init: Optional[Node]
-    cond: Optional[Node]
-    next: Optional[Node]
+    cond: Optional[Expression]
+    next: Optional[Expression]
     stmt: Node
     coord: Optional[Coord] = None
 
@@ -540,7 +570,7 @@ class Return(Node):
     """`return` (6.8.6.4)."""
 
     SLOTS = ("expr",)
-    expr: Optional[Node]
+    expr: Optional[Expression]
     coord: Optional[Coord] = None
 
 
@@ -557,8 +587,8 @@ class StaticAssert(Node):
     """`_Static_assert`, which the compiler has judged."""
 
     SLOTS = ("cond", "message")
-    cond: Node
-    message: Optional[Node]
+    cond: Expression
+    message: Optional[Expression]
     coord: Optional[Coord] = None
 
 
@@ -574,6 +604,12 @@ class FuncDef(Node):
     param_decls: Optional[list[Decl]]
     body: Compound
     coord: Optional[Coord] = None
+
+    @property
+    def head(self) -> FuncDecl:
+        """The function's declarator (6.9.1p2)."""
+        assert isinstance(self.decl.type, FuncDecl)
+        return self.decl.type
 
 
 @dataclass(eq=False)
@@ -595,15 +631,16 @@ def rename(decl: Decl, name: str) -> None:
     of.declname = name
 
 
-EXPRESSIONS = (ID, Constant, UnaryOp, BinaryOp, TernaryOp, Assignment, ExprList)
-EXPRESSIONS += (Cast, CompoundLiteral, FuncCall, ArrayRef, StructRef, StatementExpr)  # type: ignore[assignment]
+Parameter = (
+    Decl | Typename | EllipsisParam | ID
+)  # (a name alone where its declaration stands behind the parentheses, 6.9.1p6)
+# those that are statements, with a semicolon behind them
+EXPRESSIONS = (
+    *(ID, Constant, UnaryOp, BinaryOp, TernaryOp, Assignment, ExprList),
+    *(Cast, CompoundLiteral, FuncCall, ArrayRef, StructRef, StatementExpr),
+)
 LOOPS = (For, While, DoWhile)
 LEFT_BY_BREAK = (*LOOPS, Switch)
-
-
-def is_expression(node: Node) -> bool:
-    """Whether a statement is an expression."""
-    return isinstance(node, EXPRESSIONS)
 
 
 def walk(node: Node) -> list[Node]:

@@ -1,11 +1,10 @@
 """What brings regions together: two become one, and with them the pointers in their elements, member by member."""
 
-from typing import Any
+from typing import Optional
 
-from . import kinds
-from .declarators import Variable
-from .kinds import Int, Pointer, Signature, Struct, Type
-from .regions import Region
+from . import kinds, tree
+from .kinds import Int, Other, Pointer, Region, Signature, Struct, Type
+from .objects import Variable
 
 ADVICE = "let one pointer point to objects of one type"
 
@@ -16,7 +15,9 @@ def words(of: Type) -> str:
         return f"struct {of.tag}"
     if isinstance(of, Signature):
         return f"a function of {len(of.parameters)} parameters"
-    return of.text if isinstance(of, Int) else "pointer" if isinstance(of, Pointer) else getattr(of, "name", "array")
+    if isinstance(of, Other):
+        return of.name
+    return of.text if isinstance(of, Int) else "pointer" if isinstance(of, Pointer) else "array"
 
 
 class Unification:
@@ -34,7 +35,7 @@ class Unification:
             self.homes[variable] = Region(kinds.element(of), [variable])
         return self.homes[variable].root()
 
-    def unify(self, one: Region, other: Region, at: Any) -> None:
+    def unify(self, one: Region, other: Region, at: Optional[tree.Coord]) -> None:
         """Makes two regions one, with those of their members."""
         a, b = one.root(), other.root()
         if a is b:
@@ -68,11 +69,11 @@ class Unification:
         return (kinds.size(of) or 0) if region.root().raw else kinds.elements(of)
 
     @staticmethod
-    def is_open(of: Any) -> bool:
+    def is_open(of: Type) -> bool:
         """Whether no more of a type is known than that it is a struct."""
         return isinstance(of, Struct) and of.members is None
 
-    def as_bytes(self, region: Region, types: list[Type], at: Any) -> None:
+    def as_bytes(self, region: Region, types: list[Type], at: Optional[tree.Coord]) -> None:
         """Lets the objects of a region stand as their bytes, where all may."""
         root = region.root()
         bad = [one for one in types if not kinds.has_bytes(one) and not self.is_open(one) and one != kinds.VOID]
@@ -86,7 +87,7 @@ class Unification:
         for inner in members.values():
             self.unify(root, inner, at)
 
-    def same_type(self, one: Type, other: Type, at: Any, region: Region) -> None:
+    def same_type(self, one: Type, other: Type, at: Optional[tree.Coord], region: Region) -> None:
         """Brings the pointers within two types together; types that can't be one are a fault of the region."""
         one, other = kinds.element(one), kinds.element(other)
         if isinstance(one, Signature) and isinstance(other, Signature):
@@ -109,7 +110,7 @@ class Unification:
         elif one.boolean != other.boolean:
             self.fault(region, one, other, at)
 
-    def same_signature(self, one: Signature, other: Signature, at: Any, region: Region) -> None:
+    def same_signature(self, one: Signature, other: Signature, at: Optional[tree.Coord], region: Region) -> None:
         """Brings what functions of two types take and give together."""
         if one is other:
             return
@@ -123,7 +124,7 @@ class Unification:
             elif mine is not theirs and mine != theirs:
                 self.fault(region, one, other, at)
 
-    def fault(self, region: Region, one: Type, other: Type, at: Any) -> None:
+    def fault(self, region: Region, one: Type, other: Type, at: Optional[tree.Coord]) -> None:
         """Objects of two types meet: they stand as bytes where both may, else the region has a fault."""
         root = region.root()
         if kinds.has_bytes(one) and kinds.has_bytes(other):

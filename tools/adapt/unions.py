@@ -1,7 +1,7 @@
 """Unions, and members that nothing names. A union of which all named members have the same integers is one of them; a union of
 integers, and of arrays of these, up to 64 bits is one integer, whose parts its members are (6.5.2.3p3, 6.2.6.1p4, little endian)."""
 
-from typing import Any, Optional
+from typing import Optional
 
 from . import kinds
 from .kinds import Array, Int, Pointer, Struct, Type
@@ -75,7 +75,7 @@ def settle(structs: list[Struct], named: set[str], initialised: list[Type]) -> N
                     one.dead.add(name)
 
 
-def found(of: Any, name: str) -> Optional[list[str]]:
+def found(of: Type, name: str) -> Optional[list[str]]:
     """The members that lead to one of a name, also through members that have no name (6.7.2.1p13)."""
     if not isinstance(of, Struct):
         return None

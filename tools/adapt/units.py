@@ -1,24 +1,22 @@
 """Writes the items of the units: constants, variables, functions, each into the file that it stands in."""
 
-from typing import TYPE_CHECKING, Any
+from typing import TYPE_CHECKING
 
 from . import kinds, tree
 from .calls import MOST_ELEMENTS
+from .chooser_texts import written
 from .component import Component
-from .declarators import Function, Variable
 from .effects import pointee
 from .heap import heap_call
 from .initialisers import Part, filled, none_of
 from .kinds import Int, Pointer, Struct
 from .models import model_of
+from .objects import Enumerator, Function, Place, Variable
 from .output import FELL, File, unmarked
-from .places import Place
 from .reading import is_system
 from .refusals import Refused
 from .tree import walk
-
 from .uses import first_uses, is_outer
-from .choosers import written
 
 if TYPE_CHECKING:
     from .writer import Writer
@@ -29,7 +27,7 @@ class Units(Component):
 
     def __init__(self, writer: "Writer") -> None:
         super().__init__(writer)
-        self.done: set[Any] = set()
+        self.done: set[object] = set()
         self.uses = first_uses(writer)
 
     def write(self) -> dict[str, File]:
@@ -45,7 +43,7 @@ class Units(Component):
             self.writer.names.refusals.go(item.coord)
             with self.writer.names.refusals.gathered():
                 self.item(item, number)
-        front, end = written(self.writer, self.writer.places.choosers)
+        front, end = written(self.writer)
         gives = [f"{text} {name}(void);" for (_, text), name in self.writer.outer_values.items()]
         outer = [
             *gives,
@@ -68,29 +66,30 @@ class Units(Component):
             file.pieces = [(line, self.writer.large.rewritten(text)) for line, text in file.pieces]
         return self.writer.files
 
-    def once(self, key: Any) -> bool:
+    def once(self, key: object) -> bool:
         """Whether an item comes for the first time."""
         new = key not in self.done
         self.done.add(key)
         return new
 
-    def item(self, item: Any, number: int) -> None:
+    def item(self, item: tree.Node, number: int) -> None:
         """One item of a unit: a declaration or a function. Raises Refused for an object that no source defines."""
         self.enumerations(item.decl if isinstance(item, tree.FuncDef) else item)
         meaning = self.writer.names.meaning.get(item)
         if isinstance(item, tree.FuncDef) and isinstance(meaning, Function):
             if meaning.definition is item:
-                self.whole_function(meaning)
-        elif isinstance(meaning, Function):
+                self.whole_function(meaning, item)
+        elif isinstance(meaning, Function) and isinstance(item, tree.Decl):
             self.prototype(meaning, item)
         elif isinstance(meaning, Variable):
             early = self.uses.get(meaning, len(self.writer.names.items) + 1) < self.defined_at(meaning)
             if meaning.defined and (early or self.defined_at(meaning) == number) and self.once(meaning):
                 self.variable(meaning, False, self.defined_at(meaning) == number)
-            elif meaning.is_input and not self.writer.places.columns.in_column(meaning):
+            elif meaning.is_input and not self.writer.columns.in_column(meaning):
                 if meaning in self.uses and self.once(meaning):
                     self.writer.registers.append(meaning)
-                    self.writer.emit(f"{meaning.type.text} {meaning.out}(void);")  # type: ignore[union-attr]
+                    assert isinstance(meaning.type, Int)
+                    self.writer.emit(f"{meaning.type.text} {meaning.out}(void);")
             elif not meaning.defined and meaning in self.uses and self.once(meaning):
                 self.check_type(meaning)
                 raise Refused(item.coord, f"no source defines {meaning.name}", "give the source that defines it")
@@ -98,22 +97,18 @@ class Units(Component):
     def defined_at(self, variable: Variable) -> int:
         """The number of the item that defines a variable; of several the first."""
         for number, (_, item) in enumerate(self.writer.names.items):
-            if self.writer.names.meaning.get(item) is variable and (
-                "extern" not in item.storage or item.init is not None
-            ):
+            is_it = isinstance(item, tree.Decl) and self.writer.names.meaning.get(item) is variable
+            if isinstance(item, tree.Decl) and is_it and ("extern" not in item.storage or item.init is not None):
                 return number
         return -1
 
-    def enumerations(self, item: Any) -> None:
+    def enumerations(self, item: tree.Node) -> None:
         """Writes the enums of an item whose constants keep their names."""
         for node in walk(item):
             if isinstance(node, tree.Enum) and node.values is not None and self.once(node.coord):
-                listed = [
-                    (self.writer.at(one), self.writer.names.meaning[one])
-                    for one in node.values.enumerators
-                    if one in self.writer.names.meaning
-                ]
-                texts = [f"{at}{one.name} = {one.value}" for at, one in listed if one.out == one.name]
+                listed = [(self.writer.at(one), self.writer.names.meaning.get(one)) for one in node.values.enumerators]
+                known = [(at, one) for at, one in listed if isinstance(one, Enumerator)]
+                texts = [f"{at}{one.name} = {one.value}" for at, one in known if one.out == one.name]
                 if texts:
                     self.writer.emit(f"enum {{ {', '.join(texts)} }};")
 
@@ -129,7 +124,7 @@ class Units(Component):
     def variable(self, variable: Variable, static: bool = False, here: bool = False) -> None:
         """Writes an object of the file with its first values, on their lines where they stand here. Raises Refused
         for a struct as the first value of a part."""
-        if self.writer.places.columns.in_column(variable):
+        if self.writer.columns.in_column(variable):
             return
         self.check_type(variable)
         made = filled(self.writer.constants, variable.type, variable.init)
@@ -140,7 +135,7 @@ class Units(Component):
         )
         leaves = list(kinds.leaves(variable.type))
         for leaf in leaves:
-            if self.writer.places.columns.is_apart(self.writer.places.columns.home(variable), leaf.path):
+            if self.writer.columns.is_apart(self.writer.columns.home(variable), leaf.path):
                 continue
             name = self.writer.spelling.leaf(variable, leaf.path)
             if leaf.count > MOST_ELEMENTS:
@@ -156,9 +151,9 @@ class Units(Component):
 
     def is_static(self, variable: Variable) -> bool:
         """Whether an object of the file is one of its source alone (6.2.2p3)."""
-        return variable.home == "static" or (variable.name, str(variable.coord.file)) in self.writer.names.linked
+        return variable.home == "static" or (variable.name, variable.where.file) in self.writer.names.linked
 
-    def first(self, node: Any, kind: Int, marked: bool) -> str:
+    def first(self, node: tree.Expression, kind: Int, marked: bool) -> str:
         """A first value of an object of the file, which is a constant. Raises Refused for one that isn't."""
         if isinstance(node, Part):
             return self.writer.column_items.first_number(node, kind)
@@ -232,14 +227,14 @@ class Units(Component):
             for leaf in backs:
                 self.writer.emit(f"static {leaf.kind.text} {self.writer.spelling.leaf(own, leaf.path)};")
 
-    def prototype(self, function: Function, item: Any) -> None:
+    def prototype(self, function: Function, item: tree.Decl) -> None:
         """Writes a declaration of a function that is called."""
         wanted = function.calls and (function.definition is not None or isinstance(function.result, Int))
         wanted = wanted and not (model_of(function) or heap_call(function))
         if (
             function.name in ("assert", "assume")
             or not wanted
-            or not self.once((str(item.coord.file), item.coord.line, item.name))
+            or not self.once((item.where.file, item.where.line, item.name))
         ):
             return
         if function.definition is None and not self.once((function, "declared")):
@@ -247,17 +242,19 @@ class Units(Component):
         self.before(function)
         self.writer.emit(self.heading(function) + ";")
 
-    def declared_within(self, function: Function) -> None:
+    def declared_within(self, function: Function, body: tree.Compound) -> None:
         """Writes before a function what blocks of it declare: functions, and objects of the file that are defined later."""
-        for node in walk(function.definition.body):
-            meaning = self.writer.names.meaning.get(node) if isinstance(node, tree.Decl) else None
+        for node in walk(body):
+            if not isinstance(node, tree.Decl):
+                continue
+            meaning = self.writer.names.meaning.get(node)
             with self.writer.names.refusals.gathered():
                 if isinstance(meaning, Function) and (meaning.definition is None or meaning.number > function.number):
                     self.prototype(meaning, node)
                 elif isinstance(meaning, Variable) and meaning.home == "file":
                     self.outer(meaning, node, function.number)
 
-    def outer(self, variable: Variable, node: Any, number: int) -> None:
+    def outer(self, variable: Variable, node: tree.Node, number: int) -> None:
         """Writes an object that a block declares with extern, where it is defined behind the item of this number.
         Raises Refused where no source defines it."""
         if not variable.defined and variable in self.uses:
@@ -266,11 +263,10 @@ class Units(Component):
         if variable.defined and self.defined_at(variable) > number and self.once(variable):
             self.variable(variable)
 
-    def whole_function(self, function: Function) -> None:
+    def whole_function(self, function: Function, node: tree.FuncDef) -> None:
         """Writes a function, with what stands before it."""
-        node = function.definition
         self.writer.function = function
-        self.declared_within(function)
+        self.declared_within(function, node.body)
         with self.writer.names.refusals.gathered():
             self.before(function)
         for variable in self.writer.names.variables:

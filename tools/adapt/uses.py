@@ -1,19 +1,22 @@
 """What stands where: the first uses of objects, and the input functions that headers of the system declare."""
 
-from typing import Any
+from typing import TYPE_CHECKING
 
 from . import tree
-from .declarators import Function, Variable
 from .heap import heap_call
 from .kinds import Int
 from .library import OUTPUT
 from .models import model_of
-from .places import Place, arguments
+from .objects import Function, Place, Variable
+from .places import arguments
 from .reading import is_system
 from .tree import walk
 
+if TYPE_CHECKING:
+    from .writer import Writer
 
-def first_uses(writer: Any) -> dict[Variable, int]:
+
+def first_uses(writer: "Writer") -> dict[Variable, int]:
     """For each variable the number of the first function that names it."""
     found: dict[Variable, int] = {}
     for number, (_, item) in enumerate(writer.names.items):
@@ -33,17 +36,22 @@ def first_uses(writer: Any) -> dict[Variable, int]:
     return found
 
 
-def only_handed(writer: Any, node: Any) -> list[Any]:
+def only_handed(writer: "Writer", node: tree.Node) -> list[tree.ID]:
     """What stands alone as an argument of a function that gives an input and whose arguments don't matter."""
-    called = writer.names.meaning.get(node) if isinstance(node, tree.FuncCall) else None
-    if not isinstance(called, Function) or called.definition is not None or called.name not in writer.inputs:
+    called = writer.names.meaning.get(node)
+    if (
+        not isinstance(node, tree.FuncCall)
+        or not isinstance(called, Function)
+        or called.definition is not None
+        or called.name not in writer.inputs
+    ):
         return []
     return [one for one in arguments(node) if isinstance(one, tree.ID)]
 
 
-def is_outer(writer: Any, function: Function) -> bool:
+def is_outer(writer: "Writer", function: Function) -> bool:
     """Whether a header of the system declares an input function."""
-    if function.definition is not None or not function.calls or not is_system(str(function.coord.file)):
+    if function.definition is not None or not function.calls or not is_system(function.where.file):
         return False
     known = model_of(function) or heap_call(function) or function.name in ("assert", "assume")
     used = function.name not in OUTPUT or function in writer.outer_used

@@ -81,7 +81,7 @@ def times(one: Value, factor: int) -> Value:
 
 
 @dataclass(eq=False)
-class Known(tree.Node):
+class Known(tree.Expression):
     """An expression whose value is known as a text."""
 
     value: Value

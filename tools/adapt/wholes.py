@@ -1,15 +1,14 @@
 """Writes the assignments of whole structs, member by member, and members of structs that are no objects."""
 
-from typing import Any, Optional
+from typing import Optional
 
 from . import kinds, statement_exprs, tree
 from .component import Component
-from .declarators import Variable
-from .effects import Effects, objects
+from .effects import objects
 from .initialisers import filled
 from .kinds import Leaf
+from .objects import Place, Variable
 from .output import unmarked
-from .places import Place
 from .refusals import Refused
 from .values import Value
 
@@ -20,7 +19,7 @@ MOST_COPIED = 256
 class Wholes(Component):
     """Writes copies, arguments and results of a struct type (6.5.16.1, 6.5.2.2), member by member."""
 
-    def assign_whole(self, target: Place, source: Any, node: Any) -> None:
+    def assign_whole(self, target: Place, source: tree.Expression, node: tree.Node) -> None:
         """Writes the assignment of a struct, member by member. Raises Refused for more than 256 integers."""
         if isinstance(source, tree.TernaryOp):
             self.writer.expressions.either(source, lambda one: self.assign_whole(target, one, node))
@@ -45,7 +44,7 @@ class Wholes(Component):
             for text, value in zip(to, of):
                 self.writer.emit(f"{text} = {value};")
 
-    def kept_whole(self, node: Any) -> Any:
+    def kept_whole(self, node: tree.Expression) -> tree.Expression:
         """A member of a struct that is no object (6.5.2.3p3), as one of an object that is written before and has it."""
         if isinstance(node, (tree.StructRef, tree.ArrayRef)):
             base = self.kept_whole(node.name)
@@ -58,13 +57,13 @@ class Wholes(Component):
         self.assign_whole(Place(local, (), (), of), node, node)
         return self.named_as(local, node)
 
-    def named_as(self, local: Variable, node: Any) -> Any:
+    def named_as(self, local: Variable, node: tree.Node) -> tree.ID:
         """A name for a local that is written without one of the sources."""
         made = tree.ID(local.out, node.coord)
         self.writer.names.meaning[made] = local
         return made
 
-    def whole(self, source: Any, target: Place) -> tuple[Place, Optional[Value]]:
+    def whole(self, source: tree.Expression, target: Place) -> tuple[Place, Optional[Value]]:
         """The object in which a struct's value stands. Raises Refused where no source defines the function that gives
         it."""
         if isinstance(source, tree.FuncCall):
@@ -87,14 +86,14 @@ class Wholes(Component):
         reads = self.writer.effected.of(tree.ExprList([one for one, _ in place.indexes])).reads
         return place, self.writer.elements.index(place, True, any(one in reads for one in objects(target)))
 
-    def literal(self, target: Place, source: Any) -> list[tuple[Leaf, list[str]]]:
+    def literal(self, target: Place, source: tree.CompoundLiteral) -> list[tuple[Leaf, list[str]]]:
         """The values of a compound literal, kept where the target itself may be among what they read. Raises Refused
         for a struct within it."""
         made = filled(self.writer.constants, target.type, source.init)
         if made.wholes:
             raise Refused(source.coord, "a struct within a compound literal", "give its members one by one")
         self.writer.order.unsequenced(source, list(made.given.values()))
-        reads: Effects = self.writer.effected.of(source)
+        reads = self.writer.effected.of(source)
         apart = not any(one in reads.reads for one in objects(target)) and not any(reads.reads.values())
         found = []
         for leaf in kinds.leaves(target.type):

@@ -4,25 +4,28 @@ Each part writes one kind of construct. Since these hold each other, each knows 
 """
 
 from dataclasses import dataclass
-from typing import Any, Optional
+from typing import Optional
 
 from . import tree
 from .assignments import Assignments
 from .calls import Calls
 from .checked import CheckedAssignments, CheckedConversions, CheckedExpressions
 from .checks import Checks
+from .choosers import Choosers
 from .column_items import ColumnItems
+from .columns import Columns
 from .conversions import Conversions
-from .declarators import Function, Variable
 from .effects import Effected
 from .elements import Elements
+from .endings import Endings
 from .expressions import Expressions
-from .heap import Heap
+from .heap_calls import Heap
 from .kinds import Int
 from .large import LargeArrays
 from .lifetimes import Lifetimes
 from .model_calls import ModelCalls
 from .names import Names
+from .objects import Function, Variable
 from .order import Order
 from .output import File, mark, unmarked
 from .outside import OutsideCalls
@@ -31,7 +34,7 @@ from .places import Places
 from .pointer_effects import PointerEffects
 from .pointers import Pointers
 from .raw import Raw
-from .spelling import Spelling
+from .spelling import Special, Spelling
 from .statements import Statements
 from .units import Units
 from .wholes import Wholes
@@ -43,6 +46,8 @@ class Analysis:
 
     names: Names
     places: Places
+    columns: Columns
+    choosers: Choosers
     effected: Effected
     lifetimes: Lifetimes
     inputs: set[str]
@@ -62,11 +67,12 @@ class Writer:
 
     def __init__(self, known: Analysis, spelling: Spelling, asked: Checking) -> None:
         self.names, self.places, self.effected = known.names, known.places, known.effected
+        self.columns, self.choosers = known.columns, known.choosers
         self.lifetimes, self.inputs = known.lifetimes, known.inputs
         self.constants, self.spelling, self.check = known.names.constants, spelling, asked.indexes
         self.files: dict[str, File] = {}
         self.registers: list[Variable] = []
-        self.special: dict[Any, Variable] = {}  # the variables in which functions hand values back
+        self.special: Special = {}
         self.outer_values: dict[tuple[Function, str], str] = {}  # what objects get by functions that no source defines
         self.outer_used: set[Function] = set()  # whose values are used
         self.begin = "", 1, 0  # the file, the line and the number of the piece before which all is put in front
@@ -78,8 +84,8 @@ class Writer:
         self.file, self.original, self.line, self.column = File(""), "", 1, 0
         self.closings: dict[tuple[str, int], list[int]] = {}
         self.function: Optional[Function] = None
-        self.asked: list[Any] = []  # the expressions that are written now, the innermost last
-        self.stands_for: dict[str, Any] = {}  # the expression for which each temporary stands
+        self.asked: list[tree.Expression] = []  # the expressions that are written now, the innermost last
+        self.stands_for: dict[str, tree.Expression] = {}  # the expression for which each temporary stands
         self.behind: set[tree.Node] = set()  # steps that are taken behind their statement,
         self.after: list[str] = []  # and their texts
         self.within = 0  # how many expressions are written around this one
@@ -101,7 +107,7 @@ class Writer:
             self.overflow = made = Overflow(self, asked.overflows, asked.conversions)
             self.conversions, self.assignments = CheckedConversions(self, made), CheckedAssignments(self, made)
             self.expressions = CheckedExpressions(self, made)
-        self.statements, self.column_items = Statements(self), ColumnItems(self)
+        self.statements, self.endings, self.column_items = Statements(self), Endings(self), ColumnItems(self)
         self.checks, self.units = Checks(self), Units(self)
 
     def finished(self, texts: dict[str, str]) -> dict[str, str]:
@@ -130,15 +136,15 @@ class Writer:
         """Whether the last piece is a case, which has no statement yet."""
         return bool(self.file.pieces) and self.file.pieces[-1][1].endswith(":")
 
-    def go(self, node: Any) -> None:
+    def go(self, node: tree.Node) -> None:
         """What is written next stands on the line of this statement."""
-        if node.coord is not None and str(node.coord.file) == self.original:
+        if node.coord is not None and node.coord.file == self.original:
             self.line, self.column = node.coord.line, node.coord.column or 0
 
-    def at(self, node: Any) -> str:
+    def at(self, node: tree.Node) -> str:
         """The mark of an expression's place, where it stands in the original."""
-        here = node.coord is not None and str(node.coord.file) == self.original
-        return mark(node.coord.line, node.coord.column or 0) if here else ""
+        at = node.coord
+        return mark(at.line, at.column or 0) if at is not None and at.file == self.original else ""
 
     def temporary(self, kind: Int, text: str, stem: str = "value") -> str:
         """Writes a local with a value; its name."""
