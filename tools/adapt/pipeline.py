@@ -13,7 +13,6 @@
 What a later stage learns, that parameters can't stand for objects or that functions need copies, begins the whole anew.
 """
 
-from argparse import Namespace
 from collections.abc import Callable
 from typing import NamedTuple, Optional
 
@@ -37,12 +36,13 @@ from .refusals import Refusals
 from .sorted_sizes import check_sizes
 from .spelling import Spelling
 from .unions import settle
+from .words import Words
 from .unit import Unit
 from .writer import Analysis, Checking, Writer
 
 
 STAGES = {
-    "common": "tree learned refusals parsing unit kinds objects output",
+    "common": "words tree learned refusals parsing unit kinds objects output",
     "read": "gnu reading",
     "expand": "lists states jumps cases sorting library clones",
     "names": "unions constants declarators names sorted_sizes",
@@ -65,7 +65,7 @@ class Adapted(NamedTuple):
     writer: Writer
 
 
-def adapt(given: Namespace, refusals: Refusals) -> Optional[Adapted]:
+def adapt(given: Words, refusals: Refusals) -> Optional[Adapted]:
     """What is written of the sources; nothing where one of them is no C. What is refused is gathered in `refusals`.
 
     Parameters that can't stand for objects in what is written, since these have a second name there, are pointers as any other
@@ -84,9 +84,9 @@ def adapt(given: Namespace, refusals: Refusals) -> Optional[Adapted]:
         apart |= tried.apart
 
 
-def written(given: Namespace, refusals: Refusals, apart: set[Learned]) -> Optional[Adapted]:
+def written(given: Words, refusals: Refusals, apart: set[Learned]) -> Optional[Adapted]:
     """One way through all stages, with what was learned before."""
-    tried = [read(path, flags_of(given), refusals) for path in given.sources]
+    tried = [read(path, given.flags, refusals) for path in given.sources]
     units = [unit for unit in tried if unit is not None]
     if len(units) < len(tried):
         return None
@@ -106,11 +106,6 @@ def written(given: Namespace, refusals: Refusals, apart: set[Learned]) -> Option
     return Adapted(texts, writer)
 
 
-def flags_of(given: Namespace) -> list[str]:
-    """The compiler's words for headers and macros."""
-    return [f"-I{one}" for one in given.folders] + [f"-D{one}" for one in given.macros]
-
-
 def free_names(taken: set[str]) -> Callable[[str], str]:
     """What gives a name that nothing else has: a stem with a number that no other one has."""
     numbers = iter(range(1, 1000000))
@@ -128,7 +123,7 @@ def expanded(units: list[Unit], taken: set[str], apart: set[Learned], refusals: 
     return library
 
 
-def named(units: list[Unit], library: Library, given: Namespace, refusals: Refusals, taken: set[str]) -> Names:
+def named(units: list[Unit], library: Library, given: Words, refusals: Refusals, taken: set[str]) -> Names:
     """What the names stand for. The names that jumps got become taken."""
     names = Names(refusals, given.pool)
     for unit in units:
