@@ -39,6 +39,12 @@ def parsed(text: str, path: str = "") -> tree.FileAST:
     return made
 
 
+@functools.cache
+def fields_of(kind: Any) -> tuple[str, ...]:
+    """The names of what a node has, but for its place."""
+    return tuple(one.name for one in dataclasses.fields(kind) if one.name != "coord")
+
+
 def own(node: Any, known: dict[Any, tree.Node]) -> Any:
     """Our node of a parser's, with its parts; `known` has ours of those before, since one may stand in several places."""
     if isinstance(node, list):
@@ -48,9 +54,7 @@ def own(node: Any, known: dict[Any, tree.Node]) -> Any:
     if node not in known:
         name = type(node).__name__
         kind = getattr(tree, name)
-        given = {
-            one.name: own(getattr(node, one.name), known) for one in dataclasses.fields(kind) if one.name != "coord"
-        }
+        given = {one: own(getattr(node, one), known) for one in fields_of(kind)}
         for slot in given:
             if given[slot] is None and slot in LISTS and (name, slot) not in ABSENT:
                 given[slot] = []
@@ -72,7 +76,7 @@ def theirs(node: Any) -> Any:
     if isinstance(node, tree.Typeof):
         return c_ast.IdentifierType([f"typeof ({printed(node.of)})"])
     kind = getattr(c_ast, type(node).__name__)
-    given = {one.name: theirs(getattr(node, one.name)) for one in dataclasses.fields(node) if one.name != "coord"}
+    given = {one: theirs(getattr(node, one)) for one in fields_of(type(node))}
     return kind(**given)
 
 
