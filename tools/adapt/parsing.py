@@ -75,9 +75,9 @@ def theirs(node: Any) -> Any:
         return c_ast.ID(f"{printed(node.low)} ... {printed(node.high)}")
     if isinstance(node, tree.Typeof):
         return c_ast.IdentifierType([f"typeof ({printed(node.of)})"])
-    kind = getattr(c_ast, type(node).__name__)
-    given = {one: theirs(getattr(node, one)) for one in fields_of(type(node))}
-    return kind(**given)
+    ours: Any = type(node)
+    kind = getattr(c_ast, ours.__name__)
+    return kind(**{one: theirs(getattr(node, one)) for one in fields_of(ours)})
 
 
 def printed(node: tree.Node, reduced: bool = False) -> str:
