@@ -8,7 +8,7 @@ from . import kinds, tree
 from .constants import Constants, is_offset
 from .declarators import Declarators
 from .kinds import Array, Int, Other, Struct, Type
-from .objects import Function, Meaning, Variable
+from .objects import Function, Home, Meaning, Variable
 from .parsing import printed
 from .reading import is_system
 from .refusals import Refusals, Refused
@@ -98,7 +98,7 @@ class Names:
                 "give one of them another name",
             )
         static = "static" in node.storage
-        home = "static" if local and static else "local" if local else "file"
+        home: Home = "static" if local and static else "local" if local else "file"
         old = self.scope.maps[-1].get(name) if home == "file" else None
         key = self.key(node, static or (isinstance(old, Variable) and (name, node.where.file) in self.linked))
         linked = self.linked.get(key)

@@ -8,15 +8,18 @@ from .kinds import Array, Int, Other, Path, Pointer, Region, Signature, Struct, 
 from .unit import Unit
 
 
+# where an object is: in a file, static within a function, a local, a parameter, a column, memory of the heap, a string
+Home = Literal["file", "static", "local", "parameter", "column", "pool", "text"]
+
+
 @dataclass(eq=False)
 class Variable:
-    """An object. `home` is file, static (within a function), local, parameter, column, pool (memory of the heap) or text (a string);
-    `binding` is how a parameter that is a pointer is written."""
+    """An object; `binding` is how a parameter that is a pointer is written."""
 
     name: str
     type: Type
     coord: Optional[tree.Coord]
-    home: str
+    home: Home
     init: Optional[tree.Expression] = None
     function: Optional["Function"] = None
     defined: bool = False
