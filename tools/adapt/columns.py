@@ -4,7 +4,7 @@ from typing import Optional
 
 from . import kinds, tree
 from .heap import bytes_asked, heap_call
-from .kinds import Array, Path, Pointer, Region, Type
+from .kinds import Array, Path, Pointer, Region, Struct, Type
 from .learned import HeapCall, Learned
 from .learning import learn
 from .names import Names
@@ -109,7 +109,9 @@ class Columns:
             whole = owner.type.to if owner.is_bound and isinstance(owner.type, Pointer) else owner.type
             return self.points.count(whole, self.points.home(owner)), 1
         outer, name = owner
-        of = kinds.member(outer.type, name)
+        if not isinstance(outer.elem, Struct):
+            return 0, 0  # (objects of two types, which is a fault where one is used)
+        of = outer.elem.type_of(name)
         owners: list[Owner] = [*outer.objects, *self.inner.get(outer, [])]
         count = self.lay_out(outer) if outer.pointed else sum(self.extent(one)[0] for one in owners)
         return count * self.points.count(of, outer.member(name, kinds.element(of))), count

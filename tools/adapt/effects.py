@@ -80,6 +80,7 @@ class Effected:
     def settle(self, defined: list[Function]) -> None:
         """The effects of all functions: each is looked at again where one that it calls has others than when it was looked at."""
         seen: dict[Function, dict[Function, Effects]] = {}
+        kept: dict[Function, dict[tree.Node, Effects]] = {}
         changed = True
         while changed:
             changed = False
@@ -90,10 +91,11 @@ class Effected:
                 self.asked = set()
                 made = self.summary(function)
                 seen[function] = {one: self.of_function[one] for one in self.asked}
-                self.kept.clear()
+                kept[function], self.kept = self.kept, {}
                 if made != self.of_function[function]:
                     changed = True
                     self.of_function[function] = made
+        self.kept = {node: effects for own in kept.values() for node, effects in own.items()}
 
     def summary(self, function: Function) -> Effects:
         """The effects of a call on what outlives it: shared objects, and what its parameters stand for."""
