@@ -8,13 +8,13 @@ from typing import Optional
 from tools import compared as reports
 from tools import program, source_map, usage
 
-from . import compare_report, harness, mapping, needed
-from .compare import compared
-from .output import FELL
+from .command import compare_report, harness, mapping, needed
+from .command.compare import compared
+from .common.output import FELL
+from .common.refusals import Refusals, Stop
+from .common.words import Words
 from .pipeline import adapt
-from .refusals import Refusals, Stop
-from .words import Words
-from .writer import Writer
+from .write.writer import Writer
 
 MOST = 1_000_000  # inputs of each kind
 FIRST = "adapt is no part of what is proved: read and compare what it writes"

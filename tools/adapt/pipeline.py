@@ -1,10 +1,10 @@
-"""The way of C sources through bin/adapt, stage by stage. Each stage is a module or a few (STAGES), and knows those before it alone.
+"""The way of C sources through bin/adapt, stage by stage. Each stage is a folder here (STAGES), and knows those before it alone.
 
     read        the text of each source, by the machine's preprocessor and compiler, as a tree of our own (tree.py)
     expand      copies of functions, models of the library, switches and jumps: trees as they were, written otherwise
     names       what each name stands for, and the types of declarations and expressions
     bind        which parameters stand for objects
-    points-to   which objects each pointer may meet
+    points_to   which objects each pointer may meet
     layout      where these objects lie in arrays, the columns, and how long they live
     effects     what expressions and calls read and write
     write       each statement in the profile, on its line
@@ -16,46 +16,32 @@ What a later stage learns, that parameters can't stand for objects or that funct
 from collections.abc import Callable
 from typing import NamedTuple, Optional
 
-from . import tree
-from .bindings import Bindings
-from .cases import Cases
-from .choosers import Choosers
-from .clones import Clones
-from .columns import Columns
-from .effects import Effected
-from .gate import check
-from .jumps import Jumps
-from .learned import CopiedFunction, DirectCall, Learned
-from .library import OUTPUT, Library
-from .lifetimes import Lifetimes
-from .names import Names
-from .output import File
-from .places import Places
-from .reading import read
-from .refusals import Refusals
-from .sorted_sizes import check_sizes
-from .spelling import Spelling
-from .unions import settle
-from .words import Words
-from .unit import Unit
-from .writer import Analysis, Checking, Writer
+from .bind.bindings import Bindings
+from .bind.places import Places
+from .common import tree
+from .common.learned import CopiedFunction, DirectCall, Learned
+from .common.output import File
+from .common.refusals import Refusals
+from .common.unit import Unit
+from .common.words import Words
+from .effects.effects import Effected
+from .expand.cases import Cases
+from .expand.clones import Clones
+from .expand.jumps import Jumps
+from .expand.library import OUTPUT, Library
+from .judge.gate import check
+from .layout.choosers import Choosers
+from .layout.columns import Columns
+from .layout.lifetimes import Lifetimes
+from .layout.spelling import Spelling
+from .names.names import Names
+from .names.sorted_sizes import check_sizes
+from .names.unions import settle
+from .read.reading import read
+from .write.writer import Analysis, Checking, Writer
 
 
-STAGES = {
-    "common": "words tree learned refusals parsing unit kinds objects output",
-    "read": "gnu reading",
-    "expand": "lists states jumps cases sorting library clones",
-    "names": "unions constants declarators names sorted_sizes",
-    "bind": "values initialisers places bindings",
-    "points-to": "heap models first_members unification meetings settling points_to",
-    "layout": "learning spelling columns choosers lifetimes",
-    "effects": "changed effects",
-    "write": "component large raw heap_calls first_member_casts chooser_texts endings order conversions elements pointers pointer_effects outside model_calls calls wholes assignments "
-    "expressions statement_exprs operators overflow_texts overflow checked statements column_items checks uses units writer",
-    "judge": "gate",
-    "pipeline": "pipeline",
-    "command": "compare_texts compare_builds compare_inputs compare compare_report harness mapping needed main",
-}
+STAGES = ("common", "read", "expand", "names", "bind", "points_to", "layout", "effects", "write", "judge", "command")
 
 
 class Adapted(NamedTuple):
