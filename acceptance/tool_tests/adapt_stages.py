@@ -17,7 +17,7 @@ from typing import Any
 import programs
 
 FOLDER = os.path.join(programs.ROOT, "tools", "adapt")
-NEEDS = ("pycparser",)
+NEEDS: tuple[str, ...] = ("pycparser",)
 sys.path.insert(0, programs.ROOT)
 
 
