@@ -39,10 +39,14 @@ def parsed(text: str, path: str = "") -> tree.FileAST:
     return made
 
 
-@functools.cache
+FIELDS: dict[Any, tuple[str, ...]] = {}
+
+
 def fields_of(kind: Any) -> tuple[str, ...]:
     """The names of what a node has, but for its place."""
-    return tuple(one.name for one in dataclasses.fields(kind) if one.name != "coord")
+    if kind not in FIELDS:
+        FIELDS[kind] = tuple(one.name for one in dataclasses.fields(kind) if one.name != "coord")
+    return FIELDS[kind]
 
 
 def own(node: Any, known: dict[Any, tree.Node]) -> Any:
