@@ -5,7 +5,7 @@ from typing import Any, Optional, Union
 from . import kinds
 from .declarators import Variable
 from .heap import bytes_asked, call_key, heap_call
-from .kinds import Array, Path, Pointer, Type
+from .kinds import Array, Path, Pointer, Struct, Type
 from .learning import learn
 from .names import Names
 from .points_to import PointsTo
@@ -109,6 +109,8 @@ class Columns:
             of = owner.type.to if owner.is_bound and isinstance(owner.type, Pointer) else owner.type
             return self.points.count(of, self.points.home(owner)), 1
         outer, name = owner
+        if not isinstance(outer.elem, Struct):
+            return 0, 0  # (objects of two types, which is a fault where one is used)
         of = outer.elem.type_of(name)
         owners: list[Owner] = [*outer.objects, *self.inner.get(outer, [])]
         count = self.lay_out(outer) if outer.pointed else sum(self.extent(one)[0] for one in owners)

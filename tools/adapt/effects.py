@@ -66,15 +66,28 @@ class Effected:
         self.names, self.places, self.inputs = names, places, inputs
         self.of_function: dict[Function, Effects] = {function: Effects() for function in names.functions}
         self.kept: dict[tree.Node, Effects] = {}
-        defined = [function for function in names.functions if function.definition is not None]
+        self.asked: set[Function] = set()
+        self.settle([function for function in names.functions if function.definition is not None])
+
+    def settle(self, defined: list[Function]) -> None:
+        """The effects of all functions: each is looked at again where one that it calls has others than when it was looked at."""
+        seen: dict[Function, dict[Function, Effects]] = {}
+        kept: dict[Function, dict[tree.Node, Effects]] = {}
         changed = True
         while changed:
             changed = False
             for function in defined:
+                before = seen.get(function)
+                if before is not None and all(self.of_function[one] is effects for one, effects in before.items()):
+                    continue
+                self.asked = set()
                 made = self.summary(function)
-                changed = changed or made != self.of_function[function]
-                self.of_function[function] = made
-                self.kept.clear()
+                seen[function] = {one: self.of_function[one] for one in self.asked}
+                kept[function], self.kept = self.kept, {}
+                if made != self.of_function[function]:
+                    changed = True
+                    self.of_function[function] = made
+        self.kept = {node: effects for own in kept.values() for node, effects in own.items()}
 
     def summary(self, function: Function) -> Effects:
         """The effects of a call on what outlives it: shared objects, and what its parameters stand for."""
@@ -89,6 +102,7 @@ class Effected:
     def summary_of(self, function: Function) -> Effects:
         """The effects of a call; of a function that chooses, those of all that it may call."""
         targets = self.places.choosers.targets(function)
+        self.asked.update([function] if targets is None else targets)
         if targets is None:
             return self.of_function[function]
         made = Effects()
@@ -144,7 +158,7 @@ class Effected:
         ):
             self.named(node, found, False, True)
         else:
-            for _, child in node.children():
+            for child in node.parts():
                 found.add(self.of(child))
             variable = self.names.meaning.get(node) if isinstance(node, tree.Decl) else None
             if isinstance(variable, Variable) and node.init is not None and variable.home == "local":
@@ -156,7 +170,7 @@ class Effected:
         try:
             place = self.places.place(node)
         except Refused:
-            for _, child in node.children():
+            for child in node.parts():
                 found.add(self.of(child))
             return
         for index, _ in place.indexes:

@@ -40,7 +40,8 @@ class Order(Component):
 
     def unsequenced(self, node: Any, parts: list[Any]) -> None:
         """Refuses parts that C evaluates in any order, where that matters. Raises Refused then (6.5p2)."""
-        for one, other in combinations([self.writer.effected.of(part) for part in parts], 2):
+        effects = [self.writer.effected.of(part) for part in parts]
+        for one, other in combinations(effects, 2) if any(one.writes for one in effects) else ():
             found = one.clash(other)
             if found:
                 name = found[0].name + "".join("." + part for part in found[1]) if found[0] else "an input"

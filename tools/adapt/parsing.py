@@ -39,6 +39,16 @@ def parsed(text: str, path: str = "") -> tree.FileAST:
     return made
 
 
+FIELDS: dict[Any, tuple[str, ...]] = {}
+
+
+def fields_of(kind: Any) -> tuple[str, ...]:
+    """The names of what a node has, but for its place."""
+    if kind not in FIELDS:
+        FIELDS[kind] = tuple(one.name for one in dataclasses.fields(kind) if one.name != "coord")
+    return FIELDS[kind]
+
+
 def own(node: Any, known: dict[int, tuple[Any, Any]]) -> Any:
     """Our node of a parser's, with its parts; `known` has those that stand in several places, by identity."""
     if isinstance(node, list):
@@ -48,9 +58,7 @@ def own(node: Any, known: dict[int, tuple[Any, Any]]) -> Any:
     if id(node) not in known:
         name = type(node).__name__
         kind = getattr(tree, name)
-        given = {
-            one.name: own(getattr(node, one.name), known) for one in dataclasses.fields(kind) if one.name != "coord"
-        }
+        given = {one: own(getattr(node, one), known) for one in fields_of(kind)}
         for slot in given:
             if given[slot] is None and slot in LISTS and (name, slot) not in ABSENT:
                 given[slot] = []
@@ -66,7 +74,7 @@ def theirs(node: Any) -> Any:
     if not isinstance(node, tree.Node):
         return node
     kind: Any = getattr(c_ast, type(node).__name__)
-    given = {one.name: theirs(getattr(node, one.name)) for one in dataclasses.fields(node) if one.name != "coord"}
+    given = {one: theirs(getattr(node, one)) for one in fields_of(type(node))}
     return kind(**given)
 
 

@@ -1,6 +1,7 @@
 """`goto` back, or into a block: what has labels is taken apart (a loop becomes tests and jumps, 6.8.5), and its parts are the cases of
 one loop over a state, in which a jump sets the state and goes on (6.8.6.1)."""
 
+from collections import Counter
 from typing import Any, Callable
 
 from . import tree
@@ -25,6 +26,20 @@ def unless(test: Any, name: str, coord: Any) -> Any:
     return tree.If(tree.UnaryOp("!", test, coord), jump(name, coord), None, coord)
 
 
+def spoken(nodes: list[Any]) -> Counter[str]:
+    """How often the nodes of trees name a variable, a constant or a typedef, by its name; a tag has its word in front."""
+    found = Counter[str]()
+    for node in nodes:
+        for one in walk(node):
+            if isinstance(one, tree.ID):
+                found[one.name] += 1
+            elif isinstance(one, tree.IdentifierType) and len(one.names) == 1:
+                found[one.names[0]] += 1
+            elif isinstance(one, (tree.Struct, tree.Union, tree.Enum)) and one.name:
+                found[f"tag {one.name}"] += 1
+    return found
+
+
 class States:
     """One function, whose jumps go to labels of `names`."""
 
@@ -34,11 +49,11 @@ class States:
         self.own: set[str] = set()
         self.labels = 0
         self.coord: Any = None
-        self.body: Any = None
+        self.count = Counter[str]()  # (how often the whole body names each, also what went in front)
 
     def function(self, body: Any, parameters: set[str]) -> None:
         """Writes the body anew."""
-        self.coord, self.body, self.own = body.coord, body, set(parameters)
+        self.coord, self.own, self.count = body.coord, set(parameters), spoken([body])
         items = self.flat_Compound(body)
         at, taken = self.fresh("at"), self.fresh("jumped")
         cases: list[tuple[int, list[Any]]] = [(0, [])]
@@ -122,18 +137,38 @@ class States:
 
     def flat_Compound(self, node: Any) -> list[Any]:
         """A block, whose names become those of the function."""
-        for at, one in enumerate(node.block_items or []):
-            if isinstance(one, tree.Decl) and one.name:
-                self.renamed(node.block_items[at:], one)
+        self.block(node.block_items or [])
         return [one for item in node.block_items or [] for one in self.flat(item, True)]
 
-    def renamed(self, scope: list[Any], declared: Any) -> None:
+    def block(self, items: list[Any]) -> None:
+        """The names that a block's statements declare. Raises Refused for types and constants that have a name of others."""
+        inside = spoken(items)  # (from the statement at hand on)
+        for at, one in enumerate(items):
+            inside.subtract(spoken(items[at - 1 : at] if at else []))
+            if isinstance(one, (tree.Decl, tree.Typedef)):
+                self.types(one, inside)
+                if one.name:
+                    self.renamed(items[at:], one, inside)
+
+    def types(self, declared: Any, inside: Counter[str]) -> None:
+        """Tags and constants that a block declares become those of the function (6.2.1p4, 6.2.3)."""
+        for one in walk(declared.type):
+            name = f"tag {one.name}" if isinstance(one, (tree.Struct, tree.Union, tree.Enum)) and one.name else ""
+            if isinstance(one, tree.Enumerator):
+                name = one.name
+            elif isinstance(one, tree.Enum) and one.values is None:
+                continue
+            elif isinstance(one, (tree.Struct, tree.Union)) and one.decls is None:
+                continue
+            if name and (name in self.own or self.count[name] > inside[name]):
+                cause = f"{name.removeprefix('tag ')}: another type or constant has its name, and a goto leads back or into a block"
+                raise Refused(one.coord or declared.coord, cause, "give each a name of its own")
+            self.own.add(name)
+
+    def renamed(self, scope: list[Any], declared: Any, inside: Counter[str]) -> None:
         """A name that is declared in a block becomes one of the whole function, so it is another one where that has it."""
-        name, nodes = declared.name, [one for item in scope for one in walk(item)]
-        inside = {one for one in nodes}
-        outside = [one for one in walk(self.body) if one not in inside]
-        used = any(isinstance(one, tree.ID) and one.name == name for one in outside)
-        if name not in self.own and not used:
+        name = declared.name
+        if name not in self.own and self.count[name] == inside[name]:
             self.own.add(name)
             return
         if isinstance(declared.type, tree.FuncDecl) or "extern" in declared.storage:
@@ -141,27 +176,36 @@ class States:
         other = self.fresh(name)
         self.own.add(other)
         declared.name = other
-        self.rename(scope, name, other)
+        changed = self.rename(scope, name, other)
         tree.rename(declared, other)
+        for count in (self.count, inside):
+            count.update({name: -changed, other: changed})
 
-    def rename(self, nodes: list[Any], name: str, other: str) -> None:
-        """Renames what a name stands for in some statements of one block, up to where the block declares it anew."""
+    def rename(self, nodes: list[Any], name: str, other: str) -> int:
+        """Renames what a name stands for in some statements of one block, up to where the block declares it anew; how often
+        that is."""
+        changed = 0
         for node in nodes:
             listed = node.decls if isinstance(node, tree.DeclList) else [node]
-            if any(isinstance(one, tree.Decl) and one.name == name for one in listed):
-                return
+            if any(isinstance(one, (tree.Decl, tree.Typedef)) and one.name == name for one in listed):
+                break
             if isinstance(node, tree.For) and isinstance(node.init, tree.DeclList):
                 if any(isinstance(one, tree.Decl) and one.name == name for one in node.init.decls):
                     continue
-            if isinstance(node, tree.ID):
-                node.name = other if node.name == name else node.name
+            if isinstance(node, tree.ID) and node.name == name:
+                node.name, changed = other, changed + 1
+            elif isinstance(node, tree.IdentifierType) and node.names == [name]:
+                node.names, changed = [other], changed + 1
             elif isinstance(node, tree.StructRef):
-                self.rename([node.name], name, other)
+                changed += self.rename([node.name], name, other)
+            elif isinstance(node, tree.NamedInitializer):  # (whose names are members, or constants)
+                inner = [one for one in node.name if not isinstance(one, tree.ID)]
+                changed += self.rename([*inner, node.expr], name, other)
             elif isinstance(node, tree.Compound):
-                self.rename(list(node.block_items or []), name, other)
+                changed += self.rename(list(node.block_items or []), name, other)
             else:
-                for _, child in node.children():
-                    self.rename([child], name, other)
+                changed += sum(self.rename([child], name, other) for child in node.parts())
+        return changed
 
     def flat_If(self, node: Any) -> list[Any]:
         """A branch as jumps."""
@@ -193,7 +237,7 @@ class States:
         first: list[Any] = [] if node.init is None else [node.init]
         if isinstance(node.init, tree.DeclList):
             for one in node.init.decls:
-                self.renamed([node], one)
+                self.renamed([node], one, spoken([node]))
             first = [one for item in node.init.decls for one in self.flat(item, True)]
         test = [] if node.cond is None else [unless(node.cond, end, node.coord)]
         step = [] if node.next is None else [node.next]
@@ -204,6 +248,10 @@ class States:
         end, heads, made = self.label(), list[tree.Node](), list[Any]()
         default = end
         self.left(node.stmt, "", end)
+        parts = node.stmt.block_items if isinstance(node.stmt, tree.Compound) else []
+        for at, one in enumerate(parts):
+            if isinstance(one, (tree.Case, tree.Default)):
+                self.block([*one.stmts, *parts[at + 1 :]])
         for one in node.stmt.block_items if isinstance(node.stmt, tree.Compound) else [node.stmt]:
             if not isinstance(one, (tree.Case, tree.Default)):
                 raise Refused(one.coord, "a goto into this switch", "use a loop, or a flag")

@@ -36,6 +36,17 @@ class Node:
                 found.append((slot, part))
         return found
 
+    def parts(self) -> list["Node"]:
+        """The same without the slots."""
+        found: list[Node] = []
+        for slot in self.SLOTS:
+            part = getattr(self, slot)
+            if isinstance(part, list):
+                found += part
+            elif part is not None:
+                found.append(part)
+        return found
+
     def put(self, slot: str, made: "Node") -> None:
         """Puts a node into a slot, as `children()` names it."""
         name, _, rest = slot.partition("[")
@@ -612,7 +623,12 @@ def walk(node: Node) -> list[Node]:
     while rest:
         one = rest.pop()
         found.append(one)
-        rest.extend(child for _, child in reversed(one.children()))
+        for slot in one.SLOTS[::-1]:  # (the order of `children`, without its names of slots)
+            part = getattr(one, slot)
+            if isinstance(part, list):
+                rest += part[::-1]
+            elif part is not None:
+                rest.append(part)
     return found
 
 
@@ -620,5 +636,5 @@ def with_parents(node: Node, parents: tuple[Node, ...] = ()) -> Iterator[tuple[N
     """A tree's nodes, each with those around it, the nearest last; without what `sizeof` doesn't evaluate (6.5.3.4p2)."""
     yield node, parents
     if not (isinstance(node, UnaryOp) and node.op == "sizeof"):
-        for _, child in node.children():
+        for child in node.parts():
             yield from with_parents(child, parents + (node,))
