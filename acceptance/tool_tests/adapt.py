@@ -201,7 +201,7 @@ def adapted(words: list[str]) -> tuple[int, str, str]:
 def one_build() -> contextlib.AbstractContextManager[object]:
     """Within, --compare builds by gcc at -O0 alone, which takes seconds less for each row of the tables."""
     sys.path.insert(0, programs.ROOT)
-    from tools.adapt import compare_builds
+    from tools.adapt.command import compare_builds
 
     return mock.patch.object(compare_builds, "EVERY", compare_builds.EVERY[:1])
 

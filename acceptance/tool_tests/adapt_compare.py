@@ -174,8 +174,8 @@ def a_wrong_word_in_what_was_written_is_found(folder: str) -> Iterator[bool]:
     """What was written, with one constant changed behind adapt's back: each build shows it, at the call that tells it."""
     sys.path.insert(0, programs.ROOT)
     from tools.adapt import main, pipeline
-    from tools.adapt.compare import compared as compare
-    from tools.adapt.refusals import Refusals
+    from tools.adapt.command.compare import compared as compare
+    from tools.adapt.common.refusals import Refusals
 
     put(folder, {"a.c": "static int n;\nint f(unsigned char x) { n = x; return x < 255 ? 1 : 2; }\n"})
     source = os.path.join(folder, "a.c")
@@ -196,9 +196,9 @@ def boundaries_are_among_the_inputs(folder: str) -> Iterator[bool]:
     """Each boundary of each parameter comes, by the entries' types and the file's arrays, and those of answers."""
     sys.path.insert(0, programs.ROOT)
     from tools.adapt import main, pipeline
-    from tools.adapt.compare_inputs import Inputs
-    from tools.adapt.compare_texts import Texts
-    from tools.adapt.refusals import Refusals
+    from tools.adapt.command.compare_inputs import Inputs
+    from tools.adapt.command.compare_texts import Texts
+    from tools.adapt.common.refusals import Refusals
 
     text = "unsigned char rx(void);\nstatic int row[10];\nint f(signed char a, unsigned long b) { row[a] = rx(); return b; }\nint g(_Bool c) { return c; }\n"
     put(folder, {"a.c": text})

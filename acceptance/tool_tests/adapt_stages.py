@@ -1,35 +1,38 @@
 """The stages of bin/adapt, each by itself: on a tree that the parser makes of a few lines, with what is due by hand.
 
-No stage knows a later one: a module imports from its own stage and from those before it alone, by the table of tools/adapt/pipeline.py.
+No stage knows a later one: a module imports from its own stage and from those before it alone, by the order of tools/adapt/pipeline.py.
 """
 
 import ast
+import dataclasses
 import glob
 import os
 import re
 import sys
+import types
+import typing
 from collections.abc import Iterable, Iterator
 from typing import Any
 
 import programs
 
 FOLDER = os.path.join(programs.ROOT, "tools", "adapt")
-NEEDS = ("pycparser",)
+NEEDS: tuple[str, ...] = ("pycparser",)
 sys.path.insert(0, programs.ROOT)
 
 
 def parsed(text: str) -> Any:
     """The unit of a text, which nothing has preprocessed."""
-    from tools.adapt.parsing import parsed as tree_of
-    from tools.adapt.reading import Unit
+    from tools.adapt.common.parsing import parsed as tree_of
+    from tools.adapt.common.unit import Unit
 
     return Unit("a.c", tree_of(text, "a.c"), ["a.c"])
 
 
 def named(text: str) -> Any:
     """What the names of a text stand for."""
-    from tools.adapt.names import Names
-    from tools.adapt.refusals import Refusals
+    from tools.adapt.names.names import Names
+    from tools.adapt.common.refusals import Refusals
 
     names = Names(Refusals(), (4, 16))
     names.unit(parsed(text))
@@ -38,8 +41,8 @@ def named(text: str) -> Any:
 
 def bound(text: str) -> Any:
     """The same with its parameters bound."""
-    from tools.adapt.bindings import Bindings
-    from tools.adapt.places import Places
+    from tools.adapt.bind.bindings import Bindings
+    from tools.adapt.bind.places import Places
 
     names = named(text)
     Bindings(Places(names), set()).bind()
@@ -51,47 +54,130 @@ def of_name(things: Iterable[Any], name: str) -> Any:
     return next(one for one in things if one.name == name)
 
 
-def no_stage_knows_a_later_one(folder: str) -> Iterator[bool]:
-    """By the imports; and the parser's nodes are known to one module."""
+def modules() -> dict[str, str]:
+    """The path of each module of a stage, with the folder that the stage is."""
     from tools.adapt.pipeline import STAGES
 
-    ranks = {module: rank for rank, modules in enumerate(STAGES.values()) for module in modules.split()}
-    paths = sorted(glob.glob(os.path.join(FOLDER, "*.py")))
-    yield {os.path.basename(path)[:-3] for path in paths} - {"__init__"} == set(ranks)
-    for path in paths:
+    return {path: stage for stage in STAGES for path in sorted(glob.glob(os.path.join(FOLDER, stage, "*.py")))}
+
+
+def no_stage_knows_a_later_one(folder: str) -> Iterator[bool]:
+    """By the imports, also those for types alone; and the parser's nodes are known to one module. Beside the stages' folders stand the
+    pipeline, which knows all stages but the command's, and main."""
+    from tools.adapt.pipeline import STAGES
+
+    every = glob.glob(os.path.join(FOLDER, "**", "*.py"), recursive=True)
+    top = {name: os.path.join(FOLDER, f"{name}.py") for name in ("__init__", "pipeline", "main")}
+    yield set(every) == {*top.values(), *modules()}
+    ranks = {stage: rank for rank, stage in enumerate(STAGES)}
+    for path, stage in {**modules(), top["pipeline"]: STAGES[-2]}.items():
         with open(path, encoding="utf-8") as file:
-            text = file.read()
-        own = ranks.get(os.path.basename(path)[:-3], 99)
-        found = [one for one in ast.parse(text).body if isinstance(one, ast.ImportFrom) and one.level == 1]
-        known = [
-            name for one in found for name in ([one.module] if one.module else [alias.name for alias in one.names])
-        ]
-        later = [name for name in known if ranks[name] > own]
+            found = [one for one in ast.walk(ast.parse(file.read())) if isinstance(one, ast.ImportFrom)]
+        up = 1 if path == top["pipeline"] else 2
+        known = {(one.module or "").split(".")[0] for one in found if one.level == up}
+        known |= {one.module or "" for one in found if one.level > up or (one.module or "").startswith("tools.adapt")}
+        later = [name for name in known if ranks.get(name, len(ranks)) > ranks[stage]]
         print(*(f"{path} knows {name}" for name in later), sep="\n", end="\n" if later else "")
         yield not later
-        modules = [one.module for one in ast.walk(ast.parse(text)) if isinstance(one, ast.ImportFrom)]
-        yield ("pycparser" in modules) is path.endswith("parsing.py")
+        yield ("pycparser" in {one.module for one in found}) is path.endswith("parsing.py")
 
 
 def the_tree_is_our_own(folder: str) -> Iterator[bool]:
     """What is read is a tree without nodes of the parser, which prints as it was."""
-    from tools.adapt import parsing, tree
+    from tools.adapt.common import parsing, tree
 
     unit = parsed("int f(int x) { return g(2, x + 1); }").tree
     nodes = tree.walk(unit)
-    yield all(type(one).__module__ == "tools.adapt.tree" for one in nodes)
+    yield all(type(one).__module__ == "tools.adapt.common.tree" for one in nodes)
     yield [one.name for one in nodes if isinstance(one, tree.ID)] == ["g", "x"]
     yield parsing.printed(unit.ext[0].body.block_items[0]) == "return g(2, x + 1);"
     yield unit.ext[0].coord == tree.Coord("a.c", 1, 5)
 
 
+EVERY = """
+enum e { A = 3, B }; typedef unsigned long word; struct s; union u { int a; char b[4]; };
+struct s { int f : 3, : 0; struct s *next; union { int x; word y; }; };
+static const int t[] = {1, [3] = 2}, *const p = t; int (*g)(int, ...); extern int h(void), k();
+int old(a, b) char *a; { return *a + b; }
+int f(int n, struct s v, char c[]) {
+  struct s w = {.f = 1, .next = &w}; ; static int i = sizeof(struct s) + sizeof n;
+  for (int j = 0, m; j < n; j++) { if (n > j) continue; else break; }
+  for (;;) { while (n--) do { n += 2, i = -i; } while (!i); goto end; }
+  switch (n) { case 1: case A: return 0; default: n = n ? (char) n : ~i; }
+end: w = (struct s) { 1 };
+  _Static_assert(1, "so");
+  return h() + g(1, 2) + w.f + v.next->f + t[1] + *p + c[0] + "text"[0];
+}
+"""
+GNU = "int f(int x) { switch (x) { case 1 ... 3: return ({ typeof(x) y = x; y + 1; }); } return 0; }"
+
+
+def fits(value: object, wanted: Any) -> bool:
+    """Whether a value is of a type as dataclasses name them: a class, a list, or one of several."""
+    origin, given = typing.get_origin(wanted), typing.get_args(wanted)
+    if origin in (typing.Union, types.UnionType):
+        return any(fits(value, one) for one in given)
+    if origin is list:
+        return isinstance(value, list) and all(fits(one, given[0]) for one in value)
+    return isinstance(value, wanted)
+
+
+def gnu_tree(text: str) -> Any:
+    """The tree of a text with forms of GNU C."""
+    from tools.adapt.read import gnu
+    from tools.adapt.common import parsing
+    from tools.adapt.common.refusals import Refusals
+
+    unit = parsing.parsed(gnu.lifted(text), "a.c")
+    gnu.Settled(Refusals()).unit(unit)
+    return unit
+
+
+def the_tree_is_as_its_types_say(folder: str) -> Iterator[bool]:
+    """Each field of each node that the parser gives is of the type by which mypy judges the stages."""
+    from tools.adapt.common import tree
+
+    for unit in (parsed(EVERY).tree, gnu_tree(GNU)):
+        for node in tree.walk(unit):
+            hints = typing.get_type_hints(type(node))
+            wrong = [one.name for one in dataclasses.fields(node) if not fits(getattr(node, one.name), hints[one.name])]
+            print(*(f"{type(node).__name__}.{name} of {node.coord}" for name in wrong), sep="\n", end="")
+            yield not wrong
+
+
+def gnu_forms_are_printed(folder: str) -> Iterator[bool]:
+    """As C has them, which reports of checked operations quote."""
+    from tools.adapt.common import parsing
+
+    text = " ".join(parsing.printed(gnu_tree(GNU).ext[0]).split())
+    due = "int f(int x) { switch (x) { case 1 ... 3: return ({ typeof (x) y = x; y + 1; }); } return 0; }"
+    yield text == due
+
+
+def nothing_is_untyped(folder: str) -> Iterator[bool]:
+    """Where the parser's own tree is read alone a thing has no type: mypy --strict checks what is left, without an exception. Fields
+    are named by what they are called at two places, the parser's tree and the slots of ours."""
+    for path in sorted(glob.glob(os.path.join(FOLDER, "**", "*.py"), recursive=True)):
+        with open(path, encoding="utf-8") as file:
+            text = file.read()
+        nodes = list(ast.walk(ast.parse(text)))
+        imported = {alias.name for one in nodes if isinstance(one, ast.ImportFrom) for alias in one.names}
+        words = {one.id for one in nodes if isinstance(one, ast.Name)}
+        name = os.path.basename(path)
+        found = imported & {"Any", "cast"} if name != "parsing.py" else set()
+        found |= words & {"getattr", "setattr", "hasattr", "vars"} if name not in ("parsing.py", "tree.py") else set()
+        found |= {"type: ignore"} if "type: ignore" in text else set()
+        print(*(f"{path} has {word}" for word in sorted(found)), sep="\n", end="\n" if found else "")
+        yield not found
+
+
 def jumps_become_breaks(folder: str) -> Iterator[bool]:
     """A goto out of a loop to a label behind it, and a switch with a case within a statement."""
-    from tools.adapt import parsing, tree
-    from tools.adapt.cases import Cases, is_plain
-    from tools.adapt.jumps import Jumps
+    from tools.adapt.common import parsing, tree
+    from tools.adapt.expand.cases import Cases, is_plain
+    from tools.adapt.expand.jumps import Jumps
     from tools.adapt.pipeline import free_names
-    from tools.adapt.refusals import Refusals
+    from tools.adapt.common.refusals import Refusals
 
     item = parsed("void f(int x) { while (x) { if (x == 3) goto out; x--; } out: x = 0; }").tree.ext[0]
     Jumps(free_names(set()), Refusals()).function(item)
@@ -105,7 +191,7 @@ def jumps_become_breaks(folder: str) -> Iterator[bool]:
 
 def names_have_their_scopes(folder: str) -> Iterator[bool]:
     """C11 6.2.1p4: the inner x is another object; 6.5.3.4 and 6.6: sizes and constants."""
-    from tools.adapt import tree
+    from tools.adapt.common import tree
 
     names = named("enum { K = 5 }; int a[3 * K]; int x; int f(void) { char x = 1; { long x = 2; x = K; } return x; }")
     objects = [one for one in names.variables if one.name == "x"]
@@ -134,7 +220,7 @@ def parameters_are_bound(folder: str) -> Iterator[bool]:
 
 def pointers_meet_their_objects(folder: str) -> Iterator[bool]:
     """By assignments p meets a and b, q meets c; they come together where p is compared with q."""
-    from tools.adapt.points_to import PointsTo
+    from tools.adapt.points_to.points_to import PointsTo
 
     text = "int a, b, c, *p, *q; void f(void) { p = &a; p = &b; q = &c; %s }"
     for more, together in (("", False), ("if (p == q) a = 1;", True)):
@@ -146,7 +232,7 @@ def pointers_meet_their_objects(folder: str) -> Iterator[bool]:
 
 def objects_lie_behind_each_other(folder: str) -> Iterator[bool]:
     """Each object of a column with one element between it and the next, which no pointer into either may reach."""
-    from tools.adapt.columns import Columns
+    from tools.adapt.layout.columns import Columns
 
     names = bound("int a, b[3], c, *p; void f(int x) { p = x ? &a : b; p++; p = &c; *p = x; }")
     columns = Columns(names, set())
@@ -158,14 +244,14 @@ def objects_lie_behind_each_other(folder: str) -> Iterator[bool]:
 
 def effects_are_told(folder: str) -> Iterator[bool]:
     """What a call of f reads and writes, through g."""
-    from tools.adapt.choosers import Choosers
-    from tools.adapt.columns import Columns
-    from tools.adapt.effects import Effected
-    from tools.adapt.places import Places
+    from tools.adapt.layout.choosers import Choosers
+    from tools.adapt.layout.columns import Columns
+    from tools.adapt.effects.effects import Effected
+    from tools.adapt.bind.places import Places
 
     names = bound("int a, b, c; int g(void) { return a; } void f(int x) { b = g() + x; }")
     columns = Columns(names, set())
-    effected = Effected(names, Places(names, columns, Choosers(names, columns)), set())
+    effected = Effected(Places(names, columns), columns, Choosers(names, columns), set())
     found = effected.of_function[of_name(names.functions, "f")]
     read, written = ({one[0].name for one in places if one[0]} for places in (found.reads, found.writes))
     yield (read, written) == ({"a"}, {"b"})
@@ -173,19 +259,20 @@ def effects_are_told(folder: str) -> Iterator[bool]:
 
 def a_function_is_written(folder: str) -> Iterator[bool]:
     """The pieces of a function, each with its line."""
-    from tools.adapt.choosers import Choosers
-    from tools.adapt.columns import Columns
-    from tools.adapt.effects import Effected
-    from tools.adapt.lifetimes import Lifetimes
-    from tools.adapt.output import FELL, unmarked
-    from tools.adapt.places import Places
-    from tools.adapt.spelling import Spelling
-    from tools.adapt.writer import Analysis, Checking, Writer
+    from tools.adapt.layout.choosers import Choosers
+    from tools.adapt.layout.columns import Columns
+    from tools.adapt.effects.effects import Effected
+    from tools.adapt.layout.lifetimes import Lifetimes
+    from tools.adapt.common.output import FELL, unmarked
+    from tools.adapt.bind.places import Places
+    from tools.adapt.layout.spelling import Spelling
+    from tools.adapt.write.writer import Analysis, Checking, Writer
 
     names = bound("static int n;\nint f(int x)\n{\n  n += x++;\n  return n;\n}\n")
     columns = Columns(names, set())
-    places = Places(names, columns, Choosers(names, columns))
-    known = Analysis(names, places, Effected(names, places, set()), Lifetimes(names, columns), set())
+    places, choosers = Places(names, columns), Choosers(names, columns)
+    effected = Effected(places, columns, choosers, set())
+    known = Analysis(names, places, columns, choosers, effected, Lifetimes(names, columns), set())
     files = Writer(known, Spelling(names, {"n", "f", "x"}), Checking()).units.write()
     pieces = [(line, unmarked(text)) for line, text in files["a.c"].pieces]
     due = [(1, "static int n;"), (2, "int f(int x) {"), (4, "n += x;"), (4, "x++;"), (5, "return n;"), (5, FELL + "}")]
@@ -193,8 +280,8 @@ def a_function_is_written(folder: str) -> Iterator[bool]:
 
 
 def what_the_program_refuses_is_told(folder: str) -> Iterator[bool]:
-    from tools.adapt.gate import check
-    from tools.adapt.refusals import Refusals
+    from tools.adapt.judge.gate import check
+    from tools.adapt.common.refusals import Refusals
 
     for text, count in (("int f(int x) { return x; }\n", 0), ("int f(int x) { return y; }\n", 1)):
         refusals = Refusals()
@@ -205,8 +292,6 @@ def what_the_program_refuses_is_told(folder: str) -> Iterator[bool]:
 def each_rule_names_its_clause(folder: str) -> Iterator[bool]:
     """In docs/ADAPT.md each row of translation has the clause on which it rests, and each module of the stages those of its rules;
     none is named that isn't there."""
-    from tools.adapt.pipeline import STAGES as MODULES
-
     with open(os.path.join(programs.ROOT, "docs", "ADAPT.md"), encoding="utf-8") as file:
         text = file.read()
     tables = re.findall(r"^\| C \| becomes \| rests on \|\n\|[-|]*\n((?:\|.*\n)+)", text, re.MULTILINE)
@@ -214,12 +299,8 @@ def each_rule_names_its_clause(folder: str) -> Iterator[bool]:
     yield len(tables) == 2 and len(rows) > 35 and all(len(row) == 3 and is_clause(row[2]) for row in rows)
     stages = text.partition("## Stages")[2].partition("\n## ")[0]
     named = dict(re.findall(r"`(\w+)`(?:, `tree`)? \(([^()]*)\)", stages)) | {"tree": "6.5 to 6.9"}
-    due = {
-        one
-        for stage, modules in MODULES.items()
-        for one in modules.split()
-        if stage not in ("common", "pipeline", "command")
-    }
+    names = {os.path.basename(path)[:-3]: stage for path, stage in modules().items()}
+    due = {name for name, stage in names.items() if name != "__init__" and stage not in ("common", "command")}
     yield set(named) == due | {"parsing", "tree"}
     without = {one for one, clauses in named.items() if clauses == "none"}
     yield without == {"component", "operators", "writer", "gate"}
@@ -233,6 +314,6 @@ def is_clause(text: str) -> bool:
     return all(re.fullmatch(r"[567](\.\d+)+(p\d+)?|7\.\d+|gcc's manual: [\w ]+", one) for one in names)
 
 
-STAGES = (each_rule_names_its_clause, no_stage_knows_a_later_one, the_tree_is_our_own, jumps_become_breaks, names_have_their_scopes, parameters_are_bound, pointers_meet_their_objects,
+STAGES = (each_rule_names_its_clause, no_stage_knows_a_later_one, nothing_is_untyped, the_tree_is_our_own, the_tree_is_as_its_types_say, gnu_forms_are_printed, jumps_become_breaks, names_have_their_scopes, parameters_are_bound, pointers_meet_their_objects,
           objects_lie_behind_each_other, effects_are_told, a_function_is_written, what_the_program_refuses_is_told)  # fmt: skip
 TRIED = [(NEEDS, one) for one in STAGES]

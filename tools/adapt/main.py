@@ -8,12 +8,13 @@ from typing import Optional
 from tools import compared as reports
 from tools import program, source_map, usage
 
-from . import compare_report, harness, mapping, needed
-from .compare import compared
-from .output import FELL
-from .pipeline import adapt, flags_of
-from .refusals import Refusals, Stop
-from .writer import Writer
+from .command import compare_report, harness, mapping, needed
+from .command.compare import compared
+from .common.output import FELL
+from .common.refusals import Refusals, Stop
+from .common.words import Words
+from .pipeline import adapt
+from .write.writer import Writer
 
 MOST = 1_000_000  # inputs of each kind
 FIRST = "adapt is no part of what is proved: read and compare what it writes"
@@ -78,9 +79,9 @@ def parser_of_words() -> usage.Parser:
     return parser
 
 
-def words(given: Optional[list[str]]) -> argparse.Namespace:
+def words(given: Optional[list[str]]) -> Words:
     """The words of the command line."""
-    return parser_of_words().parse_args(given)
+    return parser_of_words().parse_args(given, Words())
 
 
 def pool(word: str) -> tuple[int, int]:
@@ -121,27 +122,27 @@ def put_map(folder: str, texts: dict[str, str], writer: Writer) -> None:
         raise Stop(str(failure)) from None
 
 
-def write_harness(asked: argparse.Namespace, writer: Writer, paths: list[str]) -> None:
-    """Writes the tests of the original beside what was written. Raises Stop where the entry, or the inputs, can't be
-    taken."""
-    entry, given = asked.harness
+def write_harness(asked: Words, named: list[str], writer: Writer, paths: list[str]) -> None:
+    """Writes the tests of the original beside what was written, of an entry on the inputs of a file. Raises Stop where the entry, or
+    the inputs, can't be taken."""
+    entry, given = named
     try:
         text, home = harness.text_of(writer, paths, entry, given, asked.out)
     except program.Failure as failure:
         raise Stop(str(failure)) from failure
     name = os.path.join(asked.out, "tests.c")
     program.give(text, name)
-    print(f"wrote {name}: compile it with {harness.how_to_compile(writer, asked.sources, home, flags_of(asked))}")
+    print(f"wrote {name}: compile it with {harness.how_to_compile(writer, asked.sources, home, asked.flags)}")
 
 
-def compare(asked: argparse.Namespace, writer: Writer, texts: dict[str, str], paths: list[str]) -> int:
+def compare(asked: Words, writer: Writer, texts: dict[str, str], paths: list[str]) -> int:
     """Says how many runs agree, and writes the report beside what was written; the status. Raises Stop where nothing can be
     compared, or the report can't be written."""
-    outcome = compared(writer, asked.sources, texts, flags_of(asked), asked.compare)
+    outcome = compared(writer, asked.sources, texts, asked.flags, asked.compare)
     units = list({unit.path: unit for unit, _ in writer.names.items}.values())
     report = os.path.join(asked.out, reports.NAME)
     try:
-        program.write_whole(report, compare_report.text_of(outcome, units, paths, flags_of(asked), asked.out))
+        program.write_whole(report, compare_report.text_of(outcome, units, paths, asked.flags, asked.out))
     except program.Failure as failure:
         raise Stop(str(failure)) from None
     print(outcome.text(report))
@@ -172,7 +173,7 @@ def main(given: Optional[list[str]] = None) -> int:
         if asked.bounds:
             print(needed.text_of(texts, set(asked.sources)))
         if asked.harness:
-            write_harness(asked, writer, paths)
+            write_harness(asked, asked.harness, writer, paths)
         return compare(asked, writer, texts, paths) if asked.compare else 0
     except RecursionError:
         print("adapt: a source is nested too deep", file=sys.stderr)

@@ -1,10 +1,10 @@
-"""The way of C sources through bin/adapt, stage by stage. Each stage is a module or a few (STAGES), and knows those before it alone.
+"""The way of C sources through bin/adapt, stage by stage. Each stage is a folder here (STAGES), and knows those before it alone.
 
     read        the text of each source, by the machine's preprocessor and compiler, as a tree of our own (tree.py)
     expand      copies of functions, models of the library, switches and jumps: trees as they were, written otherwise
     names       what each name stands for, and the types of declarations and expressions
     bind        which parameters stand for objects
-    points-to   which objects each pointer may meet
+    points_to   which objects each pointer may meet
     layout      where these objects lie in arrays, the columns, and how long they live
     effects     what expressions and calls read and write
     write       each statement in the profile, on its line
@@ -13,47 +13,35 @@
 What a later stage learns, that parameters can't stand for objects or that functions need copies, begins the whole anew.
 """
 
-from argparse import Namespace
 from collections.abc import Callable
-from typing import Any, NamedTuple, Optional
+from typing import NamedTuple, Optional
 
-from . import tree
-from .bindings import Bindings
-from .cases import Cases
-from .choosers import Choosers
-from .clones import Clones
-from .columns import Columns
-from .effects import Effected
-from .gate import check
-from .jumps import Jumps
-from .library import OUTPUT, Library
-from .lifetimes import Lifetimes
-from .names import Names
-from .output import File
-from .places import Places
-from .reading import Unit, read
-from .refusals import Refusals
-from .sorting import check_sizes
-from .spelling import Spelling
-from .unions import settle
-from .writer import Analysis, Checking, Writer
+from .bind.bindings import Bindings
+from .bind.places import Places
+from .common import tree
+from .common.learned import CopiedFunction, DirectCall, Learned
+from .common.output import File
+from .common.refusals import Refusals
+from .common.unit import Unit
+from .common.words import Words
+from .effects.effects import Effected
+from .expand.cases import Cases
+from .expand.clones import Clones
+from .expand.jumps import Jumps
+from .expand.library import OUTPUT, Library
+from .judge.gate import check
+from .layout.choosers import Choosers
+from .layout.columns import Columns
+from .layout.lifetimes import Lifetimes
+from .layout.spelling import Spelling
+from .names.names import Names
+from .names.sorted_sizes import check_sizes
+from .names.unions import settle
+from .read.reading import read
+from .write.writer import Analysis, Checking, Writer
 
 
-STAGES = {
-    "common": "refusals tree parsing kinds regions output",
-    "read": "gnu reading",
-    "expand": "lists states jumps cases sorting library clones",
-    "names": "unions constants declarators names",
-    "bind": "values initialisers places bindings",
-    "points-to": "heap models first_members unification meetings settling points_to",
-    "layout": "learning spelling columns choosers lifetimes",
-    "effects": "changed effects",
-    "write": "large raw component order conversions elements pointers pointer_effects outside model_calls calls wholes assignments "
-    "expressions statement_exprs operators overflow_texts overflow checked statements column_items checks uses units writer",
-    "judge": "gate",
-    "pipeline": "pipeline",
-    "command": "compare_texts compare_builds compare_inputs compare compare_report harness mapping needed main",
-}
+STAGES = ("common", "read", "expand", "names", "bind", "points_to", "layout", "effects", "write", "judge", "command")
 
 
 class Adapted(NamedTuple):
@@ -63,17 +51,17 @@ class Adapted(NamedTuple):
     writer: Writer
 
 
-def adapt(given: Namespace, refusals: Refusals) -> Optional[Adapted]:
+def adapt(given: Words, refusals: Refusals) -> Optional[Adapted]:
     """What is written of the sources; nothing where one of them is no C. What is refused is gathered in `refusals`.
 
     Parameters that can't stand for objects in what is written, since these have a second name there, are pointers as any other
     in what is written next. Raises Stop where a source can't be opened, or a program of the machine isn't there."""
-    apart: set[Any] = set()
+    apart: set[Learned] = set()
     while True:
         tried = Refusals()
         made = written(given, tried, apart)
         if not tried.apart - apart:
-            copies = {one for one in apart if one[0] in ("copied", "direct")}
+            copies = {one for one in apart if isinstance(one, (CopiedFunction, DirectCall))}
             if tried.found and copies:  # (told in the words of the sources)
                 tried = Refusals()
                 written(given, tried, apart - copies)
@@ -82,31 +70,26 @@ def adapt(given: Namespace, refusals: Refusals) -> Optional[Adapted]:
         apart |= tried.apart
 
 
-def written(given: Namespace, refusals: Refusals, apart: set[Any]) -> Optional[Adapted]:
+def written(given: Words, refusals: Refusals, apart: set[Learned]) -> Optional[Adapted]:
     """One way through all stages, with what was learned before."""
-    units = [read(path, flags_of(given), refusals) for path in given.sources]
-    if any(unit.tree is None for unit in units):
+    tried = [read(path, given.flags, refusals) for path in given.sources]
+    units = [unit for unit in tried if unit is not None]
+    if len(units) < len(tried):
         return None
     taken = {word for unit in units for word in unit.words}
     library = expanded(units, taken, apart, refusals)
     names = named(units, library, given, refusals, taken)
     Bindings(Places(names), apart).bind()
     columns = Columns(names, apart)
-    places = Places(names, columns, Choosers(names, columns))
-    lifetimes = Lifetimes(names, columns)
+    choosers, places, lifetimes = Choosers(names, columns), Places(names, columns), Lifetimes(names, columns)
     inputs = set(given.inputs) | OUTPUT
-    effected = Effected(names, places, inputs)
-    known = Analysis(names, places, effected, lifetimes, inputs)
+    effected = Effected(places, columns, choosers, inputs)
+    known = Analysis(names, places, columns, choosers, effected, lifetimes, inputs)
     writer = Writer(known, Spelling(names, taken), Checking(given.check, given.check_overflow, given.check_conversions))
     texts = writer.finished(laid_out(writer.units.write(), units, given.sources))
     if not refusals.found:
         check(texts, refusals)
     return Adapted(texts, writer)
-
-
-def flags_of(given: Namespace) -> list[str]:
-    """The compiler's words for headers and macros."""
-    return [f"-I{one}" for one in given.folders] + [f"-D{one}" for one in given.macros]
 
 
 def free_names(taken: set[str]) -> Callable[[str], str]:
@@ -115,7 +98,7 @@ def free_names(taken: set[str]) -> Callable[[str], str]:
     return lambda stem: next(name for name in (f"{stem}_{n}" for n in numbers) if name not in taken)
 
 
-def expanded(units: list[Unit], taken: set[str], apart: set[Any], refusals: Refusals) -> Library:
+def expanded(units: list[Unit], taken: set[str], apart: set[Learned], refusals: Refusals) -> Library:
     """Changes the trees: what is left has no jumps, and switches whose cases stand directly in them; the models in front."""
     fresh = free_names(taken)
     Clones(units, apart, fresh)
@@ -126,7 +109,7 @@ def expanded(units: list[Unit], taken: set[str], apart: set[Any], refusals: Refu
     return library
 
 
-def named(units: list[Unit], library: Library, given: Namespace, refusals: Refusals, taken: set[str]) -> Names:
+def named(units: list[Unit], library: Library, given: Words, refusals: Refusals, taken: set[str]) -> Names:
     """What the names stand for. The names that jumps got become taken."""
     names = Names(refusals, given.pool)
     for unit in units:

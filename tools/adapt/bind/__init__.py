@@ -1,0 +1,1 @@
+"""Which parameters stand for objects."""

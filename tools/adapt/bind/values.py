@@ -1,0 +1,88 @@
+"""The text of a value, and how tightly it binds (6.5)."""
+
+import re
+from dataclasses import dataclass
+from typing import Optional
+
+from ..common import kinds, tree
+from ..common.kinds import Int
+from ..common.output import unmarked
+
+LEVELS = {
+    "||": 1,
+    "&&": 2,
+    "|": 3,
+    "^": 4,
+    "&": 5,
+    "==": 6,
+    "!=": 6,
+    "<": 7,
+    ">": 7,
+    "<=": 7,
+    ">=": 7,
+    "<<": 8,
+    ">>": 8,
+}
+LEVELS |= {"+": 9, "-": 9, "*": 10, "/": 10, "%": 10}
+UNARY, PRIMARY = 11, 12
+
+
+@dataclass(frozen=True)
+class Value:
+    """A value: its text, type and level; whether it is 0 or 1 at all events, and whether it calls a function."""
+
+    text: str
+    kind: Int
+    level: int
+    truth: bool = False
+    calls: bool = False
+
+    def within(self, level: int) -> str:
+        """The text as an operand of something that binds so tightly."""
+        return self.text if self.level >= level else f"({self.text})"
+
+
+def number(value: Value) -> Optional[int]:
+    """The number that the text of a value is, if it is one."""
+    text = unmarked(value.text)
+    return int(text) if re.fullmatch(r"-?\d+", text) else None
+
+
+def plus(one: Value, other: Value) -> Value:
+    """The sum of two indexes."""
+    a, b = number(one), number(other)
+    if a is not None and b is not None:
+        return Value(str(a + b), kinds.INT, PRIMARY if a + b >= 0 else UNARY)
+    if a == 0 or b == 0:
+        return other if a == 0 else one
+    kind, calls = kinds.common(one.kind, other.kind), one.calls or other.calls
+    if b is not None and b < 0:
+        return Value(f"{one.within(9)} - {-b}", kind, 9, calls=calls)
+    return Value(f"{one.within(9)} + {other.within(10)}", kind, 9, calls=calls)
+
+
+def minus(known: int) -> Value:
+    """The negative of a number."""
+    return Value(str(-known), kinds.INT, UNARY)
+
+
+def times(one: Value, factor: int) -> Value:
+    """An index with a stride, by a shift where it is a power of 2."""
+    known = number(one)
+    if known is not None:
+        return Value(str(known * factor), kinds.INT, PRIMARY if known >= 0 else UNARY)
+    if factor == 1:
+        return one
+    if factor & (factor - 1) == 0:
+        return Value(
+            f"({one.within(9)} << {factor.bit_length() - 1})", kinds.promoted(one.kind), PRIMARY, calls=one.calls
+        )
+    return Value(f"{one.within(10)} * {factor}", kinds.promoted(one.kind), 10, calls=one.calls)
+
+
+@dataclass(eq=False)
+class Known(tree.Expression):
+    """An expression whose value is known as a text."""
+
+    value: Value
+    coord: Optional[tree.Coord] = None

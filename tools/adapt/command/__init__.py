@@ -1,0 +1,1 @@
+"""What the command does with what was written: comparisons, tests, the map, bounds."""

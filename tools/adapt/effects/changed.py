@@ -1,0 +1,63 @@
+"""What a function that no source defines may do to the objects that it is handed: an object at a pointer that isn't to const has any
+values behind the call, each of its integers an input of its own."""
+
+from typing import Optional
+
+from ..bind.places import Places, arguments
+from ..common import kinds, tree
+from ..common.kinds import Array, Pointer, Struct
+from ..common.objects import Function, Place
+from ..common.refusals import Refused
+
+MOST_CHANGED = 64
+# the library's functions that change objects, whatever their types say
+CHANGING = set(
+    """memcpy memmove memset strcpy strncpy strcat strncat strtok strtok_r sprintf snprintf vsprintf vsnprintf scanf sscanf
+    fscanf fread fgets gets read recv getline qsort realloc strtol strtoul strtoll strtoull strtod stat fstat lstat time
+    localtime_r gmtime_r mktime strftime memccpy stpcpy stpncpy bcopy bzero swab getcwd readlink pipe mbstowcs wcstombs
+    mbtowc getopt getopt_long select poll ioctl utime utimes frexp modf free""".split()
+)
+
+
+def takes_const(function: Function, number: int) -> bool:
+    """Whether a parameter is a pointer to what is const, or one of those that are any number of a function that only reads."""
+    one = function.written[number] if number < len(function.written) else None
+    if one is None or isinstance(one, tree.EllipsisParam):
+        return function.variadic and function.name not in CHANGING
+    of = one.type if isinstance(one, (tree.Decl, tree.Typename)) else None
+    to = of.type if isinstance(of, tree.PtrDecl) else None
+    return isinstance(to, (tree.TypeDecl, tree.PtrDecl)) and "const" in (to.quals or [])
+
+
+def handed(places: Places, function: Function, number: int, argument: tree.Expression) -> Optional[Place]:
+    """The object that a call may change by an argument, where its integers are known and few."""
+    if takes_const(function, number):
+        return None
+    of = places.names.constants.type_of(argument)
+    whole = isinstance(argument, tree.UnaryOp) and argument.op == "&"
+    if not isinstance(of, (Pointer, Array)) or not (
+        whole or isinstance(of, Array) or isinstance(kinds.element(of.to), Struct)
+    ):
+        return None
+    try:
+        place = (
+            places.place(argument.expr)
+            if isinstance(argument, tree.UnaryOp) and whole
+            else places.place(argument)
+            if isinstance(of, Array)
+            else places.pointed(argument)
+        )
+    except Refused:
+        return None
+    leaves = list(kinds.leaves(place.type))
+    few = 0 < sum(leaf.count for leaf in leaves) <= MOST_CHANGED and not kinds.is_mixed(place.type)
+    plain = not any(leaf.path and leaf.path[-1].startswith("@") for leaf in leaves) and place.view is None
+    return place if few and plain and kinds.has_bytes(place.type) else None
+
+
+def changed(places: Places, node: tree.FuncCall, function: Optional[Function], inputs: set[str]) -> list[Place]:
+    """The objects that a call may change."""
+    if not isinstance(function, Function) or function.definition is not None or function.name not in inputs:
+        return []
+    found = [handed(places, function, number, one) for number, one in enumerate(arguments(node))]
+    return [one for one in found if one is not None]

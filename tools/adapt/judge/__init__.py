@@ -1,0 +1,1 @@
+"""That the program reads what would be written."""

@@ -1,0 +1,1 @@
+"""Where these objects lie in columns, which calls choose, how long locals live."""

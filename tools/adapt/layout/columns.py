@@ -1,0 +1,222 @@
+"""The columns: for each region to which a pointer may point an array that has all of its objects, one behind the other."""
+
+from typing import Optional
+
+from ..bind.places import Owner
+from ..common import kinds, tree
+from ..common.kinds import Array, Path, Pointer, Region, Struct, Type
+from ..common.learned import HeapCall, Learned
+from ..common.objects import Function, Variable
+from ..common.refusals import Refused
+from ..names.names import Names
+from ..points_to.heap import bytes_asked, heap_call
+from ..points_to.points_to import PointsTo
+from .learning import learn
+from .spelling import Spelling
+
+
+class Columns:
+    """The columns of all regions to which pointers are made. `begins` has where each object begins in its own,
+    `counts` how many elements they have."""
+
+    def __init__(self, names: Names, learned: set[Learned]) -> None:
+        self.names, self.points = names, PointsTo(names, learned)
+        self.pools = {pool.variable: pool for pool in self.points.pools.values()}
+        for caller, node in self.points.pointer_calls:
+            targets = self.pointer(node.name).region.root().targets
+            heap = {heap_call(target) for target in targets}
+            if len(heap) == 1 and "" not in heap and node.coord is not None:
+                names.refusals.apart.add(HeapCall(node.coord, heap.pop()))
+            for target in targets:
+                target.calls.append((caller, node))
+        learn(names, self.points, names.refusals.apart)
+        self.begins: dict[tuple[Region, Owner], int] = {}
+        self.counts: dict[Region, int] = {}
+        self.open: set[Region] = set()  # those that are laid out now
+        self.inner: dict[Region, list[tuple[Region, str]]] = {}
+        self.regions = self.known()
+        for region in self.regions:
+            for name, inner in region.members.items():
+                self.inner.setdefault(inner.root(), []).append((region, name))
+        self.made = [region for region in self.regions if region.pointed and not self.is_function(region)]
+        for region in self.made:
+            self.lay_out(region)
+        self.of_column = {region.laid: region for region in self.made}
+        self.check_locals()
+
+    def known(self) -> list[Region]:
+        """All regions: those of objects and of the pointers in their types, and of their members."""
+        found: dict[Region, None] = {}
+        rest = [self.points.home(one) for one in list(self.points.homes)]
+        rest += [of.region for of in self.points.values.values() if isinstance(of, Pointer)]
+        while rest:
+            one = rest.pop(0).root()
+            if one not in found:
+                found[one] = None
+                rest += one.members.values()
+                rest += [one.elem.region] if isinstance(one.elem, Pointer) else []
+        return list(found)
+
+    @staticmethod
+    def is_function(region: Region) -> bool:
+        """Whether a region is that of pointers to functions, which has no column."""
+        return region.is_code
+
+    # ---- layout
+
+    def lay_out(self, region: Region) -> int:
+        """Gives each object of a region its begin; how many elements there are. Raises Refused for an object that
+        lies within itself by a pointer."""
+        if region in self.counts:
+            return self.counts[region]
+        if region in self.open:
+            raise Refused(None, "an object that lies within itself by a pointer", "use objects apart")
+        self.open.add(region)
+        if region.elem is None or region.elem == kinds.VOID or self.points.is_open(region.elem):
+            region.elem = kinds.Int(8, False, "unsigned char")
+        end, objects = 0, 0
+        owners: list[Owner] = [*region.objects, *self.inner.get(region, [])]
+        for owner in owners:
+            is_pool = isinstance(owner, Variable) and owner in self.pools
+            count, each = self.pool(owner, region) if isinstance(owner, Variable) and is_pool else self.extent(owner)
+            end = (
+                -(-end // 8) * 8 if region.raw else end
+            )  # (as aligned as their objects are, so that a test of it tells the same)
+            self.begins[(region, owner)] = end
+            end += count + 1
+            objects += each
+        region.single = objects <= 1
+        end = max(end - 1, 1)
+        self.counts[region] = end
+        alone = region.objects[0] if len(owners) == 1 and region.objects else None
+        self.column(region, end, alone)
+        return end
+
+    def pool(self, owner: Variable, region: Region) -> tuple[int, int]:
+        """How many elements the memory of a call of malloc has, and how many objects."""
+        pool, size = self.pools[owner], kinds.size(region.type) or 1
+        try:
+            asked = bytes_asked(self.names.constants, pool.node, pool.called)
+        except Refused:
+            asked = None  # (told where it is written)
+        pool.count = self.names.pool[1] if asked is None else max(1, asked // size)
+        owner.type = Array(region.type, pool.slots * pool.count)
+        return pool.slots * pool.count, pool.slots
+
+    def extent(self, owner: Owner) -> tuple[int, int]:
+        """How many elements an owner has, and how many objects these are."""
+        if isinstance(owner, Variable):
+            whole = owner.type.to if owner.is_bound and isinstance(owner.type, Pointer) else owner.type
+            return self.points.count(whole, self.points.home(owner)), 1
+        outer, name = owner
+        if not isinstance(outer.elem, Struct):
+            return 0, 0  # (objects of two types, which is a fault where one is used)
+        of = outer.elem.type_of(name)
+        owners: list[Owner] = [*outer.objects, *self.inner.get(outer, [])]
+        count = self.lay_out(outer) if outer.pointed else sum(self.extent(one)[0] for one in owners)
+        return count * self.points.count(of, outer.member(name, kinds.element(of))), count
+
+    def column(self, region: Region, count: int, alone: Optional[Variable]) -> None:
+        """Makes the variable of a region's column."""
+        coord = region.objects[0].coord if region.objects else None
+        made = Variable(alone.name if alone else "r", Array(region.type, count), coord, "column", defined=True)
+        made.const = bool(region.objects) and all(one.const for one in region.objects) and not self.inner.get(region)
+        region.column = made
+
+    def check_locals(self) -> None:
+        """A local object in a column is there once, so its function may not be called while it runs."""
+        for region in self.made:
+            for one in region.objects:
+                if one.home in ("local", "parameter") and one.function and self.recurs(one.function):
+                    cause = f"the address of {one.name} is taken in {one.function.name}, which calls itself"
+                    self.names.refusals.add(one.coord, cause, "hand over an object of the caller")
+
+    def recurs(self, function: Function) -> bool:
+        """Whether a function may be called while it runs."""
+        seen, rest = set[Function](), [function]
+        while rest:
+            one = rest.pop()
+            for other in self.names.functions:
+                if any(caller is one for caller, _ in other.calls) and other not in seen:
+                    seen.add(other)
+                    rest.append(other)
+        return function in seen
+
+    # ---- what others ask
+
+    def home(self, variable: Variable) -> Optional[Region]:
+        """The region in which a variable lies; none of a column itself."""
+        return self.points.home(variable) if variable.home != "column" else None
+
+    def begin(self, region: Region, owner: Owner) -> int:
+        """The number of the element with which an object begins in its column."""
+        if not isinstance(owner, Variable):
+            owner = next(one for one in self.inner[region] if one[0] is owner[0] and one[1] == owner[1])
+        return self.begins[(region, owner)]
+
+    def pointer(self, node: tree.Expression) -> Pointer:
+        """The type of a pointer's value, with its region. Raises Refused for what is no pointer."""
+        of = self.points.value(node)
+        if not isinstance(of, Pointer):
+            raise Refused(node.coord, "what is no pointer", "use a pointer")
+        return of
+
+    def count(self, of: Type, region: Region) -> int:
+        """How many elements an object takes in a column."""
+        return self.points.count(of, region)
+
+    def number(self, region: Region) -> int:
+        """The number of a region among all."""
+        return self.regions.index(region) if region in self.regions else len(self.regions)
+
+    def in_column(self, variable: Variable) -> bool:
+        """Whether the whole of a variable lies in a column."""
+        return self.points.home(variable).column is not None
+
+    def is_apart(self, region: Optional[Region], path: Path) -> bool:
+        """Whether a leaf lies in the column of a member that leads to it."""
+        for name in path:
+            inner = region.root().members.get(name) if region else None
+            region = inner.root() if inner else None
+            if region is not None and region.column is not None:
+                return True
+        return False
+
+    def leaf_at(self, region: Region, path: Path) -> tuple[Variable, Path, int, int]:
+        """Where a leaf of a region's elements lies: the column, the members there, and by what an element's number is multiplied
+        and what is added for the leaf's first one."""
+        inside: Path = ()
+        variable, factor, add = region.laid, 1, 0
+        at: Optional[Region] = region
+        for name in path:
+            of = kinds.member(at.root().type, name) if at is not None and not name.startswith("@") else None
+            inner = at.root().members.get(name) if at is not None else None
+            count = kinds.elements(of) if of is not None else 1
+            factor, add = factor * count, add * count
+            if inner is not None and inner.root().column is not None and at is not None:
+                variable, inside = inner.root().laid, ()
+                add += self.begin(inner.root(), (at.root(), name))
+            else:
+                inside = inside + (name,)
+            at = inner.root() if inner is not None else Region(kinds.element(of)) if of is not None else None
+        return variable, inside, factor, add
+
+    def any_apart(self, region: Optional[Region], of: Type) -> bool:
+        """Whether some integer of an object lies in a column of its own, or all of them as bytes."""
+        if region is not None and region.root().raw:
+            return True
+        return any(self.is_apart(region, leaf.path) for leaf in kinds.leaves(of))
+
+    def named(self, spelling: Spelling) -> None:
+        """Gives each column its name: that of its object where there is one alone, which is no local one."""
+        hidden = {one.name for one in self.names.variables if not one.shared}
+        hidden |= {one.name for function in self.names.functions for one in function.parameters}
+        for region in self.made:
+            alone = region.objects[0] if len(region.objects) == 1 and not self.inner.get(region) else None
+            if alone is not None and alone.shared and alone.out and alone.out not in hidden:
+                region.laid.out = alone.out
+            elif alone is not None and alone.home != "text":
+                stem = f"{alone.function.name}_{alone.name}" if alone.function else alone.name
+                region.laid.out = spelling.fresh(stem, True)
+            else:
+                region.laid.out = spelling.fresh("text" if alone is not None else "r")

@@ -1,0 +1,1 @@
+"""What each name stands for, and the types of declarations and expressions."""

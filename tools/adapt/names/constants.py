@@ -1,0 +1,298 @@
+"""The values of constant expressions (6.6), the types of expressions, and `sizeof`."""
+
+import re
+from collections.abc import Callable
+from typing import TYPE_CHECKING, Optional, Union
+
+from ..common import kinds, tree
+from ..common.kinds import Array, Int, Pointer, Signature, Struct, Type, fit
+from ..common.objects import Enumerator, Function, Variable
+from ..common.refusals import Refused
+from . import unions
+
+if TYPE_CHECKING:
+    from .names import Names
+
+ESCAPES = {"n": 10, "t": 9, "r": 13, "a": 7, "b": 8, "f": 12, "v": 11, "\\": 92, "'": 39, '"': 34, "?": 63, "e": 27}
+ESCAPE = re.compile(r"\\x([0-9A-Fa-f]+)|\\([0-7]{1,3})|\\(.)|([^\\])")
+ARITHMETIC: dict[str, Callable[[int, int], int]] = {
+    "+": lambda a, b: a + b,
+    "-": lambda a, b: a - b,
+    "*": lambda a, b: a * b,
+    "&": lambda a, b: a & b,
+    "|": lambda a, b: a | b,
+    "^": lambda a, b: a ^ b,
+    "<<": lambda a, b: a << (b & 63),
+    ">>": lambda a, b: a >> (b & 63),
+    "/": lambda a, b: abs(a) // abs(b) * (1 if (a < 0) == (b < 0) else -1),
+    "%": lambda a, b: abs(a) % abs(b) * (-1 if a < 0 else 1),
+}
+COMPARED: dict[str, Callable[[int, int], bool]] = {
+    "<": lambda a, b: a < b,
+    ">": lambda a, b: a > b,
+    "<=": lambda a, b: a <= b,
+    ">=": lambda a, b: a >= b,
+    "==": lambda a, b: a == b,
+    "!=": lambda a, b: a != b,
+}
+SHIFTS = ("<<", ">>")
+LOGICAL = ("&&", "||")
+
+
+WIDE = {"L": kinds.INT, "u": kinds.FIXED["uint16_t"], "U": kinds.UINT}
+
+
+def character(text: str) -> Int:
+    """The type of a string's elements (6.4.5p6)."""
+    return WIDE.get(text[: text.index('"')], kinds.Int(8, True, "char"))
+
+
+def codes(text: str) -> list[int]:
+    """The values of the characters between the quotes of a constant or a string, each as one of its elements."""
+    found, kind = [], character(text) if text.endswith('"') else kinds.Int(8, True, "char")
+    for hexadecimal, octal, simple, plain in ESCAPE.findall(text[text.index(text[-1]) + 1 : -1]):
+        code = ESCAPES[simple] if simple else ord(plain or "0")
+        code = int(hexadecimal, 16) if hexadecimal else int(octal, 8) if octal else code
+        found.append(fit(code, kind))
+    return found
+
+
+def number(node: tree.Constant) -> tuple[int, Int]:
+    """The value and the type of an integer or a character constant (6.4.4.1p5). Raises Refused for a constant that is
+    no integer, or needs more than 64 bits."""
+    text = node.value
+    if "char" in node.type:
+        found = codes(text)
+        if len(found) != 1 or not text.startswith("'"):
+            raise Refused(node.coord, f"the character constant {text}", "write its number")
+        return found[0], kinds.INT
+    if "int" not in node.type:
+        raise Refused(node.coord, f"the constant {text}", "use integers in fixed point")
+    if text.startswith("-"):
+        return int(text), kinds.INT  # (a character of a string)
+    whole = re.fullmatch(r"(0[xX][0-9a-fA-F]+|0[bB][01]+|\d+)([uUlL]*)", text)
+    if not whole:
+        raise Refused(node.coord, f"the constant {text}", "write its number")
+    digits, suffix = whole.groups()
+    base = {"0x": 16, "0b": 2}.get(digits[:2].lower(), 8 if digits[0] == "0" and len(digits) > 1 else 10)
+    value = int(digits, base)
+    long, unsigned = "l" in suffix.lower(), "u" in suffix.lower()
+    for kind in (kinds.INT, kinds.UINT, kinds.LONG, kinds.SIZE):
+        sign = not unsigned if kind.signed else base != 10 or unsigned
+        if sign and (kind.bits == 64 or not long) and fit(value, kind) == value:
+            return value, kind
+    raise Refused(node.coord, f"the constant {text} is too large", "use at most 64 bits")
+
+
+def is_offset(node: Optional[tree.Node]) -> bool:
+    """Whether a call is `offsetof`."""
+    return isinstance(node, tree.FuncCall) and isinstance(node.name, tree.ID) and node.name.name == "offsetof"
+
+
+class Constants:
+    """Values and types, by what names stand for."""
+
+    def __init__(self, names: "Names") -> None:
+        self.names = names
+
+    def place_type(self, node: tree.Expression) -> Type:
+        """The type of a name, an element or a member."""
+        if isinstance(node, tree.ID):
+            meaning = self.names.meaning.get(node)
+            return meaning.type if isinstance(meaning, (Variable, Function)) else kinds.VOID
+        if isinstance(node, tree.StructRef):
+            of = self.type_of(node.name)
+            of = (kinds.behind(of) or of) if node.type == "->" else of
+            path = unions.found(of, node.field.name)
+            for name in path or []:
+                of = kinds.member(of, name)
+            return of if path else kinds.VOID
+        if isinstance(node, tree.ArrayRef):
+            of = self.type_of(node.name)
+            of = self.type_of(node.subscript) if isinstance(of, Int) else of
+        else:
+            of = self.type_of(node.expr) if isinstance(node, tree.UnaryOp) else kinds.VOID
+        return kinds.behind(of) or kinds.VOID
+
+    def type_of(self, node: tree.Expression) -> Type:
+        """The type of an expression before any conversion of arrays."""
+        if isinstance(node, tree.Constant):
+            return (
+                Array(character(node.value), len(codes(node.value)) + 1) if node.type == "string" else number(node)[1]
+            )
+        if isinstance(node, tree.ID) and isinstance(self.names.meaning.get(node), Enumerator):
+            return kinds.INT
+        if isinstance(node, (tree.ID, tree.StructRef, tree.ArrayRef)):
+            return self.place_type(node)
+        if isinstance(node, tree.UnaryOp):
+            return self.type_of_unary(node)
+        if isinstance(node, tree.BinaryOp):
+            if node.op in COMPARED or node.op in LOGICAL:
+                return kinds.INT
+            left, right = self.type_of(node.left), self.type_of(node.right)
+            if not isinstance(left, Int) and not isinstance(right, Int):
+                return kinds.LONG  # (6.5.6p9)
+            if not isinstance(left, Int) or not isinstance(right, Int):
+                return left if not isinstance(left, Int) else right
+            return kinds.promoted(left) if node.op in SHIFTS else kinds.common(left, right)
+        if isinstance(node, tree.TernaryOp):
+            left, right = self.type_of(node.iftrue), self.type_of(node.iffalse)
+            if self.value(node.iftrue) == 0 and not isinstance(right, Int):
+                return kinds.adjusted(right)
+            left = kinds.adjusted(left)
+            return kinds.common(left, right) if isinstance(left, Int) and isinstance(right, Int) else left
+        if isinstance(node, tree.Assignment):
+            return self.type_of(node.lvalue)
+        if isinstance(node, tree.ExprList):
+            return self.type_of(node.exprs[-1])
+        if isinstance(node, tree.StatementExpr):
+            return kinds.VOID if node.last is None else kinds.adjusted(self.type_of(node.last))
+        if isinstance(node, (tree.Cast, tree.CompoundLiteral)):
+            return self.names.types.get(node.to_type if isinstance(node, tree.Cast) else node.type, kinds.VOID)
+        if is_offset(node):
+            return kinds.SIZE
+        return self.called(node).result if isinstance(node, tree.FuncCall) else kinds.VOID
+
+    def called(self, node: tree.FuncCall) -> Union[Function, Signature]:
+        """The function, or the type of one, that a call calls."""
+        known = self.names.meaning.get(node)
+        if isinstance(known, Function):
+            return known
+        of = self.type_of(node.name)
+        of = of.to if isinstance(of, Pointer) else of
+        return of if isinstance(of, Signature) else Signature(kinds.VOID, [])
+
+    def type_of_unary(self, node: tree.UnaryOp) -> Type:
+        """The type of a unary expression (6.5.3)."""
+        if node.op == "sizeof":
+            return kinds.SIZE
+        if node.op == "!":
+            return kinds.INT
+        if node.op == "&":
+            return Pointer(self.type_of(node.expr))
+        if node.op == "*":
+            of = self.type_of(node.expr)
+            return of if isinstance(of, Signature) else self.place_type(node)
+        of = self.type_of(node.expr)
+        return kinds.promoted(of) if isinstance(of, Int) and node.op in "+-~" else of
+
+    def size_of(self, node: tree.Expression) -> int:
+        """What `sizeof` gives of a type or an expression. The number is one of bytes (6.5.3.4p2). Raises Refused
+        where it isn't known."""
+        meaning = self.names.meaning.get(node) if isinstance(node, tree.ID) else None
+        if (
+            isinstance(meaning, Variable)
+            and meaning.home == "parameter"
+            and not isinstance(meaning.type, (Int, Struct))
+        ):
+            return 8
+        of = self.names.types.get(node) if isinstance(node, tree.Typename) else self.type_of(node)
+        known = kinds.size(of) if of is not None else None
+        if known is None:
+            raise Refused(node.coord, "the size isn't known", "write its number")
+        return known
+
+    def offset(self, node: tree.Expression, of: Type) -> tuple[int, Type]:
+        """Where a member lies in a struct, and its type (7.19p3). Raises Refused where it isn't known."""
+        at, inner = 0, of
+        if isinstance(node, tree.StructRef) and node.type == "->":
+            base = self.type_of(node.name)
+            inner, node = base.to if isinstance(base, Pointer) else of, node.field
+        elif isinstance(node, tree.StructRef):
+            at, inner = self.offset(node.name, of)
+            node = node.field
+        elif isinstance(node, tree.ArrayRef):
+            at, inner = self.offset(node.name, of)
+            known, size = self.value(node.subscript), kinds.size(inner.of if isinstance(inner, Array) else inner)
+            if known is not None and size is not None and isinstance(inner, Array):
+                return at + known * size, inner.of
+        own = kinds.offsets(inner) if isinstance(inner, Struct) else {}
+        if not isinstance(node, tree.ID) or node.name not in own:
+            raise Refused(node.coord, "an offset that isn't known", "write its number")
+        return at + own[node.name], kinds.member(inner, node.name)
+
+    def is_null_offset(self, node: tree.Expression) -> bool:
+        """Whether an expression is the address of a member of a struct at a null pointer, as offsetof was written once."""
+        inner = node.expr if isinstance(node, tree.UnaryOp) and node.op == "&" else None
+        while isinstance(inner, tree.ArrayRef) or (isinstance(inner, tree.StructRef) and inner.type == "."):
+            inner = inner.name
+        pointer = inner.name if isinstance(inner, tree.StructRef) else None
+        while isinstance(pointer, tree.Cast):
+            pointer = pointer.expr
+        return pointer is not None and isinstance(pointer, tree.Constant) and self.value(pointer) == 0
+
+    def length_of(self, init: tree.Expression, of: Type) -> int:
+        """The length of an array that has none of its own, by its initialiser (6.7.9p22). The number is one of
+        elements. Raises Refused for elements without braces of their own, unless they are integers."""
+        if isinstance(init, tree.Constant):
+            return len(codes(init.value)) + 1
+        at, most = 0, 0
+        items = init.exprs or [] if isinstance(init, tree.InitList) else []
+        braced = all(isinstance(one, (tree.InitList, tree.NamedInitializer)) for one in items)
+        if not braced and not isinstance(of, (Int, Pointer)):
+            raise Refused(
+                init.coord, "an array without a length whose values have no braces of their own", "give its length"
+            )
+        for one in items:
+            if isinstance(one, tree.NamedInitializer):
+                at = self.value(one.name[0]) or 0
+            at += 1
+            most = max(most, at)
+        return most
+
+    def value(self, node: tree.Expression) -> Optional[int]:
+        """The value of a constant expression; None where it is none."""
+        known = self.known(node)
+        return None if known is None else known[0]
+
+    def known(self, node: tree.Expression) -> Optional[tuple[int, Int]]:
+        """The value of a constant expression with its type (6.6); None where it is none."""
+        if isinstance(node, tree.Constant) and node.type != "string":
+            return number(node)
+        if isinstance(node, tree.ID):
+            meaning = self.names.meaning.get(node)
+            return (meaning.value, kinds.INT) if isinstance(meaning, Enumerator) else None
+        if isinstance(node, tree.Cast) and isinstance(node.expr, tree.UnaryOp) and self.is_null_offset(node.expr):
+            to, member = self.names.types.get(node.to_type), node.expr.expr
+            return (fit(self.offset(member, kinds.VOID)[0], to), to) if isinstance(to, Int) else None
+        if isinstance(node, tree.Cast):
+            to, one = self.names.types.get(node.to_type), self.known(node.expr)
+            return (fit(one[0], to), to) if one and isinstance(to, Int) else None
+        if isinstance(node, tree.UnaryOp):
+            return self.known_unary(node)
+        if isinstance(node, tree.FuncCall) and is_offset(node):
+            return self.offset(node.given[1], self.names.types[node.given[0]])[0], kinds.SIZE
+        if isinstance(node, tree.TernaryOp):
+            test, of = self.known(node.cond), self.type_of(node)
+            one = self.known(node.iftrue if test[0] else node.iffalse) if test else None
+            return (fit(one[0], of), of) if one and isinstance(of, Int) else None
+        return self.known_binary(node) if isinstance(node, tree.BinaryOp) else None
+
+    def known_unary(self, node: tree.UnaryOp) -> Optional[tuple[int, Int]]:
+        """The same of a unary expression."""
+        if node.op == "sizeof":
+            return self.size_of(node.expr), kinds.SIZE
+        one = self.known(node.expr)
+        if one is None or node.op not in "+-~!":
+            return None
+        if node.op == "!":
+            return int(not one[0]), kinds.INT
+        kind = kinds.promoted(one[1])
+        return fit({"+": one[0], "-": -one[0], "~": ~one[0]}[node.op], kind), kind
+
+    def known_binary(self, node: tree.BinaryOp) -> Optional[tuple[int, Int]]:
+        """The same of a binary one; of && and || the left operand may be enough, and a division by 0 has no value."""
+        left, right = self.known(node.left), self.known(node.right)
+        if node.op in LOGICAL and left and bool(left[0]) == (node.op == "||"):
+            return int(bool(left[0])), kinds.INT
+        if left is None or right is None:
+            return None
+        if node.op in LOGICAL:
+            return int(bool(right[0])), kinds.INT
+        kind = kinds.promoted(left[1]) if node.op in SHIFTS else kinds.common(left[1], right[1])
+        a, b = fit(left[0], kind), right[0] if node.op in SHIFTS else fit(right[0], kind)
+        if node.op in COMPARED:
+            return int(COMPARED[node.op](a, b)), kinds.INT
+        if node.op in "/%" and b == 0:
+            return None
+        return fit(ARITHMETIC[node.op](a, b), kind), kind

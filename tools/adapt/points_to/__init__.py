@@ -1,0 +1,1 @@
+"""Which objects each pointer may meet."""

@@ -1,0 +1,82 @@
+"""Which objects stand as their bytes although no pointer to another type meets them: parts of a union that are pointed to, unions whose
+members have no common form, and memory that is copied, set or compared by bytes."""
+
+from typing import TYPE_CHECKING
+
+from ..bind.places import arguments
+from ..common import kinds, tree
+from ..common.kinds import Int, Pointer
+from ..common.refusals import Refused
+from .first_members import join
+from .meetings import differ, handed_by_pointer
+from .models import WHOLE, Model, element_count
+
+if TYPE_CHECKING:
+    from .points_to import PointsTo
+
+
+def settle(points: "PointsTo") -> None:
+    """Lets objects stand as their bytes where something needs them: parts of a union that are pointed to, unions whose members
+    have no common form, and memory that is copied, set or compared by bytes."""
+    for variable in points.names.variables:
+        if kinds.is_mixed(variable.type):
+            points.home(variable)
+    before, done, joined = -1, set[tree.Node](), 0
+    while before != raws(points) + len(done) + joined:
+        before = raws(points) + len(done) + joined
+        handed_by_pointer(points, done)
+        joined += join(points)
+        for made, region, at in points.parts:
+            if made.root().pointed and made.root() is not region.root():
+                made.root().fault = None
+                points.as_bytes(region, [region.root().type], at)
+                points.as_bytes(made, [made.root().type], at)
+                points.unify(region, made, at)
+        for variable, region in list(points.homes.items()):
+            if kinds.is_mixed(variable.type) and not region.root().raw:
+                points.as_bytes(region, [region.root().type], variable.coord)
+        for of in pointers(points):
+            if kinds.is_mixed(of.to) and not of.region.root().raw:
+                points.as_bytes(of.region, [of.to], None)
+        for node, model in points.modelled:
+            by_bytes(points, node, model)
+
+
+def raws(points: "PointsTo") -> int:
+    """How many regions stand as bytes, or can't be written."""
+    regions = {one.root() for one in points.homes.values()} | {of.region.root() for of in pointers(points)}
+    return sum(1 for one in regions if one.raw or one.fault)
+
+
+def pointers(points: "PointsTo") -> list[Pointer]:
+    """The pointers among the values."""
+    return [of for of in points.values.values() if isinstance(of, Pointer)]
+
+
+def by_bytes(points: "PointsTo", node: tree.FuncCall, model: Model) -> None:
+    """A call of a library's function on objects that it doesn't take as whole elements."""
+    of = [points.value(one) for one in arguments(node) if not points.is_null(one)]
+    regions = [one.region.root() for one in of if isinstance(one, Pointer)]
+    elems = [one.type for one in regions]
+    if all(isinstance(one, Int) and one.bits == 8 for one in elems) or any(one.fault for one in regions):
+        return
+    known = all(kinds.has_bytes(one) for one in elems)
+    sizes = {kinds.size(one) for one in elems}
+    alike = not any(one.raw for one in regions) and not any(differ(elems[0], one) for one in elems[1:])
+    whole = (
+        known and alike and len(sizes) == 1 and model.name in WHOLE and is_whole(points, node, model, sizes.pop() or 1)
+    )
+    if model.name == "memset" and points.constants.value(arguments(node)[1]) != 0:
+        whole = False
+    if known and not whole:
+        for one in regions:
+            points.as_bytes(one, [one.type], node.coord)
+
+
+def is_whole(points: "PointsTo", node: tree.FuncCall, model: Model, size: int) -> bool:
+    """Whether a call takes whole elements of a size."""
+    try:
+        element_count(points.constants, arguments(node)[-1], size)
+    except Refused:
+        return False
+    return True

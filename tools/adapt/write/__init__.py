@@ -1,0 +1,1 @@
+"""Each statement in the profile, on its line."""

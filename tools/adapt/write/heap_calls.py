@@ -1,0 +1,170 @@
+"""The calls of malloc and its kin (7.22.3): a call fails, as C allows, where no slot of its pool is left, where more elements are asked
+for than a slot has, and where an answer says so: the first call of all reads one number, whose bit k lets call k fail."""
+
+from typing import TYPE_CHECKING, Union
+
+from ..bind.places import arguments
+from ..bind.values import PRIMARY, Value, number, plus
+from ..common import kinds, tree
+from ..common.kinds import BEGIN, END, INDEX, NIL, Region
+from ..common.output import FELL
+from ..common.refusals import Refused
+from ..points_to.heap import Pool
+from .component import Component
+
+if TYPE_CHECKING:
+    from .writer import Writer
+
+Key = Union[
+    str, tuple[str, Union[Region, tree.FuncCall]]
+]  # what a text is for: of the whole, of a region, or of a call
+
+
+class Heap(Component):
+    """What a writer does with calls of the heap. `text` has what stands in front, by what it is for."""
+
+    def __init__(self, writer: "Writer") -> None:
+        super().__init__(writer)
+        self.texts: dict[Key, str] = {}
+        self.names: dict[Key, str] = {}
+        self.asked = ""  # the input function
+
+    def name(self, key: Key, stem: str) -> str:
+        """A name for what a key stands for, always the same."""
+        if key not in self.names:
+            self.names[key] = self.writer.spelling.fresh(stem)
+        return self.names[key]
+
+    def fails(self) -> str:
+        """The name of the function that says whether a call fails."""
+        if "fails" not in self.texts:
+            self.asked = self.writer.spelling.fresh("malloc_fails", True)
+            mask, known, calls = [self.name(stem, stem) for stem in ("malloc_mask", "malloc_known", "malloc_calls")]
+            self.texts[
+                "asked"
+            ] = f"unsigned int {self.asked}(void); static unsigned int {mask}; static int {known}; static int {calls};"
+            self.texts["fails"] = (
+                f"static int {self.name('fails', 'heap_fails')}(void) {{ if (!{known}) {{ {mask} = {self.asked}(); {known} = 1; }} "
+                f"int bit = {mask} >> ({calls} & 31) & 1; {calls}++; return bit; }}"
+            )
+        return self.name("fails", "heap_fails")
+
+    def sizes(self, region: Region) -> str:
+        """The array that has at the begin of each slot in use how many elements it has, and 1; nothing where nobody asks."""
+        if not region.freed or not self.has_pool(region):
+            return ""
+        key = ("sizes", region)
+        if key not in self.texts:
+            length = self.writer.columns.counts[region]
+            self.texts[key] = f"static int {self.name(key, 'heap_size')}[{length}];"
+        return self.name(key, "heap_size")
+
+    def has_pool(self, region: Region) -> bool:
+        """Whether memory of the heap lies in a region."""
+        return any(one.home == "pool" for one in region.objects)
+
+    # ---- calls
+
+    def allocated(self, node: tree.FuncCall, called: str) -> dict[str, Value]:
+        """Writes a call that gives memory; the pointer's integers. Raises Refused where its objects can't lie in one
+        column."""
+        writer = self.writer
+        region = self.writer.columns.pointer(node).region.root()
+        if region.fault:
+            raise Refused(node.coord, region.fault[1], region.fault[2])
+        writer.order.unsequenced(node, arguments(node))
+        pool = self.writer.columns.points.pools[node]
+        given = arguments(node)
+        old = [writer.pointers.pointer(given[0])[INDEX].text] if called == "realloc" else []
+        values = []
+        for one in given[len(old) :]:
+            known = writer.constants.value(one)
+            value = writer.expressions.value(one) if known is None else Value(str(known), kinds.SIZE, PRIMARY)
+            values.append(
+                value
+                if number(value) is not None
+                else Value(writer.temporary(kinds.SIZE, value.text), kinds.SIZE, PRIMARY)
+            )
+        name = self.function(called, pool, region)
+        text = f"{name}({', '.join([*old, *(one.text for one in values)])})"
+        index = Value(writer.temporary(kinds.INT, text, "pointer"), kinds.INT, PRIMARY)
+        return {INDEX: index, END: plus(index, self.elements(values, region)), BEGIN: index}
+
+    def elements(self, values: list[Value], region: Region) -> Value:
+        """How many elements a call asks for."""
+        size = kinds.size(region.type) or 1
+        known = [number(one) for one in values]
+        if None not in known:
+            whole = 1
+            for one in known:
+                whole *= one or 0
+            return Value(str(whole // size), kinds.INT, PRIMARY)
+        text = " * ".join(one.text for one in values)
+        return Value(f"(int) ({text}{f' / {size}' if size > 1 else ''})", kinds.INT, PRIMARY)
+
+    def function(self, called: str, pool: Pool, region: Region) -> str:
+        """The function that a call becomes."""
+        key = (called, pool.node)
+        name = self.name(key, called)
+        if key in self.texts:
+            return name
+        fails, sizes, used = self.fails(), self.sizes(region), self.name(("used", pool.node), f"{name}_used")
+        size, begin = kinds.size(region.type) or 1, self.writer.columns.begins[(region, pool.variable)]
+        heads = {"malloc": "size_t n", "calloc": "size_t k, size_t n", "realloc": "int p, size_t n"}[called]
+        wide, whole = ("k > 65535 | n > 65535 | ", "k * n") if called == "calloc" else ("", "n")
+        whole = f"{whole} / {size}" if size > 1 else whole
+        # (fewer bytes than an element has are no element)
+        body = f"int failed = {fails}(); "
+        body += f"if ({wide}{whole} > {pool.count} | {used} >= {pool.slots}) {{ {FELL} return {NIL}; }} "
+        body += f"if (failed) {{ return {NIL}; }} "
+        slot = f"{used} * {pool.count}" if pool.count > 1 else used
+        body += f"int q = {f'{begin} + ' if begin else ''}{slot}; {used}++; "
+        body += f"{sizes}[q] = {whole} + 1; " if sizes else ""
+        body += self.copied(region, sizes, whole) if called == "realloc" else ""
+        self.texts[key] = f"static int {used}; static int {name}({heads}) {{ {body}return q; }}"
+        return name
+
+    def copied(self, region: Region, sizes: str, whole: str) -> str:
+        """What was in memory that is given back for other, as far as both reach."""
+        moves = []
+        for leaf in kinds.leaves(region.type):
+            variable, inside, factor, add = self.writer.columns.leaf_at(region, leaf.path)
+            name = self.writer.spelling.leaf(variable, inside)
+            for at in range(leaf.count):
+                plain = factor == 1 and add + at == 0
+                to, of = [
+                    f"{name}[{one} + i]" if plain else f"{name}[({one} + i) * {factor} + {add + at}]" for one in "qp"
+                ]
+                moves.append(f"{to} = {of};")
+        loop = f"for (int i = 0; i + 1 < {sizes}[p] & i < {whole}; i++) {{ {' '.join(moves)} }}"
+        return f"if (p != {NIL}) {{ assert({sizes}[p] > 0); {loop} {sizes}[p] = 0; }} "
+
+    def freed(self, node: tree.FuncCall) -> str:
+        """The text of a call of free. Raises Refused where its objects can't lie in one column."""
+        writer, given = self.writer, arguments(node)[0]
+        if writer.pointers.is_null(given):
+            return ""
+        region = self.writer.columns.pointer(given).region.root()
+        if region.fault:
+            raise Refused(node.coord, region.fault[1], region.fault[2])
+        index, sizes = writer.pointers.pointer(given)[INDEX], self.sizes(region)
+        if not sizes:
+            if index.calls:
+                writer.temporary(kinds.INT, index.text)
+            return ""
+        key = ("free", region)
+        name = self.name(key, "free")
+        self.texts[
+            key
+        ] = f"static void {name}(int p) {{ if (p != {NIL}) {{ assert({sizes}[p] > 0); {sizes}[p] = 0; }} }}"
+        return f"{name}({index.text})"
+
+    def front(self) -> list[str]:
+        """What stands in front of all else."""
+        rank = {"asked": 0, "fails": 1, "sizes": 2}
+        return [
+            text
+            for _, text in sorted(
+                self.texts.items(), key=lambda one: rank.get(one[0] if isinstance(one[0], str) else one[0][0], 3)
+            )
+        ]

@@ -1,0 +1,161 @@
+"""Writes the calls of the library's functions on memory and strings: each by its model (models.py), once for each pair of columns that
+calls meet."""
+
+import re
+from typing import TYPE_CHECKING, Union
+
+from ..bind.initialisers import none_of
+from ..bind.places import arguments
+from ..bind.values import PRIMARY, UNARY, Value
+from ..common import kinds, tree
+from ..common.kinds import BEGIN, END, INDEX, NIL, Int, Pointer, Region, Struct
+from ..common.refusals import Refused
+from ..points_to.models import WHOLE, Model, element_count, letter
+from .component import Component
+
+if TYPE_CHECKING:
+    from .writer import Writer
+
+ACCESS = re.compile(r"\$([ab])\[([^\]]+)\]")
+SET = re.compile(r"\$([ab])\[([^\]]+)\] = (?:\$([ab])\[([^\]]+)\]|([$\w]+));")
+OWN = re.compile(
+    r"\b(a|b|c|i|j|n|last)\b"
+)  # the names of models; `$` stands before them until they have their own ones
+OPEN = "\x04"  # the bracket of an access that is written already
+MOST_LEAVES = 64
+
+
+class Written:
+    """One model for the regions of its pointers."""
+
+    def __init__(self, model: Model, name: str, regions: dict[str, Region], own: "ModelCalls", count: str) -> None:
+        self.model, self.name, self.regions, self.count = model, name, regions, count
+        self.leaf, self.names = own.model_leaf, own.model_word
+
+    def text(self) -> str:
+        """What is written of a model for the regions of one call: its head, with integers for pointers, and its body."""
+        heads = []
+        for one in self.model.parameters:
+            at = letter(one)
+            if "*" in one:
+                heads += [f"int ${at}{'_' + part[1:] if part != INDEX else ''}" for part in self.regions[at].parts()]
+            else:
+                heads.append(f"{self.count} $n" if at == "n" else "int $c")
+        result = "int" if self.model.gives_pointer else "size_t" if "size_t" in self.model.result else "int"
+        body = SET.sub(self.set_elements, OWN.sub(r"$\1", self.model.body))
+        body = ACCESS.sub(lambda found: self.access(found.group(1), found.group(2), ()), body)
+        body = body.replace("$i < $n", f"({self.count}) $i < $n").replace("NULL", str(NIL)).replace(OPEN, "[")
+        whole = f"static {result} {self.name}({', '.join(heads)}) {{ {body} }}"
+        return re.sub(r"\$(\w+)", lambda found: self.names(found.group(1)), whole)
+
+    def access(self, at: str, index: str, path: tuple[str, ...], element: int = 0) -> str:
+        """The text of an element, which is -1's where it lies outside of its object."""
+        whole, parts = f"${at} + {index}", self.regions[at].parts()
+        tests = [f" | -({whole} >= ${at}_e)"] * (END in parts) + [f" | -({whole} < ${at}_b)"] * (BEGIN in parts)
+        name, factor, add = self.leaf(self.regions[at], path)
+        checked = f"{whole}{''.join(tests)}"
+        if factor != 1 or add + element:
+            checked = f"({checked}) * {factor} + {add + element}"
+        return f"{name}{OPEN}{checked}]"
+
+    def set_elements(self, found: "re.Match[str]") -> str:
+        """The text that sets an element, integer by integer."""
+        to, index, of, other, value = found.groups()
+        elem, made = self.regions[to].type, []
+        if isinstance(elem, Int):
+            right = self.access(of, other, ()) if of else f"({elem.text}) {value}" if value == "$c" else value
+            return f"{self.access(to, index, ())} = {right};"
+        for leaf in kinds.leaves(elem):
+            for at in range(leaf.count):
+                right = self.access(of, other, leaf.path, at) if of else none_of(leaf)
+                made.append(f"{self.access(to, index, leaf.path, at)} = {right};")
+        return " ".join(made)
+
+
+class ModelCalls(Component):
+    """What a writer does with calls of the library's functions. `written_models` has each by its name and columns."""
+
+    def __init__(self, writer: "Writer") -> None:
+        super().__init__(writer)
+        self.written_models: dict[tuple[Union[str, Region], ...], tuple[str, str]] = {}
+        self.model_words: dict[str, str] = {}
+
+    def model_parts(self, node: tree.FuncCall, model: Model) -> dict[str, Value]:
+        """The call of a model, with what else a pointer that it gives has: that of its first argument."""
+        self.writer.order.unsequenced(node, arguments(node))
+        texts: list[str] = []
+        first: dict[str, Value] = {}
+        regions: dict[str, Region] = {}
+        for argument, parameter in zip(arguments(node), model.parameters):
+            if "*" in parameter:
+                regions[letter(parameter)] = region = self.model_region(argument)
+                parts = {
+                    name: self.writer.elements.steady_value(one)
+                    for name, one in self.writer.pointers.pointer(argument).items()
+                }
+                texts += [parts[name].text for name in region.parts()]
+                first = first or parts
+        count = "unsigned int"
+        for argument, parameter in zip(arguments(node), model.parameters):
+            if "*" not in parameter:
+                value, count = self.number_argument(argument, letter(parameter), regions["a"], model, count)
+                texts.append(value)
+        text = f"{self.writer.at(node)}{self.model_name(node, model, regions, count)}({', '.join(texts)})"
+        return {**first, INDEX: Value(text, kinds.INT, PRIMARY, calls=True)}
+
+    def number_argument(
+        self, node: tree.Expression, at: str, region: Region, model: Model, count: str
+    ) -> tuple[str, str]:
+        """An argument that is no pointer, with the type of the number of elements. Raises Refused for bytes of what
+        has none."""
+        if at != "n":
+            narrow = isinstance(region.elem, Int) and region.elem.bits == 8
+            if model.name == "memset" and not narrow and self.writer.constants.value(node) != 0:
+                raise Refused(node.coord, "memset of what is no array of bytes", "assign the elements")
+            return self.writer.expressions.value(node).text, count
+        size = kinds.size(region.type)
+        if size is None or (not isinstance(region.elem, Int) or region.elem.bits != 8) and model.name not in WHOLE:
+            raise Refused(node.coord, f"{model.name} of what are no bytes", "use the elements")
+        try:
+            whole = element_count(self.writer.constants, node, size)
+        except Refused:  # (a part of an element, which is no whole number of them, ends the run)
+            given = self.writer.elements.steady_value(self.writer.expressions.value(node))
+            text = given.within(UNARY)
+            return f"{text} / {size} | -({text} % {size} != 0)", "size_t"
+        if isinstance(whole, int):
+            return str(whole), count
+        value = self.writer.expressions.value(whole)
+        return value.text, "unsigned int" if value.kind.bits <= 32 else "size_t"
+
+    def model_region(self, node: tree.Expression) -> Region:
+        """The region of a pointer that a model gets. Raises Refused where its objects aren't known, or are large."""
+        of = self.writer.columns.pointer(node)
+        region = of.region.root()
+        fault = region.fault
+        if fault:
+            raise Refused(node.coord, fault[1], fault[2])
+        leaves = list(kinds.leaves(region.type)) if isinstance(region.elem, (Int, Struct, Pointer)) else []
+        if region.column is None or not leaves or sum(leaf.count for leaf in leaves) > MOST_LEAVES:
+            raise Refused(node.coord, "memory whose objects aren't known, or are large", "assign the elements")
+        return region
+
+    def model_leaf(self, region: Region, path: tuple[str, ...]) -> tuple[str, int, int]:
+        """Where an integer of a region's elements lies: its array, the factor of an element's number, and what is
+        added."""
+        variable, inside, factor, add = self.writer.columns.leaf_at(region, path)
+        return self.writer.spelling.leaf(variable, inside), factor, add
+
+    def model_word(self, word: str) -> str:
+        """A name within models that nothing else has."""
+        if word not in self.model_words:
+            self.model_words[word] = self.writer.spelling.fresh(word)
+        return self.model_words[word]
+
+    def model_name(self, node: tree.FuncCall, model: Model, regions: dict[str, Region], count: str) -> str:
+        """The name of a model for some regions, which is written with its first call."""
+        key: tuple[Union[str, Region], ...] = (model.name, *regions.values(), count)
+        if key not in self.written_models:
+            name = self.writer.spelling.fresh(model.name)
+            made = Written(model, name, regions, self, count)
+            self.written_models[key] = (name, made.text())
+        return self.written_models[key][0]

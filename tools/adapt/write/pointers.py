@@ -1,0 +1,304 @@
+"""Writes the values of pointers: the index of what is pointed to in its column, and where they matter the end and the begin of
+its object. An access outside of the object becomes the index -1, which ends a run, and never reads a neighbour."""
+
+from typing import Optional
+
+from ..bind.places import At
+from ..bind.values import PRIMARY, UNARY, Value, minus, number, plus, times
+from ..common import kinds, tree
+from ..common.kinds import BEGIN, END, INDEX, NIL, Array, Pointer, Signature
+from ..common.objects import Function, Place, Variable
+from ..common.output import unmarked
+from ..common.refusals import Refused
+from ..effects.effects import STEPS
+from ..points_to.heap import heap_call
+from ..points_to.models import model_of
+from . import first_member_casts, statement_exprs
+from .component import Component
+
+
+MOST = 16383  # no index of a column is greater
+NONE = {
+    INDEX: Value(str(NIL), kinds.INT, UNARY),
+    END: Value("0", kinds.INT, PRIMARY),
+    BEGIN: Value("0", kinds.INT, PRIMARY),
+}
+Parts = dict[str, Value]
+
+
+class Pointers(Component):
+    """Writes expressions with pointer types as integers: an index, and an end and a begin where they are needed."""
+
+    def is_null(self, node: tree.Expression) -> bool:
+        """Whether an expression is a null pointer constant (6.3.2.3p3)."""
+        while isinstance(node, tree.Cast):
+            node = node.expr
+        return self.writer.constants.value(node) == 0
+
+    def is_pointer(self, node: tree.Expression) -> bool:
+        """Whether an expression is a pointer or an array that is one, but for parameters that stand for objects."""
+        of = self.writer.constants.type_of(node)
+        meaning = self.writer.names.meaning.get(node) if isinstance(node, tree.ID) else None
+        return isinstance(of, (Pointer, Array, Signature)) and not (isinstance(meaning, Variable) and meaning.is_bound)
+
+    # ---- values
+
+    def pointer(self, node: tree.Expression) -> Parts:
+        """The integers of a pointer's value; its effects are written before."""
+        self.writer.within += 1
+        try:
+            return self.parts_of(node)
+        finally:
+            self.writer.within -= 1
+
+    def parts_of(self, node: tree.Expression) -> Parts:
+        """The integers of a pointer's value by its form. Raises Refused where the pointer may meet objects that can't
+        lie in one column."""
+        if self.is_null(node):
+            return NONE
+        of = self.writer.columns.pointer(node)
+        fault = of.region.root().fault
+        if fault:
+            raise Refused(node.coord, fault[1], fault[2])
+        if isinstance(self.writer.constants.type_of(node), Signature):
+            return self.code(node, of)
+        if isinstance(node, tree.Cast):
+            first = self.writer.columns.points.firsts.get(node)
+            return first_member_casts.cast(self.writer, node, first) if first else self.pointer(node.expr)
+        if isinstance(node, tree.UnaryOp) and node.op == "&":
+            return self.address(node)
+        if isinstance(node, tree.UnaryOp) and node.op in STEPS:
+            return self.stepped_pointer(node)
+        if isinstance(node, tree.BinaryOp):
+            left = self.is_pointer(node.left)
+            return self.moved(node, node.left if left else node.right, node.right if left else node.left, node.op)
+        if isinstance(node, tree.Assignment):
+            self.writer.assignments.effect(node)
+            return self.loaded(node.lvalue)
+        if isinstance(node, tree.TernaryOp):
+            return self.chosen_pointer(node, of)
+        if isinstance(node, tree.ExprList):
+            for one in node.exprs[:-1]:
+                self.writer.assignments.effect(one)
+            return self.pointer(node.exprs[-1])
+        if isinstance(node, tree.FuncCall):
+            return self.given_back(node, of)
+        if isinstance(node, tree.StatementExpr):
+            return statement_exprs.pointer(self.writer, node, of.region.parts())
+        if isinstance(self.writer.constants.type_of(node), Array):
+            return self.pointing_at_first(self.array(node))
+        return self.loaded(node)
+
+    def code(self, node: tree.Expression, of: Pointer) -> Parts:
+        """A function's name, or what a pointer to one leads to, as a pointer."""
+        meaning = self.writer.names.meaning.get(node) if isinstance(node, tree.ID) else None
+        if not isinstance(meaning, Function):
+            assert isinstance(node, tree.UnaryOp)
+            return self.pointer(node.expr)
+        return {INDEX: Value(str(self.writer.choosers.number(of.region, meaning)), kinds.INT, PRIMARY)}
+
+    def array(self, node: tree.Expression) -> Place:
+        """The place of an array or of a string."""
+        if isinstance(node, tree.Constant):
+            return self.writer.places.of_variable(self.writer.columns.points.texts[node])
+        return self.writer.places.place(node)
+
+    def loaded(self, node: tree.Expression) -> Parts:
+        """The value of a pointer that is an object."""
+        place = self.writer.places.place(node)
+        return self.parts_at(place, self.writer.elements.index(place, True))
+
+    def parts_at(self, place: Place, index: Optional[Value]) -> Parts:
+        """The integers of a pointer that lies at a place."""
+        found = {}
+        assert isinstance(place.type, Pointer)
+        for part in place.type.region.parts():
+            name = self.writer.spelling.leaf(place.variable, place.path + (part,))
+            text = name if index is None else f"{name}[{index.text}]"
+            found[part] = Value(text, kinds.INT, PRIMARY, calls=index is not None and index.calls)
+        return found
+
+    def pointing_at_first(self, place: Place) -> Parts:
+        """A pointer to the first element of an array."""
+        return self.pointing(self.first_element(place), place.around or place)
+
+    def first_element(self, place: Place) -> Place:
+        """The place of an array's first element, through all its lengths."""
+        while isinstance(place.type, Array):
+            place = self.writer.places.element(place, self.writer.places.zero)
+        return place
+
+    def pointing(self, place: Place, around: Place) -> Parts:
+        """A pointer to a place within an object. Raises Refused for an object that lies in no column."""
+        if place.variable.home != "column" or place.path:
+            raise Refused(None, f"the address of {place.variable.name}", "name the object itself")
+        raw = self.writer.places.is_raw(place)
+        index = self.writer.raw.index(place, True, False) if raw else self.writer.elements.index(place, True)
+        assert index is not None
+        begin = index
+        if isinstance(around.type, Array):
+            first = self.first_element(around)
+            begin = (
+                self.writer.raw.index(first, True, False) if raw else self.writer.elements.index(first, True) or index
+            )
+        count = (
+            self.writer.columns.count(around.type, place.region)
+            if raw and place.region is not None
+            else kinds.elements(around.type)
+        )
+        end = plus(begin, Value(str(count), kinds.INT, PRIMARY))
+        return {INDEX: index, END: end, BEGIN: begin}
+
+    def address(self, node: tree.UnaryOp) -> Parts:
+        """The address of an object or a function (6.5.3.2p3)."""
+        inner = node.expr
+        if isinstance(self.writer.constants.type_of(inner), Signature):
+            return self.pointer(inner)
+        if isinstance(inner, tree.UnaryOp) and inner.op == "*" and self.is_pointer(inner.expr):
+            return self.pointer(inner.expr)
+        if isinstance(inner, tree.ArrayRef) and isinstance(self.writer.constants.type_of(inner.name), Pointer):
+            if self.is_pointer(inner.name):
+                return self.moved(node, inner.name, inner.subscript, "+")
+        place = self.writer.places.place(inner)
+        return self.pointing(self.first_element(place), place.around or place)
+
+    def wide(self, value: Value) -> Value:
+        """A number of elements by which a pointer is moved; one that no array has becomes 32,768, which lies outside of all."""
+        kind = value.kind
+        if number(value) is not None or kind.bits == 8 or (kind.bits == 16 and kind.signed):
+            return value
+        text = value.within(UNARY)
+        if kind.signed and kind.bits == 64:
+            bad = f"((unsigned long) {text} + 16384 > 32767)"
+        else:
+            bad = f"({value.within(8)} > {MOST})"
+        cast = text if kind.bits < 32 or (kind.bits == 32 and kind.signed) else f"(int) {text}"
+        return Value(
+            f"(({unmarked(cast)} & ({unmarked(bad)} - 1)) + ({unmarked(bad)} << 15))",
+            kinds.INT,
+            PRIMARY,
+            calls=value.calls,
+        )
+
+    def stride(self, node: tree.Expression) -> int:
+        """By how many elements of its column, or bytes, a pointer moves: the number of those in what it points to."""
+        of = self.writer.columns.pointer(node)
+        return (kinds.size(of.to) or 1) if of.region.root().raw else kinds.elements(of.to)
+
+    def moved(self, node: tree.Expression, base: tree.Expression, by: tree.Expression, op: str) -> Parts:
+        """A pointer moved by a number of elements."""
+        self.writer.order.unsequenced(node, [base, by])
+        parts = dict(self.pointer(base))
+        step = times(self.wide(self.writer.elements.steady_value(self.writer.expressions.value(by))), self.stride(base))
+        if op == "-":
+            known = number(step)
+            made = f"{parts[INDEX].within(9)} - {step.within(10)}"
+            parts[INDEX] = plus(parts[INDEX], minus(known)) if known is not None else Value(made, kinds.INT, 9)
+        else:
+            parts[INDEX] = plus(parts[INDEX], step)
+        return parts
+
+    def stepped_pointer(self, node: tree.UnaryOp) -> Parts:
+        """`++` and `--`: the old value, which is kept, or the new one."""
+        place = self.writer.places.place(node.expr)
+        parts = self.parts_at(place, self.writer.elements.index(place, True))
+        target = parts[INDEX].text
+        step, before = self.step_text(node, target), not node.op.startswith("p")
+        if before or node in self.writer.behind:
+            self.writer.emit(step) if before else self.writer.after.append(step)
+            return parts
+        old = self.writer.temporary(kinds.INT, target)
+        self.writer.emit(step)
+        return {**parts, INDEX: Value(old, kinds.INT, PRIMARY)}
+
+    def step_text(self, node: tree.UnaryOp, target: str) -> str:
+        """The statement of a step of a pointer."""
+        stride = self.stride(node.expr)
+        return f"{target}{node.op[-2:]};" if stride == 1 else f"{target} {node.op[-1]}= {stride};"
+
+    def chosen_pointer(self, node: tree.TernaryOp, of: Pointer) -> Parts:
+        """?: of pointers, each integer by itself, or by a branch."""
+        names = of.region.parts()
+        apart = self.writer.order.needs_statements(node.iffalse)
+        yes = None if apart else self.writer.order.inline(node.iftrue, lambda: self.pointer(node.iftrue))
+        no = None if yes is None else self.writer.order.inline(node.iffalse, lambda: self.pointer(node.iffalse))
+        if yes is not None and no is not None:
+            test = self.writer.expressions.test(node.cond)
+            if not any(one.calls for one in [test, *yes.values(), *no.values()]) or len(names) == 1:
+                texts = {name: f"{test.within(1)} ? {yes[name].text} : {no[name].within(0)}" for name in names}
+                return {name: Value(text, kinds.INT, 0, calls=test.calls) for name, text in texts.items()}
+        made = {name: self.writer.temporary(kinds.INT, "0", "pointer") for name in names}
+
+        def set_all(one: tree.Expression) -> None:
+            values = self.pointer(one)
+            for name in names:
+                self.writer.emit(f"{made[name]} = {values[name].text};")
+
+        self.writer.expressions.either(node, set_all)
+        return {name: Value(text, kinds.INT, PRIMARY) for name, text in made.items()}
+
+    def given_back(self, node: tree.FuncCall, of: Pointer) -> Parts:
+        """What a call gives. Raises Refused where no source defines the function."""
+        function = self.writer.calls.called(node)
+        if heap_call(function):
+            return self.writer.heap.allocated(node, function.name)
+        model = model_of(function)
+        if model is not None:
+            parts = self.writer.models.model_parts(node, model)
+            several = len(of.region.parts()) > 1
+            return {**parts, INDEX: self.writer.elements.steady_value(parts[INDEX])} if several else parts
+        if function.definition is None:
+            raise Refused(
+                node.coord,
+                f"no source defines {function.name}, which gives a pointer",
+                "give the source that defines it",
+            )
+        text, after = self.writer.calls.call(node)
+        names = of.region.parts()
+        if len(names) == 1 and not after:
+            return {INDEX: Value(text, kinds.INT, PRIMARY, calls=True)}
+        found = {INDEX: Value(self.writer.temporary(kinds.INT, text, "pointer"), kinds.INT, PRIMARY)}
+        for name in names[1:]:
+            found[name] = Value(
+                self.writer.temporary(kinds.INT, self.result_part(function, name), "pointer"), kinds.INT, PRIMARY
+            )
+        for one in after:
+            self.writer.emit(one)
+        return found
+
+    def result_part(self, function: Function, part: str) -> str:
+        """The name of the object in which a function hands a part of its pointer back."""
+        own = self.writer.spelling.special(function, "result", function.result, self.writer.special)
+        return self.writer.spelling.leaf(own, (part,))
+
+    # ---- accesses
+
+    def element_at(self, node: At) -> Value:
+        """The number of the element at a pointer, or -1 where it is outside of the pointer's object."""
+        if node.index is not None:
+            self.writer.order.unsequenced(node, [node.pointer, node.index])
+        parts = {name: self.writer.elements.steady_value(one) for name, one in self.pointer(node.pointer).items()}
+        index, tests = parts[INDEX], []
+        if node.index is not None and self.writer.constants.value(node.index) != 0:
+            by = self.writer.elements.steady_value(self.writer.expressions.value(node.index))
+            if number(by) is None and by.kind.bits > 8 and by.kind != kinds.Int(16, True, ""):
+                bad = (
+                    f"(unsigned long) {by.within(UNARY)} + 16384 > 32767"
+                    if by.kind.signed and by.kind.bits == 64
+                    else f"{by.within(8)} > {MOST}"
+                )
+                tests.append(bad)
+            if by.kind.bits == 64:
+                by = Value(f"(int) {by.within(UNARY)}", kinds.INT, UNARY)
+            index = plus(index, times(by, node.stride))
+        region = self.writer.columns.pointer(node.pointer).region
+        wanted = region.parts()
+        if node.raw:
+            node.tests, node.ends = tests, {name: parts[name] for name in wanted if name != INDEX}
+            return index
+        tests += [f"{index.within(8)} >= {parts[END].within(8)}"] if END in wanted else []
+        tests += [f"{index.within(8)} < {parts[BEGIN].within(8)}"] if BEGIN in wanted else []
+        if not tests:
+            return index
+        text = " | ".join([index.within(4), *(f"-({unmarked(one)})" for one in tests)])
+        return Value(text, index.kind if index.kind.bits == 32 else kinds.INT, 3)

@@ -1,0 +1,113 @@
+"""Objects that stand as their bytes (6.2.6.1p4), little endian as gcc's x86-64 has them: where pointers to several types meet them, or a
+union's members differ. An integer of more than a byte is read and set by two functions, whose calls the last step writes
+(large.py); an access that isn't within its object becomes the index -1."""
+
+from dataclasses import replace
+from typing import TYPE_CHECKING
+
+from ..bind.places import At
+from ..bind.values import PRIMARY, UNARY, Known, Value, number, plus, times
+from ..common import kinds
+from ..common.kinds import BEGIN, END, Int
+from ..common.objects import Place
+from .component import Component
+from .large import Large
+
+if TYPE_CHECKING:
+    from .writer import Writer
+
+
+class Raw(Component):
+    """What a writer does with such objects. `texts` has the functions, by what they are for."""
+
+    def __init__(self, writer: "Writer") -> None:
+        super().__init__(writer)
+        self.texts: dict[tuple[str, str], str] = {}
+        self.names: dict[tuple[str, str], str] = {}
+
+    def array(self, place: Place) -> str:
+        """The name of what has the integers of a place's kind: the column, or an array that there isn't."""
+        kind, column = place.type, self.writer.spelling.leaf(place.variable, ())
+        assert isinstance(kind, Int)
+        if kind.bits == 8:
+            return column
+        key = (column, kind.text)
+        if key not in self.names:
+            stem = f"{column}_{'i' if kind.signed else 'u'}{kind.bits}"
+            name = self.writer.spelling.fresh(stem, True)
+            self.names[key] = name
+            reads, sets = self.writer.spelling.fresh(f"{name}_at", True), self.writer.spelling.fresh(
+                f"{name}_set", True
+            )
+            self.writer.large.known[name] = Large(name, kind, 0, reads, sets)
+            self.texts[key] = self.functions(column, kind, reads, sets, bool(place.variable.const))
+        return self.names[key]
+
+    @staticmethod
+    def functions(column: str, kind: Int, reads: str, sets: str, const: bool) -> str:
+        """The functions that read and set an integer of several bytes."""
+        count = kind.bits // 8
+
+        word = {32: "unsigned int", 64: "unsigned long"}.get(kind.bits, "unsigned int")
+        parts = [
+            f"({word}) {column}[i{f' + {at}' if at else ''}]{f' << {8 * at}' if at else ''}" for at in range(count)
+        ]
+        text = f"static {kind.text} {reads}(long i) {{ return ({kind.text}) ({' | '.join(parts)}); }}"
+        if const:
+            return text
+        steps = [f"{column}[i{f' + {at}' if at else ''}] = v{f' >> {8 * at}' if at else ''};" for at in range(count)]
+        return f"{text} static void {sets}(long i, {kind.text} v) {{ {' '.join(steps)} }}"
+
+    def front(self) -> list[str]:
+        """What stands in front of all else."""
+        return list(self.texts.values())
+
+    # ---- indexes
+
+    def index(self, place: Place, stable: bool = False, checked: bool = True) -> Value:
+        """The number of a place's first byte in its column; -1 where the place isn't within its object."""
+        writer = self.writer
+        tests: list[str] = []
+        at = place.indexes[0][0] if len(place.indexes) == 1 and isinstance(place.indexes[0][0], At) else None
+        base = Value("0", kinds.INT, PRIMARY)
+        for node, length in place.shifted():
+            one = writer.expressions.value(node)
+            if not isinstance(node, At):
+                one = self.narrow(writer.elements.steady_value(one), tests)
+            base = plus(times(base, length), one)
+        if at is not None and at.tests is not None:
+            tests += at.tests
+        inner = Value(str(place.offset), kinds.INT, PRIMARY)
+        for node, step in place.inside:
+            inner = plus(
+                inner, times(self.narrow(writer.elements.steady_value(writer.expressions.value(node)), tests), step)
+            )
+        total, size = plus(base, inner), kinds.size(place.type) or 1
+        if at is not None and at.ends:
+            last = plus(total, Value(str(size - 1), kinds.INT, PRIMARY))
+            tests += [f"{last.within(8)} >= {at.ends[END].within(8)}"] if END in at.ends else []
+            tests += [f"{total.within(8)} < {at.ends[BEGIN].within(8)}"] if BEGIN in at.ends else []
+        elif place.whole and number(inner) is None:
+            tests.append(f"(unsigned int) ({inner.text}) > {place.whole - size}")
+        if tests and checked:
+            text = " | ".join([total.within(4), *(f"-({writer.elements.plain(one)})" for one in tests)])
+            total = Value(text, kinds.INT, 3, calls=total.calls)
+        if stable and number(total) is None:
+            total = Value(writer.temporary(kinds.INT, total.text, "index"), kinds.INT, PRIMARY)
+        return total
+
+    @staticmethod
+    def narrow(value: Value, tests: list[str]) -> Value:
+        """An index as an `int`, with the test that no array has it."""
+        if number(value) is None and value.kind.bits > 8 and value.kind != kinds.Int(16, True, ""):
+            low = value.kind.signed and value.kind.bits == 64
+            tests.append(
+                f"(unsigned long) {value.within(UNARY)} + 16384 > 32767" if low else f"{value.within(8)} > 16383"
+            )
+        if value.kind.bits == 64 and number(value) is None:
+            return Value(f"(int) {value.within(UNARY)}", kinds.INT, UNARY, calls=value.calls)
+        return value
+
+    def known(self, place: Place, index: Value) -> Place:
+        """The same place at a number that is known."""
+        return replace(place, indexes=((Known(index, None), 1),), shift=0, inside=(), offset=0, whole=0)
