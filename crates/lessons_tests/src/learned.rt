@@ -14,6 +14,13 @@ use search::{Found, search};
 use std::alloc::Global;
 use std::process::Abort;
 
+/// A store without lessons.
+pub(crate) fn new_store(alloc: Global, _circuit: &Circuit) -> Lessons
+    ensures { Hold _circuit.now result }
+{
+    Lessons::new(alloc)
+}
+
 /// Learns from a refutation.
 pub(crate) fn learn(
     rt: &impl Abort,
@@ -85,6 +92,29 @@ pub(crate) fn given(
     store
         .given(alloc, circuit, &formula)
         .expect(rt, "no memory")
+}
+
+/// Asks that the formula of a literal is given the lessons of these places, and that this is its last clause then. No places:
+/// that it is given none.
+pub(crate) fn assert_given(
+    rt: &impl Abort,
+    alloc: Global,
+    store: &Lessons,
+    circuit: &Circuit,
+    literal: Lit,
+    places: &[usize],
+    last: &[i32],
+)
+    requires inputs { input_count circuit.now ≡ 32 }
+    requires lessons { Hold circuit.now store.now }
+{
+    match given(rt, alloc, store, circuit, literal) {
+        None => assert!(rt; places.is_empty(), "nothing is given"),
+        Some(with) => {
+            assert_eq!(rt; with.places.as_slice(), places);
+            assert_eq!(rt; last_clause(&with.formula), Some(last));
+        }
+    }
 }
 
 /// A derivation that refutes a formula.

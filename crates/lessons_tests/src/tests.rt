@@ -4,7 +4,9 @@ ghost use Rattle.circuit.specs.Wires.{input_count};
 ghost use Rattle.lessons.specs.Store.{Hold};
 
 use crate::circuits::{bits_of_an_int, formula_of, gate, negation};
-use crate::learned::{given, last_clause, learn, learn_from_text, refuted};
+use crate::learned::{
+    assert_given, given, last_clause, learn, learn_from_text, new_store, refuted,
+};
 use circuit::{Circuit, Lit};
 use lessons::{Lessons, Refutation};
 use std::alloc::Global;
@@ -47,7 +49,7 @@ fn circuit_of_goals(rt: &impl Abort, alloc: Global) -> (Circuit, Goals)
 fn one_goal_teaches_another(rt: HostRuntime) -> Result<(), Fail> {
     let alloc = rt.alloc();
     let (circuit, goals) = circuit_of_goals(&rt, alloc);
-    let mut store = Lessons::new(alloc);
+    let mut store = new_store(alloc, &circuit);
     assert!(rt; given(&rt, alloc, &store, &circuit, goals.contradiction).is_none());
     let formula = formula_of(&rt, alloc, &circuit, goals.contradiction);
     let Some(derivation) = refuted(&rt, alloc, &formula.formula) else {
@@ -99,7 +101,7 @@ fn derivations_by_hand(rt: HostRuntime) -> Result<(), Fail> {
             &[-1, -7],
         ),
     ] {
-        let mut store = Lessons::new(alloc);
+        let mut store = new_store(alloc, &circuit);
         let mut text = String::new(alloc);
         text.push_str(CONTRADICTION)?;
         text.push_str(lines)?;
@@ -112,59 +114,37 @@ fn derivations_by_hand(rt: HostRuntime) -> Result<(), Fail> {
             text.as_bytes(),
             &[],
         );
-        let Some(with) = given(&rt, alloc, &store, &circuit, goals.more) else {
-            return Err(Fail::from("nothing given"));
-        };
-        assert_eq!(rt; last_clause(&with.formula), Some(last), "{lines}");
+        assert_given(&rt, alloc, &store, &circuit, goals.more, &[0], last);
     }
     Ok(())
 }
 
-// Nothing is learned of clauses that are no gate's. Then the contradiction's wire is learned, and from its clause, that of
-// more's gate {7, -8} and more's root the wire of more: the step on the root is left out.
+// Clauses that are no gate's, which are refuted.
+const NO_GATES: &[u8] = b"fshell certificate 1\np cnf 8 2\n-7 0\n7 0\nderivation 1\n0 1 2 -7 0\n";
+
+// A clause of more's gate, the one of its root, and the lesson that its variable 7, the contradiction, never holds.
+const MORE: &[u8] =
+    b"fshell certificate 1\np cnf 8 3\n7 -8 0\n8 0\n-7 0\nderivation 1\n0 1 2 -8 3 7 0\n";
+
+// Nothing is learned of clauses that are no gate's. Then the contradiction's wire is learned, and from that lesson and the
+// clause of more's gate that more never holds: the step on its root is left out.
 #[test]
 fn a_lesson_teaches_another(rt: HostRuntime) -> Result<(), Fail> {
     let alloc = rt.alloc();
     let (circuit, goals) = circuit_of_goals(&rt, alloc);
-    let contradiction = formula_of(&rt, alloc, &circuit, goals.contradiction);
-    let more = formula_of(&rt, alloc, &circuit, goals.more);
+    let contradiction = formula_of(&rt, alloc, &circuit, goals.contradiction).variable;
+    let more = formula_of(&rt, alloc, &circuit, goals.more).variable;
     let mut text = String::new(alloc);
     text.push_str(CONTRADICTION)?;
     text.push_str("derivation 1\n0 1 4 1 7 -4 8 -5 10 -6 0\n")?;
-    let mut store = Lessons::new(alloc);
-    for (table, text, places, given_places, last) in [
-        (
-            &more.variable,
-            b"fshell certificate 1\np cnf 8 2\n-7 0\n7 0\nderivation 1\n0 1 2 -7 0\n".as_slice(),
-            [].as_slice(),
-            [].as_slice(),
-            None,
-        ),
-        (
-            &contradiction.variable,
-            text.as_bytes(),
-            &[],
-            &[0],
-            Some(-7),
-        ),
-        (
-            &more.variable,
-            b"fshell certificate 1\np cnf 8 3\n7 -8 0\n8 0\n-7 0\nderivation 1\n0 1 2 -8 3 7 0\n",
-            &[0],
-            &[0, 1],
-            Some(-8),
-        ),
-    ] {
-        learn_from_text(&rt, alloc, &mut store, &circuit, table, text, places);
-        match (given(&rt, alloc, &store, &circuit, goals.more), last) {
-            (None, None) => {}
-            (Some(with), Some(last)) => {
-                assert_eq!(rt; with.places.as_slice(), given_places);
-                assert_eq!(rt; last_clause(&with.formula), Some([last].as_slice()));
-            }
-            _ => return Err(Fail::from("other lessons")),
-        }
-    }
+    let text = text.as_bytes();
+    let mut store = new_store(alloc, &circuit);
+    learn_from_text(&rt, alloc, &mut store, &circuit, &more, NO_GATES, &[]);
+    assert_given(&rt, alloc, &store, &circuit, goals.more, &[], &[]);
+    learn_from_text(&rt, alloc, &mut store, &circuit, &contradiction, text, &[]);
+    assert_given(&rt, alloc, &store, &circuit, goals.more, &[0], &[-7]);
+    learn_from_text(&rt, alloc, &mut store, &circuit, &more, MORE, &[0]);
+    assert_given(&rt, alloc, &store, &circuit, goals.more, &[0, 1], &[-8]);
     Ok(())
 }
 
@@ -227,7 +207,7 @@ fn longest_lesson(rt: HostRuntime) -> Result<(), Fail> {
         variable.push(Some(wire))?;
     }
     for (gates, length) in [(28, Some(30)), (29, None)] {
-        let mut store = Lessons::new(alloc);
+        let mut store = new_store(alloc, &circuit);
         let text = conjunction(alloc, gates)?;
         learn_from_text(
             &rt,
@@ -316,7 +296,7 @@ fn places_at(
 fn most_lessons(rt: HostRuntime) -> Result<(), Fail> {
     let alloc = rt.alloc();
     let (circuit, roots) = chain(&rt, alloc, 1001)?;
-    let mut store = Lessons::new(alloc);
+    let mut store = new_store(alloc, &circuit);
     learn_gates(&rt, alloc, &mut store, &circuit, 1, 1000)?;
     let variable = variables_of(alloc, &circuit, 1)?;
     learn_from_text(&rt, alloc, &mut store, &circuit, &variable, LESSON, &[0]);
