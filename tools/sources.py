@@ -8,7 +8,7 @@ import bisect
 import os
 import re
 from collections.abc import Mapping, Sequence
-from dataclasses import dataclass
+from typing import NamedTuple
 
 from tools import program
 from tools.graph import Edge, Graph, Node
@@ -25,8 +25,7 @@ _KEYWORDS = {"IF": "if", "WHILE": "while", "DO": "while", "FOR": "for", "SWITCH"
 OPENING, CLOSING = "([{", ")]}"
 
 
-@dataclass(frozen=True)
-class Token:
+class Token(NamedTuple):
     """A token with its first byte in the source and the one behind its last."""
 
     text: str

@@ -34,7 +34,7 @@ from tool_tests import (
 
 rte.TRIED += rte_overflow.TRIED
 adapt.CASES += adapt_compare.CASES
-adapt.TRIED += adapt_stages.TRIED + adapt_compare.TRIED + adapt_figures.TRIED
+adapt.TRIED += [*adapt_stages.TRIED, *adapt_compare.TRIED, *adapt_figures.TRIED]
 
 TOOLS = {module.__name__.split(".")[-1]: module
          for module in (campaign, project, recipes, adapt, mcdc, page, maps, progress, order, rte, driver, install, lcov, first_hour, explain,

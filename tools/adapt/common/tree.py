@@ -7,11 +7,10 @@ in which they stand, in the order in which all stages go through them.
 
 from collections.abc import Iterator
 from dataclasses import dataclass, field
-from typing import ClassVar, Optional
+from typing import ClassVar, NamedTuple, Optional
 
 
-@dataclass(frozen=True)
-class Coord:
+class Coord(NamedTuple):
     """A place of a source: its file, its line from 1, and its column from 1 where one is known."""
 
     file: str
