@@ -1,4 +1,5 @@
-"""Whether the Python of tools/ and acceptance/ says what it is for: pydocstyle's first rules, by the trees of the files alone.
+"""Whether the Python of tools/, acceptance/ and what is typed of bench/ says what it is for: pydocstyle's first rules, by the trees
+of the files alone.
 
 Each module, and each class, function and method without `_` before its name, has a docstring with a sentence that says more than
 the name does. One that raises an error of its own names it, or says `failure` of a Failure; one that gives a number says of
@@ -23,6 +24,14 @@ LITTLE = set(  # words that say nothing by themselves
     " them those they such where whose".split()
 )
 REPEATS = "its docstring repeats its name"
+# what of bench/ is typed: the scripts that generation's figures come from, and what they share
+BENCH = [
+    os.path.join("bench", name)
+    for name in (
+        "answers.py examples.py harness.py programs.py search_files.py shapes.py tables.py turned.py users.py "
+        "decided goal_pairs orders peers undecided"
+    ).split()
+]
 
 
 def is_case(node: ast.AST) -> bool:
@@ -74,9 +83,9 @@ def faults_of(node: ast.Module | ast.ClassDef | ast.FunctionDef, name: str) -> I
 
 
 def wrong() -> list[str]:
-    """A line for each fault of the files of tools/ and acceptance/."""
+    """A line for each fault of the files of tools/ and acceptance/, and of those of bench/ that are typed."""
     found = list[str]()
-    for pattern in ("tools/**/*.py", "acceptance/**/*.py"):
+    for pattern in ("tools/**/*.py", "acceptance/**/*.py", *BENCH):
         for path in sorted(glob.glob(pattern, root_dir=programs.ROOT, recursive=True)):
             found += faults_of(ast.parse(text_of(os.path.join(programs.ROOT, path))), path)
     return found

@@ -2,17 +2,28 @@
 
 import gzip
 
+Formula = tuple[int, list[list[int]]]
 
-def read(path):
-    """The formula of a DIMACS file."""
-    with (gzip.open if path.endswith(".gz") else open)(path, "rt") as file:
-        variables, literals = 0, []
-        for line in file:
-            if line.startswith("p"):
-                variables = int(line.split()[2])
-            elif not line.startswith(("c", "%")):
-                literals += [int(word) for word in line.split()]
-    clauses, clause = [], []
+
+def read(path: str) -> Formula:
+    """The formula of a DIMACS file, gzipped where its name ends so."""
+    if path.endswith(".gz"):
+        with gzip.open(path, "rt") as file:
+            return formula_of(file.read())
+    with open(path, encoding="ascii") as file:
+        return formula_of(file.read())
+
+
+def formula_of(words: str) -> Formula:
+    """The formula of a DIMACS text."""
+    variables, literals = 0, []
+    for line in words.splitlines():
+        if line.startswith("p"):
+            variables = int(line.split()[2])
+        elif not line.startswith(("c", "%")):
+            literals += [int(word) for word in line.split()]
+    clauses: list[list[int]] = []
+    clause: list[int] = []
     for literal in literals:
         if literal == 0:
             clauses.append(clause)
@@ -22,7 +33,7 @@ def read(path):
     return variables, clauses
 
 
-def text(formula):
+def text(formula: Formula) -> str:
     """The DIMACS text of a formula, the literals of each clause in order and each once."""
     variables, clauses = formula
     lines = [f"p cnf {variables} {len(clauses)}\n"]
@@ -32,6 +43,7 @@ def text(formula):
     return "".join(lines)
 
 
-def write(path, words):
+def write(path: str, words: str) -> None:
+    """Writes a text of ASCII to a file."""
     with open(path, "w", encoding="ascii") as file:
         file.write(words)

@@ -17,14 +17,17 @@ class Turned:
 
     @property
     def name(self) -> str:
+        """What its file is called, without the folder and `.c`."""
         return os.path.basename(self.file)[:-2]
 
     @property
     def path(self) -> str:
+        """Where its file stands on this machine."""
         return os.path.join(HERE, "..", self.file)
 
     @property
     def bounds(self) -> list[str]:
+        """The options of `generate` that bound its runs."""
         return ["--turns", str(self.turns)]
 
 

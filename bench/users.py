@@ -20,10 +20,12 @@ class User:
 
     @property
     def path(self) -> str:
+        """Where its file stands on this machine."""
         return os.path.join(FOLDER, f"{self.name}.c")
 
     @property
     def bounds(self) -> list[str]:
+        """The options of `generate` that bound its runs."""
         return ["--turns", str(self.turns), "--answers", str(self.answers)]
 
 

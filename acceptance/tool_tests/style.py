@@ -1,17 +1,18 @@
-"""Layout and types of the Python of tools/ and acceptance/, by Debian's black, mypy and pyflakes, and its docstrings, by
-docstrings.py. Scripts, those of acceptance/with_gcc/ among them, are asked of pyflakes alone.
+"""Layout and types of the Python of tools/, acceptance/ and what is typed of bench/ (docstrings.py lists it), by Debian's black, mypy
+and pyflakes, and its docstrings, by docstrings.py. Scripts, those of acceptance/with_gcc/ among them, are asked of pyflakes alone.
 """
 
 import ast
 import glob
 import os
 import subprocess
-from collections.abc import Iterator
+from collections.abc import Iterator, Sequence
 
 import docstrings
 import programs
 
 RULES = os.path.join(programs.ROOT, "tools", "pyproject.toml")
+BENCH = os.path.join(programs.ROOT, "bench")
 CHECKED = ("tools", "acceptance", os.path.join("acceptance", "run"))
 ROW = '''"""A small text with faults."""
 def bare(): pass
@@ -38,11 +39,12 @@ FAULTS = [
 ]  # fmt: skip
 
 
-def passes(folder: str, *words: str) -> bool:
-    """Whether a checker finds nothing; what it finds is printed. Its own files go to a folder of the case."""
+def passes(folder: str, *words: str, modules: Sequence[str] = (programs.HERE, programs.ROOT)) -> bool:
+    """Whether a checker finds nothing; what it finds is printed. Modules are looked for in these folders, and its own files go to a
+    folder of the case."""
     own = {
         **os.environ,
-        "MYPYPATH": os.pathsep.join((programs.HERE, programs.ROOT)),
+        "MYPYPATH": os.pathsep.join(modules),
         "MYPY_CACHE_DIR": os.path.join(folder, "mypy"),
         "BLACK_CACHE_DIR": os.path.join(folder, "black"),
     }
@@ -53,18 +55,20 @@ def passes(folder: str, *words: str) -> bool:
 
 
 def types_are_strict(folder: str) -> Iterator[bool]:
-    yield passes(folder, "mypy", "--strict", "--config-file", RULES, *CHECKED)
+    strict = ("mypy", "--strict", "--config-file", RULES)
+    yield passes(folder, *strict, *CHECKED)
+    yield passes(folder, *strict, "--scripts-are-modules", *docstrings.BENCH, modules=[BENCH])
 
 
 def layout_is_black(folder: str) -> Iterator[bool]:
-    yield passes(folder, "black", "--check", "-q", "--config", RULES, *CHECKED)
+    yield passes(folder, "black", "--check", "-q", "--config", RULES, *CHECKED, *docstrings.BENCH)
 
 
 def nothing_is_unused_or_undefined(folder: str) -> Iterator[bool]:
     scripts = [
         path for path in glob.glob(os.path.join(programs.ROOT, "bin", "*")) if first_line(path).endswith("python3")
     ]
-    yield passes(folder, "pyflakes3", *CHECKED, *scripts)
+    yield passes(folder, "pyflakes3", *CHECKED, *scripts, *docstrings.BENCH)
 
 
 def what_it_is_for_is_said(folder: str) -> Iterator[bool]:
