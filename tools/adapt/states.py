@@ -151,7 +151,8 @@ class States:
                     self.renamed(items[at:], one, inside)
 
     def types(self, declared: Any, inside: Counter[str]) -> None:
-        """Tags and constants that a block declares become those of the function (6.2.1p4, 6.2.3)."""
+        """Tags and constants that a block declares become those of the function (6.2.1p4, 6.2.3). Raises Refused for one
+        that has the name of another."""
         for one in walk(declared.type):
             name = f"tag {one.name}" if isinstance(one, (tree.Struct, tree.Union, tree.Enum)) and one.name else ""
             if isinstance(one, tree.Enumerator):
@@ -182,8 +183,8 @@ class States:
             count.update({name: -changed, other: changed})
 
     def rename(self, nodes: list[Any], name: str, other: str) -> int:
-        """Renames what a name stands for in some statements of one block, up to where the block declares it anew; how often
-        that is."""
+        """Renames what a name stands for in some statements of one block, up to where the block declares it anew; how many
+        names were changed."""
         changed = 0
         for node in nodes:
             listed = node.decls if isinstance(node, tree.DeclList) else [node]
