@@ -1,5 +1,5 @@
 """How large the unwindings are of what bin/adapt writes of pointers, and how many goals it has: a checksum by a cursor over two buffers, a
-sorted list over a pool with pointers to pointers, and a tokenizer whose literals are chosen at run time.
+sorted list over a pool with pointers to pointers, a tokenizer whose literals are chosen at run time, and a binary search by pointers.
 
 Goals are counted by hand in the sources, two for each condition. What size is due is that of the same programs written in the profile
 by hand, of which one statement stands for one; what is written may have a tenth more. The program tells no size: it refuses one above
@@ -140,9 +140,37 @@ int entry(void)
     return sum * 8 + n;
 }
 """
+SEARCH = """#include <stddef.h>
+unsigned char next(void);
+struct entry { int key; int value; };
+static const struct entry table[6] = { {3, 30}, {5, 50}, {9, 91}, {12, 12}, {40, 4}, {77, 7} };
+static const struct entry *find(const struct entry *t, size_t n, int key)
+{
+    const struct entry *low = t, *high = t + n;
+    while (low < high) {
+        const struct entry *mid = low + (high - low) / 2;
+        if (mid->key == key)
+            return mid;
+        if (mid->key < key)
+            low = mid + 1;
+        else
+            high = mid;
+    }
+    return NULL;
+}
+int entry(void)
+{
+    size_t n = 4 + next() % 3;
+    const struct entry *e = find(table + 1, n, next());
+    if (!e)
+        return -1;
+    return e->value + (int)(e - table) * 1000;
+}
+"""
 # each with its conditions, those that are written once more (the for with two steps has a test of its turns; the literal's choice is one of
 # an index and of an end), the size that is due at 4 turns, and the most turns before 81
 DUE = [("crc.c", CRC, 4, 0, 175_616, 26), ("list.c", LIST, 11, 1, 807_424, 11), ("token.c", TOKEN, 12, 1, 1_165_312, 7)]
+DUE += [("search.c", SEARCH, 4, 0, 129_024, 40)]
 
 
 def fits(folder: str, source: str, products: int, turns: int) -> bool:

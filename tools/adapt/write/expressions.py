@@ -188,11 +188,7 @@ class Expressions(Component):
             self.writer.pointers.is_pointer(node.left) or self.writer.pointers.is_pointer(node.right)
         ):
             return self.writer.pointer_effects.compared(node)
-        if (
-            node.op == "-"
-            and self.writer.pointers.is_pointer(node.left)
-            and self.writer.pointers.is_pointer(node.right)
-        ):
+        if self.writer.pointers.is_difference(node):
             return self.writer.pointer_effects.difference(node)
         if node.op == "/" and self.is_size(node.left) and self.is_size(node.right):
             return Value(self.writer.at(node) + f"{self.writer.constants.value(node)}ul", kinds.SIZE, PRIMARY)

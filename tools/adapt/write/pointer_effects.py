@@ -27,12 +27,8 @@ class PointerEffects(Component):
 
     def difference(self, node: tree.BinaryOp) -> Value:
         """The difference of two pointers in elements (6.5.6p9)."""
-        self.writer.order.unsequenced(node, [node.left, node.right])
-        left, right = self.writer.pointers.pointer(node.left)[INDEX], self.writer.pointers.pointer(node.right)[INDEX]
-        stride = self.writer.pointers.stride(node.left)
-        text = f"{left.within(9)} - {right.within(10)}"
-        text = f"({text})" if stride == 1 else f"(({text}) / {stride})"
-        return Value(f"(long) {text}", kinds.LONG, UNARY, calls=left.calls or right.calls)
+        found = self.writer.pointers.between(node)
+        return Value(f"(long) {found.within(UNARY)}", kinds.LONG, UNARY, calls=found.calls)
 
     def assign_pointer(self, node: tree.Assignment) -> None:
         """Writes an assignment to a pointer (6.5.16.1). Raises Refused for an operator that pointers haven't."""
@@ -52,10 +48,7 @@ class PointerEffects(Component):
         """Writes that a pointer moves by `+=` or `-=`; its integers."""
         self.writer.order.unsequenced(node, [node.lvalue, node.rvalue])
         target = self.writer.pointers.parts_at(place, self.writer.elements.index(place, True))
-        step = times(
-            self.writer.pointers.wide(self.writer.elements.steady_value(self.writer.expressions.value(node.rvalue))),
-            self.writer.pointers.stride(node.lvalue),
-        )
+        step = times(self.writer.pointers.step(node.rvalue), self.writer.pointers.stride(node.lvalue))
         self.writer.emit(f"{target[INDEX].text} {node.op} {step.text};")
         return target
 

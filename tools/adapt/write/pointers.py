@@ -1,7 +1,7 @@
 """Writes the values of pointers: the index of what is pointed to in its column, and where they matter the end and the begin of
 its object. An access outside of the object becomes the index -1, which ends a run, and never reads a neighbour."""
 
-from typing import Optional
+from typing import Optional, TypeGuard
 
 from ..bind.places import At
 from ..bind.values import PRIMARY, UNARY, Value, minus, number, plus, times
@@ -180,6 +180,41 @@ class Pointers(Component):
             calls=value.calls,
         )
 
+    def between(self, node: tree.BinaryOp) -> Value:
+        """The difference of two pointers in elements, in 32 bits (6.5.6p9)."""
+        self.writer.order.unsequenced(node, [node.left, node.right])
+        left, right = self.pointer(node.left)[INDEX], self.pointer(node.right)[INDEX]
+        stride, calls = self.stride(node.left), left.calls or right.calls
+        found = Value(f"{left.within(9)} - {right.within(10)}", kinds.INT, 9, calls=calls)
+        return found if stride == 1 else Value(f"{found.within(10)} / {stride}", kinds.INT, 10, calls=calls)
+
+    def step(self, node: tree.Expression) -> Value:
+        """A number of elements by which a pointer is moved, outside of all arrays where no array has so many."""
+        return self.part_of_way(node) or self.wide(
+            self.writer.elements.steady_value(self.writer.expressions.value(node))
+        )
+
+    def part_of_way(self, node: tree.Expression) -> Optional[Value]:
+        """The difference of two pointers by a constant (6.5.5p5), if it is one: in 32 bits, which is the same, and one division.
+        A difference that no array has comes with 32,768 more."""
+        if not (isinstance(node, tree.BinaryOp) and node.op == "/" and self.is_difference(node.left)):
+            return None
+        by = self.writer.constants.value(node.right)
+        if by is None or not 1 < by <= MOST:
+            return None
+        way = self.writer.elements.steady_value(self.between(node.left))
+        text = f"{way.within(10)} / {by} + (({unmarked(way.within(8))} > {2 * MOST + 1}) << 15)"
+        return Value(text, kinds.INT, 9, calls=way.calls)
+
+    def is_difference(self, node: tree.Expression) -> TypeGuard[tree.BinaryOp]:
+        """Whether an expression is the difference of two pointers."""
+        return (
+            isinstance(node, tree.BinaryOp)
+            and node.op == "-"
+            and self.is_pointer(node.left)
+            and self.is_pointer(node.right)
+        )
+
     def stride(self, node: tree.Expression) -> int:
         """By how many elements of its column, or bytes, a pointer moves: the number of those in what it points to."""
         of = self.writer.columns.pointer(node)
@@ -189,7 +224,7 @@ class Pointers(Component):
         """A pointer moved by a number of elements."""
         self.writer.order.unsequenced(node, [base, by])
         parts = dict(self.pointer(base))
-        step = times(self.wide(self.writer.elements.steady_value(self.writer.expressions.value(by))), self.stride(base))
+        step = times(self.step(by), self.stride(base))
         if op == "-":
             known = number(step)
             made = f"{parts[INDEX].within(9)} - {step.within(10)}"
