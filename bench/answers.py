@@ -3,6 +3,7 @@
 import json
 import os
 import resource
+import signal
 import subprocess
 import tempfile
 from collections.abc import Sequence
@@ -40,12 +41,14 @@ class Answers:
 
 @dataclass
 class Run:
-    """Both texts that a program wrote, its seconds of a processor, and the megabytes that it held at most."""
+    """Both texts that a program wrote, its seconds of a processor, the megabytes that it held at most, and the name of the
+    signal that ended it, if one did."""
 
     out: str
     err: str
     seconds: float
     megabytes: float
+    signal: str = ""
 
 
 def raise_stack() -> None:
@@ -62,7 +65,8 @@ def run(words: Sequence[str]) -> Run:
         child.returncode = os.waitstatus_to_exitcode(status)
         out.seek(0)
         err.seek(0)
-        return Run(out.read(), err.read(), used.ru_utime + used.ru_stime, used.ru_maxrss / 1024)
+        ended = signal.Signals(-child.returncode).name if child.returncode < 0 else ""
+        return Run(out.read(), err.read(), used.ru_utime + used.ru_stime, used.ru_maxrss / 1024, ended)
 
 
 def measured(
@@ -82,6 +86,8 @@ def answers(
 ) -> Answers:
     """The answers of `generate`, whose printed inputs are measured again where a goal stays undecided."""
     made = run([program, "generate", "--json", "--ends", ends, *options, entry, query, path])
+    if made.signal:
+        return Answers(refusal=f"ended by {made.signal}")
     if made.err:
         return Answers(refusal=made.err.strip())
     report = json.loads(made.out)

@@ -48,14 +48,25 @@ pub record IsAdded (trail : List Entry) (set : ℤ → Bool) (before : Chain) (n
   pub gathers : IsGathered trail set before → IsGathered trail next after
   pub low : (after.low ≡ before.low) ⊎ ((after.low < before.low) × IsMarkedAt trail next after.low)
 
--- literals of the set were resolved away that are false before the start, and none was added
-pub record IsDropped (clauses : List (List ℤ)) (trail : List Entry) (set : ℤ → Bool) (before : Chain) (next : ℤ → Bool) (after : Chain) : Type 0 where
+-- literals were added to the set, and those that are new to a list of its literals
+pub record IsWider (set : ℤ → Bool) (found : List ℤ) (next : ℤ → Bool) (wider : List ℤ) (added : ℤ → Bool) : Type 0 where
+  pub keeps : (y : ℤ) → has_literal found y ≡ true → has_literal wider y ≡ true
+  pub covers : (y : ℤ) → next y ≡ true → (set y ≡ true) ⊎ (has_literal wider y ≡ true)
+  pub only : (y : ℤ) → has_literal wider y ≡ true → (has_literal found y ≡ true) ⊎ (added y ≡ true)
+
+-- a list has all literals of the set that are false before a place, and none that isn't false before it
+pub record AreFound (trail : List Entry) (start : ℕ) (set : ℤ → Bool) (found : List ℤ) : Type 0 where
+  pub covers : (y : ℤ) → set y ≡ true → is_true (take start trail) (neg_ℤ y) ≡ true → has_literal found y ≡ true
+  pub early : (y : ℤ) → has_literal found y ≡ true → is_true (take start trail) (neg_ℤ y) ≡ true
+
+-- literals of the set were resolved away that are false before the start, and such were added
+pub record IsThinned (clauses : List (List ℤ)) (trail : List Entry) (set : ℤ → Bool) (before : Chain) (next : ℤ → Bool) (after : Chain) : Type 0 where
   pub start : after.start ≡ before.start
   pub low : after.low ≡ before.low
-  pub found : after.found.items ≡ before.found.items
-  pub less : (y : ℤ) → next y ≡ true → set y ≡ true
+  pub found : AreFound trail before.start set before.found.items → AreFound trail before.start next after.found.items
+  pub less : (y : ℤ) → next y ≡ true → (set y ≡ true) ⊎ (is_true (take before.start trail) (neg_ℤ y) ≡ true)
   pub rest : (y : ℤ) → set y ≡ true → is_true (take before.start trail) (neg_ℤ y) ≡ false → next y ≡ true
-  pub back : (first : List ℤ) (front : ℕ) → IsBack clauses trail first front set before.steps.items → IsBack clauses trail first front next after.steps.items
+  pub back : (first : List ℤ) (front : ℕ) → before.start ≤ front → IsBack clauses trail first front set before.steps.items → IsBack clauses trail first front next after.steps.items
 
 -- whether a literal is the one that is skipped
 abbrev pub skips : Option ℤ → ℤ → Bool

@@ -31,7 +31,7 @@ pub(crate) struct Chain {
     pub low: usize,
     /// Numbers of antecedents and pivots.
     pub steps: Vec<(u32, i32)>,
-    /// All literals that were in the clause.
+    /// All literals that were in the clause until its implication point was reached.
     pub seen: Vec<i32>,
 }
 
@@ -64,8 +64,8 @@ fn add_literal(
     Ok(())
 }
 
-// Whether a literal is the one that is skipped.
-fn is_skipped(skipped: Option<i32>, literal: i32) -> bool
+/// Whether a literal is the one that is skipped.
+pub(crate) fn is_skipped(skipped: Option<i32>, literal: i32) -> bool
     ensures { result ≡ skips skipped literal }
 {
     match skipped {

@@ -28,7 +28,7 @@ use std::alloc::{AllocError, Global};
 pub(crate) struct Lesson {
     pub line: DerivationLine,
     pub landing: Option<Landing>,
-    /// All literals that were in the resolved clauses.
+    /// All literals that were in the resolved clauses until the implication point was reached.
     pub seen: Vec<i32>,
 }
 

@@ -6,14 +6,16 @@
 //! `search` propagates by two watched literals a clause, with a blocking literal beside each watcher, and a queue
 //! (specs/Watching.antt), so that a move costs the watchers that it visits; all clauses are looked at once before the first
 //! move, and once where the budget is spent. A conflict is resolved to the first unique implication point
-//! (specs/Chains.antt), without a pass over the variables. The variable that was most active in conflicts is decided next, to
-//! be as it last was, and of those that never were active the lowest or the highest, as the caller says; that each open one
-//! is listed is kept (specs/Orders.antt), their order is free. A learned line is kept once. The history is made of the steps and
-//! the lines where the budget is spent (specs/Steps.antt, specs/Endings.antt), of a search whose history isn't shown never.
-//! The layers above use what `search` and `search_in_order` answer (specs/Nexts.antt), and that `shown` appends what it is
-//! given, and after want of memory nothing. Start at searching.rt.
+//! (specs/Chains.antt), without a pass over the variables, and then on literals that its others imply (implied.rt,
+//! minimizing.rt). The variable that was most active in conflicts is decided next, to be as it last was, and of those that
+//! never were active the lowest or the highest, as the caller says, false or by a mixture of signs (beginning.rt); that each
+//! open one is listed is kept (specs/Orders.antt), their order is free. A learned line is kept once. The history is made of
+//! the steps and the lines where the budget is spent (specs/Steps.antt, specs/Endings.antt), of a search whose history isn't
+//! shown never. The layers above use what `search` and `search_in_order` answer (specs/Nexts.antt), and that `shown` appends
+//! what it is given, and after want of memory nothing. Start at searching.rt.
 #![tactic(auto)]
 
+mod beginning;
 mod chain;
 mod choice;
 mod conflict;
@@ -21,6 +23,7 @@ mod ending;
 mod first_variables;
 mod found;
 mod history;
+mod implied;
 mod installing;
 mod landing;
 pub mod laws;

@@ -20,10 +20,10 @@ ghost use Rattle.search.specs.Trails.{places};
 ghost use Rattle.search.specs.Watching.{IsDecidedAt, is_among};
 ghost use Rattle.search.specs.declared.moves.Move.TheVariants as move;
 
+use crate::beginning::Beginning;
 use crate::choice::{candidate, model};
 use crate::conflict::{Lesson, lesson_of};
 use crate::ending::Ending;
-use crate::first_variables::FirstVariables;
 use crate::found::Found;
 use crate::moves::Step;
 use crate::next::{Next, next_of};
@@ -52,7 +52,7 @@ pub(crate) struct Machine {
 
 impl Machine {
     /// The first state, with an empty trail.
-    pub fn new(alloc: Global, formula: &Formula, first: FirstVariables) -> Result<Machine, Memory>
+    pub fn new(alloc: Global, formula: &Formula, beginning: Beginning) -> Result<Machine, Memory>
         requires formula { IsFormula formula.now }
         requires small { formula.now.variables ≤ 2 ^ 30 }
         requires few { length formula.now.clauses < 2 ^ 32 }
@@ -65,7 +65,7 @@ impl Machine {
         let values = vec![in alloc; false; size]?;
         let places = vec![in alloc; 0; size]?;
         let marks = vec![in alloc; false; size]?;
-        let order = Order::new(alloc, formula.variables, first)?;
+        let order = Order::new(alloc, formula.variables, beginning)?;
         Ok(Machine {
             trail: Vec::new(alloc),
             values,

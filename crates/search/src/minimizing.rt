@@ -1,70 +1,95 @@
-// Literals that leave a learned clause, since its others imply them (self-subsumption: Sörensson and Biere 2009, the basic
-// minimisation of MiniSat).
-ghost use Rattle.std.specs.Prelude.{◌≡◌, ◌+◌, ◌*◌, ◌<◌, ◌≤◌, ◌^◌, ◌&&◌, ℤ, List, false, filter, neg_ℤ, take, true, IfOk, OnOk, length};
-ghost use Rattle.std.specs.Bool.{OnTrue};
+// Literals that leave a learned clause, since its others imply them (self-subsumption: Sörensson and Biere 2009, the
+// recursive minimisation of MiniSat), by resolution with the clauses that implied their negations.
+ghost use Rattle.std.specs.Prelude.{◌≡◌, ◌+◌, ◌*◌, ◌<◌, ◌≤◌, ◌^◌, ◌&&◌, ◌||◌, ℤ, List, filter, not, true, IfOk, OnOk, length};
 ghost use Rattle.std.specs.Ordering.{int_eq};
-ghost use Rattle.cnf.specs.Clauses.{IsClause, has_literal};
-ghost use Rattle.literal_marks.specs.Marks.{IsClear, marked};
+ghost use Rattle.cnf.specs.Clauses.{IsLiteral, has_literal, literal_key as key_of};
+ghost use Rattle.literal_marks.specs.Marks.{marked};
 ghost use Rattle.literal_marks.specs.declared.places.Places.TheVariants.{ByKey};
-ghost use Rattle.search.specs.Chains.{IsBack, IsDropped, IsGoing};
-ghost use Rattle.search.specs.Machine.{is_true};
+ghost use Rattle.search.specs.Chains.{IsBack, IsGoing, IsThinned, IsWider, skips};
 ghost use Rattle.search.specs.Sound.{IsSound, all_clauses};
-ghost use Rattle.search.specs.Trails.{AreLocated};
 
-use crate::chain::Chain;
+use crate::chain::{Chain, is_skipped};
+use crate::implied::{Falsified, implied_places};
 use crate::trail::Entry;
-use cnf::{Derivation, Formula, clause_before, literal_key, negation};
-use literal_marks::{Places, is_marked, unmark};
+use cnf::{Derivation, Formula, clause_before, negation};
+use literal_marks::{Places, is_marked, mark, unmark};
 use std::alloc::{AllocError, Global};
 
-// Whether all literals of a clause but one are marked.
-fn are_others_marked(marks: &[bool], clause: &[i32], skipped: i32) -> bool
-    requires { IsClause clause.now }
-    ensures { OnTrue result ((x : ℤ) → has_literal clause.now x ≡ true → int_eq x skipped ≡ false → marked ByKey marks.now x ≡ true) }
+// Adds a literal that is false before the last decision.
+fn add_found(marks: &mut [bool], chain: &mut Chain, literal: i32) -> Result<(), AllocError>
+    requires literal { IsLiteral literal }
+    requires mark { key_of literal < length marks.old }
+    ensures size { length marks.new ≡ length marks.old }
+    ensures marks { (x : ℤ) → marked ByKey marks.new x ≡ (marked ByKey marks.old x || int_eq literal x) }
+    ensures start { OnOk result (chain.new.start ≡ chain.old.start) }
+    ensures low { OnOk result (chain.new.low ≡ chain.old.low) }
+    ensures steps { OnOk result (chain.new.steps ≡ chain.old.steps) }
+    ensures wider { OnOk result (IsWider (marked ByKey marks.old) chain.old.found.items (marked ByKey marks.new) chain.new.found.items (int_eq literal)) }
 {
-    for literal in clause {
-        if *literal != skipped && !is_marked(&Places::ByKey, marks, *literal) {
-            return false;
-        }
+    if is_marked(&Places::ByKey, marks, literal) {
+        return Ok(());
     }
-    true
+    mark(&Places::ByKey, marks, literal);
+    chain.found.push(literal)?;
+    Ok(())
 }
 
-// Resolves the marked clause on a literal that is false before the last decision, where that takes the literal away and adds
-// none.
+// Adds the literals of a clause, which are false before the last decision, but for one that is skipped.
+fn add_others_found(
+    marks: &mut [bool],
+    chain: &mut Chain,
+    literals: &[i32],
+    skipped: Option<i32>,
+) -> Result<(), AllocError>
+    requires over { (x : ℤ) → has_literal literals.now x ≡ true → IsLiteral x × (key_of x < length marks.old) }
+    ensures size { length marks.new ≡ length marks.old }
+    ensures marks { OnOk result ((x : ℤ) → marked ByKey marks.new x ≡ (marked ByKey marks.old x || (has_literal literals.now x && not (skips skipped x)))) }
+    ensures start { OnOk result (chain.new.start ≡ chain.old.start) }
+    ensures low { OnOk result (chain.new.low ≡ chain.old.low) }
+    ensures steps { OnOk result (chain.new.steps ≡ chain.old.steps) }
+    ensures wider { OnOk result (IsWider (marked ByKey marks.old) chain.old.found.items (marked ByKey marks.new) chain.new.found.items (λ x. has_literal literals.now x && not (skips skipped x))) }
+{
+    for literal in literals {
+        if !is_skipped(skipped, *literal) {
+            add_found(marks, chain, *literal)?;
+        }
+    }
+    Ok(())
+}
+
+// Resolves the marked clause on the negation of the literal at a place before the last decision, with the clause that
+// implied it.
 fn drop_implied(
     marks: &mut [bool],
     chain: &mut Chain,
-    places: &[u32],
     formula: &Formula,
     learned: &Derivation,
     trail: &[Entry],
-    literal: i32,
+    place: usize,
 ) -> Result<(), AllocError>
     requires sound { IsSound formula.now learned.now trail.now }
     requires small { formula.now.variables ≤ 2 ^ 30 }
-    requires room { length places.now ≡ 2 * formula.now.variables + 2 }
-    requires located { AreLocated trail.now places.now }
-    requires early { is_true (take chain.old.start trail.now) (neg_ℤ literal) ≡ true }
+    requires size { length marks.old ≡ 2 * formula.now.variables + 2 }
     ensures size { length marks.new ≡ length marks.old }
-    ensures dropped { OnOk result (IsDropped (all_clauses formula.now learned.now) trail.now (marked ByKey marks.old) chain.old (marked ByKey marks.new) chain.new) }
+    ensures thinned { OnOk result (IsThinned (all_clauses formula.now learned.now) trail.now (marked ByKey marks.old) chain.old (marked ByKey marks.new) chain.new) }
 {
-    if !is_marked(&Places::ByKey, marks, literal) {
+    if place >= chain.start || place >= trail.len() {
         return Ok(());
     }
-    let negated = negation(literal);
-    let place = places[literal_key(negated)] as usize;
-    let Some(number) = trail[place].reason else {
+    let entry = trail[place];
+    let negated = negation(entry.literal);
+    if !is_marked(&Places::ByKey, marks, negated) {
+        return Ok(());
+    }
+    let Some(number) = entry.reason else {
         return Ok(());
     };
-    match clause_before(formula, learned, learned.lines.len(), number) {
-        Some(clause) if are_others_marked(marks, clause.literals(), negated) => {
-            unmark(&Places::ByKey, marks, literal);
-            chain.steps.push((number, literal))?;
-            Ok(())
-        }
-        _ => Ok(()),
+    if let Some(clause) = clause_before(formula, learned, learned.lines.len(), number) {
+        unmark(&Places::ByKey, marks, negated);
+        add_others_found(marks, chain, clause.literals(), Some(entry.literal))?;
+        chain.steps.push((number, negated))?;
     }
+    Ok(())
 }
 
 // Those of these literals that are marked.
@@ -90,8 +115,7 @@ pub(crate) fn minimize(
 ) -> Result<(), AllocError>
     requires sound { IsSound formula.now learned.now trail.now }
     requires small { formula.now.variables ≤ 2 ^ 30 }
-    requires room { length places.now ≡ 2 * formula.now.variables + 2 }
-    requires located { AreLocated trail.now places.now }
+    requires size { length marks.old ≡ 2 * formula.now.variables + 2 }
     requires going { IsGoing trail.now (marked ByKey marks.old) (chain.old.low + 1) chain.old }
     ensures size { length marks.new ≡ length marks.old }
     ensures start { OnOk result (chain.new.start ≡ chain.old.start) }
@@ -99,9 +123,16 @@ pub(crate) fn minimize(
         OnOk result (IsBack (all_clauses formula.now learned.now) trail.now first (chain.new.low + 1) (marked ByKey marks.new) chain.new.steps.items) }
     ensures going { OnOk result (IsGoing trail.now (marked ByKey marks.new) (chain.new.low + 1) chain.new) }
 {
-    for at in 0..chain.found.len() {
-        let literal = chain.found[at];
-        drop_implied(marks, chain, places, formula, learned, trail, literal)?;
+    let falsified = Falsified {
+        marks,
+        places,
+        formula,
+        learned,
+        trail,
+    };
+    let implied = implied_places(alloc, falsified, &chain.found, chain.start)?;
+    for place in &implied {
+        drop_implied(marks, chain, formula, learned, trail, *place)?;
     }
     chain.found = still_marked(alloc, marks, &chain.found)?;
     Ok(())

@@ -2,6 +2,7 @@
 ghost use Rattle.std.specs.Prelude.{◌≡◌, ◌⊎◌, ◌+◌, ◌<◌, ◌≤◌, ℕ, Some, true, [], IfOk, IfNone, IfSome, OnOk, length, slice_get};
 ghost use Rattle.search.specs.Watching.{is_among};
 
+use crate::beginning::Beginning;
 use crate::first_variables::FirstVariables;
 use std::alloc::{AllocError, Global};
 
@@ -9,14 +10,17 @@ use std::alloc::{AllocError, Global};
 #[derive(Clone, Copy, Debug)]
 pub(crate) struct Activity {
     /// What its bumps added.
-    pub score: u64,
+    pub score: f64,
     /// The number of its last bump, or 0.
     pub last: u64,
 }
 
-const NONE: Activity = Activity { score: 0, last: 0 };
+const NONE: Activity = Activity {
+    score: 0.0,
+    last: 0,
+};
 
-/// Variables, those first that were active in conflicts, in a heap (as in MiniSat). What contracts say is which ones are in
+/// Variables, those first that were active in conflicts, in a heap (activities and their decay as in MiniSat). What contracts say is which ones are in
 /// it; their order is free.
 #[derive(Drop)]
 pub(crate) struct Order {
@@ -26,17 +30,23 @@ pub(crate) struct Order {
     /// By variable.
     pub activities: Vec<Activity>,
     /// What a bump adds.
-    pub increment: u64,
+    pub increment: f64,
     /// How many bumps there were.
     pub bumps: u64,
-    /// By variable, whether it was true when it last left the trail.
+    /// By variable, whether it was true when it last left the trail, or else its first sign.
     pub phases: Vec<bool>,
     /// Which come first of those that were never bumped.
     pub first: FirstVariables,
 }
 
 // Activities above this one are scaled.
-const MOST: u64 = 1 << 60;
+const MOST: f64 = 1e100;
+
+// By which activities are scaled.
+const SCALE: f64 = 1e-100;
+
+// What an earlier bump counts, beside one in the next conflict.
+const DECAY: f64 = 0.95;
 
 // So many variables, from 1 on, the lowest first.
 fn lowest_first(alloc: Global, variables: u32) -> Result<Vec<u32>, AllocError>
@@ -82,12 +92,24 @@ fn first_places(
     Ok(places)
 }
 
+// By variable, its first sign.
+fn first_signs(alloc: Global, variables: u32, beginning: Beginning) -> Result<Vec<bool>, AllocError>
+    requires { variables ≤ 1073741824 }
+{
+    let mut signs = Vec::new(alloc);
+    for variable in 0..=variables {
+        signs.push(beginning.sign(variable))?;
+    }
+    Ok(signs)
+}
+
 impl Order {
     /// All of so many variables, from 1 on.
-    pub fn new(alloc: Global, variables: u32, first: FirstVariables) -> Result<Order, AllocError>
+    pub fn new(alloc: Global, variables: u32, beginning: Beginning) -> Result<Order, AllocError>
         requires { variables ≤ 1073741824 }
         ensures { IfOk result (λ order. (v : ℕ) → 1 ≤ v → v ≤ variables → is_among v order.heap.items ≡ true) }
     {
+        let first = beginning.first;
         let heap = match first {
             FirstVariables::Lowest => lowest_first(alloc, variables)?,
             FirstVariables::Highest => highest_first(alloc, variables)?,
@@ -96,9 +118,9 @@ impl Order {
             heap,
             places: first_places(alloc, variables, first)?,
             activities: vec![in alloc; NONE; variables as usize + 1]?,
-            increment: 256,
+            increment: 1.0,
             bumps: 0,
-            phases: vec![in alloc; false; variables as usize + 1]?,
+            phases: first_signs(alloc, variables, beginning)?,
             first,
         })
     }
@@ -127,7 +149,7 @@ impl Order {
         }
     }
 
-    /// Whether a variable was true when it last left the trail; false where it was never on it.
+    /// Whether a variable was true when it last left the trail; its first sign where it was never on it.
     pub fn phase(&self, variable: u32) -> bool {
         match self.phases.get(variable as usize) {
             Some(phase) => *phase,
@@ -272,9 +294,9 @@ impl Order {
         ensures { self.new.heap ≡ self.old.heap }
     {
         for activity in self.activities.iter_mut() {
-            activity.score = activity.score >> 40;
+            activity.score = activity.score * SCALE;
         }
-        self.increment = (self.increment >> 40) + 1;
+        self.increment = self.increment * SCALE;
     }
 
     /// A variable was active in a conflict.
@@ -285,7 +307,7 @@ impl Order {
         if index >= self.activities.len() {
             return;
         }
-        let score = self.activities[index].score.saturating_add(self.increment);
+        let score = self.activities[index].score + self.increment;
         self.bumps = self.bumps.saturating_add(1);
         self.activities[index] = Activity {
             score,
@@ -306,6 +328,6 @@ impl Order {
         for literal in literals {
             self.bump(literal.unsigned_abs());
         }
-        self.increment = self.increment.saturating_add(self.increment / 20);
+        self.increment = self.increment / DECAY;
     }
 }

@@ -5,6 +5,7 @@ ghost use Rattle.search.specs.Endings.{IsEnding};
 ghost use Rattle.search.specs.Laws.{IsFormula};
 ghost use Rattle.search.specs.Nexts.{HasEnded, IsFound};
 
+use crate::beginning::Beginning;
 use crate::ending::Ending;
 use crate::first_variables::FirstVariables;
 use crate::found::Found;
@@ -22,7 +23,7 @@ pub(crate) fn searched(
     alloc: Global,
     formula: &Formula,
     budget: u64,
-    first: FirstVariables,
+    beginning: Beginning,
 ) -> Result<Ending, Memory>
     requires formula { IsFormula formula.now }
     requires small { formula.now.variables ≤ 2 ^ 30 }
@@ -32,7 +33,7 @@ pub(crate) fn searched(
     if formula.clauses.len() >= 0x1_0000_0000 {
         return Err(Memory);
     }
-    let mut machine = Machine::new(alloc, formula, first)?;
+    let mut machine = Machine::new(alloc, formula, beginning)?;
     let mut watching = nothing_watched(alloc, formula.variables)?;
     match install_all(&mut machine, &mut watching, formula, budget)? {
         Queue::Read => {}
@@ -74,7 +75,7 @@ fn found_in_order(
     requires small { formula.now.variables ≤ 2 ^ 30 }
     ensures { IfOk result (IsFound formula.now budget) }
 {
-    let ending = searched(alloc, formula, budget, first)?;
+    let ending = searched(alloc, formula, budget, Beginning::all_false(first))?;
     found_of(alloc, ending)
 }
 

@@ -96,6 +96,25 @@ pub(crate) fn pigeons(rt: &impl Abort, alloc: Global, pigeons: i32, holes: i32) 
     formula
 }
 
+/// The clauses of pigeons, each of which holds as well where the first variable is true, or the last one.
+pub(crate) fn unless_first(rt: &impl Abort, alloc: Global, count: i32, holes: i32) -> Formula {
+    let inner = pigeons(rt, alloc, count, holes);
+    let last = count.saturating_mul(holes).saturating_add(2);
+    let mut formula = without_clauses(alloc, last.unsigned_abs());
+    for clause in inner.clauses.iter() {
+        for guard in [1, last] {
+            let mut literals = Vec::new(alloc);
+            literals.push(guard).expect(rt, "no memory");
+            for literal in clause.literals() {
+                let moved = literal.saturating_add(literal.signum());
+                literals.push(moved).expect(rt, "no memory");
+            }
+            add(rt, alloc, &mut formula, &literals);
+        }
+    }
+    formula
+}
+
 // x is whether just one of y and z holds.
 fn add_parity(rt: &impl Abort, alloc: Global, formula: &mut Formula, x: i32, y: i32, z: i32) {
     let (no_x, no_y, no_z) = (x.saturating_neg(), y.saturating_neg(), z.saturating_neg());

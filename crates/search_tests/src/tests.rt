@@ -1,6 +1,7 @@
 // Formulas worked by hand, pigeons, parities and random clauses: what a search finds, and after how many moves.
 use crate::formulas::{
-    add, formula_of, is_over_variables, parities, pigeons, random_clauses, without_clauses,
+    add, formula_of, is_over_variables, parities, pigeons, random_clauses, unless_first,
+    without_clauses,
 };
 use cnf::{Formula, literal_key};
 use derivation_check::{Checker, Verdict};
@@ -153,16 +154,33 @@ fn parts_of_a_budget(rt: HostRuntime) {
     }
 }
 
-// Nine pigeons in eight holes aren't refuted by 1,000 moves in either order.
+// Ten pigeons don't go into nine holes, which 20,000 moves don't show, whichever variables come first: each clause holds where the
+// first and the last variable do, and both are false first. In a mixture of signs the first is true.
 #[test]
-fn spent_in_both_orders(rt: HostRuntime) {
+fn mixed_signs(rt: HostRuntime) {
     let alloc = rt.alloc();
-    let formula = pigeons(&rt, alloc, 9, 8);
+    let formula = unless_first(&rt, alloc, 10, 9);
     assert!(rt; is_over_variables(&formula) && formula.variables <= 1 << 30);
-    let found = search_ends(alloc, &formula, 1000).expect(&rt, "no memory");
+    for first in [FirstVariables::Lowest, FirstVariables::Highest] {
+        let found = search_in_order(alloc, &formula, 20_000, first).expect(&rt, "no memory");
+        assert!(rt; matches!(&found, Found::Spent(_)));
+    }
+    let found = search_ends(alloc, &formula, 20_000).expect(&rt, "no memory");
+    assert!(rt; matches!(&found, Some(Found::Model(_))));
+    let found = search_whole(alloc, &formula, 20_000).expect(&rt, "no memory");
+    assert!(rt; matches!(&found, Found::Model(_)));
+}
+
+// Ten pigeons in nine holes aren't refuted by 4,000 moves, however a search begins.
+#[test]
+fn spent_however_it_begins(rt: HostRuntime) {
+    let alloc = rt.alloc();
+    let formula = pigeons(&rt, alloc, 10, 9);
+    assert!(rt; is_over_variables(&formula) && formula.variables <= 1 << 30);
+    let found = search_ends(alloc, &formula, 4000).expect(&rt, "no memory");
     assert!(rt; found.is_none());
-    match search_whole(alloc, &formula, 1000).expect(&rt, "no memory") {
-        Found::Spent(history) => assert_eq!(rt; history.moves.len(), 1000),
+    match search_whole(alloc, &formula, 4000).expect(&rt, "no memory") {
+        Found::Spent(history) => assert_eq!(rt; history.moves.len(), 4000),
         _ => assert!(rt; false),
     }
 }

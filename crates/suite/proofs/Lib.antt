@@ -6,7 +6,6 @@ pub mod RoundLaws
 pub mod SeekingLaws
 pub mod Short
 pub mod Models
-pub mod Nexts
 pub mod Refuted
 pub mod Trimming
 pub mod PoolLaws

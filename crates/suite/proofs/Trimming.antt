@@ -1,4 +1,4 @@
--- A run is the same for the input that has exactly the answers that it reads.
+-- A run is the same for the input that has exactly the answers that it reads, and whose words are alike by the parameters' kinds.
 use Rattle.std.proofs.Common.{◌≡◌, ℕ, ◌+◌, List, [], ◌∷◌, ◌++◌, map, length, get_or, Some, None, Option, refl, sym, ap, subst, ◌∙◌, arith, pos, All, append_assoc, length-append}
 use Rattle.std.specs.Prelude.{IsTrue, slice_get, slice_index, filter_map}
 use Rattle.std.specs.List.{cons_option}
@@ -9,7 +9,7 @@ use Rattle.std.proofs.lemmas.Option.{same_Some}
 use Rattle.bit_words.proofs.Values.{wrapped-value}
 use Rattle.c_meaning.proofs.RunLaws.{counted_over, runs_by_ends}
 use Rattle.c_meaning.specs.Runs.{AreMoves, IsRun, Move, Run, counts, last_in, states_of}
-use Rattle.c_meaning.specs.Starts.{fitted}
+use Rattle.c_meaning.specs.Starts.{fitted, fitted_words, frame_cells, first_frame, first_globals, start_of}
 use Rattle.c_meaning.specs.Steps.{answer_of, next}
 use Rattle.c_meaning.specs.declared.ends.Ends.{Ends}
 use Rattle.c_meaning.specs.declared.input.Input.{Input}
@@ -27,7 +27,7 @@ use Rattle.cfa.specs.declared.state.Predicates.{Predicates}
 use Rattle.cfa.specs.declared.state.State.{State}
 use Rattle.path_runner.specs.Masks.{mask_of}
 use Rattle.path_runner.specs.Paths.{answer_along, answer_at, answer_by, answer_on, answer_read, end_at, record_of}
-use Rattle.suite.proofs.Nexts.{ReadsAlike, next_goes, next_stops, next_takes}
+use Rattle.run_laws.proofs.Nexts.{ReadsAlike, next_goes, next_stops, next_takes}
 
 abbrev Taken : Type 0
 Taken = Kind × ℕ
@@ -134,28 +134,48 @@ module _ (parts : GraphParts) (graph : IsGraph parts) (x : Input) where
 
 -- ---- runs
 
-module _ (parts : GraphParts) (graph : IsGraph parts) (f : Function) (p : Predicates) (ends : Ends) (x : Input) (r : Run) (h : IsRun parts f x ends r) where
-  -- the input with the answers that the run reads
-  abbrev pub trimmed : Input
-  trimmed = record { words = x.words; answers = values (record_of parts x p r).taken }
+module _ (parts : GraphParts) (graph : IsGraph parts) (f : Function) (p : Predicates) (ends : Ends) (x : Input) (r : Run) (h : IsRun parts f x ends r) (words : List ℕ)
+    (alike : fitted_words words f.parameters ≡ fitted_words x.words f.parameters) where
+  -- the input with other words that are alike, and the answers that the run reads
+  abbrev pub reworded : Input
+  reworded = record { words = words; answers = values (record_of parts x p r).taken }
+
+  same_start : start_of parts f x.words ≡ start_of parts f words
+  same_start = ap (λ (fit : List ℕ). record {
+    node = f.entry;
+    frames = first_frame parts ∷ [];
+    cells = first_globals parts ++ frame_cells f fit;
+    taken = 0;
+  }) (sym alike)
 
   nothing_taken : 0 ≡ r.first.taken
   nothing_taken = sym (ap (λ (s : State). s.taken) h.begins.start)
 
-  both : AreMoves parts trimmed r.first r.moves × (filter_map (answer_read parts trimmed) r.moves ≡ filter_map (answer_read parts x) r.moves)
-  both = same_moves parts graph x trimmed r.first r.moves [] h.begins.moves nothing_taken refl
+  both : AreMoves parts reworded r.first r.moves × (filter_map (answer_read parts reworded) r.moves ≡ filter_map (answer_read parts x) r.moves)
+  both = same_moves parts graph x reworded r.first r.moves [] h.begins.moves nothing_taken refl
 
-  same_end : next parts trimmed (last_in r) ≡ next parts x (last_in r)
-  same_end = next_stops parts x trimmed (last_in r) (counted_over ends (next parts x (last_in r)) h.counted)
+  same_end : next parts reworded (last_in r) ≡ next parts x (last_in r)
+  same_end = next_stops parts x reworded (last_in r) (counted_over ends (next parts x (last_in r)) h.counted)
 
-  pub trimmed_run : IsRun parts f trimmed ends r
-  trimmed_run = runs_by_ends parts f trimmed ends r (record { start = h.begins.start; moves = both.0 }) (subst (λ n. IsTrue (counts ends n)) (sym same_end) h.counted)
+  pub reworded_run : IsRun parts f reworded ends r
+  reworded_run = runs_by_ends parts f reworded ends r (record { start = h.begins.start ∙ same_start; moves = both.0 }) (subst (λ n. IsTrue (counts ends n)) (sym same_end) h.counted)
 
-  pub trimmed_record : record_of parts trimmed p r ≡ record_of parts x p r
-  trimmed_record = λ i. record {
+  pub reworded_record : record_of parts reworded p r ≡ record_of parts x p r
+  reworded_record = λ i. record {
     nodes = map (λ (s : State). s.node) (states_of r.first r.moves);
     edges = map (λ (m : Move). m.edge) r.moves;
     masks = map (mask_of parts p) (states_of r.first r.moves);
     taken = both.1 i;
     end = end_at (same_end i);
   }
+
+module _ (parts : GraphParts) (graph : IsGraph parts) (f : Function) (p : Predicates) (ends : Ends) (x : Input) (r : Run) (h : IsRun parts f x ends r) where
+  -- the input with the answers that the run reads
+  abbrev pub trimmed : Input
+  trimmed = reworded parts graph f p ends x r h x.words refl
+
+  pub trimmed_run : IsRun parts f trimmed ends r
+  trimmed_run = reworded_run parts graph f p ends x r h x.words refl
+
+  pub trimmed_record : record_of parts trimmed p r ≡ record_of parts x p r
+  trimmed_record = reworded_record parts graph f p ends x r h x.words refl

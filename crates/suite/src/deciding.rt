@@ -169,7 +169,7 @@ pub(crate) fn found_late(
 
 /// Decides a goal of which nothing was found before, beside a pool: the first input of the pool that hits the goal covers it,
 /// else it is searched with the whole budget, and where that leaves it open the later candidates are tried. Where the whole
-/// search of each open goal was spent before, the first of the two searches is made again, for its history.
+/// search of each open goal was spent before, the first of its searches is made again, for its history.
 pub(crate) fn decide_beside(
     alloc: Global,
     sought: &mut Sought,
@@ -212,8 +212,8 @@ pub(crate) fn fill_first(alloc: Global, sought: &mut Sought, budget: u64) -> Res
 /// A budget of 1,000 or more is spent in steps, the first of which that finds something ends it: candidates are run, one for
 /// ten thousand moves of the budget and more while they hit goals that none before them did; a fiftieth of the budget is
 /// searched; candidates are run up to one for a thousand moves; a twentieth is searched with the highest variables decided
-/// first; the whole is searched, with the lowest variables first and then with the highest; and ten times as many candidates
-/// are run. An input may come from there.
+/// first; the whole is searched, with the lowest variables first, then with the highest, and then twenty parts of it with mixed
+/// signs; and ten times as many candidates are run. An input may come from there.
 ///
 /// # Errors
 ///

@@ -1,79 +1,59 @@
-use Rattle.std.proofs.Common.{◌≡◌, ◌∙◌, ◌++◌, ◌∷◌, [], ap, get_or, neg_ℤ, pos, refl, sym, take, None, Some}
-use Rattle.std.specs.Prelude.{◌&&◌, not}
-use Rattle.std.specs.Ordering.{int_eq}
+use Rattle.std.proofs.Common.{◌≡◌, ◌∙◌, ◌<◌, ◌++◌, ◌∷◌, ◌||◌, [], ℤ, Bool, ap, arith, get_or, length, neg_ℤ, pos, sym, true, None, Some}
+use mathlib.Core.Path.{subst}
+use Rattle.std.specs.Prelude.{◌&&◌, not, slice_get}
 use Rattle.std.proofs.lemmas.Int.{to_z-of_z}
-use Rattle.std.proofs.lemmas.Option.{get_or_from_slice_get, slice_get_within}
+use Rattle.std.proofs.lemmas.Option.{slice_get-get_or}
 use Rattle.cnf.specs.Checks.{numbered}
-use Rattle.cnf.specs.Clauses.{literal_key}
+use Rattle.cnf.specs.Clauses.{has_literal}
 use Rattle.literal_marks.proofs.PlacesLaws.{literal_fits}
 use Rattle.literal_marks.specs.Marks.{marked}
 use Rattle.literal_marks.specs.declared.places.Places.TheVariants.{ByKey}
 use Rattle.search.specs.declared.chain.Chain.{Chain}
-use Rattle.search.specs.Machine.{is_true}
+use Rattle.search.specs.Chains.{IsWider, skips, without}
+use Rattle.search.specs.Machine.{IsOver}
 use Rattle.search.specs.Sound.{all_clauses}
-use Rattle.search.proofs.BackLaws.{literal-over, negated_twice}
-use Rattle.search.proofs.MinimizingLaws.{dropped_one, early_at}
+use Rattle.search.proofs.BackLaws.{literal-over, negated-over, over_at}
+use Rattle.search.proofs.ChainLaws.{clause_keys}
+use Rattle.search.proofs.MinimizingLaws.{thinned_one}
 use Rattle.search.proofs.minimizing.drop_implied.Goals as goal
 
-pub negation-negated-requires : goal.negation-negated-requires
-negation-negated-requires c =
-    let n = c.args.formula.now.variables in
-    let trail = c.args.trail.now in
-    let places = c.args.places.now in
-    let x = c.args.literal in
-    let early = early_at n trail places x c.args.chain.now.start c.requires.sound.kept c.requires.located c.requires.early in
-    rw (to_z-of_z _ _ c.ranges.literal) (literal-over n x c.requires.small early.over)
+pub add_others_found-requires : goal.add_others_found-requires
+add_others_found-requires c =
+    let named = sym (rw c.len.ensures at c.in-Some-clause_before.ensures) in
+    let keys = clause_keys c.args.formula.now.variables _ (all_clauses c.args.formula.now c.args.learned.now) c.in-Some.number c.in-Some-clause_before.clause.now c.requires.small c.requires.size c.requires.sound.clauses named in
+    record { over = λ x has. (let key = keys x (rw c.literals.ensures.value at has) in (key.0, rw c.unmark.auto.marks key.1)) }
 
-pub bounds-places-literal_key : goal.bounds-places-literal_key
-bounds-places-literal_key c =
+pub returns-in_ok-push-clause-thinned : goal.returns-in_ok-push-clause-thinned
+returns-in_ok-push-clause-thinned c =
     let n = c.args.formula.now.variables in
     let trail = c.args.trail.now in
-    let places = c.args.places.now in
-    let x = c.args.literal in
-    let early = early_at n trail places x c.args.chain.now.start c.requires.sound.kept c.requires.located c.requires.early in
-    let value : c.negation-negated.result ≡ neg_ℤ x = rw (to_z-of_z _ _ c.ranges.literal) at c.negation-negated.ensures.value in
-    let neg_fits = to_z-of_z _ _ (literal_fits c.negation-negated.result c.negation-negated.ensures.literal.1) in
-    let key : c.literal_key.result ≡ literal_key (neg_ℤ x) = rw (neg_fits, value) at c.literal_key.ensures.value in
-    rw key (slice_get_within places (literal_key (neg_ℤ x)) early.place early.table)
-
-pub bounds : goal.bounds
-bounds c =
-    let n = c.args.formula.now.variables in
-    let trail = c.args.trail.now in
-    let places = c.args.places.now in
-    let x = c.args.literal in
-    let early = early_at n trail places x c.args.chain.now.start c.requires.sound.kept c.requires.located c.requires.early in
-    let value : c.negation-negated.result ≡ neg_ℤ x = rw (to_z-of_z _ _ c.ranges.literal) at c.negation-negated.ensures.value in
-    let neg_fits = to_z-of_z _ _ (literal_fits c.negation-negated.result c.negation-negated.ensures.literal.1) in
-    let key : c.literal_key.result ≡ literal_key (neg_ℤ x) = rw (neg_fits, value) at c.literal_key.ensures.value in
-    rw (key, get_or_from_slice_get places (literal_key (neg_ℤ x)) early.place 0 early.table) (slice_get_within trail early.place early.entry early.at)
-
-pub returns-in_ok-push-in-Some-clause_before-clause-dropped : goal.returns-in_ok-push-in-Some-clause_before-clause-dropped
-returns-in_ok-push-in-Some-clause_before-clause-dropped c =
-    let n = c.args.formula.now.variables in
-    let trail = c.args.trail.now in
-    let places = c.args.places.now in
-    let x = c.args.literal in
-    let early = early_at n trail places x c.args.chain.now.start c.requires.sound.kept c.requires.located c.requires.early in
-    let value : c.negation-negated.result ≡ neg_ℤ x = rw (to_z-of_z _ _ c.ranges.literal) at c.negation-negated.ensures.value in
-    let neg_fits = to_z-of_z _ _ (literal_fits c.negation-negated.result c.negation-negated.ensures.literal.1) in
-    let key : c.literal_key.result ≡ literal_key (neg_ℤ x) = rw (neg_fits, value) at c.literal_key.ensures.value in
-    let e = early.entry in
-    let read : get_or places c.literal_key.result 0 ≡ early.place = rw key (get_or_from_slice_get places (literal_key (neg_ℤ x)) early.place 0 early.table) in
-    let entry : get_or trail early.place record { literal = pos 0; reason = None } ≡ e = get_or_from_slice_get trail early.place e _ early.at in
-    let reason : e.reason ≡ Some c.in-Some.number = rw (read, entry) at c.in-Some.is in
-    let told = c.requires.sound.reasons early.place e c.in-Some.number early.at reason in
+    let place = c.args.place in
+    let e = get_or trail place record { literal = pos 0; reason = None } in
+    let inside : place < length trail = omega (arith, c.if-place-trail.false) in
+    let early : place < c.args.chain.now.start = omega (arith, c.if-place-chain.false) in
+    let at : slice_get trail place ≡ Some e = slice_get-get_or trail place _ inside in
+    let number = c.in-Some.number in
     let clause = c.in-Some-clause_before.clause.now in
-    let named : numbered (all_clauses c.args.formula.now c.args.learned.now) c.in-Some.number ≡ Some clause = sym (rw c.len.ensures at c.in-Some-clause_before.ensures) in
+    let told = c.requires.sound.reasons place e number at c.in-Some.is in
+    let named : numbered (all_clauses c.args.formula.now c.args.learned.now) number ≡ Some clause = sym (rw c.len.ensures at c.in-Some-clause_before.ensures) in
     let implies = rw named at told in
-    let x_is : x ≡ neg_ℤ e.literal = sym (negated_twice x) ∙ ap neg_ℤ (sym early.is) in
-    let own = sym (rw (to_z-of_z _ _ c.ranges.literal) at c.if-not-is_marked.ensures) in
-    let others = rw (c.literals.ensures.value, neg_fits, value) at c.if-are_others_marked.ensures in
-    let unmarked = rw (to_z-of_z _ _ c.ranges.literal) at c.unmark.ensures in
-    let pushed = rw (to_z-of_z _ _ c.ranges.literal) at c.in_ok-push-in-Some-clause_before.ensures.items in
+    let over : IsOver n e.literal = over_at n trail place e c.requires.sound.kept.over at in
+    let fits = to_z-of_z _ _ (literal_fits _ (literal-over n e.literal c.requires.small over).1) in
+    let value : c.negation-negated.result ≡ neg_ℤ e.literal = rw fits at c.negation-negated.ensures.value in
+    let negated_fits = to_z-of_z _ _ (literal_fits _ (literal-over n (neg_ℤ e.literal) c.requires.small (negated-over n e.literal over)).1) in
+    let own : marked ByKey c.args.marks.now (neg_ℤ e.literal) ≡ true = sym (rw (value, negated_fits) at c.if-not-is_marked.ensures) in
+    let unmarked = rw (value, negated_fits) at c.unmark.ensures in
+    let added = c.in_ok-add_others_found.ensures in
+    let gives = rw (c.literals.ensures.value, fits) at added.marks in
+    let wider = rw (c.literals.ensures.value, fits) at added.wider in
+    let pushed = rw (value, negated_fits) at c.in_ok-push.ensures.items in
     let set = marked ByKey c.args.marks.now in
-    let chain = c.args.chain.now in
-    let after : Chain = record { start = chain.start; found = chain.found; low = chain.low; steps = c.push.new.self; seen = chain.seen } in
-    dropped_one n (all_clauses c.args.formula.now c.args.learned.now) trail c.requires.sound.kept early.place e c.in-Some.number clause early.at reason named implies set (marked ByKey c.unmark.new.marks) chain after
-    (ap set (sym x_is) ∙ own) (λ y has apart. others y has (ap (int_eq y) (sym early.is) ∙ apart)) (λ y. unmarked y ∙ ap (λ z. set y && not (int_eq y z)) x_is)
-    (ap (is_true (take chain.start trail)) early.is ∙ c.requires.early) refl refl refl (pushed ∙ ap (λ z. chain.steps.items ++ (c.in-Some.number, z) ∷ []) x_is)
+    let left = without set (neg_ℤ e.literal) in
+    let next = marked ByKey c.add_others_found.new.marks in
+    let same : marked ByKey c.unmark.new.marks ≡ left = λ i y. unmarked y i in
+    let others : ℤ → Bool = λ y. has_literal clause y && not (skips (Some e.literal) y) in
+    let mid = c.add_others_found.new.chain in
+    let after : Chain = record { start = mid.start; found = mid.found; low = mid.low; steps = c.push.new.self; seen = mid.seen } in
+    thinned_one n (all_clauses c.args.formula.now c.args.learned.now) trail c.requires.sound.kept place e number clause at c.in-Some.is named implies set next c.args.chain.now after own
+    (λ y. gives y ∙ ap (λ b. b || others y) (unmarked y)) early (subst (λ z. IsWider z c.args.chain.now.found.items next mid.found.items others) same wider) added.start added.low
+    (pushed ∙ ap (λ xs. xs.items ++ (number, neg_ℤ e.literal) ∷ []) added.steps)
