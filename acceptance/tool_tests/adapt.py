@@ -131,7 +131,7 @@ static unsigned char buf[SIZE], out[16];
 static int fact(int n) { return n < 2 ? 1 : n * fact(n - 1); }
 static int sum(const unsigned char *p, int n) { int s = 0; while (n--) s += *p++; return s; }
 int f(int n) {
-  for (int i = 0; i < SIZE; i++) { buf[i] = rx(); }
+  for (int i = 0, k = 1; i < SIZE; i++, k++) { buf[i] = rx(); }
   if (n > 3) { buf[0] = next(); } else { buf[1] = next(); buf[2] = next(); }
   memcpy(out, buf, sizeof buf);
   memset(out, 0, 16);

@@ -167,9 +167,9 @@ int entry(void)
     return e->value + (int)(e - table) * 1000;
 }
 """
-# each with its conditions, those that are written once more (the for with two steps has a test of its turns; the literal's choice is one of
-# an index and of an end), the size that is due at 4 turns, and the most turns before 81
-DUE = [("crc.c", CRC, 4, 0, 175_616, 26), ("list.c", LIST, 11, 1, 807_424, 11), ("token.c", TOKEN, 12, 1, 1_165_312, 7)]
+# each with its conditions, those that are written once more (the literal's choice is one of an index and of an end), the size that is due at
+# 4 turns, and the most turns before 81
+DUE = [("crc.c", CRC, 4, 0, 175_616, 26), ("list.c", LIST, 11, 0, 807_424, 11), ("token.c", TOKEN, 12, 1, 1_165_312, 7)]
 DUE += [("search.c", SEARCH, 4, 0, 129_024, 40)]
 
 
